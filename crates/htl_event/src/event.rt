@@ -1,0 +1,63 @@
+use crate::kind::Kind;
+use crate::slot::{Sign, Slot};
+use crate::stack::Stack;
+
+/// One event of a trace.
+#[derive(Debug, PartialEq, Eq, Drop)]
+pub struct Event {
+    pub sequence: u64,
+    pub kind: Kind,
+    pub process: u32,
+    pub thread: u32,
+    /// The handle as written.
+    pub handle: u32,
+    pub object: u64,
+    /// The tag in display order.
+    pub tag: [u8; 4],
+    pub stack: Stack,
+}
+
+impl Event {
+    ghost use Rattle.std.specs.Prelude.{◌≡◌};
+    ghost use Rattle.htl_event.specs.Slots.{slot_of};
+
+    pub fn copy(&self) -> Event
+        ensures { result ≡ self.now }
+    {
+        Event {
+            sequence: self.sequence,
+            kind: self.kind,
+            process: self.process,
+            thread: self.thread,
+            handle: self.handle,
+            object: self.object,
+            tag: self.tag,
+            stack: self.stack.copy(),
+        }
+    }
+
+    /// What this event is counted under, and on which side. A snapshot is counted nowhere.
+    pub fn slot(&self) -> Option<(Slot, Sign)>
+        ensures { result ≡ slot_of self.now }
+    {
+        let process = self.process;
+        let tagged = Slot::Tagged {
+            object: self.object,
+            tag: self.tag,
+        };
+        match self.kind {
+            Kind::Opened => Some((Slot::Handles { process }, Sign::Plus)),
+            Kind::Closed => Some((Slot::Handles { process }, Sign::Minus)),
+            Kind::BadRef => Some((
+                Slot::Bad {
+                    process,
+                    handle: self.handle,
+                },
+                Sign::Plus,
+            )),
+            Kind::Snapshot | Kind::Exited => None,
+            Kind::Ref => Some((tagged, Sign::Plus)),
+            Kind::Deref => Some((tagged, Sign::Minus)),
+        }
+    }
+}

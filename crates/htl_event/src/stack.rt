@@ -1,0 +1,114 @@
+ghost use Rattle.std.specs.Prelude.{◌≡◌, ◌≤◌, ◌<◌, ◌^◌, [], ◌∷◌, ◌++◌, length, nat_lt, if◌then◌else◌, All};
+
+use arrayvec::ArrayVec;
+use std::cmp::Ordering;
+use std::marker::Model;
+
+/// How many addresses a stack has at most.
+pub const MAX_FRAMES: usize = 64;
+
+/// The return addresses of one call stack, the innermost call first.
+///
+/// Stacks compare by their addresses from the outermost call inwards, a proper prefix first.
+#[derive(Debug, Drop)]
+pub struct Stack {
+    frames: ArrayVec<u64, MAX_FRAMES>,
+}
+
+impl Model for Stack {
+    ghost use Rattle.std.specs.Prelude.{ℕ, List, length, ◌≤◌};
+
+    ghost Value = { List ℕ };
+
+    ghost view = { λ s. s.frames.items };
+
+    ghost invariant = { λ s. length s.frames.items ≤ 64 };
+}
+
+impl Stack {
+    pub fn new() -> Stack
+        ensures { result ≡ [] }
+    {
+        Stack {
+            frames: ArrayVec::new(),
+        }
+    }
+
+    /// Adds an outer call. A full stack stays as it is.
+    pub fn push(&mut self, address: u64) -> bool
+        ensures room { result ≡ nat_lt (length self.old) MAX_FRAMES }
+        ensures items { self.new ≡ (if result then self.old ++ address ∷ [] else self.old) }
+    {
+        self.frames.try_push(address).is_ok()
+    }
+
+    pub fn frames(&self) -> &[u64]
+        ensures value { result.now ≡ self.now }
+        ensures fits { length result.now ≤ MAX_FRAMES }
+    {
+        self.frames.as_slice()
+    }
+
+    pub fn copy(&self) -> Stack
+        ensures { result ≡ self.now }
+    {
+        let mut frames = ArrayVec::new();
+        for frame in self.frames() {
+            frames.push(*frame);
+        }
+        Stack { frames }
+    }
+}
+
+impl PartialEq for Stack {
+    ghost use Rattle.std.specs.Prelude.{nat_eq};
+    ghost use Rattle.std.specs.Cmp.Lexicographic.{pointwise};
+    ghost use Rattle.std.specs.Cmp.Rules.{comparing};
+    ghost use Rattle.std.proofs.Common.{rules};
+
+    ghost eq = { pointwise nat_eq };
+
+    ghost laws = { Prim.search (comparing, rules) };
+
+    fn eq(&self, other: &Stack) -> bool {
+        self.frames() == other.frames()
+    }
+}
+
+impl Eq for Stack {
+    ghost use Rattle.std.specs.Cmp.Rules.{comparing};
+    ghost use Rattle.std.proofs.Common.{rules};
+
+    ghost laws = { Prim.search (comparing, rules) };
+}
+
+impl PartialOrd for Stack {
+    ghost use Rattle.std.specs.Ordering.{as_partial_cmp};
+    ghost use Rattle.htl_event.specs.Stacks.{stack_cmp, stack_order};
+
+    ghost partial_cmp = { as_partial_cmp stack_cmp };
+
+    ghost laws = { stack_order };
+
+    fn partial_cmp(&self, other: &Stack) -> Option<Ordering> {
+        Some(self.cmp(other))
+    }
+}
+
+impl Ord for Stack {
+    ghost use Rattle.htl_event.specs.Stacks.{stack_cmp, stack_total, stack_ties};
+    ghost use Rattle.std.specs.Cmp.Rules.{comparing};
+    ghost use Rattle.std.proofs.Common.{rules};
+
+    ghost cmp = { stack_cmp };
+
+    ghost total = { stack_total };
+
+    ghost matches_partial_cmp = { Prim.search (comparing, rules) };
+
+    ghost matches_eq = { stack_ties };
+
+    fn cmp(&self, other: &Stack) -> Ordering {
+        self.frames().iter().rev().cmp(other.frames().iter().rev())
+    }
+}

@@ -1,0 +1,45 @@
+ghost use Rattle.std.specs.Prelude.{◌≡◌, ◌++◌, ◌∷◌, [], codes, OnOk, string_bytes};
+ghost use Rattle.htl_report.specs.Addresses.{frame_line, hex16, stack_lines};
+
+use htl_symbols::Symbols;
+use std::alloc::AllocError;
+
+/// The lines of a stack, the innermost frame first.
+pub(crate) fn write_stack(
+    out: &mut String,
+    symbols: &Symbols,
+    frames: &[u64],
+) -> Result<(), AllocError>
+    ensures { OnOk result (string_bytes out.new ≡ string_bytes out.old ++ stack_lines symbols.now frames.now) }
+{
+    for frame in frames {
+        write_frame(out, symbols, *frame)?;
+    }
+    Ok(())
+}
+
+fn write_frame(out: &mut String, symbols: &Symbols, address: u64) -> Result<(), AllocError>
+    ensures { OnOk result (string_bytes out.new ≡ string_bytes out.old ++ frame_line symbols.now address) }
+{
+    match symbols.resolve(address) {
+        None => write_unnamed(out, address),
+        Some((module, name, 0)) => writeln!(out, "  {module}!{name}"),
+        Some((module, name, offset)) => writeln!(out, "  {module}!{name}+0x{offset:x}"),
+    }
+}
+
+fn write_unnamed(out: &mut String, address: u64) -> Result<(), AllocError>
+    ensures { OnOk result (string_bytes out.new ≡ string_bytes out.old ++ (codes "  0x" ++ (hex16 address ++ 10 ∷ []))) }
+{
+    out.push_str("  0x")?;
+    write_padded(out, address)?;
+    out.push('\n')
+}
+
+/// 16 hexadecimal digits.
+#[tactic(auto, using(crate::proofs::Padding::padded_16))]
+pub(crate) fn write_padded(out: &mut String, address: u64) -> Result<(), AllocError>
+    ensures { OnOk result (string_bytes out.new ≡ string_bytes out.old ++ hex16 address) }
+{
+    write!(out, "{address:016x}")
+}

@@ -1,0 +1,15 @@
+//! The printed texts of answers.
+//!
+//! `specs/Texts` says what is printed, line by line; `text` writes just that, into one buffer. Each
+//! kind of line has one writer.
+#![tactic(auto)]
+
+mod address;
+mod answer;
+mod line;
+mod rows;
+
+pub use answer::{Answer, text};
+
+#[cfg(test)]
+mod tests;

@@ -1,0 +1,186 @@
+use super::*;
+use htl_event::{Count, Event, Kind, Stack};
+use htl_symbols::Symbols;
+use std::alloc::Global;
+use std::test::Fail;
+
+fn stack(frames: &[u64]) -> Stack {
+    let mut stack = Stack::new();
+    for frame in frames {
+        let _room = stack.push(*frame);
+    }
+    stack
+}
+
+fn event(kind: Kind, sequence: u64, handle: u32, frames: &[u64]) -> Event {
+    Event {
+        sequence,
+        kind,
+        process: 4,
+        thread: 12,
+        handle,
+        object: 0,
+        tag: [0; 4],
+        stack: stack(frames),
+    }
+}
+
+fn count(plus: u64, minus: u64) -> Count {
+    Count { plus, minus }
+}
+
+fn outstanding(alloc: Global) -> Result<(Answer, &'static str), Fail> {
+    let mut rows = Vec::new(alloc);
+    rows.push(event(Kind::Opened, 1, 0x46, &[]))?;
+    rows.push(event(Kind::Opened, 3, 0x48, &[0x1010, 0x2000]))?;
+    Ok((
+        Answer::Outstanding { process: 4, rows },
+        "outstanding process=4 count=2
+OPEN handle=0x44 seq=1 thread=12
+OPEN handle=0x48 seq=3 thread=12
+  0x0000000000001010
+  0x0000000000002000
+",
+    ))
+}
+
+fn diff(alloc: Global) -> Result<(Answer, &'static str), Fail> {
+    let mut rows = Vec::new(alloc);
+    rows.push(event(Kind::Opened, 13, 0x14, &[]))?;
+    rows.push(event(Kind::Opened, 12, 0x18, &[]))?;
+    Ok((
+        Answer::Diff {
+            process: 4,
+            since: 10,
+            rows,
+        },
+        "diff process=4 since=10 count=2
+OPEN handle=0x14 seq=13 thread=12
+OPEN handle=0x18 seq=12 thread=12
+",
+    ))
+}
+
+fn tags(alloc: Global) -> Result<(Answer, &'static str), Fail> {
+    let mut rows = Vec::new(alloc);
+    rows.push(([1, 0x41, 0x42, 0x43], count(0, 1)))?;
+    rows.push((*b"Dflt", count(1, 1)))?;
+    rows.push((*b"Lky8", count(2, 1)))?;
+    Ok((
+        Answer::Tags {
+            object: 0xffff_a000_0000_1000,
+            rows,
+        },
+        "tags object=0xffffa00000001000 count=3
+TAG .ABC refs=0 derefs=1 under=1
+TAG Dflt refs=1 derefs=1 balanced
+TAG Lky8 refs=2 derefs=1 over=1
+",
+    ))
+}
+
+fn bad(alloc: Global) -> Result<(Answer, &'static str), Fail> {
+    let mut rows = Vec::new(alloc);
+    rows.push((0, stack(&[]), 1))?;
+    rows.push((7, stack(&[0x10]), 2))?;
+    Ok((
+        Answer::Bad { process: 4, rows },
+        "bad process=4 count=2
+BAD REF handle=0x0 times=1
+BAD REF handle=0x7 times=2
+  0x0000000000000010
+",
+    ))
+}
+
+fn leaks(alloc: Global) -> Result<(Answer, &'static str), Fail> {
+    let mut rows = Vec::new(alloc);
+    rows.push((stack(&[0x60]), 2))?;
+    rows.push((stack(&[0x50, 0x20]), 1))?;
+    rows.push((stack(&[0x30, 0x40]), 1))?;
+    Ok((
+        Answer::Leaks { process: 4, rows },
+        "leaks process=4 count=3
+LEAK handles=2
+  0x0000000000000060
+LEAK handles=1
+  0x0000000000000050
+  0x0000000000000020
+LEAK handles=1
+  0x0000000000000030
+  0x0000000000000040
+",
+    ))
+}
+
+fn stacks(alloc: Global) -> Result<(Answer, &'static str), Fail> {
+    let mut rows = Vec::new(alloc);
+    rows.push((stack(&[]), count(0, 1)))?;
+    rows.push((stack(&[0x30, 0x20, 0x10]), count(1, 0)))?;
+    rows.push((stack(&[0x40, 0x20, 0x10]), count(1, 0)))?;
+    Ok((
+        Answer::Stacks {
+            object: 0x1000,
+            tag: *b"Lky8",
+            rows,
+        },
+        "stacks object=0x0000000000001000 tag=Lky8 count=3
+STACK refs=0 derefs=1
+STACK refs=1 derefs=0
+  0x0000000000000030
+  0x0000000000000020
+  0x0000000000000010
+STACK refs=1 derefs=0
+  0x0000000000000040
+  0x0000000000000020
+  0x0000000000000010
+",
+    ))
+}
+
+/// A listing has events of the first three kinds alone; the others print by the kind's word.
+fn trace(alloc: Global) -> Result<(Answer, &'static str), Fail> {
+    let mut rows = Vec::new(alloc);
+    rows.push(event(Kind::Closed, 3, 0x46, &[]))?;
+    rows.push(event(Kind::BadRef, 2, 0x45, &[]))?;
+    rows.push(event(Kind::Opened, 1, 0x44, &[0x10]))?;
+    rows.push(event(Kind::Snapshot, 7, 0, &[]))?;
+    rows.push(event(Kind::Ref, 6, 0, &[]))?;
+    rows.push(event(Kind::Deref, 5, 0, &[]))?;
+    rows.push(event(Kind::Exited, 4, 0, &[]))?;
+    Ok((
+        Answer::Trace {
+            process: 4,
+            handle: 0x45,
+            rows,
+        },
+        "trace process=4 handle=0x44 count=7
+CLOSE handle=0x46 seq=3 thread=12
+BAD REF handle=0x45 seq=2 thread=12
+OPEN handle=0x44 seq=1 thread=12
+  0x0000000000000010
+SNAPSHOT handle=0x0 seq=7 thread=12
+REF handle=0x0 seq=6 thread=12
+DEREF handle=0x0 seq=5 thread=12
+EXIT handle=0x0 seq=4 thread=12
+",
+    ))
+}
+
+#[test]
+fn texts_of_answers(rt: HostRuntime) -> Result<(), Fail> {
+    let symbols = Symbols::none(rt.alloc());
+    for (answer, wanted) in [
+        outstanding(rt.alloc())?,
+        diff(rt.alloc())?,
+        tags(rt.alloc())?,
+        bad(rt.alloc())?,
+        leaks(rt.alloc())?,
+        stacks(rt.alloc())?,
+        trace(rt.alloc())?,
+    ] {
+        let bytes = text(rt.alloc(), &answer, &symbols)?;
+        assert_eq!(rt; bytes.as_slice(), wanted.as_bytes(), "instead of {wanted}");
+    }
+    Ok(())
+}

@@ -1,0 +1,11 @@
+use Rattle.std.proofs.Common.{◌≡◌, ◌<◌, ◌≤◌, length, false}
+use Rattle.std.specs.Io.KnownBytes.{Consumes}
+use Rattle.htl_device.proofs.whole.read_within.Given as goal
+
+abbrev pub invariant-loop-read : goal.invariant-loop-read
+invariant-loop-read g l = record {
+  given : Consumes (g.R.Source.remaining l.initial.source) (g.R.Source.remaining l.source) l.bytes.items;
+  fine : g.R.Source.has_failed l.source ≡ false;
+  each : l._read ≤ length l.bytes.items;
+  room : 0 < length l.buffer;
+}

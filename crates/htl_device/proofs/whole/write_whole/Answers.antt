@@ -1,0 +1,14 @@
+use Rattle.std.proofs.Common.{arith, ◌≡◌, ◌-◌, drop, length, take}
+use Rattle.std.proofs.lemmas.Grind.{common_steps}
+use Rattle.htl_device.proofs.KnownBytes.{appends-more}
+use Rattle.htl_device.proofs.whole.write_whole.Goals as goal
+
+pub loop-sent-preserved : goal.loop-sent-preserved
+loop-sent-preserved g c =
+    let whole : take (length c.args.text.now - c.loop-sent.sent) (drop c.loop-sent.sent c.args.text.now) ≡ drop c.loop-sent.sent c.args.text.now = grind (arith, common_steps) in
+    record {
+      within = grind (arith, common_steps);
+      went = appends-more (g.W.Sink.contents c.args.out.now) (g.W.Sink.contents c.loop-sent.out) (g.W.Sink.contents c.write.new.self) c.args.text.now c.loop-sent.sent c.in_ok-taken.taken
+          c.loop-sent.invariant.went (rw whole at c.in_ok-taken.ensures.bytes);
+      fine = grind (arith, common_steps);
+    }

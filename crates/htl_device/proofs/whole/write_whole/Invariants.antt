@@ -1,0 +1,13 @@
+use Rattle.std.proofs.Common.{◌≡◌, ◌≤◌, ◌-◌, length, take, false}
+use Rattle.std.specs.Io.KnownBytes.{Appends}
+use Rattle.htl_device.proofs.whole.write_whole.Given as goal
+
+abbrev pub invariant-loop-sent : goal.invariant-loop-sent
+invariant-loop-sent g l = record {
+  within : l.sent ≤ length l.text;
+  went : Appends (g.W.Sink.contents l.initial.out) (g.W.Sink.contents l.out) (take l.sent l.text);
+  fine : g.W.Sink.has_failed l.out ≡ false;
+}
+
+abbrev pub decreases-loop-sent : goal.decreases-loop-sent
+decreases-loop-sent g l = length l.text - l.sent

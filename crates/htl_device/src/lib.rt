@@ -1,0 +1,20 @@
+//! Sources and sinks of bytes, which tell whether they have failed.
+//!
+//! A contract can't say what a file or a pipe gives or takes. So the run is written over the traits
+//! `Source` and `Sink`, whose clauses speak of the bytes where the device tells them, as one over memory
+//! does, and else of failures alone. `Reading` and `Writing` make a source and a sink of std's.
+#![tactic(auto)]
+
+mod sink;
+mod source;
+#[cfg(test)]
+mod tests;
+mod whole;
+
+/// A read or a write failed.
+#[derive(Clone, Copy, Debug, PartialEq, Eq)]
+pub struct Failed;
+
+pub use sink::{Sink, Writing};
+pub use source::{Reading, Source};
+pub use whole::{MOST_READS, ReadFault, read_whole, write_whole};

@@ -1,0 +1,70 @@
+ghost use Rattle.std.specs.Prelude.{◌≡◌, ◌≤◌, ◌||◌, ℕ, Bool, List, Option, None, false, length, IfOk};
+ghost use Rattle.std.specs.Io.KnownBytes.{WriteAppends};
+ghost use Rattle.htl_device.specs.Devices.{write_fails};
+
+use crate::Failed;
+use std::io::Write;
+
+/// A place that takes bytes one after the other.
+pub trait Sink {
+    // The bytes that the sink holds, where they are known.
+    ghost contents: { Self → Option (List ℕ) } = { λ _. None };
+
+    // Whether a write has failed, or took none of some bytes.
+    ghost has_failed: { Self → Bool };
+
+    /// Whether a write has failed, or took none of some bytes. It stays so.
+    fn failed(&self) -> bool
+        ensures { result ≡ has_failed self.now };
+
+    /// Takes some of the bytes from their front, and says how many.
+    fn write(&mut self, bytes: &[u8]) -> Result<usize, Failed>
+        ensures bound { IfOk result (λ n. n ≤ length bytes.now) }
+        ensures bytes { WriteAppends (contents self.old) (contents self.new) result bytes.now }
+        ensures fails { has_failed self.new ≡ (has_failed self.old || write_fails result bytes.now) };
+}
+
+/// A writer of std as a sink.
+#[derive(Drop)]
+pub struct Writing<W> {
+    writer: W,
+    failed: bool,
+}
+
+impl<W: Write> Writing<W> {
+    /// A sink that has not failed and holds what the writer holds.
+    pub fn new(writer: W) -> Writing<W>
+        ensures fresh { ⟦<Writing<W> as Sink>⟧.has_failed result ≡ false }
+        ensures bytes { ⟦<Writing<W> as Sink>⟧.contents result ≡ W.contents writer }
+    {
+        Writing {
+            writer,
+            failed: false,
+        }
+    }
+}
+
+impl<W: Write> Sink for Writing<W> {
+    ghost contents = { λ s. W.contents s.writer };
+
+    ghost has_failed = { λ s. s.failed };
+
+    fn failed(&self) -> bool {
+        self.failed
+    }
+
+    fn write(&mut self, bytes: &[u8]) -> Result<usize, Failed> {
+        match self.writer.write(bytes) {
+            Ok(count) => {
+                if count == 0 && !bytes.is_empty() {
+                    self.failed = true;
+                }
+                Ok(count)
+            }
+            Err(_) => {
+                self.failed = true;
+                Err(Failed)
+            }
+        }
+    }
+}

@@ -1,2 +1,3 @@
 pub mod Versions
 pub mod Content
+pub mod Hexadecimal

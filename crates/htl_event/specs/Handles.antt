@@ -1,6 +1,6 @@
 -- Which handles of a process are outstanding, over a set of events given by membership. The set of a
 -- list is `Contains events`.
-use Rattle.std.specs.Prelude.{◌≡◌, ◌≢◌, ℕ, ◌<◌, ◌≤◌, List, [], ◌∷◌, Option, MatchOption, ◌⊎◌}
+use Rattle.std.specs.Prelude.{◌≡◌, ◌≢◌, ℕ, ◌<◌, ◌≤◌, nat_lt, if◌then◌else◌, List, [], ◌∷◌, Option, Some, None, MatchOption, ◌⊎◌}
 use Rattle.std.specs.List.{AllByRecursion}
 use Rattle.htl_event.specs.declared.event.Event.{Event}
 use Rattle.htl_event.specs.declared.kind.Kind.TheVariants.{Opened, Closed, BadRef, Snapshot, Exited}
@@ -24,6 +24,12 @@ pub record IsLatest (among : Event → Type 0) (process base : ℕ) (e : Event) 
 abbrev pub LatestIs : (Event → Type 0) → ℕ → ℕ → Option Event → Type 0
 LatestIs among process base o =
     MatchOption o ((x : Event) → among x → Concerns process base x → ⊥) (IsLatest among process base)
+
+-- the later of two, the first where they came at once
+abbrev pub later : Option Event → Option Event → Option Event
+later None b = b
+later (Some x) None = Some x
+later (Some x) (Some y) = if nat_lt x.sequence y.sequence then Some y else Some x
 
 -- Greatest sequence: that of the events of the set, 0 where there are none.
 pub record IsGreatestSequence (among : Event → Type 0) (n : ℕ) : Type 0 where

@@ -4,3 +4,4 @@ pub mod Ranges
 pub mod Members
 pub mod Handles
 pub mod Tallies
+pub mod Laws

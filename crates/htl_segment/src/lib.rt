@@ -2,11 +2,17 @@
 #![tactic(auto)]
 
 mod fault;
+mod fields;
+mod header;
 mod hexadecimal;
+mod record;
 mod segment;
+mod segment_bytes;
 mod version;
 
 pub use fault::Fault;
 pub use hexadecimal::{HexFault, from_hex};
+pub use record::Record;
 pub use segment::Segment;
+pub use segment_bytes::SegmentBytes;
 pub use version::{Limits, Version};

@@ -35,6 +35,18 @@ const V2_LIMITS: Limits = Limits {
 impl Version {
     ghost use Rattle.std.specs.Prelude.{◌≡◌};
     ghost use Rattle.htl_segment.specs.Versions.{version_number, limits_of};
+    ghost use Rattle.htl_segment.specs.Reading.{version_of};
+
+    /// The version whose headers have this number.
+    pub fn from_number(number: u16) -> Option<Version>
+        ensures { result ≡ version_of number }
+    {
+        match number {
+            1 => Some(Version::V1),
+            2 => Some(Version::V2),
+            _ => None,
+        }
+    }
 
     /// The number that a header has.
     pub fn number(self) -> u16

@@ -1,0 +1,8 @@
+pub mod Bytes
+pub mod Frames
+pub mod Tests
+pub mod RecordLaws
+pub mod HeaderLaws
+pub mod SegmentLaws
+pub mod RecordsLoop
+pub mod Traces

@@ -1,0 +1,237 @@
+-- Bytes without a fault begin with the spelling of what they say, and a spelling is read as its segment.
+use Rattle.std.proofs.Common.{◌≡◌, ℕ, zero, suc, ◌+◌, ◌-◌, ◌*◌, ◌<◌, ◌≤◌, true, false, cond, eqb, nat_lt, List, [], ◌∷◌, ◌++◌, length, take, drop, Some, None, refl, sym, ap, ◌∙◌, append_assoc, arith}
+use Rattle.std.proofs.Math.Nat.{mul-le-mul_left}
+use Rattle.std.proofs.Math.Seq.{take-add}
+use Rattle.std.proofs.lemmas.Bool.{ltb-false, le-ltb, lt-ltb, eqb-true}
+use Rattle.std.proofs.lemmas.List.{length-append, length-take, length-drop, take_all, take_at, drop_at, append-nil, nil_from_length}
+use Rattle.htl_event.specs.declared.event.Event.{Event}
+use Rattle.htl_segment.specs.declared.version.Version.{Version}
+use Rattle.htl_segment.specs.declared.version.Version.TheVariants.{V1, V2}
+use Rattle.htl_segment.specs.declared.fault.Fault.{Fault}
+use Rattle.htl_segment.specs.declared.fault.Fault.TheVariants as faults
+use Rattle.htl_segment.specs.Versions.{limits_of}
+use Rattle.htl_segment.specs.Numbers.{number}
+use Rattle.htl_segment.specs.Content.{Content, EventFits, EventsFit, Fits}
+use Rattle.htl_segment.specs.Spelling.{event_bytes, records, header_bytes, spelling, Spells}
+use Rattle.htl_segment.specs.Reading.{event_in, after_record, events_in, version_in, length_in, body_in, content_in}
+use Rattle.htl_segment.specs.Faults.{header_fault, record_fault, records_fault, first_fault}
+use Rattle.htl_segment.specs.Records.{HasRecords, IsSegment}
+use Rattle.htl_segment.proofs.Bytes.{IsBytes, IsBytes-drop, IsBytes-take, number-lt, length-bytes_of, length-frames}
+use Rattle.htl_segment.proofs.Tests.{passed, ended, both_passed}
+use Rattle.htl_segment.proofs.RecordLaws.{record_read, record_again}
+use Rattle.htl_segment.proofs.HeaderLaws as header
+
+-- ---- records
+
+-- what this many records are
+pub record RecordsRead (v : Version) (last n : ℕ) (b : List ℕ) : Type 0 where
+  pub parts : b ≡ records (events_in n b)
+  pub count : length (events_in n b) ≡ n
+  pub fits : EventsFit v last (events_in n b)
+  pub whole : HasRecords n b
+
+sequence-event_in : (b : List ℕ) → (event_in b).sequence ≡ number 0 8 b
+unfolding event_in
+sequence-event_in b = refl
+
+pub records_read : (v : Version) (n i last : ℕ) (b : List ℕ) → IsBytes b → records_fault v n i last b ≡ None → RecordsRead v last n b
+unfolding records_fault events_in
+records_read v zero i last b small none =
+    let nothing : b ≡ [] = nil_from_length b (eqb-true _ _ (ended (eqb (length b) 0) faults.Excess none)) in
+    record { parts = nothing; count = refl; fits = tt; whole = tt }
+records_read v (suc n) i last b small none =
+    let parts = both_passed (record_fault v i last b) (records_fault v n (i + 1) (number 0 8 b) (after_record b)) none in
+    let first = record_read v i last b small parts.0 in
+    let others = records_read v n (i + 1) (number 0 8 b) (after_record b) (IsBytes-drop _ b small) parts.1 in
+    let last_is : EventsFit v (event_in b).sequence (events_in n (after_record b)) = rw (sequence-event_in b) others.fits in
+    record {
+      parts = first.parts ∙ ap (λ (r : List ℕ). event_bytes (event_in b) ++ r) others.parts;
+      count = ap suc others.count;
+      fits = (first.fits, rw (sequence-event_in b) first.above, last_is);
+      whole = (first.whole, others.whole);
+    }
+
+-- what the spelling of events is read as
+record RecordsAgain (v : Version) (i last : ℕ) (es : List Event) : Type 0 where
+  no_fault : records_fault v (length es) i last (records es) ≡ None
+  events : events_in (length es) (records es) ≡ es
+
+records_again : (v : Version) (es : List Event) (i last : ℕ) → EventsFit v last es → RecordsAgain v i last es
+unfolding records_fault events_in
+records_again v [] i last fits = record { no_fault = refl; events = refl }
+records_again v (e ∷ es) i last fits =
+    let first = record_again v i last e (records es) fits.0 fits.1 in
+    let others = records_again v es (i + 1) e.sequence fits.2 in
+    record {
+      no_fault = rw (first.no_fault, first.sequence, first.others) others.no_fault;
+      events = rw (first.event, first.others, others.events) refl;
+    }
+
+-- ---- lengths
+
+length-event_bytes : (v : Version) (e : Event) → EventFits v e → length (event_bytes e) ≤ 36 + 8 * (limits_of v).frames
+unfolding event_bytes
+length-event_bytes v e fits =
+    simp (length-append, length-bytes_of) (omega (arith, fits.in_range.tag_len, fits.depth, length-frames e.stack))
+
+length-records : (v : Version) (es : List Event) (last : ℕ) → EventsFit v last es → length (records es) ≤ (36 + 8 * (limits_of v).frames) * length es
+length-records v [] last fits = omega arith
+length-records v (e ∷ es) last fits =
+    let first = length-event_bytes v e fits.0 in
+    let others = length-records v es e.sequence fits.2 in
+    grind (arith, length-append (event_bytes e) (records es))
+
+-- the greatest length holds a header and the most records with all their frames
+limits_hold : (v : Version) → 32 + (36 + 8 * (limits_of v).frames) * 4096 ≡ (limits_of v).len
+limits_hold V1 = refl
+limits_hold V2 = refl
+
+pub header_fits : (s : Content) → Fits s → header.HeaderFits s (length (records s.events))
+header_fits s fits =
+    let bound = length-records s.version s.events 0 fits.events in
+    let most = mul-le-mul_left (36 + 8 * (limits_of s.version).frames) fits.count in
+    record {
+      trace_id = fits.trace_id;
+      processors = fits.processors;
+      processor = fits.processor;
+      number = fits.number;
+      count = fits.count;
+      len = omega (arith, bound, most, limits_hold s.version);
+    }
+
+-- ---- a whole segment
+
+-- what the segment at the front is
+pub record SegmentRead (b : List ℕ) : Type 0 where
+  pub long : 32 ≤ length b
+  pub whole : (32 ≤ length_in b) × (length_in b ≤ length b)
+  pub spells : Spells (take (length_in b) b) (content_in b)
+  pub has_records : HasRecords (number 24 4 b) (body_in b)
+
+-- the front of the bytes is the header and the records
+front : (b head : List ℕ) (len : ℕ) → 32 ≤ len → length head ≡ 32 → b ≡ head ++ drop 32 b → take len b ≡ head ++ take (len - 32) (drop 32 b)
+front b head len low size parts =
+    let split : take len b ≡ take 32 b ++ take (len - 32) (drop 32 b) = (let k : len ≡ 32 + (len - 32) = omega arith in ap (λ (m : ℕ). take m b) k ∙ take-add 32 (len - 32) b) in
+    let first : take 32 b ≡ head = ap (take 32) parts ∙ take_at head (drop 32 b) 32 size in
+    split ∙ ap (λ (x : List ℕ). x ++ take (len - 32) (drop 32 b)) first
+
+pub segment_read : (b : List ℕ) → IsBytes b → first_fault b ≡ None → SegmentRead b
+unfolding first_fault content_in
+segment_read b small none =
+    let t = both_passed (header_fault b) (cond (nat_lt (length b) (length_in b)) (Some faults.Cut) (records_fault (version_in b) (number 24 4 b) 0 0 (body_in b))) none in
+    let k = header.keeps_from_none b t.0 in
+    let cut = passed (nat_lt (length b) (length_in b)) faults.Cut (records_fault (version_in b) (number 24 4 b) 0 0 (body_in b)) t.1 in
+    let whole : length_in b ≤ length b = ltb-false _ _ cut.0 in
+    let body = body_in b in
+    let read = records_read (version_in b) (number 24 4 b) 0 0 body (IsBytes-take (length_in b - 32) (drop 32 b) (IsBytes-drop 32 b small)) cut.1 in
+    let s = content_in b in
+    let size : length_in b ≡ 32 + length (records s.events) = omega (arith, ap length read.parts, length-take (length_in b - 32) (drop 32 b), length-drop 32 b, k.len, whole) in
+    let held : header.Holds b s (length (records s.events)) = record {
+      long = k.long;
+      magic = k.magic;
+      version = header.version_from_keeps b k;
+      processors = refl;
+      processor = refl;
+      reserved = k.reserved;
+      number_is = refl;
+      trace_id = refl;
+      count = sym read.count;
+      len = size;
+    } in
+    let parts = header.header_from_holds b s (length (records s.events)) small held in
+    record {
+      long = k.long;
+      whole = (k.len.0, whole);
+      spells = record {
+        bytes = front b (header_bytes s (length (records s.events))) (length_in b) k.len.0 (header.length-header_bytes s (length (records s.events))) parts
+            ∙ ap (λ (x : List ℕ). header_bytes s (length (records s.events)) ++ x) read.parts;
+        fits = record {
+          trace_id = number-lt 16 8 b small;
+          processors = k.processors;
+          processor = k.processor;
+          number = k.number_is;
+          count = omega (arith, read.count, k.count);
+          events = read.fits;
+        };
+      };
+      has_records = read.whole;
+    }
+
+-- what a spelling is read as, whatever follows it
+pub record SegmentAgain (b : List ℕ) (s : Content) : Type 0 where
+  pub no_fault : first_fault b ≡ None
+  pub content : content_in b ≡ s
+  pub len : length_in b ≡ length (spelling s)
+
+pub segment_again : (s : Content) (more : List ℕ) → Fits s → SegmentAgain (spelling s ++ more) s
+unfolding first_fault content_in
+segment_again s more fits =
+    let body = records s.events in
+    let size = length body in
+    let head = header_bytes s size in
+    let b = spelling s ++ more in
+    let regrouped : b ≡ head ++ (body ++ more) = append_assoc head body more in
+    let head_fits = header_fits s fits in
+    let there = header.holds s size (body ++ more) head_fits in
+    let held : header.Holds b s size = rw regrouped there in
+    let head_len = header.length-header_bytes s size in
+    let total : length (spelling s) ≡ 32 + size = omega (arith, length-append head body, head_len) in
+    let whole : nat_lt (length b) (length_in b) ≡ false = le-ltb (length b) (length_in b) (omega (arith, total, length-append (spelling s) more, held.len)) in
+    let rest_is : drop 32 b ≡ body ++ more = ap (drop 32) regrouped ∙ drop_at head (body ++ more) 32 head_len in
+    let body_len : length_in b - 32 ≡ size = omega (arith, held.len) in
+    let body_is : body_in b ≡ body = rw (body_len, rest_is) (take_at body more size refl) in
+    let version = header.version_in-holds b s size held in
+    let again = records_again s.version s.events 0 0 fits.events in
+    record {
+      no_fault = rw (header.none_from_holds b s size held head_fits, whole, version, held.count, body_is) again.no_fault;
+      content = rw (version, held.trace_id, held.processors, held.processor, held.number_is, held.count, body_is, again.events) refl;
+      len = held.len ∙ sym total;
+    }
+
+-- ---- the steps of reading
+
+pub first_fault-header : (b : List ℕ) (fault : Fault) → header_fault b ≡ Some fault → first_fault b ≡ Some fault
+unfolding first_fault
+first_fault-header b fault some = rw some refl
+
+pub first_fault-cut : (b : List ℕ) → header_fault b ≡ None → length b < length_in b → first_fault b ≡ Some faults.Cut
+unfolding first_fault
+first_fault-cut b none cut = let t : nat_lt (length b) (length_in b) ≡ true = lt-ltb _ _ cut in rw (none, t) refl
+
+pub first_fault-records : (b : List ℕ) → header_fault b ≡ None → length_in b ≤ length b
+    → first_fault b ≡ records_fault (version_in b) (number 24 4 b) 0 0 (body_in b)
+unfolding first_fault
+first_fault-records b none whole =
+    let t : nat_lt (length b) (length_in b) ≡ false = le-ltb _ _ whole in
+    rw (none, t) refl
+
+-- ---- the bytes of one segment
+
+pub spelled_again : (b more : List ℕ) (s : Content) → Spells b s → SegmentAgain (b ++ more) s
+spelled_again b more s spells = rw spells.bytes (segment_again s more spells.fits)
+
+pub is_segment : (b : List ℕ) (s : Content) → IsBytes b → Spells b s → IsSegment b
+is_segment b s small spells =
+    let again : SegmentAgain b s = rw append-nil at (spelled_again b [] s spells) in
+    let read = segment_read b small again.no_fault in
+    let len : length_in b ≡ length b = again.len ∙ sym (ap length spells.bytes) in
+    let body : body_in b ≡ drop 32 b = take_all (length_in b - 32) (drop 32 b) (omega (arith, length-drop 32 b)) in
+    record {
+      long = read.long;
+      spells = rw again.content spells;
+      body = body;
+      has_records = rw (← body) read.has_records;
+    }
+
+-- the bytes of the segment at the front, cut off where they end
+pub found_cut : (b : List ℕ) (n : ℕ) → IsBytes b → n ≡ length_in b → first_fault b ≡ None → Spells (take (length (spelling (content_in (take n b)))) b) (content_in (take n b))
+found_cut b n small at none =
+    let read = segment_read b small none in
+    let spells : Spells (take n b) (content_in b) = rw at read.spells in
+    let again : SegmentAgain (take n b) (content_in b) = rw append-nil at (spelled_again (take n b) [] (content_in b) spells) in
+    let len : length (spelling (content_in b)) ≡ n = omega (arith, ap length spells.bytes, length-take n b, at, read.whole) in
+    rw (again.content, len) spells
+
+pub is_segment_cut : (b : List ℕ) (n : ℕ) → IsBytes b → n ≡ length_in b → first_fault b ≡ None → IsSegment (take n b)
+is_segment_cut b n small at none =
+    is_segment (take n b) (content_in b) (IsBytes-take n b small) (rw at (segment_read b small none).spells)

@@ -1,0 +1,11 @@
+pub mod Versions
+pub mod Content
+pub mod Numbers
+pub mod Spelling
+pub mod Reading
+pub mod Faults
+pub mod Records
+pub mod Hexadecimal
+pub mod Keys
+pub mod Traces
+pub mod TraceLaws

@@ -1,0 +1,108 @@
+ghost use Rattle.std.specs.Prelude.{◌≡◌, ◌%◌, length, position, Ok, Err, Some, None, MatchResult};
+ghost use Rattle.std.specs.List.{AllPass};
+ghost use Rattle.hex.specs.Hex.{decode_of, is_hex_digit};
+ghost use Rattle.htl_segment.specs.Hexadecimal.{is_foreign, digits_of, hex_fault};
+ghost use Rattle.htl_segment.specs.declared.hexadecimal.HexFault.TheVariants.{NoMemory};
+
+use hex::FromHexError;
+use std::alloc::{AllocError, AllocFailed, Global};
+use thiserror::Error;
+
+/// Why a text is no bytes in hexadecimal. The text is the fault's code.
+#[derive(Clone, Copy, Debug, PartialEq, Eq, Error)]
+pub enum HexFault {
+    /// The first byte, at this place of the text, that is neither a digit nor a blank.
+    #[error("H1({0})")]
+    BadDigit(u64),
+    /// An odd number of digits.
+    #[error("H2")]
+    Odd,
+    /// Memory for a growth was refused.
+    #[error("H3")]
+    NoMemory,
+}
+
+impl From<AllocError> for HexFault {
+    ghost from_gives = { λ _ fault. fault ≡ NoMemory };
+
+    fn from(_refused: AllocError) -> HexFault {
+        HexFault::NoMemory
+    }
+}
+
+impl<T: Drop> From<AllocFailed<T>> for HexFault {
+    ghost from_gives = { λ _ fault. fault ≡ NoMemory };
+
+    fn from(_refused: AllocFailed<T>) -> HexFault {
+        HexFault::NoMemory
+    }
+}
+
+/// The bytes that a text's hexadecimal digits write, two digits of either case for each. Spaces,
+/// carriage returns and line feeds are ignored wherever they stand.
+pub fn from_hex(alloc: Global, text: &[u8]) -> Result<Vec<u8>, HexFault>
+    ensures refused { (fault : HexFault) → hex_fault text.now ≡ Some fault → result ≡ Err fault }
+    ensures read { hex_fault text.now ≡ None → MatchResult result
+        (λ bytes. decode_of (digits_of text.now) ≡ Ok bytes.items)
+        (λ fault. fault ≡ HexFault.NoMemory) }
+{
+    if let Some(place) = first_foreign(text) {
+        return Err(HexFault::BadDigit(place as u64));
+    }
+    let count = digit_count(text);
+    if count % 2 == 1 {
+        return Err(HexFault::Odd);
+    }
+    let digits = gather_digits(alloc, text, count)?;
+    decode_digits(alloc, digits)
+}
+
+fn is_digit(byte: u8) -> bool
+    ensures { result ≡ is_hex_digit byte }
+{
+    byte.is_ascii_hexdigit()
+}
+
+fn first_foreign(text: &[u8]) -> Option<usize>
+    ensures { result ≡ position is_foreign text.now }
+{
+    text.iter().position(|byte| !(is_digit(*byte)
+        || *byte == b' '
+        || *byte == b'\r'
+        || *byte == b'\n'))
+}
+
+fn digit_count(text: &[u8]) -> usize
+    ensures { result ≡ length (digits_of text.now) }
+{
+    text.iter().filter(|byte| is_digit(**byte)).count()
+}
+
+/// The digits without the blanks, of which there are `count`.
+fn gather_digits(alloc: Global, text: &[u8], count: usize) -> Result<Vec<u8>, HexFault>
+    ensures { MatchResult result (λ digits. digits.items ≡ digits_of text.now) (λ fault. fault ≡ HexFault.NoMemory) }
+{
+    let mut digits = Vec::with_capacity(alloc, count)?;
+    for byte in text {
+        if is_digit(*byte) {
+            digits.push(*byte)?;
+        }
+    }
+    Ok(digits)
+}
+
+fn decode_digits(alloc: Global, digits: Vec<u8>) -> Result<Vec<u8>, HexFault>
+    requires even { length digits.items % 2 ≡ 0 }
+    requires digits { AllPass is_hex_digit digits.items }
+    ensures { MatchResult result
+        (λ bytes. decode_of digits.items ≡ Ok bytes.items)
+        (λ fault. fault ≡ HexFault.NoMemory) }
+{
+    match hex::decode(alloc, digits) {
+        Ok(bytes) => Ok(bytes),
+        Err(error) => match error {
+            FromHexError::OutOfMemory => Err(HexFault::NoMemory),
+            _ => unreachable!(),
+        },
+    }
+}

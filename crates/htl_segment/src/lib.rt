@@ -1,0 +1,22 @@
+//! Segments of a trace as bytes, in the format HLS1.
+#![tactic(auto)]
+
+mod fault;
+mod fields;
+mod header;
+mod hexadecimal;
+mod record;
+mod segment;
+mod segment_bytes;
+mod trace_laws;
+mod version;
+
+pub use fault::Fault;
+pub use hexadecimal::{HexFault, from_hex};
+pub use record::Record;
+pub use segment::Segment;
+pub use segment_bytes::SegmentBytes;
+pub use trace_laws::{
+    apart_counts_add_up, later_of_both_sets, members_agree, runs_grow, sequences_stay_apart,
+};
+pub use version::{Limits, Version};

@@ -1,0 +1,149 @@
+//! One record: its rules, and its fields where they lie in the bytes.
+ghost use Rattle.std.specs.Prelude.{◌≡◌, ◌≤◌, ◌*◌, ◌/◌, length, None, Some, MatchResult};
+ghost use Rattle.htl_segment.specs.Numbers.{numbers};
+ghost use Rattle.htl_segment.specs.Content.{fields_fit};
+ghost use Rattle.htl_segment.specs.Reading.{kind_of};
+ghost use Rattle.htl_segment.specs.Faults.{record_fault};
+
+use crate::fault::Fault;
+use crate::fields::{u16_at, u32_at, u64_at};
+use crate::version::Version;
+use htl_event::{Event, Kind, MAX_FRAMES, Stack, base};
+
+/// The bytes of a record without its frames.
+pub const RECORD_LEN: usize = 36;
+
+/// An event in place: the fields of a record, and its frames in the bytes that it was read from.
+#[derive(Clone, Copy, Debug)]
+pub struct Record<'a> {
+    pub sequence: u64,
+    pub kind: Kind,
+    pub process: u32,
+    pub thread: u32,
+    /// The handle as written.
+    pub handle: u32,
+    pub object: u64,
+    /// The tag in display order.
+    pub tag: [u8; 4],
+    /// The addresses of the stack, eight bytes each, the innermost call first.
+    pub frames: &'a [u8],
+    ghost few: { length frames.now ≤ 8 * 64 },
+}
+
+impl<'a> Record<'a> {
+    ghost use Rattle.std.specs.Prelude.{◌≡◌, ◌*◌, length, None, Some, MatchResult};
+    ghost use Rattle.htl_segment.specs.Reading.{event_in, frames_in, after_record};
+    ghost use Rattle.htl_segment.specs.Records.{event_of, HasRecord};
+    ghost use Rattle.htl_segment.specs.Faults.{record_fault};
+
+    /// The record at the front of `bytes`, and what follows it.
+    #[tactic(auto, unfolding(crate::specs::Reading::event_in))]
+    pub(crate) fn split(bytes: &'a [u8]) -> (Record<'a>, &'a [u8])
+        requires { HasRecord bytes.now }
+        ensures event { event_of result.0 ≡ event_in bytes.now }
+        ensures rest { result.1.now ≡ after_record bytes.now }
+    {
+        let end = RECORD_LEN + 8 * bytes[9] as usize;
+        let mut tag = [0; 4];
+        tag.copy_from_slice(&bytes[32..36]);
+        let record = Record {
+            sequence: u64_at(bytes, 0),
+            kind: kind_of(bytes[8]),
+            process: u32_at(bytes, 12),
+            thread: u32_at(bytes, 16),
+            handle: u32_at(bytes, 20),
+            object: u64_at(bytes, 24),
+            tag,
+            frames: &bytes[RECORD_LEN..end],
+        };
+        (record, &bytes[end..])
+    }
+
+    /// The event that this record tells.
+    pub fn event(&self) -> Event
+        ensures { result ≡ event_of self.now }
+    {
+        Event {
+            sequence: self.sequence,
+            kind: self.kind,
+            process: self.process,
+            thread: self.thread,
+            handle: self.handle,
+            object: self.object,
+            tag: self.tag,
+            stack: stack_of(self.frames),
+        }
+    }
+}
+
+/// Tests the record at the front of `bytes`, which has this place in its segment and follows a record
+/// with the sequence `last`.
+#[tactic(auto, unfolding(crate::specs::Faults::record_fault))]
+pub fn check_record(version: Version, place: u64, last: u64, bytes: &[u8]) -> Result<(), Fault>
+    ensures { MatchResult result
+        (λ _. record_fault version place last bytes.now ≡ None)
+        (λ fault. record_fault version place last bytes.now ≡ Some fault) }
+{
+    if bytes.len() < RECORD_LEN {
+        return Err(Fault::RecordShort(place));
+    }
+    if u64_at(bytes, 0) <= last {
+        return Err(Fault::Sequence(place));
+    }
+    let limits = version.limits();
+    let code = bytes[8];
+    if code == 0 || code > limits.kinds {
+        return Err(Fault::Kind(place));
+    }
+    let frames = bytes[9];
+    if frames > limits.frames || bytes.len() - RECORD_LEN < 8 * frames as usize {
+        return Err(Fault::Frames(place));
+    }
+    let mut tag = [0; 4];
+    tag.copy_from_slice(&bytes[32..36]);
+    if u16_at(bytes, 10) != 0
+        || !fields_fit(kind_of(code), u32_at(bytes, 20), u64_at(bytes, 24), tag)
+    {
+        return Err(Fault::Field(place));
+    }
+    Ok(())
+}
+
+/// Whether handle, object and tag are as the kind asks.
+pub fn fields_fit(kind: Kind, handle: u32, object: u64, tag: [u8; 4]) -> bool
+    ensures { result ≡ fields_fit kind handle object tag }
+{
+    match kind {
+        Kind::Opened | Kind::Closed => base(handle) != 0 && object == 0 && tag == [0; 4],
+        Kind::BadRef => object == 0 && tag == [0; 4],
+        Kind::Snapshot | Kind::Exited => handle == 0 && object == 0 && tag == [0; 4],
+        Kind::Ref | Kind::Deref => handle == 0 && object != 0,
+    }
+}
+
+/// The kind of a code that `check_record` let through.
+fn kind_of(code: u8) -> Kind
+    ensures { result ≡ kind_of code }
+{
+    match code {
+        1 => Kind::Opened,
+        2 => Kind::Closed,
+        3 => Kind::BadRef,
+        4 => Kind::Snapshot,
+        5 => Kind::Ref,
+        6 => Kind::Deref,
+        _ => Kind::Exited,
+    }
+}
+
+/// The stack of these addresses, eight bytes each.
+fn stack_of(frames: &[u8]) -> Stack
+    requires { length frames.now ≤ 8 * MAX_FRAMES }
+    ensures { result ≡ numbers 0 (length frames.now / 8) frames.now }
+{
+    let mut stack = Stack::new();
+    for frame in 0..frames.len() / 8 {
+        stack.push(u64_at(frames, 8 * frame));
+    }
+    stack
+}

@@ -1,0 +1,94 @@
+use crate::version::Version;
+use htl_event::Event;
+use std::marker::Model;
+
+/// A run of events of one processor, in rising order of their sequences.
+#[derive(Debug, Drop)]
+pub struct Segment {
+    version: Version,
+    trace_id: u64,
+    processors: u16,
+    processor: u16,
+    number: u32,
+    events: Vec<Event>,
+}
+
+impl Model for Segment {
+    ghost use Rattle.htl_segment.specs.Content.{Content, content, Fits};
+
+    ghost Value = { Content };
+
+    ghost view = { λ s. content s.version s.trace_id s.processors s.processor s.number s.events.items };
+
+    ghost invariant = { λ s. Fits (content s.version s.trace_id s.processors s.processor s.number s.events.items) };
+}
+
+impl Segment {
+    ghost use Rattle.std.specs.Prelude.{◌≡◌, ◌<◌};
+    ghost use Rattle.htl_segment.specs.Content.{content, Fits};
+    ghost use Rattle.htl_segment.specs.Versions.{version_number};
+
+    pub(crate) fn new(
+        version: Version,
+        trace_id: u64,
+        processors: u16,
+        processor: u16,
+        number: u32,
+        events: Vec<Event>,
+    ) -> Segment
+        requires { Fits (content version trace_id processors processor number events.items) }
+        ensures { result ≡ content version trace_id processors processor number events.items }
+    {
+        Segment {
+            version,
+            trace_id,
+            processors,
+            processor,
+            number,
+            events,
+        }
+    }
+
+    /// The version of the format that spells this segment: 1 or 2.
+    pub fn version(&self) -> u16
+        ensures { result ≡ version_number self.now.version }
+    {
+        self.version.number()
+    }
+
+    pub fn trace_id(&self) -> u64
+        ensures { result ≡ self.now.trace_id }
+    {
+        self.trace_id
+    }
+
+    /// How many processors the trace has.
+    pub fn processors(&self) -> u16
+        ensures { result ≡ self.now.processors }
+    {
+        self.processors
+    }
+
+    /// The processor that wrote this segment.
+    pub fn processor(&self) -> u16
+        ensures value { result ≡ self.now.processor }
+        ensures below { result < self.now.processors }
+    {
+        self.processor
+    }
+
+    /// The place of this segment among those of its processor.
+    pub fn number(&self) -> u32
+        ensures { result ≡ self.now.number }
+    {
+        self.number
+    }
+
+    pub fn events(&self) -> &[Event]
+        ensures value { result.now ≡ self.now.events }
+        // What every segment keeps, so that callers have it too.
+        ensures fits { Fits self.now }
+    {
+        self.events.as_slice()
+    }
+}

@@ -5,3 +5,4 @@ pub mod RecordLaws
 pub mod HeaderLaws
 pub mod SegmentLaws
 pub mod RecordsLoop
+pub mod EventsIn

@@ -5,4 +5,5 @@ pub mod RecordLaws
 pub mod HeaderLaws
 pub mod SegmentLaws
 pub mod RecordsLoop
+pub mod EventsIn
 pub mod Traces

@@ -3,7 +3,7 @@ use Rattle.std.proofs.Common.{◌≡◌, ℕ, zero, suc, ◌+◌, ◌-◌, ◌*�
 use Rattle.std.proofs.Math.Nat.{mul-le-mul_left}
 use Rattle.std.proofs.Math.Seq.{take-add}
 use Rattle.std.proofs.lemmas.Bool.{ltb-false, le-ltb, lt-ltb, eqb-true}
-use Rattle.std.proofs.lemmas.List.{length-append, length-take, length-drop, take_all, take_at, drop_at, append-nil, nil_from_length}
+use Rattle.std.proofs.lemmas.List.{length-append, length-take, length-drop, take_all, take_at, drop_at, append-nil, nil_from_length, take-append-drop}
 use Rattle.htl_event.specs.declared.event.Event.{Event}
 use Rattle.htl_segment.specs.declared.version.Version.{Version}
 use Rattle.htl_segment.specs.declared.version.Version.TheVariants.{V1, V2}
@@ -235,3 +235,22 @@ found_cut b n small at none =
 pub is_segment_cut : (b : List ℕ) (n : ℕ) → IsBytes b → n ≡ length_in b → first_fault b ≡ None → IsSegment (take n b)
 is_segment_cut b n small at none =
     is_segment (take n b) (content_in b) (IsBytes-take n b small) (rw at (segment_read b small none).spells)
+
+-- ---- one spelling
+
+-- no spelling begins another, and each is that of one segment
+pub one_spelling : (a b x y : List ℕ) (s t : Content) → Spells a s → Spells b t → a ++ x ≡ b ++ y → (a ≡ b) × (s ≡ t)
+one_spelling a b x y s t p q same =
+    let content : s ≡ t = sym (spelled_again a x s p).content ∙ ap content_in same ∙ (spelled_again b y t q).content in
+    (p.bytes ∙ ap spelling content ∙ sym q.bytes, content)
+
+-- what the first bytes spell, they begin with
+pub begins : (b : List ℕ) (n : ℕ) (s : Content) → Spells (take n b) s → SegmentAgain b s
+begins b n s spells = rw (take-append-drop n b) at (spelled_again (take n b) (drop n b) s spells)
+
+-- two spellings at the front of the same bytes are one
+pub same_front : (b : List ℕ) (n : ℕ) (s t : Content) → n ≤ length b → Spells (take (length (spelling s)) b) s → Spells (take n b) t → (length (spelling s) ≡ n) × (s ≡ t)
+same_front b n s t inside p q =
+    let m = length (spelling s) in
+    let both = one_spelling (take m b) (take n b) (drop m b) (drop n b) s t p q (take-append-drop m b ∙ sym (take-append-drop n b)) in
+    (omega (arith, length-take n b, ap length p.bytes, ap length both.0), both.1)

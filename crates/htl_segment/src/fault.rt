@@ -1,3 +1,7 @@
+ghost use Rattle.std.specs.Prelude.{◌≡◌};
+ghost use Rattle.htl_segment.specs.declared.fault.Fault.TheVariants as faults;
+
+use htl_event::NoMemory;
 use thiserror::Error;
 
 /// Why bytes are no segment: the first rule of the format that they break.
@@ -56,4 +60,12 @@ pub enum Fault {
     /// Memory for a growth was refused.
     #[error("S17")]
     NoMemory,
+}
+
+impl From<NoMemory> for Fault {
+    ghost from_gives = { λ _ fault. fault ≡ faults.NoMemory };
+
+    fn from(_refused: NoMemory) -> Fault {
+        Fault::NoMemory
+    }
 }

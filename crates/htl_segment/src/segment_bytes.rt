@@ -1,12 +1,16 @@
 //! A segment where it lies in bytes.
-ghost use Rattle.std.specs.Prelude.{◌≡◌, None, Some, MatchResult};
+ghost use Rattle.std.specs.Prelude.{◌≡◌, None, Some, IfOk, MatchResult};
 ghost use Rattle.htl_segment.specs.Faults.{records_fault};
 
 use crate::fault::Fault;
 use crate::fields::{u16_at, u32_at, u64_at};
 use crate::header::{HEADER_LEN, check_header};
 use crate::record::{Record, check_record};
+use crate::records::Records;
+use crate::segment::Segment;
 use crate::version::Version;
+use htl_event::{Event, NoMemory};
+use std::alloc::Global;
 use std::marker::Model;
 
 /// The bytes of one segment, checked: what `decode` reads, without memory.
@@ -28,9 +32,8 @@ impl<'a> Model for SegmentBytes<'a> {
 }
 
 impl<'a> SegmentBytes<'a> {
-    ghost use Rattle.std.specs.Prelude.{◌≡◌, ◌<◌, ℕ, ◌≤◌, length, take, Ok, None, Some, IfOk, MatchResult};
-    ghost use Rattle.htl_segment.specs.Content.{Content, Fits};
-    ghost use Rattle.htl_segment.specs.Versions.{version_number};
+    ghost use Rattle.std.specs.Prelude.{◌≡◌, length, take, None, Some, IfOk, MatchResult};
+    ghost use Rattle.htl_segment.specs.Content.{Fits};
     ghost use Rattle.htl_segment.specs.Spelling.{spelling, Spells};
     ghost use Rattle.htl_segment.specs.Faults.{first_fault};
 
@@ -52,18 +55,93 @@ impl<'a> SegmentBytes<'a> {
         })
     }
 
-    /// The bytes of the segment with its header.
+    /// How many bytes the segment has with its header.
     pub fn byte_len(&self) -> usize
         ensures { result ≡ length (spelling self.now) }
     {
         self.bytes.len()
     }
 
+    pub fn records(&self) -> Records<'a>
+        ensures value { result ≡ self.now.events }
+        // What every segment keeps, so that callers have it too.
+        ensures fits { Fits self.now }
+    {
+        Records::new(u32_at(self.bytes, 24), &self.bytes[HEADER_LEN..])
+    }
+
+    /// The segment in memory of its own.
+    pub fn to_segment(&self, alloc: Global) -> Result<Segment, NoMemory>
+        ensures { IfOk result (λ segment. segment ≡ self.now) }
+    {
+        let events = gather(alloc, u32_at(self.bytes, 24), self.records())?;
+        Ok(Segment::new(
+            self.known_version(),
+            self.trace_id(),
+            self.processors(),
+            self.processor(),
+            self.number(),
+            events,
+        ))
+    }
+}
+
+#[tactic(auto, unfolding(crate::specs::Reading::content_in))]
+impl SegmentBytes<'_> {
+    ghost use Rattle.std.specs.Prelude.{◌≡◌, ◌<◌};
+    ghost use Rattle.htl_segment.specs.Versions.{version_number};
+
+    /// The version of the format: 1 or 2.
+    pub fn version(&self) -> u16
+        ensures { result ≡ version_number self.now.version }
+    {
+        self.known_version().number()
+    }
+
+    fn known_version(&self) -> Version
+        ensures { result ≡ self.now.version }
+    {
+        Version::from_number(u16_at(self.bytes, 4)).unwrap_or(Version::V1)
+    }
+
+    pub fn trace_id(&self) -> u64
+        ensures { result ≡ self.now.trace_id }
+    {
+        u64_at(self.bytes, 16)
+    }
+
+    /// How many processors the trace has.
     pub fn processors(&self) -> u16
         ensures { result ≡ self.now.processors }
     {
         u16_at(self.bytes, 6)
     }
+
+    /// The processor that wrote this segment.
+    pub fn processor(&self) -> u16
+        ensures value { result ≡ self.now.processor }
+        ensures below { result < self.now.processors }
+    {
+        u16_at(self.bytes, 8)
+    }
+
+    /// The place of this segment among those of its processor.
+    pub fn number(&self) -> u32
+        ensures { result ≡ self.now.number }
+    {
+        u32_at(self.bytes, 12)
+    }
+}
+
+/// The events of `count` records.
+fn gather(alloc: Global, count: u32, records: Records<'_>) -> Result<Vec<Event>, NoMemory>
+    ensures { IfOk result (λ events. events.items ≡ records.entry) }
+{
+    let mut events = Vec::with_capacity(alloc, count as usize)?;
+    for record in records {
+        events.push(record.event())?;
+    }
+    Ok(events)
 }
 
 /// Tests this many records, which have to fill `body`.

@@ -1,0 +1,60 @@
+//! Records one after the other.
+use crate::record::Record;
+use std::marker::Model;
+
+/// The records of a segment in place, from the first on: an iterator that takes no memory.
+#[derive(Debug, Drop)]
+pub struct Records<'a> {
+    left: u32,
+    rest: &'a [u8],
+}
+
+impl<'a> Model for Records<'a> {
+    ghost use Rattle.std.specs.Prelude.{List};
+    ghost use Rattle.htl_event.specs.declared.event.Event.{Event};
+    ghost use Rattle.htl_segment.specs.Reading.{events_in};
+    ghost use Rattle.htl_segment.specs.Records.{HasRecords};
+
+    ghost Value = { List Event };
+
+    ghost view = { λ r. events_in r.left r.rest.now };
+
+    ghost invariant = { λ r. HasRecords r.left r.rest.now };
+}
+
+impl<'a> Records<'a> {
+    ghost use Rattle.std.specs.Prelude.{◌≡◌};
+    ghost use Rattle.htl_segment.specs.Reading.{events_in};
+    ghost use Rattle.htl_segment.specs.Records.{HasRecords};
+
+    pub(crate) fn new(count: u32, body: &'a [u8]) -> Records<'a>
+        requires { HasRecords count body.now }
+        ensures { result ≡ events_in count body.now }
+    {
+        Records {
+            left: count,
+            rest: body,
+        }
+    }
+}
+
+impl<'a> Iterator for Records<'a> {
+    ghost use Rattle.std.specs.Iterator.{YieldsFirstBy, item_count};
+    ghost use Rattle.htl_segment.specs.Records.{event_of};
+
+    type Item = Record<'a>;
+
+    ghost next_gives = { YieldsFirstBy event_of (λ events. events) };
+
+    ghost remaining = { item_count (λ events. events) };
+
+    fn next(&mut self) -> Option<Record<'a>> {
+        if self.left == 0 {
+            return None;
+        }
+        let (record, rest) = Record::split(self.rest);
+        self.left -= 1;
+        self.rest = rest;
+        Some(record)
+    }
+}

@@ -3,3 +3,8 @@ pub mod Orders
 pub mod Determined
 pub mod Unions
 pub mod Counts
+pub mod Ordered
+pub mod ComputedHandles
+pub mod ComputedCounts
+pub mod RowsHandles
+pub mod RowsCounts

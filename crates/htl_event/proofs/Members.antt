@@ -1,6 +1,6 @@
 -- Members of a list, and the one list that names the members of a set in order.
 use Rattle.std.proofs.Common.{◌≡◌, zero, suc, Bool, true, false, List, [], ◌∷◌, refl, sym, ap, ◌∙◌, subst, arith, inl, inr, ◌⊎◌}
-use Rattle.std.specs.Prelude.{Contains, ◌↔◌, filter}
+use Rattle.std.specs.Prelude.{Contains, ◌↔◌, filter, map}
 use Rattle.std.specs.List.{AllByRecursion, flat_map}
 use Rattle.std.proofs.lemmas.Bool.{cases_Bool}
 use Rattle.std.proofs.lemmas.List.Elements.{Contains-append_cases, Contains-append_right, Contains-append_left, All-from_recursion, All-contains}
@@ -19,6 +19,10 @@ pub Contains-cases : {X : Type 0} (x : X) (xs : List X) (y : X) → Contains (x 
 Contains-cases x xs y (zero, lt, is) = inl is
 Contains-cases x xs y (suc k, lt, is) = inr (k, omega arith, is)
 
+pub Contains-cons : {X : Type 0} (x : X) (xs : List X) (y : X) → (x ≡ y) ⊎ Contains xs y → Contains (x ∷ xs) y
+Contains-cons x xs y (inl is) = subst (λ z. Contains (x ∷ xs) z) is (Contains-here x xs)
+Contains-cons x xs y (inr there) = Contains-there x xs y there
+
 -- what holds of each element holds of a member
 pub at_member : {X : Type 0} (P : X → Type 0) (xs : List X) (x : X) → AllByRecursion P xs → Contains xs x → P x
 at_member P xs x all h = All-contains P xs x (All-from_recursion P xs all) h
@@ -32,7 +36,7 @@ pub AllByRecursion-weaker : {X : Type 0} (P Q : X → Type 0) (xs : List X) → 
 AllByRecursion-weaker P Q [] f all = tt
 AllByRecursion-weaker P Q (x ∷ xs) f all = (f x all.0, AllByRecursion-weaker P Q xs f all.1)
 
--- ---- filter and flat_map
+-- ---- filter, map and flat_map
 
 pub filter-pass : {X : Type 0} (p : X → Bool) (x : X) (xs : List X) → p x ≡ true → filter p (x ∷ xs) ≡ x ∷ filter p xs
 filter-pass p x xs e = rw e refl
@@ -60,6 +64,22 @@ Contains-from_filter p (x ∷ xs) y h =
         | inr there ↦ let r = Contains-from_filter p xs y there in (Contains-there x xs y r.0, r.1)
       ]
       | inr fails ↦ let r = Contains-from_filter p xs y (rw (filter-skip p x xs fails) at h) in (Contains-there x xs y r.0, r.1)
+    ]
+
+pub Contains-map : {X Y : Type 0} (f : X → Y) (xs : List X) (x : X) → Contains xs x → Contains (map f xs) (f x)
+Contains-map f [] x h = absurd (Contains-nil x h)
+Contains-map f (z ∷ xs) x h =
+    elim (Contains-cases z xs x h) [
+      | inl is ↦ Contains-cons (f z) (map f xs) (f x) (inl (ap f is))
+      | inr there ↦ Contains-there (f z) (map f xs) (f x) (Contains-map f xs x there)
+    ]
+
+pub Contains-from_map : {X Y : Type 0} (f : X → Y) (xs : List X) (y : Y) → Contains (map f xs) y → (x : X) × Contains xs x × (f x ≡ y)
+Contains-from_map f [] y h = absurd (Contains-nil y h)
+Contains-from_map f (z ∷ xs) y h =
+    elim (Contains-cases (f z) (map f xs) y h) [
+      | inl is ↦ (z, Contains-here z xs, is)
+      | inr there ↦ let r = Contains-from_map f xs y there in (r.0, Contains-there z xs r.0 r.1, r.2)
     ]
 
 pub Contains-flat_map : {X Y : Type 0} (f : X → List Y) (xs : List X) (x : X) (y : Y) → Contains xs x → Contains (f x) y → Contains (flat_map f xs) y

@@ -1,9 +1,10 @@
 //! Events of handle and reference traces, and what is asked of a list of them.
 //!
 //! `specs/` has the definitions, which everything above cites: what an event counts (`Slots`), which
-//! handles are outstanding (`Handles`), how often a slot came (`Tallies`), a handle's events (`Listings`),
-//! each over events as a set or as a flat list. The code has the types alone: no call of this crate
-//! takes memory.
+//! handles are outstanding and what a handle's listing is (`Handles`), how often a slot came (`Tallies`),
+//! each over events as a set or as a flat list, and what follows from them (`Laws`). `proofs/RowsHandles`
+//! and `proofs/RowsCounts` have worked answers by these definitions. The code has the types alone: no call
+//! of this crate takes memory.
 #![tactic(auto)]
 
 mod event;
@@ -12,6 +13,8 @@ mod laws;
 mod memory;
 mod slot;
 mod stack;
+#[cfg(test)]
+mod tests;
 
 ghost use Rattle.std.specs.Prelude.{◌≡◌};
 ghost use Rattle.htl_event.specs.Slots.{base_of};

@@ -7,3 +7,4 @@ pub mod SegmentLaws
 pub mod RecordsLoop
 pub mod EventsIn
 pub mod Traces
+pub mod Sequences

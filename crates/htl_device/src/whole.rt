@@ -45,6 +45,7 @@ pub fn read_whole<R: Source>(alloc: Global, source: &mut R) -> Result<Vec<u8>, R
     requires { R.has_failed source.old ≡ false }
     ensures ok { IfOk result (λ v. IfSome (R.remaining source.old) (λ xs. v.items ≡ xs)) }
     ensures fine { OnOk result (R.has_failed source.new ≡ false) }
+    ensures told { R.has_failed source.new ≡ true → result ≡ Err ReadFault.Failed }
     ensures failed { IfErr result (λ e. (e ≡ NoMemory) ⊎ ((R.has_failed source.new ≡ true) ⊎ IfSome (R.remaining source.old) (λ xs. MOST_READS ≤ length xs))) }
 {
     let Ok(mut buffer) = vec![in alloc; 0u8; READ_LEN] else {
@@ -67,6 +68,7 @@ fn read_within<R: Source>(
     requires empty { bytes.old.items ≡ [] }
     ensures ok { OnOk result (IfSome (R.remaining source.old) (λ xs. bytes.new.items ≡ xs)) }
     ensures fine { OnOk result (R.has_failed source.new ≡ false) }
+    ensures told { R.has_failed source.new ≡ true → result ≡ Err ReadFault.Failed }
     ensures failed { IfErr result (λ e. (e ≡ NoMemory) ⊎ ((R.has_failed source.new ≡ true) ⊎ IfSome (R.remaining source.old) (λ xs. most ≤ length xs))) }
 {
     for _read in 0..most {

@@ -16,13 +16,18 @@ pub enum RunFault {
     },
     /// The text of an input is no bytes in hexadecimal.
     #[error("hleak: input {input}: {fault}")]
-    Hex { input: u64, fault: HexFault },
+    Hex {
+        input: u64,
+        fault: HexFault,
+    },
     /// Bytes follow the segment.
     #[error("hleak: one segment only")]
     OneSegment,
     /// A read of an input failed.
     #[error("hleak: input {input}: read failed")]
-    Read { input: u64 },
+    Read {
+        input: u64,
+    },
     /// A write failed, or took none of some bytes.
     #[error("hleak: output: write failed")]
     Write,

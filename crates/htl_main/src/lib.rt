@@ -7,8 +7,8 @@
 
 mod fault;
 mod printing;
-
-
+#[cfg(test)]
+mod tests;
 
 pub use fault::RunFault;
 pub use htl_device::{Failed, Reading, Sink, Source, Writing};

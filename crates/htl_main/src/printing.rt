@@ -1,12 +1,12 @@
 //! The outstanding handles of the one segment that a text spells in hexadecimal.
-ghost use Rattle.std.specs.Prelude.{◌≡◌, ◌≢◌, ◌<◌, ◌⊎◌, ℕ, false, true, length, take, IfOk, IfErr, IfSome, OnOk, OnErr};
+ghost use Rattle.std.specs.Prelude.{◌≡◌, ◌≢◌, ◌<◌, ◌≤◌, ◌⊎◌, ℕ, false, true, length, take, IfOk, IfErr, IfSome, OnOk, OnErr};
 ghost use Rattle.htl_segment.specs.Content.{Content};
 ghost use Rattle.htl_segment.specs.Hexadecimal.{WritesBytes};
 ghost use Rattle.htl_segment.specs.Spelling.{Spells};
 ghost use Rattle.htl_main.specs.Printing.{IsCause, IsCauseInBytes, IsPrinted, Prints, PrintsPart};
 
 use crate::fault::RunFault;
-use htl_device::{ReadFault, Sink, Source, read_whole, write_whole};
+use htl_device::{MOST_READS, ReadFault, Sink, Source, read_whole, write_whole};
 use htl_handles::outstanding;
 use htl_report::{Answer, text};
 use htl_segment::{Fault, HexFault, Segment, decode, from_hex};
@@ -16,7 +16,12 @@ use std::alloc::Global;
 /// Prints the outstanding handles of the process in the one segment that `digits` spell in hexadecimal.
 ///
 /// Nothing is written before the whole text is made. After a failed write some first part of it went out.
-pub fn print_outstanding<W: Sink>(alloc: Global, digits: &[u8], process: u32, out: &mut W) -> Result<(), RunFault>
+pub fn print_outstanding<W: Sink>(
+    alloc: Global,
+    digits: &[u8],
+    process: u32,
+    out: &mut W,
+) -> Result<(), RunFault>
     requires { W.has_failed out.old ≡ false }
     ensures ok { OnOk result (Prints process digits.now (W.contents out.old) (W.contents out.new)) }
     ensures write { result ≡ Err RunFault.Write
@@ -84,6 +89,10 @@ pub fn print_outstanding_from<R: Source, W: Sink>(
         (λ digits. Prints process digits (W.contents out.old) (W.contents out.new))) }
     ensures cause { IfErr result (λ fault. IfSome (R.remaining source.old)
         (λ digits. (fault ≡ RunFault.Read 0) ⊎ IsCause digits fault)) }
+    // A read that failed is told, and told only then or after too many reads.
+    ensures told { R.has_failed source.new ≡ true → result ≡ Err (RunFault.Read 0) }
+    ensures read { IfErr result (λ fault. (fault ≢ RunFault.Read 0) ⊎ ((R.has_failed source.new ≡ true)
+        ⊎ IfSome (R.remaining source.old) (λ xs. MOST_READS ≤ length xs))) }
     ensures untouched { IfErr result (λ fault. fault ≢ RunFault.Write → out.new ≡ out.old) }
 {
     match read_whole(alloc, source) {

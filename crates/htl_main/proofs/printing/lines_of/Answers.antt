@@ -1,4 +1,4 @@
-use Rattle.std.proofs.Common.{◌≡◌, ◌++◌, List, length, subst, ap, ◌∙◌}
+use Rattle.std.proofs.Common.{◌++◌, List, length, subst, ap, ◌∙◌}
 use Rattle.std.specs.Prelude.{Contains, codes, flat_map}
 use Rattle.htl_event.specs.declared.event.Event.{Event}
 use Rattle.htl_event.specs.Handles.{IsOutstanding}

@@ -6,3 +6,5 @@ pub mod HeaderLaws
 pub mod SegmentLaws
 pub mod RecordsLoop
 pub mod EventsIn
+pub mod BuildingLaws
+pub mod EventsEqual

@@ -5,4 +5,5 @@ pub mod Spelling
 pub mod Reading
 pub mod Faults
 pub mod Records
+pub mod Building
 pub mod Hexadecimal

@@ -8,10 +8,7 @@ use Rattle.std.proofs.lemmas.List.{take-append-drop, length-append, length-take,
 use Rattle.std.specs.List.{flat_map, AllByRecursion}
 use Rattle.byteorder.specs.Endian.{little_from}
 use Rattle.byteorder.specs.Numbers.{little_from-cons, little_from-lt, little_number-reads_back, length-bytes_low_first}
-use Rattle.htl_segment.specs.Numbers.{number, numbers, bytes_of}
-
-abbrev pub IsBytes : List ℕ → Type 0
-IsBytes bytes = (i : ℕ) → get_or bytes i 0 < 256
+use Rattle.htl_segment.specs.Numbers.{IsBytes, number, numbers, bytes_of}
 
 pub IsBytes-drop : (n : ℕ) (bytes : List ℕ) → IsBytes bytes → IsBytes (drop n bytes)
 IsBytes-drop n bytes h i = rw get_or-drop (h (n + i))

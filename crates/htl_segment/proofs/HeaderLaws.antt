@@ -8,12 +8,12 @@ use Rattle.htl_segment.specs.declared.version.Version.{Version}
 use Rattle.htl_segment.specs.declared.version.Version.TheVariants.{V1, V2}
 use Rattle.htl_segment.specs.declared.fault.Fault.TheVariants as faults
 use Rattle.htl_segment.specs.Versions.{version_number, limits_of}
-use Rattle.htl_segment.specs.Numbers.{number, bytes_of}
+use Rattle.htl_segment.specs.Numbers.{IsBytes, number, bytes_of}
 use Rattle.htl_segment.specs.Content.{Content}
 use Rattle.htl_segment.specs.Spelling.{header_bytes}
 use Rattle.htl_segment.specs.Reading.{version_of, version_in, length_in}
 use Rattle.htl_segment.specs.Faults.{header_fault}
-use Rattle.htl_segment.proofs.Bytes.{IsBytes, field, after, number_here, after_number, length-bytes_of}
+use Rattle.htl_segment.proofs.Bytes.{field, after, number_here, after_number, length-bytes_of}
 use Rattle.htl_segment.proofs.Tests.{passed, or_false, not_false, no_or, no_not, same_list}
 
 -- ---- versions and their numbers

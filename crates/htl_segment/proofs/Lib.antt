@@ -8,3 +8,5 @@ pub mod RecordsLoop
 pub mod EventsIn
 pub mod Traces
 pub mod Sequences
+pub mod BuildingLaws
+pub mod EventsEqual

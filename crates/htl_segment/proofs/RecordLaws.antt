@@ -11,13 +11,13 @@ use Rattle.htl_segment.specs.declared.version.Version.{Version}
 use Rattle.htl_segment.specs.declared.version.Version.TheVariants.{V1, V2}
 use Rattle.htl_segment.specs.declared.fault.Fault.TheVariants as faults
 use Rattle.htl_segment.specs.Versions.{limits_of}
-use Rattle.htl_segment.specs.Numbers.{number, numbers, bytes_of}
+use Rattle.htl_segment.specs.Numbers.{IsBytes, number, numbers, bytes_of}
 use Rattle.htl_segment.specs.Content.{kind_code, fields_fit, EventFits}
 use Rattle.htl_segment.specs.Spelling.{event_bytes}
 use Rattle.htl_segment.specs.Reading.{kind_of, frames_in, event_in, after_record}
 use Rattle.htl_segment.specs.Faults.{record_fault}
 use Rattle.htl_segment.specs.Records.{HasRecord}
-use Rattle.htl_segment.proofs.Bytes.{IsBytes, IsBytes-drop, field, part, number-lt, numbers_take, numbers-fit, length-numbers, after, number_here, after_number, byte_here, numbers_here, length-frames, length-bytes_of}
+use Rattle.htl_segment.proofs.Bytes.{IsBytes-drop, field, part, number-lt, numbers_take, numbers-fit, length-numbers, after, number_here, after_number, byte_here, numbers_here, length-frames, length-bytes_of}
 use Rattle.htl_segment.proofs.Tests.{passed, or_false, not_false, no_or, no_not}
 
 -- ---- kinds and their codes

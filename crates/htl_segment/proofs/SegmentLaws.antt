@@ -2,6 +2,8 @@
 use Rattle.std.proofs.Common.{◌≡◌, ℕ, zero, suc, ◌+◌, ◌-◌, ◌*◌, ◌<◌, ◌≤◌, true, false, cond, eqb, nat_lt, List, [], ◌∷◌, ◌++◌, length, take, drop, Some, None, refl, sym, ap, ◌∙◌, append_assoc, arith}
 use Rattle.std.proofs.Math.Nat.{mul-le-mul_left}
 use Rattle.std.proofs.Math.Seq.{take-add}
+use Rattle.std.specs.Prelude.{sum_by}
+use Rattle.std.proofs.lemmas.List.Sums.{sum_by-cons}
 use Rattle.std.proofs.lemmas.Bool.{ltb-false, le-ltb, lt-ltb, eqb-true}
 use Rattle.std.proofs.lemmas.List.{length-append, length-take, length-drop, take_all, take_at, drop_at, append-nil, nil_from_length, take-append-drop}
 use Rattle.htl_event.specs.declared.event.Event.{Event}
@@ -10,13 +12,13 @@ use Rattle.htl_segment.specs.declared.version.Version.TheVariants.{V1, V2}
 use Rattle.htl_segment.specs.declared.fault.Fault.{Fault}
 use Rattle.htl_segment.specs.declared.fault.Fault.TheVariants as faults
 use Rattle.htl_segment.specs.Versions.{limits_of}
-use Rattle.htl_segment.specs.Numbers.{number}
+use Rattle.htl_segment.specs.Numbers.{IsBytes, number}
 use Rattle.htl_segment.specs.Content.{Content, EventFits, EventsFit, Fits}
-use Rattle.htl_segment.specs.Spelling.{event_bytes, records, header_bytes, spelling, Spells}
+use Rattle.htl_segment.specs.Spelling.{event_bytes, records, header_bytes, spelling, Spells, BeginsWith}
 use Rattle.htl_segment.specs.Reading.{event_in, after_record, events_in, version_in, length_in, body_in, content_in}
 use Rattle.htl_segment.specs.Faults.{header_fault, record_fault, records_fault, first_fault}
 use Rattle.htl_segment.specs.Records.{HasRecords, IsSegment}
-use Rattle.htl_segment.proofs.Bytes.{IsBytes, IsBytes-drop, IsBytes-take, number-lt, length-bytes_of, length-frames}
+use Rattle.htl_segment.proofs.Bytes.{IsBytes-drop, IsBytes-take, number-lt, length-bytes_of, length-frames}
 use Rattle.htl_segment.proofs.Tests.{passed, ended, both_passed}
 use Rattle.htl_segment.proofs.RecordLaws.{record_read, record_again}
 use Rattle.htl_segment.proofs.HeaderLaws as header
@@ -69,10 +71,12 @@ records_again v (e ∷ es) i last fits =
 
 -- ---- lengths
 
-length-event_bytes : (v : Version) (e : Event) → EventFits v e → length (event_bytes e) ≤ 36 + 8 * (limits_of v).frames
+length-event_bytes_exact : (e : Event) → length e.tag ≡ 4 → length (event_bytes e) ≡ 36 + 8 * length e.stack
 unfolding event_bytes
-length-event_bytes v e fits =
-    simp (length-append, length-bytes_of) (omega (arith, fits.in_range.tag_len, fits.depth, length-frames e.stack))
+length-event_bytes_exact e tag = simp (length-append, length-bytes_of) (omega (arith, tag, length-frames e.stack))
+
+length-event_bytes : (v : Version) (e : Event) → EventFits v e → length (event_bytes e) ≤ 36 + 8 * (limits_of v).frames
+length-event_bytes v e fits = omega (arith, length-event_bytes_exact e fits.in_range.tag_len, fits.depth)
 
 length-records : (v : Version) (es : List Event) (last : ℕ) → EventsFit v last es → length (records es) ≤ (36 + 8 * (limits_of v).frames) * length es
 length-records v [] last fits = omega arith
@@ -80,6 +84,15 @@ length-records v (e ∷ es) last fits =
     let first = length-event_bytes v e fits.0 in
     let others = length-records v es e.sequence fits.2 in
     grind (arith, length-append (event_bytes e) (records es))
+
+-- each record has 36 bytes, and eight for each frame
+pub length-records_exact : (v : Version) (es : List Event) (last : ℕ) → EventsFit v last es → length (records es) ≡ 36 * length es + 8 * sum_by (λ e. length e.stack) es
+length-records_exact v [] last fits = refl
+length-records_exact v (e ∷ es) last fits =
+    let others = length-records_exact v es e.sequence fits.2 in
+    let first = length-event_bytes_exact e fits.0.in_range.tag_len in
+    let frames = sum_by-cons (λ (e : Event). length e.stack) e es in
+    omega (arith, length-append (event_bytes e) (records es), others, first, frames)
 
 -- the greatest length holds a header and the most records with all their frames
 limits_hold : (v : Version) → 32 + (36 + 8 * (limits_of v).frames) * 4096 ≡ (limits_of v).len
@@ -224,13 +237,13 @@ is_segment b s small spells =
     }
 
 -- the bytes of the segment at the front, cut off where they end
-pub found_cut : (b : List ℕ) (n : ℕ) → IsBytes b → n ≡ length_in b → first_fault b ≡ None → Spells (take (length (spelling (content_in (take n b)))) b) (content_in (take n b))
+pub found_cut : (b : List ℕ) (n : ℕ) → IsBytes b → n ≡ length_in b → first_fault b ≡ None → BeginsWith b (length (spelling (content_in (take n b)))) (content_in (take n b))
 found_cut b n small at none =
     let read = segment_read b small none in
     let spells : Spells (take n b) (content_in b) = rw at read.spells in
     let again : SegmentAgain (take n b) (content_in b) = rw append-nil at (spelled_again (take n b) [] (content_in b) spells) in
     let len : length (spelling (content_in b)) ≡ n = omega (arith, ap length spells.bytes, length-take n b, at, read.whole) in
-    rw (again.content, len) spells
+    rw (again.content, len) (record { inside = omega (arith, at, read.whole); spells = spells })
 
 pub is_segment_cut : (b : List ℕ) (n : ℕ) → IsBytes b → n ≡ length_in b → first_fault b ≡ None → IsSegment (take n b)
 is_segment_cut b n small at none =
@@ -244,13 +257,23 @@ one_spelling a b x y s t p q same =
     let content : s ≡ t = sym (spelled_again a x s p).content ∙ ap content_in same ∙ (spelled_again b y t q).content in
     (p.bytes ∙ ap spelling content ∙ sym q.bytes, content)
 
--- what the first bytes spell, they begin with
-pub begins : (b : List ℕ) (n : ℕ) (s : Content) → Spells (take n b) s → SegmentAgain b s
-begins b n s spells = rw (take-append-drop n b) at (spelled_again (take n b) (drop n b) s spells)
+-- what the first bytes spell is what they are read as
+pub begins : (b : List ℕ) (n : ℕ) (s : Content) → BeginsWith b n s → SegmentAgain b s
+begins b n s front = rw (take-append-drop n b) at (spelled_again (take n b) (drop n b) s front.spells)
 
 -- two spellings at the front of the same bytes are one
-pub same_front : (b : List ℕ) (n : ℕ) (s t : Content) → n ≤ length b → Spells (take (length (spelling s)) b) s → Spells (take n b) t → (length (spelling s) ≡ n) × (s ≡ t)
-same_front b n s t inside p q =
-    let m = length (spelling s) in
-    let both = one_spelling (take m b) (take n b) (drop m b) (drop n b) s t p q (take-append-drop m b ∙ sym (take-append-drop n b)) in
-    (omega (arith, length-take n b, ap length p.bytes, ap length both.0), both.1)
+pub same_front : (b : List ℕ) (m n : ℕ) (s t : Content) → BeginsWith b m s → BeginsWith b n t → (m ≡ n) × (s ≡ t)
+same_front b m n s t p q =
+    let both = one_spelling (take m b) (take n b) (drop m b) (drop n b) s t p.spells q.spells (take-append-drop m b ∙ sym (take-append-drop n b)) in
+    (omega (arith, length-take m b, length-take n b, p.inside, q.inside, ap length both.0), both.1)
+
+pub begins_with : (a rest : List ℕ) (s : Content) → Spells a s → BeginsWith (a ++ rest) (length a) s
+begins_with a rest s spells = record {
+  inside = omega (arith, length-append a rest);
+  spells = rw (take_at a rest (length a) refl) spells;
+}
+
+pub spelled_where_no_fault : (b : List ℕ) → IsBytes b → first_fault b ≡ None → (n : ℕ) × (s : Content) × BeginsWith b n s
+spelled_where_no_fault b small none =
+    let read = segment_read b small none in
+    (length_in b, content_in b, record { inside = read.whole.1; spells = read.spells })

@@ -5,6 +5,7 @@ pub mod Spelling
 pub mod Reading
 pub mod Faults
 pub mod Records
+pub mod Building
 pub mod Hexadecimal
 pub mod Keys
 pub mod Traces

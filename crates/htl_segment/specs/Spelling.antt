@@ -1,5 +1,5 @@
 -- The bytes of a segment in the format HLS1 (this project's own).
-use Rattle.std.specs.Prelude.{◌≡◌, ℕ, ◌+◌, List, [], ◌∷◌, ◌++◌, length, codes}
+use Rattle.std.specs.Prelude.{◌≡◌, ℕ, ◌+◌, ◌≤◌, List, [], ◌∷◌, ◌++◌, length, take, codes}
 use Rattle.std.specs.List.{flat_map}
 use Rattle.htl_event.specs.declared.event.Event.{Event}
 use Rattle.htl_segment.specs.Numbers.{bytes_of}
@@ -28,3 +28,8 @@ spelling s = header_bytes s (length (records s.events)) ++ records s.events
 pub record Spells (b : List ℕ) (s : Content) : Type 0 where
   pub bytes : b ≡ spelling s
   pub fits : Fits s
+
+-- the first n bytes are those of the segment
+pub record BeginsWith (bytes : List ℕ) (n : ℕ) (s : Content) : Type 0 where
+  pub inside : n ≤ length bytes
+  pub spells : Spells (take n bytes) s

@@ -1,6 +1,6 @@
-ghost use Rattle.std.specs.Prelude.{◌≡◌, ◌≤◌, ℕ, length, take, None, Some, IfOk, MatchOption, MatchResult};
+ghost use Rattle.std.specs.Prelude.{◌≡◌, ℕ, None, IfOk, MatchOption, MatchResult};
 ghost use Rattle.htl_segment.specs.Content.{Content};
-ghost use Rattle.htl_segment.specs.Spelling.{Spells};
+ghost use Rattle.htl_segment.specs.Spelling.{BeginsWith};
 ghost use Rattle.htl_segment.specs.Faults.{first_fault};
 
 use crate::fault::Fault;
@@ -11,9 +11,9 @@ use std::alloc::Global;
 /// The segment that `bytes` begin with, and how many bytes it has.
 pub fn decode(alloc: Global, bytes: &[u8]) -> Result<(Segment, usize), Fault>
     // What is read is spelled by the first bytes.
-    ensures found { IfOk result (λ x. (x.1 ≤ length bytes.now) × Spells (take x.1 bytes.now) x.0) }
+    ensures found { IfOk result (λ x. BeginsWith bytes.now x.1 x.0) }
     // What the first bytes spell is read, unless memory runs out.
-    ensures only { (s : Content) (n : ℕ) → n ≤ length bytes.now → Spells (take n bytes.now) s
+    ensures only { (s : Content) (n : ℕ) → BeginsWith bytes.now n s
         → MatchResult result (λ x. x ≡ (s, n)) (λ fault. fault ≡ Fault.NoMemory) }
     // The first fault is told, and memory is asked for only where there is none.
     ensures fault { MatchResult result

@@ -8,9 +8,9 @@ use crate::version::Version;
 
 pub const HEADER_LEN: usize = 32;
 
-const MAX_NUMBER: u32 = 0xFFFF_FFFE;
+pub const MAX_NUMBER: u32 = 0xFFFF_FFFE;
 
-const MAX_EVENTS: u32 = 4096;
+pub const MAX_EVENTS: u32 = 4096;
 
 /// Tests the header at the front of `bytes`, from left to right, and gives its version.
 #[tactic(auto, unfolding(crate::specs::Faults::header_fault))]

@@ -1,11 +1,14 @@
 //! Segments of a trace as bytes, in the format HLS1.
 #![tactic(auto)]
 
+mod building;
 mod decoding;
+mod encoding;
 mod fault;
 mod fields;
 mod header;
 mod hexadecimal;
+mod laws;
 mod record;
 mod records;
 mod segment;
@@ -14,8 +17,13 @@ mod trace_laws;
 mod version;
 
 pub use decoding::decode;
+pub use encoding::encode;
 pub use fault::Fault;
 pub use hexadecimal::{HexFault, from_hex};
+pub use laws::{
+    faults_where_nothing_is_spelled, no_spelling_begins_another, one_number_one_bytes,
+    one_spelling, written_is_read_again,
+};
 pub use record::Record;
 pub use records::Records;
 pub use segment::Segment;

@@ -1,5 +1,8 @@
+ghost use Rattle.std.specs.Prelude.{◌≡◌, IfOk};
+
 use crate::version::Version;
-use htl_event::Event;
+use htl_event::{Event, NoMemory};
+use std::alloc::Global;
 use std::marker::Model;
 
 /// A run of events of one processor, in rising order of their sequences.
@@ -24,7 +27,7 @@ impl Model for Segment {
 }
 
 impl Segment {
-    ghost use Rattle.std.specs.Prelude.{◌≡◌, ◌<◌};
+    ghost use Rattle.std.specs.Prelude.{◌≡◌, ◌<◌, ◌↔◌, IsTrue, IfOk};
     ghost use Rattle.htl_segment.specs.Content.{content, Fits};
     ghost use Rattle.htl_segment.specs.Versions.{version_number};
 
@@ -91,4 +94,49 @@ impl Segment {
     {
         self.events.as_slice()
     }
+
+    pub fn copy(&self, alloc: Global) -> Result<Segment, NoMemory>
+        ensures { IfOk result (λ copy. copy ≡ self.now) }
+    {
+        let events = copy_events(alloc, self.events())?;
+        Ok(Segment {
+            version: self.version,
+            trace_id: self.trace_id,
+            processors: self.processors,
+            processor: self.processor,
+            number: self.number,
+            events,
+        })
+    }
+
+    /// Whether two segments say the same, in the same version.
+    pub fn same(&self, other: &Segment) -> bool
+        ensures { IsTrue result ↔ (self.now ≡ other.now) }
+    {
+        self.same_header(other) && self.events() == other.events()
+    }
+
+    fn same_header(&self, other: &Segment) -> bool
+        ensures { IsTrue result ↔ ((self.now.version ≡ other.now.version)
+            × (self.now.trace_id ≡ other.now.trace_id)
+            × (self.now.processors ≡ other.now.processors)
+            × (self.now.processor ≡ other.now.processor)
+            × (self.now.number ≡ other.now.number)) }
+    {
+        self.version == other.version
+            && self.trace_id == other.trace_id
+            && self.processors == other.processors
+            && self.processor == other.processor
+            && self.number == other.number
+    }
+}
+
+fn copy_events(alloc: Global, events: &[Event]) -> Result<Vec<Event>, NoMemory>
+    ensures { IfOk result (λ copy. copy.items ≡ events.now) }
+{
+    let mut copy = Vec::with_capacity(alloc, events.len())?;
+    for event in events {
+        copy.push(event.copy())?;
+    }
+    Ok(copy)
 }

@@ -32,14 +32,14 @@ impl<'a> Model for SegmentBytes<'a> {
 }
 
 impl<'a> SegmentBytes<'a> {
-    ghost use Rattle.std.specs.Prelude.{◌≡◌, length, take, None, Some, IfOk, MatchResult};
+    ghost use Rattle.std.specs.Prelude.{◌≡◌, length, None, Some, IfOk, MatchResult};
     ghost use Rattle.htl_segment.specs.Content.{Fits};
-    ghost use Rattle.htl_segment.specs.Spelling.{spelling, Spells};
+    ghost use Rattle.htl_segment.specs.Spelling.{spelling, BeginsWith};
     ghost use Rattle.htl_segment.specs.Faults.{first_fault};
 
     /// The segment that `bytes` begin with.
     pub fn check(bytes: &'a [u8]) -> Result<SegmentBytes<'a>, Fault>
-        ensures found { IfOk result (λ s. Spells (take (length (spelling s)) bytes.now) s) }
+        ensures found { IfOk result (λ s. BeginsWith bytes.now (length (spelling s)) s) }
         ensures fault { MatchResult result
             (λ _. first_fault bytes.now ≡ None)
             (λ fault. first_fault bytes.now ≡ Some fault) }

@@ -1,0 +1,32 @@
+-- The first rule of the format HLS1 that the parts of a segment break: those of the header first, then
+-- those of one event after the other.
+use Rattle.std.specs.Prelude.{ℕ, ◌+◌, List, [], ◌∷◌, length, not, ◌||◌, ◌==◌, nat_lt, nat_le, if◌then◌else◌, Option, Some, None}
+use Rattle.htl_event.specs.declared.event.Event.{Event}
+use Rattle.htl_segment.specs.declared.version.Version.{Version}
+use Rattle.htl_segment.specs.declared.fault.Fault.{Fault}
+use Rattle.htl_segment.specs.declared.fault.Fault.TheVariants as faults
+use Rattle.htl_segment.specs.Versions.{limits_of}
+use Rattle.htl_segment.specs.Content.{Content, kind_code, fields_fit}
+use Rattle.htl_segment.specs.Faults.{or_else}
+
+-- of the event at place i, after one with the last sequence
+unfoldable pub event_fault : Version → ℕ → ℕ → Event → Option Fault
+event_fault v i last e =
+    if nat_le e.sequence last then Some (faults.Sequence i)
+    else if nat_lt (limits_of v).kinds (kind_code e.kind) then Some (faults.Kind i)
+    else if nat_lt (limits_of v).frames (length e.stack) then Some (faults.Frames i)
+    else if not (fields_fit e.kind e.handle e.object e.tag) then Some (faults.Field i)
+    else None
+
+-- of the events from place i on
+unfoldable pub events_fault : Version → ℕ → ℕ → List Event → Option Fault
+events_fault v i last [] = None
+events_fault v i last (e ∷ es) = or_else (event_fault v i last e) (events_fault v (i + 1) e.sequence es)
+
+unfoldable pub build_fault : Content → Option Fault
+build_fault s =
+    if s.processors == 0 || nat_lt (limits_of s.version).processors s.processors then Some faults.Processors
+    else if nat_le s.processors s.processor then Some faults.Processor
+    else if nat_lt 0xFFFFFFFE s.number then Some faults.Number
+    else if nat_lt 4096 (length s.events) then Some faults.Count
+    else events_fault s.version 0 0 s.events

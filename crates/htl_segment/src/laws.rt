@@ -1,0 +1,41 @@
+//! The laws of the format. Each is a statement about bytes and segments; its function does nothing when
+//! it runs.
+ghost use Rattle.std.specs.Prelude.{◌≡◌, ◌↔◌, ℕ, List, [], ◌++◌, length, None};
+ghost use Rattle.byteorder.specs.Endian.{little_number};
+ghost use Rattle.htl_segment.specs.Numbers.{IsBytes};
+ghost use Rattle.htl_segment.specs.Content.{Content, Fits};
+ghost use Rattle.htl_segment.specs.Spelling.{spelling, Spells, BeginsWith};
+ghost use Rattle.htl_segment.specs.Faults.{first_fault};
+
+/// What was written is read again, whatever follows it: `decode` answers a segment that the bytes begin
+/// with, and that is the one that was written.
+pub fn written_is_read_again()
+    ensures read { (bytes rest : List ℕ) (s : Content) → Spells bytes s → BeginsWith (bytes ++ rest) (length bytes) s }
+    ensures nothing_else { (bytes rest : List ℕ) (s t : Content) (n : ℕ) → Spells bytes s
+        → BeginsWith (bytes ++ rest) n t → (n ≡ length bytes) × (t ≡ s) }
+    ensures no_fault { (bytes rest : List ℕ) (s : Content) → Spells bytes s → first_fault (bytes ++ rest) ≡ None }
+{}
+
+/// No spelling is a proper prefix of another.
+pub fn no_spelling_begins_another()
+    ensures { (a rest : List ℕ) (s t : Content) → Spells a s → Spells (a ++ rest) t → rest ≡ [] }
+{}
+
+/// What the format can spell has one spelling, and no other segment has the same.
+pub fn one_spelling()
+    ensures some { (s : Content) → Fits s → Spells (spelling s) s }
+    ensures one { (a b : List ℕ) (s : Content) → Spells a s → Spells b s → a ≡ b }
+    ensures of_one { (a : List ℕ) (s t : Content) → Spells a s → Spells a t → s ≡ t }
+{}
+
+/// Bytes have a first fault exactly where they begin with no spelling.
+pub fn faults_where_nothing_is_spelled()
+    ensures { (bytes : List ℕ) → IsBytes bytes
+        → (first_fault bytes ≡ None) ↔ ((n : ℕ) × (s : Content) × BeginsWith bytes n s) }
+{}
+
+/// Two lists of bytes of one length with one number, the lowest byte first, are equal.
+pub fn one_number_one_bytes()
+    ensures { (a b : List ℕ) → IsBytes a → IsBytes b → length a ≡ length b
+        → little_number (length a) a ≡ little_number (length b) b → a ≡ b }
+{}

@@ -8,3 +8,4 @@ pub mod ComputedHandles
 pub mod ComputedCounts
 pub mod RowsHandles
 pub mod RowsCounts
+pub mod Sums

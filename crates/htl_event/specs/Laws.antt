@@ -1,11 +1,17 @@
 -- Laws of the definitions: an answer depends on the events alone, and answers over two lists put together
 -- follow from the answers over each.
-use Rattle.std.specs.Prelude.{◌≡◌, ℕ, List, ◌++◌, Option, Contains, ◌↔◌, ◌⊎◌, Bool, max}
+use Rattle.std.specs.Prelude.{◌≡◌, ◌≢◌, ℕ, List, [], ◌∷◌, ◌++◌, Option, Contains, ◌↔◌, ◌⊎◌, Bool, true, max, filter, nat_eq}
+use Rattle.std.specs.List.{starts_with}
 use Rattle.htl_event.specs.declared.event.Event.{Event}
 use Rattle.htl_event.specs.declared.slot.Slot.{Slot}
+use Rattle.htl_event.specs.declared.slot.Slot.TheVariants.{Tagged}
+use Rattle.htl_event.specs.declared.slot.Sign.{Sign}
 use Rattle.htl_event.specs.declared.slot.Count.{Count}
+use Rattle.htl_event.specs.Slots.{is_counted}
+use Rattle.htl_event.specs.Stacks.{outer}
+use Rattle.htl_event.specs.Members.{IsRising}
 use Rattle.htl_event.specs.Handles.{LatestIs, later, IsGreatestSequence, IsMark, IsLastExit, IsOutstanding, IsDiff, IsListing, HaveOwnSequences}
-use Rattle.htl_event.specs.Tallies.{plus_count, count_where, tally, under, balance, IsTags, IsStacks, IsBad, IsLeaks}
+use Rattle.htl_event.specs.Tallies.{zero_count, plus_count, count_where, tally, under, balance, IsTags, IsStacks, IsBad, IsLeaks}
 
 -- the same events are in both lists, in whatever order
 abbrev pub HaveSame : List Event → List Event → Type 0
@@ -45,3 +51,27 @@ pub record LaterOfBoth (xs ys zs : List Event) : Type 0 where
   pub greatest : (a b : ℕ) → IsGreatestSequence (Contains xs) a → IsGreatestSequence (Contains ys) b → IsGreatestSequence (Contains zs) (max a b)
   pub mark : (process a b : ℕ) → IsMark (Contains xs) process a → IsMark (Contains ys) process b → IsMark (Contains zs) process (max a b)
   pub last_exit : (process a b : ℕ) → IsLastExit (Contains xs) process a → IsLastExit (Contains ys) process b → IsLastExit (Contains zs) process (max a b)
+
+-- the sum of the tallies of a slot over some stacks
+abbrev pub sum_of_tallies : List Event → Slot → List (List ℕ) → Count
+sum_of_tallies events slot [] = zero_count
+sum_of_tallies events slot (stack ∷ stacks) = plus_count (tally events slot stack) (sum_of_tallies events slot stacks)
+
+-- the stacks that begin with a path, read from the outermost call
+abbrev pub stacks_under : List ℕ → List (List ℕ) → List (List ℕ)
+stacks_under path stacks = filter (λ stack. starts_with nat_eq (outer stack) path) stacks
+
+-- stacks, each once, of which each event that is counted under the slot has one
+pub record AreStacksOf (events : List Event) (slot : Slot) (stacks : List (List ℕ)) : Type 0 where
+  pub apart : IsRising (λ a b. a ≢ b) stacks
+  pub all : (e : Event) (sign : Sign) → Contains events e → is_counted slot sign e ≡ true → Contains stacks e.stack
+
+-- the prefix tally is the sum of the tally over all stacks that begin with the path
+abbrev pub PrefixTallyIsSum : Type 0
+PrefixTallyIsSum = (events : List Event) (slot : Slot) (stacks : List (List ℕ)) (path : List ℕ) → AreStacksOf events slot stacks
+    → under events path slot ≡ sum_of_tallies events slot (stacks_under path stacks)
+
+-- and a tag's balance is the sum over all stacks
+abbrev pub BalanceIsSum : Type 0
+BalanceIsSum = (events : List Event) (object : ℕ) (tag : List ℕ) (stacks : List (List ℕ)) → AreStacksOf events (Tagged object tag) stacks
+    → balance events object tag ≡ sum_of_tallies events (Tagged object tag) stacks

@@ -3,7 +3,7 @@
 ghost use Rattle.std.specs.Prelude.{List};
 ghost use Rattle.std.specs.List.Sorted.{IsPermutation};
 ghost use Rattle.htl_event.specs.declared.event.Event.{Event};
-ghost use Rattle.htl_event.specs.Laws.{HaveSame, HandlesAreDetermined, CountsAreDetermined, CountsAddUp, IsUnion, LaterOfBoth};
+ghost use Rattle.htl_event.specs.Laws.{HaveSame, HandlesAreDetermined, CountsAreDetermined, CountsAddUp, IsUnion, LaterOfBoth, PrefixTallyIsSum, BalanceIsSum};
 
 /// Each answer about handles is unique and depends on which events there are, and not on their order.
 pub fn handles_are_determined()
@@ -24,4 +24,14 @@ pub fn counts_add_up()
 /// greater of those over each, also where they have events in common.
 pub fn later_of_both()
     ensures { (xs ys zs : List Event) → IsUnion xs ys zs → LaterOfBoth xs ys zs }
+{}
+
+/// The prefix tally is the sum of the tally over all stacks that begin with the path.
+pub fn prefix_tally_is_sum()
+    ensures { PrefixTallyIsSum }
+{}
+
+/// The balance of a tag is the sum of its tally over all stacks.
+pub fn balance_is_sum()
+    ensures { BalanceIsSum }
 {}

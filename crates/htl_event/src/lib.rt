@@ -21,7 +21,10 @@ ghost use Rattle.htl_event.specs.Slots.{base_of};
 
 pub use event::Event;
 pub use kind::Kind;
-pub use laws::{counts_add_up, counts_are_determined, handles_are_determined, later_of_both};
+pub use laws::{
+    balance_is_sum, counts_add_up, counts_are_determined, handles_are_determined, later_of_both,
+    prefix_tally_is_sum,
+};
 pub use memory::NoMemory;
 pub use slot::{Count, Sign, Slot};
 pub use stack::{MAX_FRAMES, Stack};

@@ -97,9 +97,12 @@ gains m n start v o t some none e = rw e (insert_entry-IsPermutation m.entries s
 
 pub IsTable-insert : (m n : BTreeMap ℕ Symbol) (start : ℕ) (v : Symbol) → IsOrdered nat_cmp m → IsOrdered nat_cmp n → IsTable (ranges_of m.entries)
     → start < v.end → list_any (meets start v.end) (ranges_of m.entries) ≡ false
-    → IsPermutation ((start, v) ∷ m.entries) n.entries → IsTable (ranges_of n.entries)
-IsTable-insert m n start v o p t some none moved = IsTable-from_entries n.entries p filled ordered
+    → n.entries ≡ insert_entry nat_cmp m.entries start v → IsTable (ranges_of n.entries)
+IsTable-insert m n start v o p t some none e = IsTable-from_entries n.entries p filled ordered
   where
+    moved : IsPermutation ((start, v) ∷ m.entries) n.entries
+    moved = gains m n start v o t some none e
+
     from : (e : Entry) → Contains n.entries e → (e ≡ (start, v)) ⊎ Contains m.entries e
     from e there = Contains-cons_cases (start, v) m.entries e (Contains-permutation n.entries ((start, v) ∷ m.entries) e (IsPermutation-sym ((start, v) ∷ m.entries) n.entries moved) there)
 

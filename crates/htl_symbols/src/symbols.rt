@@ -1,10 +1,9 @@
 ghost use Rattle.std.specs.Prelude.{◌≡◌, ◌<◌, ◌≤◌, ◌∷◌, [], All, false, IsPermutation, MatchOption, OnErr, OnOk, option_map};
 ghost use Rattle.std.specs.List.{list_any};
-ghost use Rattle.htl_symbols.specs.Ranges.{IsLastBegun, meets, resolved};
+ghost use Rattle.htl_symbols.specs.Ranges.{IsLastBegun, IsTable, meets, resolved};
 ghost use Rattle.htl_symbols.specs.Symbols.{range_of};
 
-use htl_event::NoMemory;
-use std::alloc::Global;
+use std::alloc::{AllocError, Global};
 use std::collections::BTreeMap;
 use std::marker::Model;
 
@@ -83,10 +82,11 @@ impl Symbols {
     }
 
     /// Adds a range that overlaps none.
-    pub(crate) fn insert(&mut self, start: u64, symbol: Symbol) -> Result<(), NoMemory>
+    pub(crate) fn insert(&mut self, start: u64, symbol: Symbol) -> Result<(), AllocError>
         requires filled { start < symbol.end }
         requires apart { list_any (meets start symbol.end) self.old ≡ false }
         ensures ok { OnOk result (IsPermutation (range_of (start, symbol) ∷ self.old) self.new) }
+        ensures table { OnOk result (IsTable self.new) }
         ensures err { OnErr result (self.new ≡ self.old) }
     {
         self.by_start.insert(start, symbol)?;

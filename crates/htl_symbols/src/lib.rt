@@ -12,3 +12,6 @@ mod symbols;
 
 pub use fault::SymbolFault;
 pub use symbols::Symbols;
+
+#[cfg(test)]
+mod tests;

@@ -20,9 +20,9 @@ impl Symbols {
         ensures { Reads (records_of bytes.now) result }
     {
         let mut reader = reader_of(alloc, bytes);
-        let mut record = StringRecord::new(alloc);
-        read_header(&mut reader, &mut record)?;
-        read_rows(alloc, &mut reader, &mut record)
+        let mut fields = StringRecord::new(alloc);
+        read_header(&mut reader, &mut fields)?;
+        read_rows(alloc, &mut reader, &mut fields)
     }
 }
 
@@ -41,14 +41,14 @@ fn reader_of(alloc: Global, bytes: &[u8]) -> Reader<&[u8]>
 }
 
 /// Reads the first record.
-fn read_header(reader: &mut Reader<&[u8]>, record: &mut StringRecord) -> Result<(), SymbolFault>
+fn read_header(reader: &mut Reader<&[u8]>, fields: &mut StringRecord) -> Result<(), SymbolFault>
     requires { IsAtRecord reader.old }
     ensures { HeaderRead reader.old reader.new result }
 {
-    if !read_record(reader, record, 0)? {
+    if !read_record(reader, fields, 0)? {
         return Err(SymbolFault::Header);
     }
-    if is_header(record) {
+    if is_header(fields) {
         Ok(())
     } else {
         Err(SymbolFault::Header)
@@ -59,7 +59,7 @@ fn read_header(reader: &mut Reader<&[u8]>, record: &mut StringRecord) -> Result<
 fn read_rows(
     alloc: Global,
     reader: &mut Reader<&[u8]>,
-    record: &mut StringRecord,
+    fields: &mut StringRecord,
 ) -> Result<Symbols, SymbolFault>
     requires at { IsAtRecord reader.old }
     requires countable { length (records_left reader.old) + 1 < 2 ^ 64 }
@@ -67,8 +67,8 @@ fn read_rows(
 {
     let mut symbols = Symbols::none(alloc);
     let mut number = 1;
-    while read_record(reader, record, number)? {
-        add_row(alloc, &mut symbols, record, number)?;
+    while read_record(reader, fields, number)? {
+        add_row(alloc, &mut symbols, fields, number)?;
         number += 1;
     }
     Ok(symbols)
@@ -78,12 +78,12 @@ fn read_rows(
 fn add_row(
     alloc: Global,
     symbols: &mut Symbols,
-    record: &StringRecord,
+    fields: &StringRecord,
     number: u64,
 ) -> Result<(), SymbolFault>
-    ensures { RowAdded (number, fields_of record.now) symbols.old symbols.new result }
+    ensures { RowAdded (number, fields_of fields.now) symbols.old symbols.new result }
 {
-    let row = row_of(record, number)?;
+    let row = row_of(fields, number)?;
     if symbols.overlaps(row.start, row.end) {
         return Err(SymbolFault::Overlap(number));
     }
@@ -106,12 +106,12 @@ fn symbol_of(alloc: Global, row: &Row<'_>) -> Result<Symbol, AllocError>
 /// `Csv` comes where a record is refused and nowhere else.
 fn read_record(
     reader: &mut Reader<&[u8]>,
-    record: &mut StringRecord,
+    fields: &mut StringRecord,
     number: u64,
 ) -> Result<bool, SymbolFault>
-    ensures { IsAtRecord reader.old → RecordRead number reader.old reader.new (fields_of record.new) result }
+    ensures { IsAtRecord reader.old → RecordRead number reader.old reader.new (fields_of fields.new) result }
 {
-    match reader.read_record(record) {
+    match reader.read_record(fields) {
         Ok(found) => Ok(found),
         Err(error) => match error.kind() {
             ErrorKind::Io(_) | ErrorKind::OutOfMemory => Err(SymbolFault::NoMemory),

@@ -18,12 +18,12 @@ pub(crate) struct Row<'r> {
 }
 
 /// The row that record number `number` writes.
-pub(crate) fn row_of(record: &StringRecord, number: u64) -> Result<Row<'_>, SymbolFault>
+pub(crate) fn row_of(fields: &StringRecord, number: u64) -> Result<Row<'_>, SymbolFault>
     ensures filled { IfOk result (λ row. row.start < row.end) }
-    ensures row { MatchResult result (λ row. range_of_row (number, fields_of record.now) ≡ Ok (row_range row))
-        (λ fault. range_of_row (number, fields_of record.now) ≡ Err fault) }
+    ensures row { MatchResult result (λ row. range_of_row (number, fields_of fields.now) ≡ Ok (row_range row))
+        (λ fault. range_of_row (number, fields_of fields.now) ≡ Err fault) }
 {
-    let Some((start, end, module, name)) = four_fields(record) else {
+    let Some((start, end, module, name)) = four_fields(fields) else {
         return Err(SymbolFault::Fields(number));
     };
     let Some(start) = hexadecimal(start, u64::MAX) else {
@@ -44,32 +44,32 @@ pub(crate) fn row_of(record: &StringRecord, number: u64) -> Result<Row<'_>, Symb
     }
 }
 
-pub(crate) fn is_header(record: &StringRecord) -> bool
-    ensures { IsTrue result ↔ (fields_of record.now ≡ header) }
+pub(crate) fn is_header(fields: &StringRecord) -> bool
+    ensures { IsTrue result ↔ (fields_of fields.now ≡ header) }
 {
-    match four_fields(record) {
-        Some((start, end, module, name)) => are_columns(start, end, module, name),
+    match four_fields(fields) {
+        Some(columns) => are_columns(columns),
         None => false,
     }
 }
 
-fn are_columns(start: &str, end: &str, module: &str, name: &str) -> bool
-    ensures { result ≡ columns_eq start.now end.now module.now name.now }
+fn are_columns(columns: (&str, &str, &str, &str)) -> bool
+    ensures { result ≡ columns_eq columns.entry.0.now columns.entry.1.now columns.entry.2.now columns.entry.3.now }
 {
-    start == "start" && end == "end" && module == "module" && name == "name"
+    columns.0 == "start" && columns.1 == "end" && columns.2 == "module" && columns.3 == "name"
 }
 
-fn four_fields(record: &StringRecord) -> Option<(&str, &str, &str, &str)>
-    ensures { MatchOption result (length (fields_of record.now) ≢ 4)
-        (λ f. fields_of record.now ≡ f.0.now ∷ f.1.now ∷ f.2.now ∷ f.3.now ∷ []) }
+fn four_fields(fields: &StringRecord) -> Option<(&str, &str, &str, &str)>
+    ensures { MatchOption result (length (fields_of fields.now) ≢ 4)
+        (λ f. fields_of fields.now ≡ f.0.now ∷ f.1.now ∷ f.2.now ∷ f.3.now ∷ []) }
 {
-    if record.len() != 4 {
+    if fields.len() != 4 {
         return None;
     }
     Some((
-        record.get(0)?,
-        record.get(1)?,
-        record.get(2)?,
-        record.get(3)?,
+        fields.get(0)?,
+        fields.get(1)?,
+        fields.get(2)?,
+        fields.get(3)?,
     ))
 }

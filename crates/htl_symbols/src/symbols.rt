@@ -48,6 +48,8 @@ impl Symbols {
     /// the address is.
     pub fn resolve(&self, address: u64) -> Option<(&str, &str, u64)>
         ensures value { option_map (λ s. (s.0.now, s.1.now, s.2)) result ≡ resolved self.now address }
+        // so no other range has it
+        ensures apart { IsTable self.now }
     {
         let (start, symbol) = self.last_begun(address)?;
         if address < symbol.end {
@@ -63,8 +65,9 @@ impl Symbols {
 
     /// The last range that begins at or before the address.
     fn last_begun(&self, address: u64) -> Option<(u64, &Symbol)>
-        ensures { MatchOption result (All (λ r. address < r.start) self.now)
+        ensures last { MatchOption result (All (λ r. address < r.start) self.now)
             (λ s. IsLastBegun self.now address (range_of (s.0, s.1.now))) }
+        ensures table { IsTable self.now }
     {
         let (start, symbol) = self.by_start.range(..=address).next_back()?;
         Some((*start, symbol))

@@ -11,7 +11,7 @@ returns-in_err-add_row c =
     let read = rw c.if-branch.true at (c.in_ok-read_record.ensures p.at) in
     rw (result.1, result.2) (
     progress-fails (records_left c.args.reader.now) c.loop-symbols.number c.loop-symbols.reader c.read_record.new.reader c.loop-symbols.symbols c.add_row.new.symbols
-    (fields_of c.read_record.new.record) _ p read c.in_err-add_row.ensures
+    (fields_of c.read_record.new.fields) _ p read c.in_err-add_row.ensures
     )
 
 pub loop-symbols-preserved : goal.loop-symbols-preserved
@@ -19,4 +19,4 @@ loop-symbols-preserved c =
     let p = c.loop-symbols.invariant in
     let read = rw c.if-branch.true at (c.in_ok-read_record.ensures p.at) in
     progress-goes (records_left c.args.reader.now) c.loop-symbols.number c.loop-symbols.reader c.read_record.new.reader c.loop-symbols.symbols c.add_row.new.symbols
-    (fields_of c.read_record.new.record) _ p read c.in_ok-add_row.ensures
+    (fields_of c.read_record.new.fields) _ p read c.in_ok-add_row.ensures

@@ -1,15 +1,14 @@
-use Rattle.std.proofs.Common.{sym, rules}
-use Rattle.htl_symbols.specs.Symbols.{range_of}
+use Rattle.std.proofs.Common.{sym}
 use Rattle.htl_symbols.proofs.Tables.{resolved-before, resolved-inside, resolved-outside}
 use Rattle.htl_symbols.proofs.symbols.Symbols.resolve.Goals as goal
 
-pub returns-in_err-start : goal.returns-in_err-start
-returns-in_err-start c = record { value = rw (c.from_residual.ensures) (sym (resolved-before c.args.self.now c.args.address c.in_err-start.ensures)) }
+pub returns-in_err-start-clause-value : goal.returns-in_err-start-clause-value
+returns-in_err-start-clause-value c =
+    rw c.from_residual.ensures (sym (resolved-before c.args.self.now c.args.address c.in_err-start.ensures.last))
 
-pub returns-then-address-symbol : goal.returns-then-address-symbol
-returns-then-address-symbol c = record {
-  value = rw (c.as_str.ensures.value, c.as_str-then-address-symbol.ensures.value) (sym (resolved-inside c.args.self.now c.args.address _ c.in_ok-start.ensures c.if-address-symbol.true));
-}
+pub returns-then-address-symbol-clause-value : goal.returns-then-address-symbol-clause-value
+returns-then-address-symbol-clause-value c =
+    rw (c.as_str.ensures.value, c.as_str-then-address-symbol.ensures.value) (sym (resolved-inside c.args.self.now c.args.address _ c.in_ok-start.ensures.last c.if-address-symbol.true))
 
-pub returns-else-address-symbol : goal.returns-else-address-symbol
-returns-else-address-symbol c = record { value = sym (resolved-outside c.args.self.now c.args.address _ c.in_ok-start.ensures c.if-address-symbol.false) }
+pub returns-else-address-symbol-clause-value : goal.returns-else-address-symbol-clause-value
+returns-else-address-symbol-clause-value c = sym (resolved-outside c.args.self.now c.args.address _ c.in_ok-start.ensures.last c.if-address-symbol.false)

@@ -2,9 +2,9 @@
 use Rattle.std.proofs.Common.{◌≡◌, ◌<◌, ◌⊎◌, ℕ, true, false, List, [], ◌∷◌, Option, Some, None, Bool, refl, sym, ltb, inl, inr}
 use Rattle.std.proofs.lemmas.Bool.{cases_cond}
 use Rattle.std.specs.Prelude.{Ok, Err}
-use Rattle.htl_symbols.specs.Adding.{RowAdded}
 use Rattle.htl_symbols.specs.Ranges.{Range}
 use Rattle.htl_symbols.specs.Rows.{Record, address_of, range_between, range_of_row}
+use Rattle.htl_symbols.specs.Steps.{RowAdded}
 use Rattle.htl_symbols.specs.declared.fault.SymbolFault.{SymbolFault}
 use Rattle.htl_symbols.specs.declared.fault.SymbolFault.TheVariants.{Header, Fields, Number, EmptyRange, Overlap, Csv, NoMemory}
 

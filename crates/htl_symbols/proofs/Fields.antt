@@ -7,7 +7,8 @@ use Rattle.std.proofs.lemmas.Slice.Eq.{bytes_eq-Decides}
 use Rattle.std.proofs.lemmas.Option.{same_Some}
 use Rattle.csv.specs.Records.{field_at}
 use Rattle.csv.proofs.RecordFacts.{field-there}
-use Rattle.htl_symbols.specs.Rows.{Record, address_of, columns_eq, header, range_between, range_of_row}
+use Rattle.htl_symbols.specs.Rows.{Record, address_of, header, range_between, range_of_row}
+use Rattle.htl_symbols.specs.Steps.{columns_eq}
 use Rattle.htl_symbols.specs.declared.fault.SymbolFault.TheVariants as fault
 
 pub not-four : (fields : Record) (i : ℕ) → i < 4 → None ≡ field_at fields i → length fields ≢ 4

@@ -10,11 +10,11 @@ use Rattle.std.proofs.lemmas.List.Elements.{All-push}
 use Rattle.std.proofs.lemmas.List.Quantifiers.{all_pairs_push}
 use Rattle.std.proofs.lemmas.List.Sorted.{IsPermutation-push_more, IsPermutation-refl, list_any-IsPermutation}
 use Rattle.csv.specs.Records.{AllText}
-use Rattle.htl_symbols.specs.Adding.{RowAdded, WritesNothing, WritesRange}
-use Rattle.htl_symbols.specs.Ranges.{IsTable, Range}
-use Rattle.htl_symbols.specs.Reading.{IsFirstFault, Reads, WritesNone, StopsAt, WriteRanges}
-use Rattle.htl_symbols.specs.Records.{IsAtRecord, RecordRead, SliceReader, records_left}
-use Rattle.htl_symbols.specs.Rows.{Record, header, overlap, range_of_row}
+use Rattle.htl_symbols.specs.Ranges.{IsTable, Range, overlap}
+use Rattle.htl_symbols.specs.Reading.{IsFirstFault, Reads, StopsAt, WriteRanges, WritesNone}
+use Rattle.htl_symbols.specs.Records.{IsAtRecord, SliceReader, records_left}
+use Rattle.htl_symbols.specs.Rows.{Record, header, range_of_row}
+use Rattle.htl_symbols.specs.Steps.{RecordRead, RowAdded, WritesNothing, WritesRange}
 use Rattle.htl_symbols.specs.declared.fault.SymbolFault.{SymbolFault}
 use Rattle.htl_symbols.specs.declared.fault.SymbolFault.TheVariants.{Header, Fields, Number, EmptyRange, Overlap, Csv, NoMemory}
 

@@ -8,13 +8,14 @@ use Rattle.csv.specs.Records.{AllText}
 use Rattle.csv.specs.declared.parser.State.{State}
 use Rattle.csv.specs.declared.parser.State.TheVariants as st
 use Rattle.htl_symbols.specs.Reading.{records_of}
+use Rattle.htl_symbols.specs.Records.{IsAtRecord, SliceReader, bytes_left, is_start, records_left}
+use Rattle.htl_symbols.specs.Rows.{Record}
+use Rattle.htl_symbols.specs.Steps.{RecordRead}
 use Rattle.csv.specs.declared.error.ErrorKind.{ErrorKind}
 use Rattle.csv.specs.declared.error.ErrorKind.TheVariants as k
 use Rattle.std.specs.declared.io.Error.{Error as IoError}
 use Rattle.htl_symbols.specs.declared.fault.SymbolFault.TheVariants as fault
 use Rattle.csv.proofs.ReadFacts.{rows-end}
-use Rattle.htl_symbols.specs.Records.{IsAtRecord, RecordRead, SliceReader, bytes_left, is_start, records_left}
-use Rattle.htl_symbols.specs.Rows.{Record}
 use Rattle.htl_symbols.proofs.Records.{length-strip_bom, next-starts, records-few, records-more, records-none}
 
 abbrev source : SliceReader → Option (List ℕ)

@@ -13,8 +13,8 @@ use Rattle.std.proofs.lemmas.List.Elements.{All-contains, Contains-get_or}
 use Rattle.std.proofs.lemmas.Map.Lookups.{exact_unsigned}
 use Rattle.std.proofs.lemmas.Map.Views.{btree_map_get_iff}
 use Rattle.std.proofs.lemmas.Option.{none-some, same_Some}
-use Rattle.htl_symbols.specs.Ranges.{IsLastBegun, IsTable, Range, has, meets, resolved}
-use Rattle.htl_symbols.specs.Symbols.{range_of, ranges_of}
+use Rattle.htl_symbols.specs.Ranges.{IsTable, Range, has, meets, resolved}
+use Rattle.htl_symbols.specs.Symbols.{IsLastBegun, range_of, ranges_of}
 use Rattle.htl_symbols.specs.declared.symbols.Symbol.{Symbol}
 use Rattle.htl_symbols.proofs.Members.{Contains-map, Contains-map_cases, find-none, find-only, list_any-false, list_any-true}
 

@@ -1,6 +1,6 @@
 pub mod Ranges
-pub mod Symbols
 pub mod Rows
-pub mod Records
 pub mod Reading
-pub mod Adding
+pub mod Symbols
+pub mod Records
+pub mod Steps

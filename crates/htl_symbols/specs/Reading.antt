@@ -3,9 +3,8 @@ use Rattle.std.specs.Prelude.{◌≡◌, ◌≢◌, ◌⊎◌, ◌++◌, ℕ, tr
 use Rattle.std.specs.List.{enumerate_from, list_any}
 use Rattle.csv.specs.Reading.{default_config, records, strip_bom}
 use Rattle.csv.specs.Records.{AllText}
-use Rattle.htl_symbols.specs.Ranges.{IsTable, Range}
-use Rattle.htl_symbols.specs.Records.{IsAtRecord, SliceReader, records_left}
-use Rattle.htl_symbols.specs.Rows.{Record, header, overlap, range_of_row}
+use Rattle.htl_symbols.specs.Ranges.{IsTable, Range, overlap}
+use Rattle.htl_symbols.specs.Rows.{Record, header, range_of_row}
 use Rattle.htl_symbols.specs.declared.fault.SymbolFault.{SymbolFault}
 use Rattle.htl_symbols.specs.declared.fault.SymbolFault.TheVariants.{Header, Fields, Number, EmptyRange, Overlap, Csv, NoMemory}
 
@@ -62,8 +61,3 @@ IsFirstFault table NoMemory = ⊤
 abbrev pub Reads : List Record → Result (List Range) SymbolFault → Type 0
 Reads table (Ok symbols) = (ranges : List Range) × WriteRanges table ranges × IsPermutation ranges symbols × IsTable symbols
 Reads table (Err fault) = IsFirstFault table fault
-
--- what reading the header tells: the reader stands behind it, or the first fault is there
-abbrev pub HeaderRead : SliceReader → SliceReader → Result (Unit {0}) SymbolFault → Type 0
-HeaderRead old new (Ok u) = IsAtRecord new × (records_left old ≡ header ∷ records_left new)
-HeaderRead old new (Err fault) = IsFirstFault (records_left old) fault

@@ -1,15 +1,12 @@
 -- The records that a reader of `csv` has left.
-use Rattle.std.specs.Prelude.{◌≡◌, ◌+◌, ℕ, Bool, true, false, List, [], ◌∷◌, Some, Result, Ok, Err, IsSome, ⊤, length, unwrap_or}
+use Rattle.std.specs.Prelude.{◌≡◌, ◌+◌, ℕ, Bool, true, false, List, [], Some, IsSome, length, unwrap_or}
 use Rattle.std.specs.Borrow.{Bor}
 use Rattle.csv.specs.Reading.{Ready, default_config, is_flexible, reader_config, reader_state, reader_trim, records_from, source_of}
-use Rattle.csv.specs.Records.{AllText}
 use Rattle.csv.specs.declared.parser.State.{State}
 use Rattle.csv.specs.declared.parser.State.TheVariants as st
 use Rattle.csv.specs.declared.reader.Reader.{Reader}
 use Rattle.csv.specs.declared.reader.Trim.TheVariants as trim
 use Rattle.htl_symbols.specs.Rows.{Record}
-use Rattle.htl_symbols.specs.declared.fault.SymbolFault.{SymbolFault}
-use Rattle.htl_symbols.specs.declared.fault.SymbolFault.TheVariants as fault
 
 abbrev pub SliceReader : Type 0
 SliceReader = Reader (Bor (List ℕ))
@@ -41,12 +38,3 @@ pub record IsAtRecord (reader : SliceReader) : Type 0 where
   pub flexible : is_flexible reader ≡ true
   pub known : IsSome (source_of (λ s. Some s.now) reader)
   pub start : is_start (reader_state reader) ≡ true
-
--- what a read of record number `number` tells
-abbrev pub RecordRead : ℕ → SliceReader → SliceReader → Record → Result Bool SymbolFault → Type 0
-RecordRead number old new fields (Ok true) = IsAtRecord new × (records_left old ≡ fields ∷ records_left new) × AllText fields
-RecordRead number old new fields (Ok false) = records_left old ≡ []
-RecordRead number old new fields (Err (fault.Csv n)) =
-    (n ≡ number) × (bad : Record) × (later : List Record) × (records_left old ≡ bad ∷ later) × ¬ (AllText bad)
-RecordRead number old new fields (Err fault.NoMemory) = ⊤
-RecordRead number old new fields (Err _) = ⊥

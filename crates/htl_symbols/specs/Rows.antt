@@ -1,9 +1,7 @@
 -- The records of a symbol table and the ranges that they write. This project's own.
-use Rattle.std.specs.Prelude.{◌-◌, ◌^◌, ◌&&◌, ℕ, Bool, List, [], ◌∷◌, Option, Some, None, Result, Ok, Err, codes, if◌then◌else◌, nat_lt}
-use Rattle.std.specs.Str.{bytes_eq}
+use Rattle.std.specs.Prelude.{◌-◌, ◌^◌, ℕ, List, [], ◌∷◌, Option, Some, None, Result, Ok, Err, codes, if◌then◌else◌, nat_lt}
 use Rattle.htl_numbers.specs.Numbers.{hexadecimal_number}
-use Rattle.htl_symbols.specs.declared.row.Row.{Row}
-use Rattle.htl_symbols.specs.Ranges.{Range, meets}
+use Rattle.htl_symbols.specs.Ranges.{Range}
 use Rattle.htl_symbols.specs.declared.fault.SymbolFault.{SymbolFault}
 use Rattle.htl_symbols.specs.declared.fault.SymbolFault.TheVariants as fault
 
@@ -14,11 +12,6 @@ Record = List (List ℕ)
 -- the first record of a table
 unfoldable pub header : Record
 header = codes "start" ∷ codes "end" ∷ codes "module" ∷ codes "name" ∷ []
-
--- whether four fields are those of the header
-abbrev pub columns_eq : List ℕ → List ℕ → List ℕ → List ℕ → Bool
-columns_eq start end m n =
-    bytes_eq start (codes "start") && (bytes_eq end (codes "end") && (bytes_eq m (codes "module") && bytes_eq n (codes "name")))
 
 abbrev pub address_of : List ℕ → Option ℕ
 address_of text = hexadecimal_number (2 ^ 64 - 1) text
@@ -34,11 +27,3 @@ range_between row None end m n = Err (fault.Number row)
 unfoldable pub range_of_row : ℕ × Record → Result Range SymbolFault
 range_of_row (row, start ∷ end ∷ m ∷ n ∷ []) = range_between row (address_of start) (address_of end) m n
 range_of_row (row, _) = Err (fault.Fields row)
-
--- two ranges have an address in common
-abbrev pub overlap : Range → Range → Bool
-overlap a b = meets a.start a.end b
-
--- the range of a row that was read
-abbrev pub row_range : Row → Range
-row_range r = record { start = r.start; end = r.end; «module» = r.module.now; name = r.name.now }

@@ -1,10 +1,10 @@
 ghost use Rattle.std.specs.Prelude.{◌≡◌, ◌+◌, ◌^◌, ◌<◌, ◌∷◌, IfOk, List, length, ℕ};
 ghost use Rattle.csv.specs.Records.{fields_of};
-ghost use Rattle.htl_symbols.specs.Adding.{RowAdded};
-ghost use Rattle.htl_symbols.specs.Reading.{HeaderRead, Reads, records_of};
-ghost use Rattle.htl_symbols.specs.Records.{IsAtRecord, RecordRead, records_left};
-ghost use Rattle.htl_symbols.specs.Rows.{header, row_range};
-ghost use Rattle.htl_symbols.specs.Symbols.{range_of};
+ghost use Rattle.htl_symbols.specs.Reading.{Reads, records_of};
+ghost use Rattle.htl_symbols.specs.Records.{IsAtRecord, records_left};
+ghost use Rattle.htl_symbols.specs.Rows.{header};
+ghost use Rattle.htl_symbols.specs.Steps.{HeaderRead, RecordRead, RowAdded};
+ghost use Rattle.htl_symbols.specs.Symbols.{range_of, row_range};
 
 use crate::fault::SymbolFault;
 use crate::row::{Row, is_header, row_of};

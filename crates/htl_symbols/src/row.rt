@@ -2,7 +2,9 @@
 
 ghost use Rattle.std.specs.Prelude.{◌≡◌, ◌≢◌, ◌∷◌, [], ◌↔◌, ◌<◌, Err, IfOk, IsTrue, MatchOption, MatchResult, Ok, length};
 ghost use Rattle.csv.specs.Records.{fields_of};
-ghost use Rattle.htl_symbols.specs.Rows.{columns_eq, header, range_of_row, row_range};
+ghost use Rattle.htl_symbols.specs.Rows.{header, range_of_row};
+ghost use Rattle.htl_symbols.specs.Steps.{columns_eq};
+ghost use Rattle.htl_symbols.specs.Symbols.{row_range};
 
 use crate::fault::SymbolFault;
 use csv::StringRecord;

@@ -1,7 +1,7 @@
 ghost use Rattle.std.specs.Prelude.{◌≡◌, ◌<◌, ◌≤◌, ◌∷◌, [], All, false, IsPermutation, MatchOption, OnErr, OnOk, option_map};
 ghost use Rattle.std.specs.List.{list_any};
-ghost use Rattle.htl_symbols.specs.Ranges.{IsLastBegun, IsTable, meets, resolved};
-ghost use Rattle.htl_symbols.specs.Symbols.{range_of};
+ghost use Rattle.htl_symbols.specs.Ranges.{IsTable, meets, resolved};
+ghost use Rattle.htl_symbols.specs.Symbols.{IsLastBegun, range_of};
 
 use std::alloc::{AllocError, Global};
 use std::collections::BTreeMap;
@@ -24,7 +24,7 @@ pub struct Symbols {
 
 impl Model for Symbols {
     ghost use Rattle.std.specs.Prelude.{List};
-    ghost use Rattle.htl_symbols.specs.Ranges.{Range, IsTable};
+    ghost use Rattle.htl_symbols.specs.Ranges.{IsTable, Range};
     ghost use Rattle.htl_symbols.specs.Symbols.{ranges_of};
 
     ghost Value = { List Range };

@@ -1,7 +1,7 @@
 use Rattle.std.proofs.Common.{sym, ◌∙◌}
 use Rattle.std.proofs.lemmas.Result.{err_from_is_err_and}
 use Rattle.csv.specs.Records.{fields_of}
-use Rattle.htl_symbols.specs.Rows.{row_range}
+use Rattle.htl_symbols.specs.Symbols.{row_range}
 use Rattle.htl_symbols.proofs.Adding.{row-refused}
 use Rattle.htl_symbols.proofs.read.add_row.Goals as goal
 

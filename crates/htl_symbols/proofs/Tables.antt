@@ -1,118 +1,162 @@
--- Which range of a table has an address.
-use Rattle.std.proofs.Common.{◌≡◌, ◌≤◌, ◌<◌, ◌+◌, ◌-◌, ℕ, zero, suc, Bool, true, false, List, [], ◌∷◌, Option, Some, None, length, get_or, refl, arith, rules, add-one}
-use Rattle.std.specs.List.{find, slice_get}
-use Rattle.std.specs.List.Sorted.{IsNonDecreasingBy}
-use Rattle.std.proofs.lemmas.Grind.{common_steps}
-use Rattle.std.proofs.lemmas.Bool.{cases_order, le-leb, lt-ltb}
+-- Which range of a table has an address, and what a table in memory says of it.
+use Rattle.std.proofs.Common.{◌≡◌, ◌≤◌, ◌<◌, ◌-◌, ◌+◌, ◌⊎◌, ◌++◌, [], ◌∷◌, ℕ, true, false, List, Some, None, Option, get_or, inl, inr, length, refl, arith, sym, ap, subst, nat_lt, ◌∙◌}
+use Rattle.std.specs.BTreeMap.{BTreeMap, IsOrdered, get}
+use Rattle.std.specs.List.{All, Contains, find, list_any}
+use Rattle.std.specs.Option.{IsSome}
+use Rattle.std.specs.Ordering.{is_gt, nat_cmp}
+use Rattle.std.proofs.lemmas.Bool.{cases_lt, cases_order, eq-eqb, le-leb, le-ltb, lt-ltb}
 use Rattle.std.proofs.lemmas.Bool.Decides.{nat_tests}
+use Rattle.std.proofs.lemmas.Cmp.{nat_cmp_total}
 use Rattle.std.proofs.Math.Nat.{eq-or-lt_of_le}
-use Rattle.std.proofs.Common.{inl, inr}
-use Rattle.std.specs.Prelude.{string_bytes}
-use Rattle.std.proofs.lemmas.List.{get_or-map, length-map}
-use Rattle.std.proofs.lemmas.Bool.{leb-true}
-use Rattle.std.proofs.Common.{leb}
+use Rattle.std.proofs.lemmas.List.{get_or_default}
+use Rattle.std.proofs.lemmas.List.Elements.{All-contains, Contains-get_or}
+use Rattle.std.proofs.lemmas.Map.Lookups.{exact_unsigned}
+use Rattle.std.proofs.lemmas.Map.Views.{btree_map_get_iff}
+use Rattle.std.proofs.lemmas.Option.{none-some, same_Some}
+use Rattle.htl_symbols.specs.Ranges.{IsTable, Range, has, meets, resolved}
+use Rattle.htl_symbols.specs.Symbols.{IsLastBegun, range_of, ranges_of}
 use Rattle.htl_symbols.specs.declared.symbols.Symbol.{Symbol}
-use Rattle.htl_symbols.specs.Ranges.{Range, IsTable, has, resolved}
-use Rattle.htl_symbols.specs.Symbols.{BeginBy, range_of, ranges_of}
+use Rattle.htl_symbols.proofs.Members.{Contains-map, Contains-map_cases, find-none, find-only, list_any-false, list_any-true}
 
--- the first element that passes the test
-pub find-first : {X : Type 0} (p : X → Bool) (xs : List X) (k : ℕ) (d : X) → k < length xs → p (get_or xs k d) ≡ true
-    → ((j : ℕ) → j < k → p (get_or xs j d) ≡ false) → find p xs ≡ Some (get_or xs k d)
-find-first p [] k d h e before = absurd (omega arith)
-find-first p (x ∷ xs) zero d h e before = rw e
-find-first p (x ∷ xs) (suc k) d h e before = rw (before 0 (omega arith)) (find-first p xs k d (omega arith) e (λ j below. before (suc j) (omega arith)))
+-- ---- one range and an address
 
--- no element passes the test
-pub find-none : {X : Type 0} (p : X → Bool) (xs : List X) (d : X) → ((j : ℕ) → j < length xs → p (get_or xs j d) ≡ false) → find p xs ≡ None
-find-none p [] d before = refl
-find-none p (x ∷ xs) d before = rw (before 0 (omega arith)) (find-none p xs d (λ j below. before (suc j) (omega arith)))
+has-inside : (address : ℕ) (r : Range) → r.start ≤ address → address < r.end → has address r ≡ true
+has-inside address r low high = rw (le-leb r.start address low, lt-ltb address r.end high) refl
 
-pub starts-rise : (table : List Range) → IsTable table → IsNonDecreasingBy (λ r. r.start) table
-starts-rise table t i j d le below = elim (eq-or-lt_of_le le) [
-  | inl same ↦ rw same (omega arith)
-  | inr less ↦ let filled = t.filled i d (omega arith) in let apart = t.apart i j d less below in omega arith
+has-past : (address : ℕ) (r : Range) → r.end ≤ address → has address r ≡ false
+has-past address r past = grind (arith, nat_tests)
+
+has-before : (address : ℕ) (r : Range) → address < r.start → has address r ≡ false
+has-before address r before = grind (arith, nat_tests)
+
+-- the other ranges of a table whose last range that begins by the address is r
+cases_begun : (table : List Range) (address : ℕ) (r q : Range) → IsLastBegun table address r → Contains table q
+    → (q ≡ r) ⊎ ((q.end ≤ r.start) ⊎ (address < q.start))
+cases_begun table address r q l listed = elim (cases_order q.start address) [
+  | inl same ↦ begun (omega arith)
+  | inr (inl less) ↦ begun (omega arith)
+  | inr (inr more) ↦ inr (inr more)
+]
+  where
+    begun : q.start ≤ address → (q ≡ r) ⊎ ((q.end ≤ r.start) ⊎ (address < q.start))
+    begun le = elim (l.last q listed le) [ inl same ↦ inl same | inr before ↦ inr (inl before) ]
+
+-- ---- resolving
+
+-- where the last range that begins by the address has it, it is the only one
+pub resolved-inside : (table : List Range) (address : ℕ) (r : Range) → IsLastBegun table address r → address < r.end
+    → resolved table address ≡ Some (r.module, r.name, address - r.start)
+resolved-inside table address r l inside = rw (find-only (has address) table r l.listed (has-inside address r l.begun inside) only) refl
+  where
+    only : (q : Range) → Contains table q → has address q ≡ true → q ≡ r
+    only q listed passed = elim (cases_begun table address r q l listed) [
+      | inl same ↦ same
+      | inr (inl before) ↦ let begun = l.begun in let failed = has-past address q (omega arith) in absurd (cc)
+      | inr (inr after) ↦ let failed = has-before address q after in absurd (cc)
+    ]
+
+-- where it hasn't the address, none has
+pub resolved-outside : (table : List Range) (address : ℕ) (r : Range) → IsLastBegun table address r → r.end ≤ address → resolved table address ≡ None
+resolved-outside table address r l past = rw (find-none (has address) table fails) refl
+  where
+    fails : (q : Range) → Contains table q → has address q ≡ false
+    fails q listed = elim (cases_begun table address r q l listed) [
+      | inl same ↦ rw same (has-past address r past)
+      | inr (inl before) ↦ let begun = l.begun in has-past address q (omega arith)
+      | inr (inr after) ↦ has-before address q after
+    ]
+
+pub resolved-before : (table : List Range) (address : ℕ) → All (λ r. address < r.start) table → resolved table address ≡ None
+resolved-before table address before =
+    rw (find-none (has address) table (λ q listed. has-before address q (All-contains (λ r. address < r.start) table q before listed))) refl
+
+-- ---- overlaps
+
+pub meets-true : (start end : ℕ) (r : Range) → r.start < end → start < r.end → meets start end r ≡ true
+meets-true start end r low high = rw (lt-ltb r.start end low, lt-ltb start r.end high) refl
+
+meets-past : (start end : ℕ) (r : Range) → r.end ≤ start → meets start end r ≡ false
+meets-past start end r past = grind (arith, nat_tests)
+
+meets-before : (start end : ℕ) (r : Range) → end ≤ r.start → meets start end r ≡ false
+meets-before start end r before = grind (arith, nat_tests)
+
+-- the last range that begins before `end` is met, or no range is
+pub any-met : (table : List Range) (start end : ℕ) (r : Range) → start < end → IsLastBegun table (end - 1) r
+    → nat_lt start r.end ≡ list_any (meets start end) table
+any-met table start end r some l = elim (cases_lt start r.end) [
+  | inl less ↦ let begun = l.begun in lt-ltb start r.end less ∙ sym (list_any-true (meets start end) table r l.listed (meets-true start end r (omega arith) less))
+  | inr past ↦ le-ltb start r.end past ∙ sym (list_any-false (meets start end) table (fails past))
+]
+  where
+    fails : r.end ≤ start → (q : Range) → Contains table q → meets start end q ≡ false
+    fails past q listed = elim (cases_begun table (end - 1) r q l listed) [
+      | inl same ↦ rw same (meets-past start end r past)
+      | inr (inl before) ↦ let begun = l.begun in let filled = l.filled in meets-past start end q (omega arith)
+      | inr (inr after) ↦ meets-before start end q (omega arith)
+    ]
+
+pub none-met : (table : List Range) (start end : ℕ) → start < end → All (λ r. end - 1 < r.start) table → false ≡ list_any (meets start end) table
+none-met table start end some after =
+    sym (list_any-false (meets start end) table (λ q listed. let begins = All-contains (λ r. end - 1 < r.start) table q after listed in meets-before start end q (omega arith)))
+
+-- ---- the entries of a table in memory
+
+-- how the order of a map's keys says that one is at most another
+pub not_gt_from_le : (a b : ℕ) → a ≤ b → is_gt (nat_cmp a b) ≡ false
+not_gt_from_le a b le = elim (eq-or-lt_of_le le) [
+  | inl same ↦ rw (same, le-ltb b b (omega arith), eq-eqb b b refl) refl
+  | inr less ↦ rw (lt-ltb a b less) refl
 ]
 
-has-inside : (r : Range) (address : ℕ) → r.start ≤ address → address < r.end → has address r ≡ true
-has-inside r address low high = rw (le-leb r.start address low, lt-ltb address r.end high) refl
+-- of two ranges of a table, the one that starts first ends before the other
+pub apart : (table : List Range) (a b : Range) → IsTable table → Contains table a → Contains table b → a.start < b.start → a.end ≤ b.start
+apart table a b t (i, i-below, i-at) (j, j-below, j-at) less =
+    let at : get_or table j a ≡ b = get_or_default table j a b j-below ∙ j-at in
+    elim (cases_order i j) [
+      | inl same ↦ let equal : a ≡ b = sym i-at ∙ ap (λ k. get_or table k a) same ∙ at in absurd (omega (arith, ap (λ r. r.start) equal))
+      | inr (inl before) ↦ let rising = rw (i-at, at) at (t.rising i j a before j-below) in rising
+      | inr (inr after) ↦
+          let rising = rw (i-at, at) at (t.rising j i a after i-below) in
+          let filled = rw at at (t.filled j a j-below) in
+          absurd (omega arith)
+    ]
 
-has-before : (r : Range) (address : ℕ) → r.end ≤ address → has address r ≡ false
-has-before r address past = grind (arith, nat_tests)
-
-has-after : (r : Range) (address : ℕ) → address < r.start → has address r ≡ false
-has-after r address past = grind (arith, nat_tests)
-
--- i ranges begin at or before the address, and the last of them has it or no range does
-pub resolved-inside : (table : List Range) (i address : ℕ) (d : Range) → IsTable table → i < length table
-    → (get_or table i d).start ≤ address → address < (get_or table i d).end
-    → resolved table address ≡ Some ((get_or table i d).module, (get_or table i d).name, address - (get_or table i d).start)
-resolved-inside table i address d t below low high =
-    rw (find-first (has address) table i d below (has-inside (get_or table i d) address low high)
-    (λ j less. let apart = t.apart j i d less below in has-before (get_or table j d) address (omega arith))) refl
-
-pub resolved-outside : (table : List Range) (i address : ℕ) (d : Range) → IsTable table → i ≤ length table
-    → ((k : ℕ) → k < i → (get_or table k d).end ≤ address)
-    → ((k : ℕ) → i ≤ k → k < length table → address < (get_or table k d).start)
-    → resolved table address ≡ None
-resolved-outside table i address d t below before after =
-    rw (find-none (has address) table d (λ j less. elim (cases_order j i) [
-      | inl same ↦ has-after (get_or table j d) address (after j (omega arith) less)
-      | inr (inl left) ↦ has-before (get_or table j d) address (before j left)
-      | inr (inr right) ↦ has-after (get_or table j d) address (after j (omega arith) less)
-    ])) refl
-
--- the same of a table's entries, where i of them begin at or before the address
-pub entry-start : (items : List Symbol) (k : ℕ) (d : Symbol) (e : Range) → k < length items → (get_or (ranges_of items) k e) ≡ range_of (get_or items k d)
-entry-start items k d e below = get_or-map range_of items k d e below
-
-pub partitioned : (items : List Symbol) (i address : ℕ) (d : Symbol) → IsTable (ranges_of items)
-    → BeginBy address items i
-    → (i ≤ length items)
-    → ((k : ℕ) → k < i → (get_or (ranges_of items) k (range_of d)).start ≤ address)
-    × ((k : ℕ) → i ≤ k → k < length items → address < (get_or (ranges_of items) k (range_of d)).start)
-partitioned items i address d t p le = (
-  λ k below. rw (get_or-map range_of items k d (range_of d) (omega arith)) (leb-true (get_or items k d).start address (p.0 k d (omega arith) below)),
-  λ k above below. rw (get_or-map range_of items k d (range_of d) below) (let test = p.1 k d above below in grind (arith, nat_tests)),
-)
-
-pub entries-rise : (items : List Symbol) → IsTable (ranges_of items) → IsNonDecreasingBy (λ s. (range_of s).start) items
-entries-rise items t i j d le below =
-    let rise = starts-rise (ranges_of items) t i j (range_of d) le (simp length-map (omega arith)) in
-    rw (get_or-map range_of items i d (range_of d) (omega arith), get_or-map range_of items j d (range_of d) below) at rise
-
--- the last of the entries that begin at or before the address has it
-pub symbol-found : (items : List Symbol) (i address : ℕ) (d : Symbol) → IsTable (ranges_of items)
-    → BeginBy address items i
-    → i < length items + 1 → 0 < i → address < (get_or items (i - 1) d).end
-    → resolved (ranges_of items) address ≡ Some (string_bytes (get_or items (i - 1) d).module, string_bytes (get_or items (i - 1) d).name, address - (get_or items (i - 1) d).start)
-symbol-found items i address d t p le some high =
-    let same = get_or-map range_of items (i - 1) d (range_of d) (omega arith) in
-    let found = resolved-inside (ranges_of items) (i - 1) address (range_of d) t (simp length-map (omega arith))
-    ((partitioned items i address d t p (omega arith)).0 (i - 1) (omega arith)) (rw same high) in
-    rw same at found
-
-pub symbol-absent : (items : List Symbol) (i address : ℕ) (d : Symbol) → IsTable (ranges_of items)
-    → BeginBy address items i
-    → i ≤ length items → (0 < i → (get_or items (i - 1) d).end ≤ address)
-    → resolved (ranges_of items) address ≡ None
-symbol-absent items i address d t p le low =
-    let q = partitioned items i address d t p le in
-    resolved-outside (ranges_of items) i address (range_of d) t (simp length-map le)
-    (λ k below. elim (eq-or-lt_of_le (minus-one k i below)) [
-      | inl same ↦ rw (get_or-map range_of items k d (range_of d) (omega arith), same) (low (omega arith))
-      | inr less ↦
-          let apart = t.apart k (i - 1) (range_of d) less (simp length-map (omega arith)) in
-          let start = q.0 (i - 1) (omega arith) in
-          omega arith
-    ])
-    (λ k above below. q.1 k above (rw (length-map items range_of) at below))
+-- the entry e of a map, the last whose key is at most the address, is the last range that begins by it
+pub IsLastBegun-from_map : (m : BTreeMap ℕ Symbol) (address : ℕ) (e : ℕ × Symbol) → IsOrdered nat_cmp m → IsTable (ranges_of m.entries)
+    → e.0 ≤ address → get nat_cmp m e.0 ≡ Some e.1 → ((k : ℕ) → k ≤ address → IsSome (get nat_cmp m k) → k ≤ e.0)
+    → IsLastBegun (ranges_of m.entries) address (range_of e)
+IsLastBegun-from_map m address e o t begun at last = record {
+  listed = listed;
+  filled = All-contains (λ r. r.start < r.end) (ranges_of m.entries) (range_of e) t.filled listed;
+  begun = begun;
+  last = λ q there le. let from = Contains-map_cases range_of m.entries q there in (rw (sym from.2) (of_entry from.0 from.1 (rw (sym from.2) at le)));
+}
   where
-    minus-one : (k i : ℕ) → k < i → k ≤ i - 1
-    minus-one k i below = omega arith
+    listed : Contains (ranges_of m.entries) (range_of e)
+    listed = Contains-map range_of m.entries e ((btree_map_get_iff nat_cmp_total exact_unsigned m o e.0 e.1).0 at)
 
-pub symbol-absent-first : (items : List Symbol) (address : ℕ) → IsTable (ranges_of items) → BeginBy address items 0 → resolved (ranges_of items) address ≡ None
-symbol-absent-first [] address t p = refl
-symbol-absent-first (x ∷ xs) address t p = symbol-absent (x ∷ xs) 0 address x t p (omega arith) (λ h. absurd (omega arith))
+    of_entry : (f : ℕ × Symbol) → Contains m.entries f → f.0 ≤ address → (range_of f ≡ range_of e) ⊎ (f.1.end ≤ e.0)
+    of_entry f there le =
+        let found = (btree_map_get_iff nat_cmp_total exact_unsigned m o f.0 f.1).1 there in
+        elim (eq-or-lt_of_le (last f.0 le (rw found refl))) [
+          | inl same ↦ inl (ap range_of (pair f e same (same_Some f.1 e.1 (sym found ∙ ap (get nat_cmp m) same ∙ at))))
+          | inr less ↦ inr (apart (ranges_of m.entries) (range_of f) (range_of e) t (Contains-map range_of m.entries f there) listed less)
+        ]
+      where
+        pair : (f e : ℕ × Symbol) → f.0 ≡ e.0 → f.1 ≡ e.1 → f ≡ e
+        pair (k, v) (l, w) p q = cc
 
-pub last-start : (items : List Symbol) (i address : ℕ) (d : Symbol) → BeginBy address items i → 0 < i → i ≤ length items → (get_or items (i - 1) d).start ≤ address
-last-start items i address d p some le = leb-true (get_or items (i - 1) d).start address (p.0 (i - 1) d (omega arith) (omega arith))
+-- no range begins by an address that is below every key
+pub begin-after_from_map : (m : BTreeMap ℕ Symbol) (address : ℕ) → IsOrdered nat_cmp m
+    → ((k : ℕ) → k ≤ address → get nat_cmp m k ≡ None) → All (λ r. address < r.start) (ranges_of m.entries)
+begin-after_from_map m address o none = λ k d below.
+    let e = Contains-map_cases range_of m.entries _ (Contains-get_or (ranges_of m.entries) k d below) in
+    let P : Range → Type 0 = λ r. address < r.start in
+    subst P e.2 (after e.0 e.1)
+  where
+    after : (e : ℕ × Symbol) → Contains m.entries e → address < e.0
+    after e there = elim (cases_lt address e.0) [
+      | inl less ↦ less
+      | inr le ↦ let found = (btree_map_get_iff nat_cmp_total exact_unsigned m o e.0 e.1).1 there in absurd (none-some e.1 (sym (none e.0 le) ∙ found))
+    ]

@@ -1,5 +1,5 @@
 -- A symbol table as a list of ranges of addresses. This project's own.
-use Rattle.std.specs.Prelude.{◌≤◌, ◌<◌, ◌-◌, ◌&&◌, ℕ, Bool, List, Option, find, length, nat_le, nat_lt, option_map, slice_index_or}
+use Rattle.std.specs.Prelude.{◌≤◌, ◌<◌, ◌-◌, ◌&&◌, ℕ, All, AllPairs, Bool, List, Option, find, nat_le, nat_lt, option_map}
 
 -- the addresses from `start` up to `end`, which is exclusive, and their names
 pub record Range : Type 0 where
@@ -15,7 +15,14 @@ has address r = nat_le r.start address && nat_lt address r.end
 abbrev pub resolved : List Range → ℕ → Option (List ℕ × List ℕ × ℕ)
 resolved table address = option_map (λ r. (r.module, r.name, address - r.start)) (find (has address) table)
 
--- ranges in rising order, each with an address, and no two with a common one
+-- a range has an address in common with those from `start` up to `end`, where neither is empty
+abbrev pub meets : ℕ → ℕ → Range → Bool
+meets start end r = nat_lt r.start end && nat_lt start r.end
+
+abbrev pub overlap : Range → Range → Bool
+overlap a b = meets a.start a.end b
+
+-- ranges in rising order, none empty and no two with a common address
 pub record IsTable (table : List Range) : Type 0 where
-  pub filled : (k : ℕ) (d : Range) → k < length table → (slice_index_or table k d).start < (slice_index_or table k d).end
-  pub apart : (i j : ℕ) (d : Range) → i < j → j < length table → (slice_index_or table i d).end ≤ (slice_index_or table j d).start
+  pub filled : All (λ r. r.start < r.end) table
+  pub rising : AllPairs (λ a b. a.end ≤ b.start) table

@@ -1,15 +1,23 @@
--- What the entries of a table in memory stand for.
-use Rattle.std.specs.Prelude.{◌≡◌, ℕ, List, true, false, map, nat_le, string_bytes}
-use Rattle.std.specs.List.Sorted.{IsPartitionPoint}
+-- What the code holds of a table, and the ranges that it stands for.
+use Rattle.std.specs.Prelude.{◌≡◌, ◌≤◌, ◌<◌, ◌⊎◌, ℕ, Contains, List, map, string_bytes}
+use Rattle.htl_symbols.specs.declared.row.Row.{Row}
 use Rattle.htl_symbols.specs.declared.symbols.Symbol.{Symbol}
 use Rattle.htl_symbols.specs.Ranges.{Range}
 
-abbrev pub range_of : Symbol → Range
-range_of s = record { start = s.start; end = s.end; «module» = string_bytes s.module; name = string_bytes s.name }
+-- an entry of a table in memory
+abbrev pub range_of : ℕ × Symbol → Range
+range_of e = record { start = e.0; end = e.1.end; «module» = string_bytes e.1.module; name = string_bytes e.1.name }
 
-abbrev pub ranges_of : List Symbol → List Range
-ranges_of symbols = map range_of symbols
+abbrev pub ranges_of : List (ℕ × Symbol) → List Range
+ranges_of entries = map range_of entries
 
--- the first i entries begin at or before the address, and the others after it
-abbrev pub BeginBy : ℕ → List Symbol → ℕ → Type 0
-BeginBy address symbols i = IsPartitionPoint (λ y. nat_le (range_of y).start address ≡ true) (λ y. nat_le (range_of y).start address ≡ false) symbols i
+-- a row that was read
+abbrev pub row_range : Row → Range
+row_range r = record { start = r.start; end = r.end; «module» = r.module.now; name = r.name.now }
+
+-- of the ranges of a table that begin at or before the address, r is the last
+pub record IsLastBegun (table : List Range) (address : ℕ) (r : Range) : Type 0 where
+  pub listed : Contains table r
+  pub filled : r.start < r.end
+  pub begun : r.start ≤ address
+  pub last : (q : Range) → Contains table q → q.start ≤ address → (q ≡ r) ⊎ (q.end ≤ r.start)

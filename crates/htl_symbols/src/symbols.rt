@@ -1,35 +1,37 @@
-ghost use Rattle.std.specs.Prelude.{◌≡◌, ◌≤◌, length, [], option_map, IsTrue, Contains};
-ghost use Rattle.htl_symbols.specs.Symbols.{BeginBy, ranges_of};
-ghost use Rattle.htl_symbols.specs.Ranges.{Range, IsTable, has, resolved};
+ghost use Rattle.std.specs.Prelude.{◌≡◌, ◌<◌, ◌≤◌, ◌∷◌, [], All, false, IsPermutation, MatchOption, OnErr, OnOk, option_map};
+ghost use Rattle.std.specs.List.{list_any};
+ghost use Rattle.htl_symbols.specs.Ranges.{IsTable, meets, resolved};
+ghost use Rattle.htl_symbols.specs.Symbols.{IsLastBegun, range_of};
 
-use std::alloc::Global;
+use std::alloc::{AllocError, Global};
+use std::collections::BTreeMap;
 use std::marker::Model;
 
-/// A range of addresses, its end exclusive, and its names.
-#[derive(Drop)]
+/// What is known of a range beside its start.
+#[derive(Debug, Drop)]
 pub(crate) struct Symbol {
-    pub(crate) start: u64,
+    /// Behind the last address.
     pub(crate) end: u64,
     pub(crate) module: String,
     pub(crate) name: String,
 }
 
 /// A symbol table.
-#[derive(Drop)]
+#[derive(Debug, Drop)]
 pub struct Symbols {
-    symbols: Vec<Symbol>,
+    by_start: BTreeMap<u64, Symbol>,
 }
 
 impl Model for Symbols {
     ghost use Rattle.std.specs.Prelude.{List};
-    ghost use Rattle.htl_symbols.specs.Ranges.{Range, IsTable};
+    ghost use Rattle.htl_symbols.specs.Ranges.{IsTable, Range};
     ghost use Rattle.htl_symbols.specs.Symbols.{ranges_of};
 
     ghost Value = { List Range };
 
-    ghost view = { λ s. ranges_of s.symbols.items };
+    ghost view = { λ s. ranges_of s.by_start.entries };
 
-    ghost invariant = { λ s. IsTable (ranges_of s.symbols.items) };
+    ghost invariant = { λ s. IsTable (ranges_of s.by_start.entries) };
 }
 
 impl Symbols {
@@ -38,7 +40,7 @@ impl Symbols {
         ensures { result ≡ [] }
     {
         Symbols {
-            symbols: Vec::new(alloc),
+            by_start: BTreeMap::new(alloc),
         }
     }
 
@@ -46,25 +48,51 @@ impl Symbols {
     /// the address is.
     pub fn resolve(&self, address: u64) -> Option<(&str, &str, u64)>
         ensures value { option_map (λ s. (s.0.now, s.1.now, s.2)) result ≡ resolved self.now address }
+        // so no other range has it
+        ensures apart { IsTable self.now }
     {
-        let begun = begun(&self.symbols, address);
-        if begun == 0 {
-            return None;
-        }
-        let symbol = &self.symbols[begun - 1];
+        let (start, symbol) = self.last_begun(address)?;
         if address < symbol.end {
-            Some((symbol.module.as_str(), symbol.name.as_str(), address - symbol.start))
+            Some((
+                symbol.module.as_str(),
+                symbol.name.as_str(),
+                address - start,
+            ))
         } else {
             None
         }
     }
-}
 
-/// How many of the symbols begin at or before the address.
-fn begun(symbols: &[Symbol], address: u64) -> usize
-    requires { IsTable (ranges_of symbols.now) }
-    ensures bound { result ≤ length symbols.now }
-    ensures split { BeginBy address symbols.now result }
-{
-    symbols.partition_point(|symbol| symbol.start <= address)
+    /// The last range that begins at or before the address.
+    fn last_begun(&self, address: u64) -> Option<(u64, &Symbol)>
+        ensures last { MatchOption result (All (λ r. address < r.start) self.now)
+            (λ s. IsLastBegun self.now address (range_of (s.0, s.1.now))) }
+        ensures table { IsTable self.now }
+    {
+        let (start, symbol) = self.by_start.range(..=address).next_back()?;
+        Some((*start, symbol))
+    }
+
+    /// Whether a range has an address in common with the range from `start` up to `end`.
+    pub(crate) fn overlaps(&self, start: u64, end: u64) -> bool
+        requires { start < end }
+        ensures { result ≡ list_any (meets start end) self.now }
+    {
+        match self.last_begun(end - 1) {
+            Some((_, symbol)) => start < symbol.end,
+            None => false,
+        }
+    }
+
+    /// Adds a range that overlaps none.
+    pub(crate) fn insert(&mut self, start: u64, symbol: Symbol) -> Result<(), AllocError>
+        requires filled { start < symbol.end }
+        requires apart { list_any (meets start symbol.end) self.old ≡ false }
+        ensures ok { OnOk result (IsPermutation (range_of (start, symbol) ∷ self.old) self.new) }
+        ensures table { OnOk result (IsTable self.new) }
+        ensures err { OnErr result (self.new ≡ self.old) }
+    {
+        self.by_start.insert(start, symbol)?;
+        Ok(())
+    }
 }

@@ -8,3 +8,4 @@ pub mod RecordsLoop
 pub mod EventsIn
 pub mod BuildingLaws
 pub mod EventsEqual
+pub mod BundleLaws

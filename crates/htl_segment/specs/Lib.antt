@@ -5,5 +5,6 @@ pub mod Spelling
 pub mod Reading
 pub mod Faults
 pub mod Records
+pub mod Bundles
 pub mod Building
 pub mod Hexadecimal

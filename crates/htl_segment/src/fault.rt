@@ -62,6 +62,18 @@ pub enum Fault {
     NoMemory,
 }
 
+impl Fault {
+    ghost use Rattle.std.specs.Prelude.{◌≡◌};
+    ghost use Rattle.htl_segment.specs.Bundles.{is_early_end};
+
+    /// Whether more bytes may make a segment of those that have this fault.
+    pub(crate) fn is_early_end(self) -> bool
+        ensures { result ≡ is_early_end self }
+    {
+        matches!(self, Fault::Short | Fault::Cut)
+    }
+}
+
 impl From<NoMemory> for Fault {
     ghost from_gives = { λ _ fault. fault ≡ faults.NoMemory };
 

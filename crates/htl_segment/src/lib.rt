@@ -2,6 +2,7 @@
 #![tactic(auto)]
 
 mod building;
+mod bundle;
 mod decoding;
 mod encoding;
 mod fault;
@@ -15,6 +16,7 @@ mod segment;
 mod segment_bytes;
 mod version;
 
+pub use bundle::decode_bundle;
 pub use decoding::decode;
 pub use encoding::encode;
 pub use fault::Fault;

@@ -1,0 +1,164 @@
+-- Bytes split into segments in one way.
+use Rattle.std.proofs.Common.{◌≡◌, ℕ, zero, suc, ◌+◌, ◌-◌, ◌*◌, ◌<◌, ◌≤◌, Bool, true, false, cond, not, ◌||◌, eqb, nat_eq, nat_lt, nat_le, List, [], ◌∷◌, ◌++◌, length, drop, Option, Some, None, is_none, refl, sym, ap, ◌∙◌, append_assoc, arith, inl, inr, ◌⊎◌}
+use Rattle.std.specs.Prelude.{codes, MatchOption}
+use Rattle.std.specs.List.{starts_with}
+use Rattle.std.proofs.lemmas.Bool.{cases_lt, lt-ltb, le-ltb}
+use Rattle.std.proofs.lemmas.List.{length-append, length-take, append-nil, take-append-drop, flat_map_more}
+use Rattle.std.proofs.lemmas.List.Elements.{All-nil, All-push}
+use Rattle.htl_segment.specs.declared.version.Version.{Version}
+use Rattle.htl_segment.specs.declared.fault.Fault.{Fault}
+use Rattle.htl_segment.specs.declared.fault.Fault.TheVariants as faults
+use Rattle.htl_segment.specs.Versions.{limits_of}
+use Rattle.htl_segment.specs.Numbers.{number}
+use Rattle.htl_segment.specs.Content.{Content, Fits}
+use Rattle.htl_segment.specs.Spelling.{records, header_bytes, spelling, BeginsWith}
+use Rattle.htl_segment.specs.Reading.{version_of, frames_in, after_record, version_in, length_in, body_in}
+use Rattle.htl_segment.specs.Faults.{or_else, header_fault, record_fault, records_fault, first_fault}
+use Rattle.htl_segment.specs.Bundles.{bundle, Splits, SplitsMore, BundleFault, cut_off, IsRest, is_early_end}
+use Rattle.htl_segment.proofs.Tests.{some_is}
+use Rattle.htl_segment.proofs.HeaderLaws.{length-header_bytes}
+use Rattle.htl_segment.proofs.SegmentLaws.{first_fault-header, first_fault-cut, first_fault-records}
+
+-- ---- which faults are early ends
+
+-- no fault, or one that more bytes can't mend
+abbrev IsLate : Option Fault → Type 0
+IsLate None = Unit {0}
+IsLate (Some fault) = is_early_end fault ≡ false
+
+late_test : (t : Bool) (fault : Fault) (next : Option Fault) → is_early_end fault ≡ false → IsLate next → IsLate (cond t (Some fault) next)
+late_test true fault next late others = late
+late_test false fault next late others = others
+
+late_or_else : (first next : Option Fault) → IsLate first → IsLate next → IsLate (or_else first next)
+late_or_else None next late others = others
+late_or_else (Some fault) next late others = late
+
+late_header : (b : List ℕ) → 32 ≤ length b → IsLate (header_fault b)
+unfolding header_fault
+late_header b long =
+    let t : nat_lt (length b) 32 ≡ false = le-ltb _ _ long in
+    rw t
+    (late_test (not (starts_with nat_eq b (codes "HLS1"))) faults.Magic _ refl
+    (late_test (is_none (version_of (number 4 2 b))) faults.Version _ refl
+    (late_test (eqb (number 6 2 b) 0 || nat_lt (limits_of (version_in b)).processors (number 6 2 b)) faults.Processors _ refl
+    (late_test (nat_le (number 6 2 b) (number 8 2 b)) faults.Processor _ refl
+    (late_test (not (eqb (number 10 2 b) 0)) faults.Reserved _ refl
+    (late_test (nat_lt 0xFFFFFFFE (number 12 4 b)) faults.Number _ refl
+    (late_test (nat_lt 4096 (number 24 4 b)) faults.Count _ refl
+    (late_test (nat_lt (length_in b) 32 || nat_lt (limits_of (version_in b)).len (length_in b)) faults.Length None refl tt))))))))
+
+late_record : (v : Version) (i last : ℕ) (b : List ℕ) → IsLate (record_fault v i last b)
+unfolding record_fault
+late_record v i last b =
+    late_test (nat_lt (length b) 36) (faults.RecordShort i) _ refl
+    (late_test (nat_le (number 0 8 b) last) (faults.Sequence i) _ refl
+    (late_test (eqb _ 0 || nat_lt (limits_of v).kinds _) (faults.Kind i) _ refl
+    (late_test (nat_lt (limits_of v).frames (frames_in b) || nat_lt (length b - 36) (8 * frames_in b)) (faults.Frames i) _ refl
+    (late_test _ (faults.Field i) None refl tt))))
+
+late_records : (v : Version) (n i last : ℕ) (b : List ℕ) → IsLate (records_fault v n i last b)
+unfolding records_fault
+late_records v zero i last b = filled (eqb (length b) 0)
+  where
+    filled : (t : Bool) → IsLate (cond t None (Some faults.Excess))
+    filled true = tt
+    filled false = refl
+late_records v (suc n) i last b =
+    late_or_else (record_fault v i last b) (records_fault v n (i + 1) (number 0 8 b) (after_record b)) (late_record v i last b) (late_records v n (i + 1) (number 0 8 b) (after_record b))
+
+is_mended : (first : Option Fault) (fault : Fault) → IsLate first → first ≡ Some fault → is_early_end fault ≡ true → ⊥
+is_mended None fault late is early = cc is
+is_mended (Some other) fault late is early =
+    let same : other ≡ fault = some_is other fault is in
+    cc (sym late ∙ ap is_early_end same ∙ early)
+
+cut_off-long : (b : List ℕ) → 32 ≤ length b → cut_off b ≡ faults.Cut
+cut_off-long b long = let t : nat_lt (length b) 32 ≡ false = le-ltb _ _ long in rw t refl
+
+long_early_end : (b : List ℕ) (fault : Fault) (head : Option Fault) → 32 ≤ length b → header_fault b ≡ head → first_fault b ≡ Some fault → is_early_end fault ≡ true → first_fault b ≡ Some (cut_off b)
+long_early_end b fault (Some other) long head is early =
+    let late : IsLate (Some other) = rw head at (late_header b long) in
+    absurd (is_mended (Some other) fault late (sym (first_fault-header b other head) ∙ is) early)
+long_early_end b fault None long head is early =
+    elim (cases_lt (length b) (length_in b)) [
+      | inl cut ↦ first_fault-cut b head cut ∙ ap Some (sym (cut_off-long b long))
+      | inr whole ↦
+          let first = first_fault-records b head whole in
+          absurd (is_mended _ fault (late_records (version_in b) (number 24 4 b) 0 0 (body_in b)) (sym first ∙ is) early)
+    ]
+
+short_early_end : (b : List ℕ) → length b < 32 → first_fault b ≡ Some (cut_off b)
+unfolding header_fault
+short_early_end b short =
+    let t : nat_lt (length b) 32 ≡ true = lt-ltb _ _ short in
+    first_fault-header b (cut_off b) (rw t refl)
+
+-- a fault that more bytes may mend is that of bytes that end too early
+pub early_end : (b : List ℕ) (fault : Fault) → first_fault b ≡ Some fault → is_early_end fault ≡ true → IsRest b
+early_end b fault is early =
+    elim (cases_lt (length b) 32) [
+      | inl short ↦ record { fault_is = short_early_end b short }
+      | inr long ↦ record { fault_is = long_early_end b fault (header_fault b) long refl is early }
+    ]
+
+-- ---- splitting one segment after the other
+
+pub begins_long : (b : List ℕ) (n : ℕ) (s : Content) → BeginsWith b n s → 32 ≤ n
+begins_long b n s front =
+    omega (arith, ap length front.spells.bytes, length-take n b, front.inside, length-append (header_bytes s (length (records s.events))) (records s.events), length-header_bytes s (length (records s.events)))
+
+pub splits_nothing : (b : List ℕ) (old : List Content) → SplitsMore b old old b
+splits_nothing b old = record { more = []; pushed = sym (append-nil old); splits = record { parts = refl; fits = All-nil Fits } }
+
+pub splits_one : (b : List ℕ) (old new : List Content) (rest : List ℕ) (n : ℕ) (s : Content) → SplitsMore b old new rest → BeginsWith rest n s → SplitsMore b old (new ++ s ∷ []) (drop n rest)
+splits_one b old new rest n s so_far front = record {
+  more = so_far.more ++ s ∷ [];
+  pushed = rw so_far.pushed (append_assoc old so_far.more (s ∷ []));
+  splits = record {
+    parts = so_far.splits.parts ∙ ap (λ (r : List ℕ). bundle so_far.more ++ r) (sym (take-append-drop n rest) ∙ ap (λ (x : List ℕ). x ++ drop n rest) front.spells.bytes)
+        ∙ sym (append_assoc (bundle so_far.more) (spelling s) (drop n rest)) ∙ ap (λ (x : List ℕ). x ++ drop n rest) (flat_map_more spelling [] so_far.more s);
+    fits = All-push Fits so_far.more s so_far.splits.fits front.spells.fits;
+  };
+}
+
+pub some_left : (rest : List ℕ) (fault : Fault) → first_fault rest ≡ Some fault → is_early_end fault ≡ false → 0 < length rest
+some_left [] fault is late = absurd (let same = some_is faults.Short fault (sym (short_early_end [] (omega arith)) ∙ is) in cc (ap is_early_end same ∙ late))
+some_left (x ∷ rest) fault is late = omega arith
+
+pub bundle_fault : (b : List ℕ) (old new : List Content) (rest : List ℕ) (fault : Fault) → SplitsMore b old new rest → first_fault rest ≡ Some fault → is_early_end fault ≡ false → BundleFault b (length b - length rest) fault
+bundle_fault b old new rest fault so_far is late = record {
+  before = so_far.more;
+  rest = rest;
+  splits = so_far.splits;
+  offset_is = omega (arith, ap length so_far.splits.parts, length-append (bundle so_far.more) rest);
+  some = some_left rest fault is late;
+  fault_is = is;
+}
+
+-- ---- what `decode` tells
+
+pub told : (first : Option Fault) (fault : Fault) → MatchOption first (fault ≡ faults.NoMemory) (λ other. fault ≡ other) → (fault ≡ faults.NoMemory) ⊎ (first ≡ Some fault)
+told None fault memory = inl memory
+told (Some other) fault same = inr (ap Some (sym same))
+
+pub told_early : (first : Option Fault) (fault : Fault) → MatchOption first (fault ≡ faults.NoMemory) (λ other. fault ≡ other) → is_early_end fault ≡ true → first ≡ Some fault
+told_early None fault memory early = absurd (cc (sym early ∙ ap is_early_end memory))
+told_early (Some other) fault same early = ap Some (sym same)
+
+-- ---- a whole bundle
+
+pub bundle_found : (b : List ℕ) (old new : List Content) (rest : List ℕ) → old ≡ [] → rest ≡ [] → SplitsMore b old new rest → Splits b new []
+bundle_found b old new rest start ended split =
+    let all : new ≡ split.more = split.pushed ∙ ap (λ (front : List Content). front ++ split.more) start in
+    rw (all, ← ended) split.splits
+
+pub bundle_cut : (b : List ℕ) (old new : List Content) (rest : List ℕ) → SplitsMore b old new rest → IsRest rest → 0 < length rest → BundleFault b (length b - length rest) (cut_off rest)
+bundle_cut b old new rest split is_rest some = record {
+  before = split.more;
+  rest = rest;
+  splits = split.splits;
+  offset_is = omega (arith, ap length split.splits.parts, length-append (bundle split.more) rest);
+  some = some;
+  fault_is = is_rest.fault_is;
+}

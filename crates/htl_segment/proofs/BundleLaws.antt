@@ -3,8 +3,8 @@ use Rattle.std.proofs.Common.{◌≡◌, ℕ, zero, suc, ◌+◌, ◌-◌, ◌*�
 use Rattle.std.specs.Prelude.{codes, MatchOption}
 use Rattle.std.specs.List.{starts_with}
 use Rattle.std.proofs.lemmas.Bool.{cases_lt, lt-ltb, le-ltb}
-use Rattle.std.proofs.lemmas.List.{length-append, length-take, append-nil, take-append-drop, flat_map_more}
-use Rattle.std.proofs.lemmas.List.Elements.{All-nil, All-push}
+use Rattle.std.proofs.lemmas.List.{take_all, length-append, length-take, append-nil, take-append-drop, flat_map_more}
+use Rattle.std.proofs.lemmas.List.Elements.{All-nil, All-cons, All-push}
 use Rattle.htl_segment.specs.declared.version.Version.{Version}
 use Rattle.htl_segment.specs.declared.fault.Fault.{Fault}
 use Rattle.htl_segment.specs.declared.fault.Fault.TheVariants as faults
@@ -14,10 +14,11 @@ use Rattle.htl_segment.specs.Content.{Content, Fits}
 use Rattle.htl_segment.specs.Spelling.{records, header_bytes, spelling, BeginsWith}
 use Rattle.htl_segment.specs.Reading.{version_of, frames_in, after_record, version_in, length_in, body_in}
 use Rattle.htl_segment.specs.Faults.{or_else, header_fault, record_fault, records_fault, first_fault}
-use Rattle.htl_segment.specs.Bundles.{bundle, Splits, SplitsMore, BundleFault, cut_off, IsRest, is_early_end}
+use Rattle.htl_segment.specs.Bundles.{bundle, Splits, SplitsMore, BundleFault, cut_off, IsRest, IsWhole, IsLateFault, IsRefused, is_early_end}
 use Rattle.htl_segment.proofs.Tests.{some_is}
 use Rattle.htl_segment.proofs.HeaderLaws.{length-header_bytes}
-use Rattle.htl_segment.proofs.SegmentLaws.{first_fault-header, first_fault-cut, first_fault-records}
+use Rattle.htl_segment.proofs.SegmentLaws.{first_fault-header, first_fault-cut, first_fault-records, begins}
+use Rattle.htl_segment.proofs.Extended.{header_fault-append}
 
 -- ---- which faults are early ends
 
@@ -76,30 +77,40 @@ is_mended (Some other) fault late is early =
 cut_off-long : (b : List ℕ) → 32 ≤ length b → cut_off b ≡ faults.Cut
 cut_off-long b long = let t : nat_lt (length b) 32 ≡ false = le-ltb _ _ long in rw t refl
 
-long_early_end : (b : List ℕ) (fault : Fault) (head : Option Fault) → 32 ≤ length b → header_fault b ≡ head → first_fault b ≡ Some fault → is_early_end fault ≡ true → first_fault b ≡ Some (cut_off b)
+long_early_end : (b : List ℕ) (fault : Fault) (head : Option Fault) → 32 ≤ length b → header_fault b ≡ head → first_fault b ≡ Some fault → is_early_end fault ≡ true → (header_fault b ≡ None) × (length b < length_in b)
 long_early_end b fault (Some other) long head is early =
     let late : IsLate (Some other) = rw head at (late_header b long) in
     absurd (is_mended (Some other) fault late (sym (first_fault-header b other head) ∙ is) early)
 long_early_end b fault None long head is early =
     elim (cases_lt (length b) (length_in b)) [
-      | inl cut ↦ first_fault-cut b head cut ∙ ap Some (sym (cut_off-long b long))
+      | inl cut ↦ (head, cut)
       | inr whole ↦
           let first = first_fault-records b head whole in
           absurd (is_mended _ fault (late_records (version_in b) (number 24 4 b) 0 0 (body_in b)) (sym first ∙ is) early)
     ]
 
-short_early_end : (b : List ℕ) → length b < 32 → first_fault b ≡ Some (cut_off b)
-unfolding header_fault
-short_early_end b short =
-    let t : nat_lt (length b) 32 ≡ true = lt-ltb _ _ short in
-    first_fault-header b (cut_off b) (rw t refl)
-
 -- a fault that more bytes may mend is that of bytes that end too early
 pub early_end : (b : List ℕ) (fault : Fault) → first_fault b ≡ Some fault → is_early_end fault ≡ true → IsRest b
 early_end b fault is early =
     elim (cases_lt (length b) 32) [
-      | inl short ↦ record { fault_is = short_early_end b short }
-      | inr long ↦ record { fault_is = long_early_end b fault (header_fault b) long refl is early }
+      | inl short ↦ record { cut_off = inl short }
+      | inr long ↦ record { cut_off = inr (long_early_end b fault (header_fault b) long refl is early) }
+    ]
+
+short_end : (b : List ℕ) → length b < 32 → first_fault b ≡ Some (cut_off b)
+unfolding header_fault
+short_end b short =
+    let t : nat_lt (length b) 32 ≡ true = lt-ltb _ _ short in
+    first_fault-header b (cut_off b) (rw t refl)
+
+pub first_fault-rest : (b : List ℕ) → IsRest b → first_fault b ≡ Some (cut_off b)
+first_fault-rest b rest =
+    elim (cases_lt (length b) 32) [
+      | inl short ↦ short_end b short
+      | inr long ↦ elim (rest.cut_off) [
+        | inl short ↦ short_end b short
+        | inr cut ↦ first_fault-cut b cut.0 cut.1 ∙ ap Some (sym (cut_off-long b long))
+      ]
     ]
 
 -- ---- splitting one segment after the other
@@ -122,18 +133,26 @@ splits_one b old new rest n s so_far front = record {
   };
 }
 
-pub some_left : (rest : List ℕ) (fault : Fault) → first_fault rest ≡ Some fault → is_early_end fault ≡ false → 0 < length rest
-some_left [] fault is late = absurd (let same = some_is faults.Short fault (sym (short_early_end [] (omega arith)) ∙ is) in cc (ap is_early_end same ∙ late))
+some_left : (rest : List ℕ) (fault : Fault) → first_fault rest ≡ Some fault → is_early_end fault ≡ false → 0 < length rest
+some_left [] fault is late = absurd (let same = some_is faults.Short fault (sym (short_end [] (omega arith)) ∙ is) in cc (ap is_early_end same ∙ late))
 some_left (x ∷ rest) fault is late = omega arith
 
-pub bundle_fault : (b : List ℕ) (old new : List Content) (rest : List ℕ) (fault : Fault) → SplitsMore b old new rest → first_fault rest ≡ Some fault → is_early_end fault ≡ false → BundleFault b (length b - length rest) fault
-bundle_fault b old new rest fault so_far is late = record {
-  before = so_far.more;
-  rest = rest;
-  splits = so_far.splits;
-  offset_is = omega (arith, ap length so_far.splits.parts, length-append (bundle so_far.more) rest);
-  some = some_left rest fault is late;
-  fault_is = is;
+pub refused : (b : List ℕ) (old new : List Content) (rest : List ℕ) (fault : Fault) → SplitsMore b old new rest → is_early_end fault ≡ false → (fault ≡ faults.NoMemory) ⊎ (first_fault rest ≡ Some fault)
+    → IsRefused b (length b - length rest) fault
+refused b old new rest fault so_far late cause = record {
+  inside = omega arith;
+  late = late;
+  cause = elim cause [
+    | inl memory ↦ inl memory
+    | inr is ↦ inr (record {
+      before = so_far.more;
+      rest = rest;
+      splits = so_far.splits;
+      offset_is = omega (arith, ap length so_far.splits.parts, length-append (bundle so_far.more) rest);
+      some = some_left rest fault is late;
+      fault_is = is;
+    })
+  ];
 }
 
 -- ---- what `decode` tells
@@ -148,11 +167,6 @@ told_early (Some other) fault same early = ap Some (sym same)
 
 -- ---- a whole bundle
 
-pub bundle_found : (b : List ℕ) (old new : List Content) (rest : List ℕ) → old ≡ [] → rest ≡ [] → SplitsMore b old new rest → Splits b new []
-bundle_found b old new rest start ended split =
-    let all : new ≡ split.more = split.pushed ∙ ap (λ (front : List Content). front ++ split.more) start in
-    rw (all, ← ended) split.splits
-
 pub bundle_cut : (b : List ℕ) (old new : List Content) (rest : List ℕ) → SplitsMore b old new rest → IsRest rest → 0 < length rest → BundleFault b (length b - length rest) (cut_off rest)
 bundle_cut b old new rest split is_rest some = record {
   before = split.more;
@@ -160,5 +174,38 @@ bundle_cut b old new rest split is_rest some = record {
   splits = split.splits;
   offset_is = omega (arith, ap length split.splits.parts, length-append (bundle split.more) rest);
   some = some;
-  fault_is = is_rest.fault_is;
+  fault_is = first_fault-rest rest is_rest;
 }
+
+-- ---- the bytes of one segment
+
+whole_late : (first : Option Fault) (fault : Fault) → IsLate first → first ≡ Some fault → is_early_end fault ≡ false
+whole_late None fault late is = absurd cc
+whole_late (Some other) fault late is = sym (ap is_early_end (some_is other fault is)) ∙ late
+
+-- what `decode` tells of a header and all that it tells
+pub late_fault : (b : List ℕ) (fault : Fault) → IsWhole b → MatchOption (first_fault b) (fault ≡ faults.NoMemory) (λ other. fault ≡ other) → IsLateFault b fault
+late_fault b fault whole is =
+    elim (told (first_fault b) fault is) [
+      | inl memory ↦ record { late = rw memory refl; cause = inl memory }
+      | inr first ↦
+          let records_first = first_fault-records b whole.no_fault (omega (arith, whole.len)) in
+          let late = whole_late _ fault (late_records (version_in b) (number 24 4 b) 0 0 (body_in b)) (sym records_first ∙ first) in
+          record { late = late; cause = inr first }
+    ]
+
+pub late_header_fault : (b more : List ℕ) (fault : Fault) → 32 ≤ length b → header_fault b ≡ Some fault → IsLateFault (b ++ more) fault
+late_header_fault b more fault long is = record {
+  late = whole_late (header_fault b) fault (late_header b long) is;
+  cause = inr (first_fault-header (b ++ more) fault (header_fault-append b more long ∙ is));
+}
+
+pub single_split : (b : List ℕ) (n : ℕ) (s : Content) → IsWhole b → BeginsWith b n s → Splits b (s ∷ []) []
+single_split b n s whole front =
+    let again = begins b n s front in
+    let len : n ≡ length b = omega (arith, again.len, ap length front.spells.bytes, length-take n b, front.inside, whole.len) in
+    let all : b ≡ spelling s = sym (take_all n b (omega (arith, len))) ∙ front.spells.bytes in
+    record {
+      parts = all ∙ sym (append-nil (spelling s)) ∙ sym (append-nil (spelling s ++ []));
+      fits = All-cons Fits s [] front.spells.fits (All-nil Fits);
+    }

@@ -9,3 +9,5 @@ pub mod EventsIn
 pub mod BuildingLaws
 pub mod EventsEqual
 pub mod BundleLaws
+pub mod Extended
+pub mod PiecesLaws

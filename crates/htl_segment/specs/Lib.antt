@@ -6,5 +6,6 @@ pub mod Reading
 pub mod Faults
 pub mod Records
 pub mod Bundles
+pub mod Pieces
 pub mod Building
 pub mod Hexadecimal

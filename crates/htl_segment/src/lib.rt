@@ -14,6 +14,7 @@ mod record;
 mod records;
 mod segment;
 mod segment_bytes;
+mod splitter;
 mod version;
 
 pub use bundle::decode_bundle;
@@ -29,4 +30,5 @@ pub use record::Record;
 pub use records::Records;
 pub use segment::Segment;
 pub use segment_bytes::SegmentBytes;
+pub use splitter::Splitter;
 pub use version::{Limits, Version};

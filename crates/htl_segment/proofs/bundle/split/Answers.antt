@@ -1,8 +1,7 @@
-use Rattle.std.proofs.Common.{◌≡◌, ◌++◌, ◌∷◌, [], false, arith, inl, inr, sym, ◌∙◌, ℕ}
+use Rattle.std.proofs.Common.{◌≡◌, ◌++◌, ◌∷◌, [], arith, sym, ◌∙◌, ℕ}
 use Rattle.std.proofs.lemmas.List.{take_rest, length-drop, length-take}
 use Rattle.std.proofs.lemmas.Grind.{common_steps}
-use Rattle.htl_segment.specs.Bundles.{is_early_end}
-use Rattle.htl_segment.proofs.BundleLaws.{early_end, begins_long, splits_one, bundle_fault, told, told_early}
+use Rattle.htl_segment.proofs.BundleLaws.{early_end, begins_long, splits_one, refused, told, told_early}
 use Rattle.htl_segment.proofs.bundle.split.Goals as goal
 
 pub loop-segment-smaller : goal.loop-segment-smaller
@@ -23,10 +22,5 @@ returns-in-Err c =
 
 pub returns-in-Err-2 : goal.returns-in-Err-2
 returns-in-Err-2 c =
-    let late : is_early_end c.in-Err.fault ≡ false = sym c.is_early_end.ensures ∙ c.if-is_early_end.false in (
-      late,
-      elim (told _ c.in-Err.fault c.in-Err.ensures.fault) [
-        | inl memory ↦ inl memory
-        | inr first ↦ inr (bundle_fault c.args.bytes.now _ _ c.loop-segment.rest.now c.in-Err.fault c.loop-segment.invariant first late)
-      ],
-    )
+    let late = sym c.is_early_end.ensures ∙ c.if-is_early_end.false in
+    refused c.args.bytes.now _ _ c.loop-segment.rest.now c.in-Err.fault c.loop-segment.invariant late (told _ c.in-Err.fault c.in-Err.ensures.fault)

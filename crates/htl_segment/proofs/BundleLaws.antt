@@ -18,7 +18,7 @@ use Rattle.htl_segment.specs.Bundles.{bundle, Splits, SplitsMore, BundleFault, c
 use Rattle.htl_segment.proofs.Tests.{some_is}
 use Rattle.htl_segment.proofs.HeaderLaws.{length-header_bytes}
 use Rattle.htl_segment.proofs.SegmentLaws.{first_fault-header, first_fault-cut, first_fault-records, begins}
-use Rattle.htl_segment.proofs.Extended.{header_fault-append}
+use Rattle.htl_segment.proofs.Extended.{header_fault-append, first_fault-append}
 
 -- ---- which faults are early ends
 
@@ -209,3 +209,30 @@ single_split b n s whole front =
       parts = all ∙ sym (append-nil (spelling s)) ∙ sym (append-nil (spelling s ++ []));
       fits = All-cons Fits s [] front.spells.fits (All-nil Fits);
     }
+
+-- ---- what stays when more bytes follow
+
+not_early : (early fault : Fault) → is_early_end early ≡ true → Some early ≡ Some fault → is_early_end fault ≡ false → ⊥
+not_early early fault is same late =
+    let e : early ≡ fault = some_is early fault same in
+    cc (sym is ∙ ap is_early_end e ∙ late)
+
+late_stays_long : (b more : List ℕ) (fault : Fault) (head : Option Fault) → 32 ≤ length b → header_fault b ≡ head → is_early_end fault ≡ false → first_fault b ≡ Some fault → first_fault (b ++ more) ≡ Some fault
+late_stays_long b more fault (Some first) long head late is =
+    first_fault-header (b ++ more) first (header_fault-append b more long ∙ head) ∙ sym (first_fault-header b first head) ∙ is
+late_stays_long b more fault None long head late is =
+    elim (cases_lt (length b) (length_in b)) [
+      | inl cut ↦ absurd (not_early faults.Cut fault refl (sym (first_fault-cut b head cut) ∙ is) late)
+      | inr whole ↦ first_fault-append b more long whole ∙ is
+    ]
+
+-- a fault that more bytes can't mend
+pub late_stays : (b more : List ℕ) (fault : Fault) → is_early_end fault ≡ false → first_fault b ≡ Some fault → first_fault (b ++ more) ≡ Some fault
+late_stays b more fault late is =
+    elim (cases_lt (length b) 32) [
+      | inl short ↦
+          let t : nat_lt (length b) 32 ≡ true = lt-ltb _ _ short in
+          let early : is_early_end (cut_off b) ≡ true = rw t refl in
+          absurd (not_early (cut_off b) fault early (sym (short_end b short) ∙ is) late)
+      | inr long ↦ late_stays_long b more fault (header_fault b) long refl late is
+    ]

@@ -1,6 +1,7 @@
 -- Bundles that come in pieces (this project's own).
 use Rattle.std.specs.Borrow.{Bor}
 use Rattle.std.specs.Prelude.{◌≡◌, ℕ, ◌+◌, ◌-◌, List, ◌++◌, length, false, Option, Some, None, Result, Ok, Err, ◌==◌, if◌then◌else◌}
+use Rattle.std.specs.List.{flat_map}
 use Rattle.htl_segment.specs.declared.fault.Fault.{Fault}
 use Rattle.htl_segment.specs.Bundles.{BundleFault, IsRest, IsWhole, cut_off, is_early_end}
 
@@ -29,6 +30,10 @@ ended None start rest = if length rest == 0 then Ok tt else Err (start, cut_off 
 -- what the end of the bytes means
 abbrev pub finish_of : Pieces → Result (Unit {0}) (ℕ × Fault)
 finish_of s = ended s.fault (start_of s) s.rest
+
+-- the bytes of the pieces, put together
+abbrev pub joined : List (Bor (List ℕ)) → List ℕ
+joined pieces = flat_map (λ piece. piece.now) pieces
 
 -- ---- parts of a call of `feed`
 

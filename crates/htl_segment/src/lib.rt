@@ -30,5 +30,5 @@ pub use record::Record;
 pub use records::Records;
 pub use segment::Segment;
 pub use segment_bytes::SegmentBytes;
-pub use splitter::Splitter;
+pub use splitter::{Splitter, decode_pieces};
 pub use version::{Limits, Version};

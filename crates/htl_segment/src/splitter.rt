@@ -1,9 +1,9 @@
 //! A bundle that comes in pieces.
-ghost use Rattle.std.specs.Prelude.{◌≡◌, ◌⊎◌, ◌≤◌, ◌++◌, [], length, None, IfOk, MatchResult};
+ghost use Rattle.std.specs.Prelude.{◌≡◌, ◌⊎◌, ◌<◌, ◌≤◌, ◌^◌, ◌++◌, [], length, None, IfOk, IfErr, MatchResult};
 ghost use Rattle.htl_segment.specs.Reading.{length_in};
 ghost use Rattle.htl_segment.specs.Faults.{header_fault};
-ghost use Rattle.htl_segment.specs.Bundles.{Splits, IsRest, IsWhole, IsLateFault, IsRefused};
-ghost use Rattle.htl_segment.specs.Pieces.{Extends, Fills};
+ghost use Rattle.htl_segment.specs.Bundles.{Splits, BundleFault, IsRest, IsWhole, IsLateFault, IsRefused};
+ghost use Rattle.htl_segment.specs.Pieces.{joined, Extends, Fills};
 
 use crate::bundle::{cut_off, split};
 use crate::decoding::decode;
@@ -100,7 +100,9 @@ impl Splitter {
 
     /// Ends the bytes: a fault where one was told, or where they end inside a segment.
     pub fn finish(self) -> Result<(), (u64, Fault)>
-        ensures { result ≡ finish_of self }
+        ensures value { result ≡ finish_of self }
+        // What every splitter keeps, so that callers have it too.
+        ensures rest { IsRest self.rest }
     {
         if let Some(fault) = self.fault {
             return Err(fault);
@@ -111,6 +113,26 @@ impl Splitter {
         let start = self.fed - self.rest.len() as u64;
         Err((start, cut_off(&self.rest)))
     }
+}
+
+/// The segments of a bundle that lies in pieces, by a splitter that is fed one after the other. The
+/// answer is that of `decode_bundle` on the pieces put together, so it doesn't matter how they were cut.
+pub fn decode_pieces(alloc: Global, pieces: &[&[u8]]) -> Result<Vec<Segment>, (u64, Fault)>
+    requires { length (joined pieces.now) < 2 ^ 64 }
+    ensures found { IfOk result (λ segments. Splits (joined pieces.now) segments.items []) }
+    ensures fault { IfErr result (λ refused.
+        (refused.1 ≡ Fault.NoMemory) ⊎ BundleFault (joined pieces.now) refused.0 refused.1) }
+{
+    let mut splitter = Splitter::new(alloc);
+    let mut segments = Vec::new(alloc);
+    for piece in pieces {
+        let mut more = splitter.feed(alloc, piece)?;
+        if segments.append(&mut more).is_err() {
+            return Err((splitter.fed(), Fault::NoMemory));
+        }
+    }
+    splitter.finish()?;
+    Ok(segments)
 }
 
 /// Takes a piece in behind `rest`: gives the segments that it completes, and leaves the bytes after them

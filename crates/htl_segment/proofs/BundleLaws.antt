@@ -1,10 +1,10 @@
 -- Bytes split into segments in one way.
-use Rattle.std.proofs.Common.{◌≡◌, ℕ, zero, suc, ◌+◌, ◌-◌, ◌*◌, ◌<◌, ◌≤◌, Bool, true, false, cond, not, ◌||◌, eqb, nat_eq, nat_lt, nat_le, List, [], ◌∷◌, ◌++◌, length, drop, Option, Some, None, is_none, refl, sym, ap, ◌∙◌, append_assoc, arith, inl, inr, ◌⊎◌}
+use Rattle.std.proofs.Common.{◌≡◌, ℕ, zero, suc, ◌+◌, ◌-◌, ◌*◌, ◌<◌, ◌≤◌, Bool, true, false, cond, not, ◌||◌, eqb, nat_eq, nat_lt, nat_le, List, [], ◌∷◌, ◌++◌, length, All, drop, Option, Some, None, is_none, refl, sym, ap, ◌∙◌, append_assoc, arith, inl, inr, ◌⊎◌}
 use Rattle.std.specs.Prelude.{codes, MatchOption}
 use Rattle.std.specs.List.{starts_with}
 use Rattle.std.proofs.lemmas.Bool.{cases_lt, lt-ltb, le-ltb}
-use Rattle.std.proofs.lemmas.List.{take_all, length-append, length-take, append-nil, take-append-drop, flat_map_more}
-use Rattle.std.proofs.lemmas.List.Elements.{All-nil, All-cons, All-push}
+use Rattle.std.proofs.lemmas.List.{append_cancel_left, take_all, length-append, length-take, append-nil, take-append-drop, flat_map_more}
+use Rattle.std.proofs.lemmas.List.Elements.{All-nil, All-cons, All-push, All-head, All-tail}
 use Rattle.htl_segment.specs.declared.version.Version.{Version}
 use Rattle.htl_segment.specs.declared.fault.Fault.{Fault}
 use Rattle.htl_segment.specs.declared.fault.Fault.TheVariants as faults
@@ -17,7 +17,7 @@ use Rattle.htl_segment.specs.Faults.{or_else, header_fault, record_fault, record
 use Rattle.htl_segment.specs.Bundles.{bundle, Splits, SplitsMore, BundleFault, cut_off, IsRest, IsWhole, IsLateFault, IsRefused, is_early_end}
 use Rattle.htl_segment.proofs.Tests.{some_is}
 use Rattle.htl_segment.proofs.HeaderLaws.{length-header_bytes}
-use Rattle.htl_segment.proofs.SegmentLaws.{first_fault-header, first_fault-cut, first_fault-records, begins}
+use Rattle.htl_segment.proofs.SegmentLaws.{first_fault-header, first_fault-cut, first_fault-records, begins, segment_again, one_spelling}
 use Rattle.htl_segment.proofs.Extended.{header_fault-append, first_fault-append}
 
 -- ---- which faults are early ends
@@ -236,3 +236,31 @@ late_stays b more fault late is =
           absurd (not_early (cut_off b) fault early (sym (short_end b short) ∙ is) late)
       | inr long ↦ late_stays_long b more fault (header_fault b) long refl late is
     ]
+
+-- ---- one way to split
+
+-- a segment that bytes begin with leaves no fault
+spelled_first : (s : Content) (more : List ℕ) (fault : Fault) → Fits s → first_fault (spelling s ++ more) ≡ Some fault → ⊥
+spelled_first s more fault fits is = cc (sym (segment_again s more fits).no_fault ∙ is)
+
+split_one_way : (ss ts : List Content) (rest left : List ℕ) (f g : Fault) → All Fits ss → All Fits ts → first_fault rest ≡ Some f → first_fault left ≡ Some g → bundle ss ++ rest ≡ bundle ts ++ left
+    → (ss ≡ ts) × (rest ≡ left)
+split_one_way [] [] rest left f g fits fit is isn't same = (refl, same)
+split_one_way [] (t ∷ ts) rest left f g fits fit is isn't same =
+    absurd (spelled_first t (bundle ts ++ left) f (All-head Fits t ts fit) (sym (ap first_fault (same ∙ append_assoc (spelling t) (bundle ts) left)) ∙ is))
+split_one_way (s ∷ ss) [] rest left f g fits fit is isn't same =
+    absurd (spelled_first s (bundle ss ++ rest) g (All-head Fits s ss fits) (sym (ap first_fault (sym same ∙ append_assoc (spelling s) (bundle ss) rest)) ∙ isn't))
+split_one_way (s ∷ ss) (t ∷ ts) rest left f g fits fit is isn't same =
+    let regrouped : spelling s ++ (bundle ss ++ rest) ≡ spelling t ++ (bundle ts ++ left) = sym (append_assoc (spelling s) (bundle ss) rest) ∙ same ∙ append_assoc (spelling t) (bundle ts) left in
+    let first = one_spelling (spelling s) (spelling t) (bundle ss ++ rest) (bundle ts ++ left) s t (record { bytes = refl; fits = All-head Fits s ss fits }) (record { bytes = refl; fits = All-head Fits t ts fit }) regrouped in
+    let next : bundle ss ++ rest ≡ bundle ts ++ left = append_cancel_left (spelling t) (bundle ss ++ rest) (bundle ts ++ left) (ap (λ (x : List ℕ). x ++ (bundle ss ++ rest)) (sym first.0) ∙ regrouped) in
+    let others = split_one_way ss ts rest left f g (All-tail Fits s ss fits) (All-tail Fits t ts fit) is isn't next in
+    (ap (λ (x : Content). x ∷ ss) first.1 ∙ ap (λ (xs : List Content). t ∷ xs) others.0, others.1)
+
+pub split_in_one_way : (b rest left : List ℕ) (ss ts : List Content) (f g : Fault) → Splits b ss rest → Splits b ts left → first_fault rest ≡ Some f → first_fault left ≡ Some g → (ss ≡ ts) × (rest ≡ left)
+split_in_one_way b rest left ss ts f g split other is isn't =
+    split_one_way ss ts rest left f g split.fits other.fits is isn't (sym split.parts ∙ other.parts)
+
+-- no bytes are too few
+pub nothing_short : first_fault [] ≡ Some (cut_off [])
+nothing_short = short_end [] (omega arith)

@@ -23,8 +23,8 @@ pub use encoding::encode;
 pub use fault::Fault;
 pub use hexadecimal::{HexFault, from_hex};
 pub use laws::{
-    faults_where_nothing_is_spelled, no_spelling_begins_another, one_number_one_bytes,
-    one_spelling, written_is_read_again,
+    a_bundle_is_read_in_one_way, faults_where_nothing_is_spelled, no_spelling_begins_another,
+    one_number_one_bytes, one_spelling, written_is_read_again,
 };
 pub use record::Record;
 pub use records::Records;

@@ -15,7 +15,7 @@ use Rattle.htl_segment.specs.Spelling.{records, header_bytes, spelling, BeginsWi
 use Rattle.htl_segment.specs.Reading.{version_of, frames_in, after_record, version_in, length_in, body_in}
 use Rattle.htl_segment.specs.Faults.{or_else, header_fault, record_fault, records_fault, first_fault}
 use Rattle.htl_segment.specs.Bundles.{bundle, Splits, SplitsMore, BundleFault, cut_off, IsRest, IsWhole, IsLateFault, IsRefused, is_early_end}
-use Rattle.htl_segment.proofs.Tests.{some_is}
+use Rattle.htl_segment.proofs.Passed.{some_is}
 use Rattle.htl_segment.proofs.HeaderLaws.{length-header_bytes}
 use Rattle.htl_segment.proofs.SegmentLaws.{first_fault-header, first_fault-cut, first_fault-records, begins, segment_again, one_spelling}
 use Rattle.htl_segment.proofs.Extended.{header_fault-append, first_fault-append}

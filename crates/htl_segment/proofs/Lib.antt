@@ -1,6 +1,6 @@
 pub mod Bytes
 pub mod Frames
-pub mod Tests
+pub mod Passed
 pub mod RecordLaws
 pub mod HeaderLaws
 pub mod SegmentLaws

@@ -15,6 +15,8 @@ mod records;
 mod segment;
 mod segment_bytes;
 mod splitter;
+#[cfg(test)]
+mod tests;
 mod version;
 
 pub use bundle::decode_bundle;

@@ -2,7 +2,7 @@ use Rattle.std.proofs.Common.{List, [], length, ap, sym, ◌∙◌, arith}
 use Rattle.htl_segment.specs.Content.{Content}
 use Rattle.htl_segment.specs.Faults.{first_fault}
 use Rattle.htl_segment.specs.Bundles.{bundle}
-use Rattle.htl_segment.proofs.Tests.{some_is}
+use Rattle.htl_segment.proofs.Passed.{some_is}
 use Rattle.htl_segment.proofs.BundleLaws.{split_in_one_way, nothing_short, first_fault-rest}
 use Rattle.htl_segment.proofs.laws.a_bundle_is_read_in_one_way.Goals as goal
 

@@ -11,7 +11,7 @@ use Rattle.htl_segment.specs.declared.fault.Fault.TheVariants as faults
 use Rattle.htl_segment.specs.Versions.{limits_of}
 use Rattle.htl_segment.specs.Content.{Content, kind_code, fields_fit, EventFits, EventsFit, Fits}
 use Rattle.htl_segment.specs.Building.{event_fault, events_fault, build_fault}
-use Rattle.htl_segment.proofs.Tests.{passed, both_passed, or_false, not_false, no_or, no_not}
+use Rattle.htl_segment.proofs.Passed.{passed, both_passed, or_false, not_false, no_or, no_not}
 
 event_fits : (v : Version) (i last : ℕ) (e : Event) → InRange e → event_fault v i last e ≡ None → EventFits v e × (last < e.sequence)
 unfolding event_fault

@@ -14,7 +14,7 @@ use Rattle.htl_segment.specs.Spelling.{header_bytes}
 use Rattle.htl_segment.specs.Reading.{version_of, version_in, length_in}
 use Rattle.htl_segment.specs.Faults.{header_fault}
 use Rattle.htl_segment.proofs.Bytes.{field, after, number_here, after_number, length-bytes_of}
-use Rattle.htl_segment.proofs.Tests.{passed, or_false, not_false, no_or, no_not, same_list}
+use Rattle.htl_segment.proofs.Passed.{passed, or_false, not_false, no_or, no_not, same_list}
 
 -- ---- versions and their numbers
 

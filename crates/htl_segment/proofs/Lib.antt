@@ -1,6 +1,6 @@
 pub mod Bytes
 pub mod Frames
-pub mod Tests
+pub mod Passed
 pub mod RecordLaws
 pub mod HeaderLaws
 pub mod SegmentLaws
@@ -10,3 +10,6 @@ pub mod Traces
 pub mod Sequences
 pub mod BuildingLaws
 pub mod EventsEqual
+pub mod BundleLaws
+pub mod Extended
+pub mod PiecesLaws

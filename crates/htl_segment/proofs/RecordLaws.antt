@@ -18,7 +18,7 @@ use Rattle.htl_segment.specs.Reading.{kind_of, frames_in, event_in, after_record
 use Rattle.htl_segment.specs.Faults.{record_fault}
 use Rattle.htl_segment.specs.Records.{HasRecord}
 use Rattle.htl_segment.proofs.Bytes.{IsBytes-drop, field, part, number-lt, numbers_take, numbers-fit, length-numbers, after, number_here, after_number, byte_here, numbers_here, length-frames, length-bytes_of}
-use Rattle.htl_segment.proofs.Tests.{passed, or_false, not_false, no_or, no_not}
+use Rattle.htl_segment.proofs.Passed.{passed, or_false, not_false, no_or, no_not}
 
 -- ---- kinds and their codes
 

@@ -19,7 +19,7 @@ use Rattle.htl_segment.specs.Reading.{event_in, after_record, events_in, version
 use Rattle.htl_segment.specs.Faults.{header_fault, record_fault, records_fault, first_fault}
 use Rattle.htl_segment.specs.Records.{HasRecords, IsSegment}
 use Rattle.htl_segment.proofs.Bytes.{IsBytes-drop, IsBytes-take, number-lt, length-bytes_of, length-frames}
-use Rattle.htl_segment.proofs.Tests.{passed, ended, both_passed}
+use Rattle.htl_segment.proofs.Passed.{passed, ended, both_passed}
 use Rattle.htl_segment.proofs.RecordLaws.{record_read, record_again}
 use Rattle.htl_segment.proofs.HeaderLaws as header
 

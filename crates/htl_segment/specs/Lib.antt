@@ -5,6 +5,8 @@ pub mod Spelling
 pub mod Reading
 pub mod Faults
 pub mod Records
+pub mod Bundles
+pub mod Pieces
 pub mod Building
 pub mod Hexadecimal
 pub mod Keys

@@ -2,6 +2,7 @@ ghost use Rattle.std.specs.Prelude.{◌≡◌};
 ghost use Rattle.htl_segment.specs.declared.fault.Fault.TheVariants as faults;
 
 use htl_event::NoMemory;
+use std::alloc::{AllocError, AllocFailed};
 use thiserror::Error;
 
 /// Why bytes are no segment: the first rule of the format that they break.
@@ -62,10 +63,38 @@ pub enum Fault {
     NoMemory,
 }
 
+impl Fault {
+    ghost use Rattle.std.specs.Prelude.{◌≡◌};
+    ghost use Rattle.htl_segment.specs.Bundles.{is_early_end};
+
+    /// Whether more bytes may make a segment of those that have this fault.
+    pub(crate) fn is_early_end(self) -> bool
+        ensures { result ≡ is_early_end self }
+    {
+        matches!(self, Fault::Short | Fault::Cut)
+    }
+}
+
 impl From<NoMemory> for Fault {
     ghost from_gives = { λ _ fault. fault ≡ faults.NoMemory };
 
     fn from(_refused: NoMemory) -> Fault {
+        Fault::NoMemory
+    }
+}
+
+impl From<AllocError> for Fault {
+    ghost from_gives = { λ _ fault. fault ≡ faults.NoMemory };
+
+    fn from(_refused: AllocError) -> Fault {
+        Fault::NoMemory
+    }
+}
+
+impl<T: Drop> From<AllocFailed<T>> for Fault {
+    ghost from_gives = { λ _ fault. fault ≡ faults.NoMemory };
+
+    fn from(_refused: AllocFailed<T>) -> Fault {
         Fault::NoMemory
     }
 }

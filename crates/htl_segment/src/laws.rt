@@ -6,6 +6,8 @@ ghost use Rattle.htl_segment.specs.Numbers.{IsBytes};
 ghost use Rattle.htl_segment.specs.Content.{Content, Fits};
 ghost use Rattle.htl_segment.specs.Spelling.{spelling, Spells, BeginsWith};
 ghost use Rattle.htl_segment.specs.Faults.{first_fault};
+ghost use Rattle.htl_segment.specs.Bundles.{Splits, BundleFault, IsRest};
+ghost use Rattle.htl_segment.specs.declared.fault.Fault.{Fault};
 
 /// What was written is read again, whatever follows it: `decode` answers a segment that the bytes begin
 /// with, and that is the one that was written.
@@ -38,4 +40,16 @@ pub fn faults_where_nothing_is_spelled()
 pub fn one_number_one_bytes()
     ensures { (a b : List ℕ) → IsBytes a → IsBytes b → length a ≡ length b
         → little_number (length a) a ≡ little_number (length b) b → a ≡ b }
+{}
+
+/// Bytes are the bundle of one list of segments or have one first fault, and never both. What a splitter
+/// hands out and what it keeps depend on the bytes alone, and not on how they were cut.
+pub fn a_bundle_is_read_in_one_way()
+    ensures segments { (bytes : List ℕ) (ss ts : List Content) → Splits bytes ss [] → Splits bytes ts [] → ss ≡ ts }
+    ensures fault { (bytes : List ℕ) (m n : ℕ) (f g : Fault) → BundleFault bytes m f → BundleFault bytes n g
+        → (m ≡ n) × (f ≡ g) }
+    ensures not_both { (bytes : List ℕ) (ss : List Content) (n : ℕ) (f : Fault) → Splits bytes ss []
+        → BundleFault bytes n f → ⊥ }
+    ensures pieces { (bytes rest left : List ℕ) (ss ts : List Content) → Splits bytes ss rest → IsRest rest
+        → Splits bytes ts left → IsRest left → (ss ≡ ts) × (rest ≡ left) }
 {}

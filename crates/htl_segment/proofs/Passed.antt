@@ -46,3 +46,9 @@ same_list (x ∷ a) (y ∷ b) e =
     let head : x ≡ y = eqb-true x y p.0 in
     let tail : a ≡ b = same_list a b p.1 in
     cc
+
+abbrev some : {A : Type 0} → A → Option A
+some x = Some x
+
+pub some_is : {A : Type 0} (x y : A) → some x ≡ some y → x ≡ y
+some_is x y e = cc

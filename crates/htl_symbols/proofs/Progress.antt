@@ -1,6 +1,6 @@
 -- How far the reading of a table's rows has come.
-use Rattle.std.proofs.Common.{◌≡◌, ◌<◌, ◌+◌, ℕ, Bool, true, false, List, [], ◌∷◌, ◌++◌, length, map, refl, sym, ap, ◌∙◌, arith, IsPermutation, append_assoc, length-append, inr, get_or, suc, ltb, ◌&&◌, add-zero, add_comm, append-nil}
-use Rattle.std.specs.Prelude.{All, AllPairs, Ok, Err, Result}
+use Rattle.std.proofs.Common.{◌≡◌, ◌<◌, ◌+◌, ℕ, Bool, true, false, List, [], ◌∷◌, ◌++◌, length, map, refl, sym, ap, ◌∙◌, arith, IsPermutation, append_assoc, length-append, inr, get_or, ltb, add-zero, add_comm, append-nil}
+use Rattle.std.specs.Prelude.{Ok, Err, Result}
 use Rattle.std.specs.List.{enumerate_from, list_any}
 use Rattle.std.proofs.Math.Bool.{and_comm}
 use Rattle.std.proofs.lemmas.Bool.{false_from_ne_true}
@@ -11,10 +11,10 @@ use Rattle.std.proofs.lemmas.List.Quantifiers.{all_pairs_push}
 use Rattle.std.proofs.lemmas.List.Sorted.{IsPermutation-push_more, IsPermutation-refl, list_any-IsPermutation}
 use Rattle.csv.specs.Records.{AllText}
 use Rattle.htl_symbols.specs.Ranges.{IsTable, Range, overlap}
-use Rattle.htl_symbols.specs.Reading.{IsFirstFault, Reads, StopsAt, WriteRanges, WritesNone}
+use Rattle.htl_symbols.specs.Reading.{Reads, StopsAt, WriteRanges, WritesNone}
 use Rattle.htl_symbols.specs.Records.{IsAtRecord, SliceReader, records_left}
 use Rattle.htl_symbols.specs.Rows.{Record, header, range_of_row}
-use Rattle.htl_symbols.specs.Steps.{RecordRead, RowAdded, WritesNothing, WritesRange}
+use Rattle.htl_symbols.specs.Steps.{RecordRead, RowAdded, WritesNothing}
 use Rattle.htl_symbols.specs.declared.fault.SymbolFault.{SymbolFault}
 use Rattle.htl_symbols.specs.declared.fault.SymbolFault.TheVariants.{Header, Fields, Number, EmptyRange, Overlap, Csv, NoMemory}
 

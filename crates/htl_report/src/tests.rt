@@ -184,3 +184,53 @@ fn texts_of_answers(rt: HostRuntime) -> Result<(), Fail> {
     }
     Ok(())
 }
+
+/// What each address prints under these rows of a table.
+fn names_of(alloc: Global, rows: &[u8], addresses: &[u64]) -> Result<Vec<u8>, Fail> {
+    let mut table = Vec::from_slice(alloc, b"start,end,module,name\n")?;
+    table.extend_from_slice(rows)?;
+    let symbols = Symbols::read(alloc, &table)?;
+    let mut rows = Vec::new(alloc);
+    rows.push((stack(addresses), 1))?;
+    Ok(text(alloc, &Answer::Leaks { process: 4, rows }, &symbols)?)
+}
+
+#[test]
+fn texts_of_addresses(rt: HostRuntime) -> Result<(), Fail> {
+    let table: [(&[u8], &[u64], &str); 3] = [
+        (
+            b"0x1000,0x1020,ntdll,NtCreateFile\n2000,2001,app,main\n",
+            &[0x1000, 0x1010, 0x101f, 0x1020, 0x2000, u64::MAX],
+            "leaks process=4 count=1
+LEAK handles=1
+  ntdll!NtCreateFile
+  ntdll!NtCreateFile+0x10
+  ntdll!NtCreateFile+0x1f
+  0x0000000000001020
+  app!main
+  0xffffffffffffffff
+",
+        ),
+        (
+            b"1,2,a,b\n2,3,c,d\n",
+            &[2],
+            "leaks process=4 count=1
+LEAK handles=1
+  c!d
+",
+        ),
+        (
+            b"0,1,,\n",
+            &[0],
+            "leaks process=4 count=1
+LEAK handles=1
+  !
+",
+        ),
+    ];
+    for (rows, addresses, wanted) in table {
+        let bytes = names_of(rt.alloc(), rows, addresses)?;
+        assert_eq!(rt; bytes.as_slice(), wanted.as_bytes(), "instead of {wanted}");
+    }
+    Ok(())
+}

@@ -1,12 +1,12 @@
 -- What a row adds to a table.
-use Rattle.std.proofs.Common.{◌≡◌, ◌<◌, ◌⊎◌, ℕ, true, false, List, [], ◌∷◌, Option, Some, None, Bool, refl, sym, ltb, inl, inr}
+use Rattle.std.proofs.Common.{◌≡◌, ◌⊎◌, ℕ, List, [], ◌∷◌, Option, Some, None, refl, sym, ltb, inl, inr}
 use Rattle.std.proofs.lemmas.Bool.{cases_cond}
-use Rattle.std.specs.Prelude.{Ok, Err}
+use Rattle.std.specs.Prelude.{Err}
 use Rattle.htl_symbols.specs.Ranges.{Range}
 use Rattle.htl_symbols.specs.Rows.{Record, address_of, range_between, range_of_row}
 use Rattle.htl_symbols.specs.Steps.{RowAdded}
 use Rattle.htl_symbols.specs.declared.fault.SymbolFault.{SymbolFault}
-use Rattle.htl_symbols.specs.declared.fault.SymbolFault.TheVariants.{Header, Fields, Number, EmptyRange, Overlap, Csv, NoMemory}
+use Rattle.htl_symbols.specs.declared.fault.SymbolFault.TheVariants.{Fields, Number, EmptyRange}
 
 -- the faults that a row has by itself, with its number
 fault-of-row : (row : ℕ) (fields : Record) (fault : SymbolFault) → range_of_row (row, fields) ≡ Err fault

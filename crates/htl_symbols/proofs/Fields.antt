@@ -1,10 +1,9 @@
 -- The four fields of a record.
-use Rattle.std.proofs.Common.{◌≡◌, ◌≢◌, ◌<◌, ℕ, List, [], ◌∷◌, Option, Some, None, Bool, true, length, refl, ap, arith, sym, ◌∙◌, Decides}
+use Rattle.std.proofs.Common.{◌≡◌, ◌≢◌, ◌<◌, ℕ, List, [], ◌∷◌, Option, Some, None, true, length, refl, ap, arith, sym, ◌∙◌, Decides}
 use Rattle.std.specs.Prelude.{Err, codes}
 use Rattle.std.specs.Str.{bytes_eq}
 use Rattle.std.proofs.lemmas.Bool.{and_parts}
 use Rattle.std.proofs.lemmas.Slice.Eq.{bytes_eq-Decides}
-use Rattle.std.proofs.lemmas.Option.{same_Some}
 use Rattle.csv.specs.Records.{field_at}
 use Rattle.csv.proofs.RecordFacts.{field-there}
 use Rattle.htl_symbols.specs.Rows.{Record, address_of, header, range_between, range_of_row}

@@ -1,18 +1,15 @@
 -- A table that gains a range which overlaps none.
-use Rattle.std.proofs.Common.{◌≡◌, ◌≢◌, ◌≤◌, ◌<◌, ◌⊎◌, [], ◌∷◌, ℕ, true, false, List, Some, None, get_or, inl, inr, length, refl, arith, sym, ap, ◌∙◌, IsPermutation}
-use Rattle.std.specs.BTreeMap.{BTreeMap, IsOrdered, get, insert_entry, keys}
-use Rattle.std.specs.List.{All, Contains, list_any}
+use Rattle.std.proofs.Common.{◌≡◌, ◌≢◌, ◌≤◌, ◌<◌, ◌⊎◌, [], ◌∷◌, ℕ, false, List, get_or, inl, inr, length, refl, arith, sym, ap, IsPermutation}
+use Rattle.std.specs.BTreeMap.{BTreeMap, IsOrdered, insert_entry}
+use Rattle.std.specs.List.{Contains, list_any}
 use Rattle.std.specs.List.Sorted.{IsStrictlySortedBy}
 use Rattle.std.specs.Map.{keys_of}
 use Rattle.std.specs.Ordering.{nat_cmp}
-use Rattle.std.proofs.lemmas.Bool.{cases_lt, cases_order, eq-eqb, le-ltb, lt-ltb, ne_eqb}
-use Rattle.std.proofs.lemmas.Cmp.{nat_cmp_total}
+use Rattle.std.proofs.lemmas.Bool.{cases_lt, cases_order, le-ltb, lt-ltb, ne_eqb}
 use Rattle.std.proofs.lemmas.List.{get_or-map, length-map}
 use Rattle.std.proofs.lemmas.List.Elements.{All-contains, Contains-get_or}
 use Rattle.std.proofs.lemmas.List.Sorted.{Contains-permutation, IsPermutation-cons, IsPermutation-refl, IsPermutation-swap, IsPermutation-sym, IsPermutation-trans}
 use Rattle.std.proofs.lemmas.Map.Keys.{below_from_sorted}
-use Rattle.std.proofs.lemmas.Map.Lookups.{exact_unsigned}
-use Rattle.std.proofs.lemmas.Map.Views.{btree_map_get_iff}
 use Rattle.htl_symbols.specs.Ranges.{IsTable, Range, meets}
 use Rattle.htl_symbols.specs.Symbols.{range_of, ranges_of}
 use Rattle.htl_symbols.specs.declared.symbols.Symbol.{Symbol}

@@ -1,9 +1,7 @@
 -- Elements of a list, and the one that passes a test.
-use Rattle.std.proofs.Common.{◌≡◌, ◌<◌, ◌⊎◌, ℕ, zero, suc, Bool, true, false, List, [], ◌∷◌, Some, None, get_or, inl, inr, length, map, refl, arith, sym, ◌∙◌}
+use Rattle.std.proofs.Common.{◌≡◌, ◌⊎◌, zero, suc, Bool, true, false, List, [], ◌∷◌, Some, None, inl, inr, map, refl, arith, sym}
 use Rattle.std.specs.List.{Contains, find, list_any}
 use Rattle.std.proofs.lemmas.Bool.{cases_Bool}
-use Rattle.std.proofs.lemmas.List.{get_or-map, length-map}
-use Rattle.std.proofs.lemmas.List.Elements.{Contains-get_or}
 use Rattle.std.proofs.lemmas.List.Folds.{list_any_at}
 
 -- the elements of x ∷ xs are x and those of xs

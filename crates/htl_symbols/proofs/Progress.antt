@@ -1,6 +1,6 @@
 -- How far the reading of a table's rows has come.
-use Rattle.std.proofs.Common.{◌≡◌, ◌<◌, ◌+◌, ℕ, Bool, true, false, List, [], ◌∷◌, ◌++◌, length, map, refl, sym, ap, ◌∙◌, arith, IsPermutation, append_assoc, length-append, inr, get_or, suc, ltb, ◌&&◌, add-zero, add_comm, append-nil}
-use Rattle.std.specs.Prelude.{All, AllPairs, Ok, Err, Result}
+use Rattle.std.proofs.Common.{◌≡◌, ◌<◌, ◌+◌, ℕ, Bool, true, false, List, [], ◌∷◌, ◌++◌, length, map, refl, sym, ap, ◌∙◌, arith, IsPermutation, append_assoc, length-append, inr, get_or, ltb, add-zero, add_comm, append-nil}
+use Rattle.std.specs.Prelude.{Ok, Err, Result}
 use Rattle.std.specs.List.{enumerate_from, list_any}
 use Rattle.std.proofs.Math.Bool.{and_comm}
 use Rattle.std.proofs.lemmas.Bool.{false_from_ne_true}
@@ -11,10 +11,10 @@ use Rattle.std.proofs.lemmas.List.Quantifiers.{all_pairs_push}
 use Rattle.std.proofs.lemmas.List.Sorted.{IsPermutation-push_more, IsPermutation-refl, list_any-IsPermutation}
 use Rattle.csv.specs.Records.{AllText}
 use Rattle.htl_symbols.specs.Ranges.{IsTable, Range, overlap}
-use Rattle.htl_symbols.specs.Reading.{IsFirstFault, Reads, StopsAt, WriteRanges, WritesNone}
+use Rattle.htl_symbols.specs.Reading.{Reads, StopsAt, WriteRanges, WritesNone}
 use Rattle.htl_symbols.specs.Records.{IsAtRecord, SliceReader, records_left}
 use Rattle.htl_symbols.specs.Rows.{Record, header, range_of_row}
-use Rattle.htl_symbols.specs.Steps.{RecordRead, RowAdded, WritesNothing, WritesRange}
+use Rattle.htl_symbols.specs.Steps.{RecordRead, RowAdded, WritesNothing}
 use Rattle.htl_symbols.specs.declared.fault.SymbolFault.{SymbolFault}
 use Rattle.htl_symbols.specs.declared.fault.SymbolFault.TheVariants.{Header, Fields, Number, EmptyRange, Overlap, Csv, NoMemory}
 
@@ -63,24 +63,6 @@ WriteRanges-push rows ranges fields r right text written none =
     apart k d below = false_from_ne_true (overlap (get_or ranges k d) r) (λ met.
         let any = list_any_at (overlap r) ranges k d below (overlap-swap r (get_or ranges k d) ∙ met) in cc)
 
-pub progress-starts : (reader : SliceReader) (table : List Range) → IsAtRecord reader → table ≡ [] → Progress (records_left reader) 1 reader table
-progress-starts reader table at none = record {
-  rows = [];
-  ranges = [];
-  cut = refl;
-  count = refl;
-  right = record {
-    rows = [];
-    headed = refl;
-    text = λ k d below. absurd (omega arith);
-    written = refl;
-    apart = λ i j d less below. absurd (omega arith);
-  };
-  moved = rw none (IsPermutation-refl []);
-  sorted = rw none (record { filled = λ k d below. absurd (omega arith); rising = λ i j d less below. absurd (omega arith) });
-  at = at;
-}
-
 -- what the table has is what the rows have written
 any-written : (r : Range) (ranges table : List Range) (b : Bool) → IsPermutation ranges table → list_any (overlap r) table ≡ b → list_any (overlap r) ranges ≡ b
 any-written r ranges table b moved any = list_any-IsPermutation (overlap r) ranges table moved ∙ any
@@ -100,10 +82,6 @@ progress-goes all number a b old new fields u p read added =
       at = read.0;
     }
 
-pub progress-ends : (all : List Record) (number : ℕ) (a b : SliceReader) (table : List Range) (fields : Record)
-    → Progress all number a table → RecordRead number a b fields (Ok false) → Reads (header ∷ all) (Ok table)
-progress-ends all number a b table fields p none = (p.ranges, rw (p.cut ∙ ap (λ rs. p.rows ++ rs) none ∙ append-nil p.rows) p.right, p.moved, p.sorted)
-
 -- the record that comes next is at fault
 stops : (all : List Record) (number : ℕ) (a : SliceReader) (table : List Range) (bad : Record) (later : List Record) (IsFaulty : List Range → Record → Type 0)
     → (p : Progress all number a table) → records_left a ≡ bad ∷ later → IsFaulty p.ranges bad → StopsAt (header ∷ all) number IsFaulty
@@ -117,17 +95,6 @@ stops all number a table bad later IsFaulty p left fault = record {
   place = let counted = p.count in omega arith;
   fault = fault;
 }
-
-pub progress-refused : (all : List Record) (number : ℕ) (a b : SliceReader) (table : List Range) (fields : Record) (fault : SymbolFault)
-    → Progress all number a table → RecordRead number a b fields (Err fault) → Reads (header ∷ all) (Err fault)
-progress-refused all number a b table fields (Csv n) p refused =
-    inr (rw refused.0 (stops all number a table refused.1 refused.2 (λ _ bad. ¬ (AllText bad)) p refused.3 refused.4))
-progress-refused all number a b table fields NoMemory p refused = tt
-progress-refused all number a b table fields Header p refused = absurd refused
-progress-refused all number a b table fields (Fields n) p refused = absurd refused
-progress-refused all number a b table fields (Number n) p refused = absurd refused
-progress-refused all number a b table fields (EmptyRange n) p refused = absurd refused
-progress-refused all number a b table fields (Overlap n) p refused = absurd refused
 
 writes-none : (all : List Record) (number : ℕ) (a : SliceReader) (old : List Range) (fields : Record) (n : ℕ) (fault : SymbolFault)
     → Progress all number a old → (later : List Record) → records_left a ≡ fields ∷ later → AllText fields

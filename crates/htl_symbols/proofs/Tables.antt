@@ -1,7 +1,7 @@
 -- Which range of a table has an address, and what a table in memory says of it.
-use Rattle.std.proofs.Common.{◌≡◌, ◌≤◌, ◌<◌, ◌-◌, ◌+◌, ◌⊎◌, ◌++◌, [], ◌∷◌, ℕ, true, false, List, Some, None, Option, get_or, inl, inr, length, refl, arith, sym, ap, subst, nat_lt, ◌∙◌}
+use Rattle.std.proofs.Common.{◌≡◌, ◌≤◌, ◌<◌, ◌-◌, ◌⊎◌, ℕ, true, false, List, Some, None, get_or, inl, inr, refl, arith, sym, ap, subst, nat_lt, ◌∙◌}
 use Rattle.std.specs.BTreeMap.{BTreeMap, IsOrdered, get}
-use Rattle.std.specs.List.{All, Contains, find, list_any}
+use Rattle.std.specs.List.{All, Contains, list_any}
 use Rattle.std.specs.Option.{IsSome}
 use Rattle.std.specs.Ordering.{is_gt, nat_cmp}
 use Rattle.std.proofs.lemmas.Bool.{cases_lt, cases_order, eq-eqb, le-leb, le-ltb, lt-ltb}

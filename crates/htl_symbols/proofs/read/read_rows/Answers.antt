@@ -1,7 +1,7 @@
 use Rattle.std.proofs.lemmas.Result.{err_from_is_err_and}
 use Rattle.csv.specs.Records.{fields_of}
 use Rattle.htl_symbols.specs.Records.{records_left}
-use Rattle.htl_symbols.proofs.Progress.{progress-ends, progress-fails, progress-goes, progress-refused, progress-starts}
+use Rattle.htl_symbols.proofs.Progress.{progress-fails, progress-goes}
 use Rattle.htl_symbols.proofs.read.read_rows.Goals as goal
 
 pub returns-in_err-add_row : goal.returns-in_err-add_row

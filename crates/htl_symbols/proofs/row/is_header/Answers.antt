@@ -1,4 +1,3 @@
-use Rattle.std.proofs.Common.{sym, ◌∙◌, true, false, Bool}
 use Rattle.csv.specs.Records.{fields_of}
 use Rattle.htl_symbols.proofs.Fields.{columns-header, header-wrong}
 use Rattle.htl_symbols.proofs.row.is_header.Goals as goal

@@ -1,4 +1,4 @@
-use Rattle.std.proofs.Common.{◌∙◌, sym, refl}
+use Rattle.std.proofs.Common.{◌∙◌, refl}
 use Rattle.std.specs.Prelude.{Some, None}
 use Rattle.std.proofs.lemmas.Bool.{le-ltb, lt-ltb}
 use Rattle.csv.specs.Records.{fields_of}

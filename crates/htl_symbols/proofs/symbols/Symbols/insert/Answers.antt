@@ -1,7 +1,6 @@
 use Rattle.std.proofs.Common.{sym}
 use Rattle.std.proofs.lemmas.List.Sorted.{IsPermutation-map}
-use Rattle.htl_symbols.specs.Ranges.{IsTable}
-use Rattle.htl_symbols.specs.Symbols.{range_of, ranges_of}
+use Rattle.htl_symbols.specs.Symbols.{range_of}
 use Rattle.htl_symbols.proofs.Insertion.{IsTable-insert, gains}
 use Rattle.htl_symbols.proofs.symbols.Symbols.insert.Goals as goal
 

@@ -1,0 +1,32 @@
+//! Reads a symbol table and prints an answer under it: `bench_report ROWS` for an answer of so many rows of
+//! 16 frames and a table of half as many ranges. Standard error tells how long each step took, standard
+//! output how large its result is.
+#![tactic(auto)]
+
+mod input;
+mod stopwatch;
+
+use htl_report::{Answer, text};
+use htl_symbols::Symbols;
+use std::env;
+use stopwatch::Stopwatch;
+
+/// The number of rows where no argument tells another.
+const FEW: u32 = 1000;
+
+fn main(rt: HostRuntime) -> anyhow::Result<()> {
+    let count = match env::args(&rt)?.nth(1) {
+        Some(word) => word.parse()?,
+        None => FEW,
+    };
+    let table = input::table(rt.alloc(), count / 2)?;
+    let answer = Answer::Outstanding {
+        process: 4,
+        rows: input::rows(rt.alloc(), count)?,
+    };
+    let mut watch = Stopwatch::start(&rt)?;
+    let symbols = Symbols::read(rt.alloc(), table.as_bytes())?;
+    watch.lap("symbol table", table.len())?;
+    let printed = text(rt.alloc(), &answer, &symbols)?;
+    watch.lap("text", printed.len())
+}

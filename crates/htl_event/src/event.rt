@@ -1,3 +1,6 @@
+ghost use Rattle.std.specs.Prelude.{◌≡◌, ◌<◌, ◌^◌, length};
+ghost use Rattle.std.specs.List.{AllByRecursion};
+
 use crate::kind::Kind;
 use crate::slot::{Sign, Slot};
 use crate::stack::Stack;
@@ -20,6 +23,7 @@ pub struct Event {
 impl Event {
     ghost use Rattle.std.specs.Prelude.{◌≡◌};
     ghost use Rattle.htl_event.specs.Slots.{slot_of};
+    ghost use Rattle.htl_event.specs.Ranges.{InRange};
 
     pub fn copy(&self) -> Event
         ensures { result ≡ self.now }
@@ -60,4 +64,32 @@ impl Event {
             Kind::Deref => Some((tagged, Sign::Minus)),
         }
     }
+
+    /// For proofs: what the types of the fields say of their numbers. It does nothing when it runs.
+    pub fn in_range(&self)
+        ensures { InRange self.now }
+    {
+        let _sequence = self.sequence;
+        let _process = self.process;
+        let _thread = self.thread;
+        let _handle = self.handle;
+        let _object = self.object;
+        tag_len(self.tag);
+        bytes_in_range(&self.tag);
+        addresses_in_range(self.stack.frames());
+    }
 }
+
+fn tag_len(tag: [u8; 4])
+    ensures { length tag ≡ 4 }
+{
+    let _len = tag.len();
+}
+
+fn bytes_in_range(bytes: &[u8])
+    ensures { AllByRecursion (λ b. b < 256) bytes.now }
+{}
+
+fn addresses_in_range(addresses: &[u64])
+    ensures { AllByRecursion (λ a. a < 2 ^ 64) addresses.now }
+{}

@@ -8,6 +8,7 @@
 
 mod event;
 mod kind;
+mod laws;
 mod memory;
 mod slot;
 mod stack;
@@ -17,6 +18,7 @@ ghost use Rattle.htl_event.specs.Slots.{base_of};
 
 pub use event::Event;
 pub use kind::Kind;
+pub use laws::{counts_add_up, counts_are_determined, handles_are_determined, later_of_both};
 pub use memory::NoMemory;
 pub use slot::{Count, Sign, Slot};
 pub use stack::{MAX_FRAMES, Stack};

@@ -1,0 +1,5 @@
+pub mod Members
+pub mod Orders
+pub mod Determined
+pub mod Unions
+pub mod Counts

@@ -1,0 +1,38 @@
+-- The orders of answers are strict.
+use Rattle.std.proofs.Common.{◌≡◌, ℕ, List, arith}
+use Rattle.std.specs.Cmp.{IsTotalOrder}
+use Rattle.std.specs.declared.cmp.Ordering.{Ordering}
+use Rattle.std.specs.declared.cmp.Ordering.TheVariants.{Less, Equal}
+use Rattle.std.proofs.lemmas.Cmp.{tied_itself, nat_cmp_total, nat_list_cmp_total, on_total, then_total, back_total}
+use Rattle.htl_event.specs.declared.slot.Count.{Count}
+use Rattle.htl_event.specs.Members.{IsStrictOrder}
+use Rattle.htl_event.specs.Stacks.{stack_total}
+use Rattle.htl_event.specs.Handles.{ByBase, NewestFirst}
+use Rattle.htl_event.specs.Tallies.{ByTag, ByStack, ByHandleAndStack, MostFirst}
+
+-- what a total order puts first comes strictly before
+pub strict_from_total : {X : Type 0} {R : X → X → Ordering} → IsTotalOrder R → IsStrictOrder (λ x y. R x y ≡ Less)
+strict_from_total {X} {R} total = record {
+  irreflexive = λ x less. let tied : R x x ≡ Equal = tied_itself total x in cc;
+  transitive = total.trans;
+}
+
+pub ByBase-strict : IsStrictOrder ByBase
+ByBase-strict = record { irreflexive = λ x h. omega arith; transitive = λ x y z p q. omega arith }
+
+pub NewestFirst-strict : IsStrictOrder NewestFirst
+NewestFirst-strict = record { irreflexive = λ x h. omega arith; transitive = λ x y z p q. omega arith }
+
+pub ByTag-strict : IsStrictOrder ByTag
+ByTag-strict = strict_from_total (on_total (λ (row : List ℕ × Count). row.0) nat_list_cmp_total)
+
+pub ByStack-strict : {X : Type 0} → IsStrictOrder (ByStack {X = X})
+ByStack-strict {X} = strict_from_total (on_total (λ (row : List ℕ × X). row.0) stack_total)
+
+pub ByHandleAndStack-strict : IsStrictOrder ByHandleAndStack
+ByHandleAndStack-strict =
+    strict_from_total (then_total (on_total (λ (row : ℕ × List ℕ × ℕ). row.0) nat_cmp_total) (on_total (λ (row : ℕ × List ℕ × ℕ). row.1) stack_total))
+
+pub MostFirst-strict : IsStrictOrder MostFirst
+MostFirst-strict =
+    strict_from_total (then_total (back_total (on_total (λ (row : List ℕ × ℕ). row.1) nat_cmp_total)) (on_total (λ (row : List ℕ × ℕ). row.0) stack_total))

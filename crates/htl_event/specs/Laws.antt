@@ -1,0 +1,47 @@
+-- Laws of the definitions: an answer depends on the events alone, and answers over two lists put together
+-- follow from the answers over each.
+use Rattle.std.specs.Prelude.{◌≡◌, ℕ, List, ◌++◌, Option, Contains, ◌↔◌, ◌⊎◌, Bool, max}
+use Rattle.htl_event.specs.declared.event.Event.{Event}
+use Rattle.htl_event.specs.declared.slot.Slot.{Slot}
+use Rattle.htl_event.specs.declared.slot.Count.{Count}
+use Rattle.htl_event.specs.Handles.{LatestIs, later, IsGreatestSequence, IsMark, IsLastExit, IsOutstanding, IsDiff, IsListing, HaveOwnSequences}
+use Rattle.htl_event.specs.Tallies.{plus_count, count_where, tally, under, balance, IsTags, IsStacks, IsBad, IsLeaks}
+
+-- the same events are in both lists, in whatever order
+abbrev pub HaveSame : List Event → List Event → Type 0
+HaveSame xs ys = (e : Event) → Contains xs e ↔ Contains ys e
+
+-- the events of the third list are those of the first two, which may have some in common
+abbrev pub IsUnion : List Event → List Event → List Event → Type 0
+IsUnion xs ys zs = (e : Event) → Contains zs e ↔ (Contains xs e ⊎ Contains ys e)
+
+-- of two lists with the same events, each answer about handles is one
+pub record HandlesAreDetermined (xs ys : List Event) : Type 0 where
+  pub latest : (process handle : ℕ) (a b : Option Event) → HaveOwnSequences xs → LatestIs (Contains xs) process handle a → LatestIs (Contains ys) process handle b → a ≡ b
+  pub greatest : (a b : ℕ) → IsGreatestSequence (Contains xs) a → IsGreatestSequence (Contains ys) b → a ≡ b
+  pub mark : (process a b : ℕ) → IsMark (Contains xs) process a → IsMark (Contains ys) process b → a ≡ b
+  pub last_exit : (process a b : ℕ) → IsLastExit (Contains xs) process a → IsLastExit (Contains ys) process b → a ≡ b
+  pub outstanding : (process : ℕ) (a b : List Event) → IsOutstanding (Contains xs) process a → IsOutstanding (Contains ys) process b → a ≡ b
+  pub diff : (process since : ℕ) (a b : List Event) → IsDiff (Contains xs) process since a → IsDiff (Contains ys) process since b → a ≡ b
+  pub listing : (process handle : ℕ) (a b : List Event) → IsListing (Contains xs) process handle a → IsListing (Contains ys) process handle b → a ≡ b
+  pub leaks : (process : ℕ) (a b : List (List ℕ × ℕ)) → IsLeaks (Contains xs) process a → IsLeaks (Contains ys) process b → a ≡ b
+
+-- of two lists with the same events at other places, each count is one, and so is each answer about counts
+pub record CountsAreDetermined (xs ys : List Event) : Type 0 where
+  pub counts : (passes : Event → Bool) (slot : Slot) → count_where passes xs slot ≡ count_where passes ys slot
+  pub tags : (object : ℕ) (a b : List (List ℕ × Count)) → IsTags xs object a → IsTags ys object b → a ≡ b
+  pub stacks : (object : ℕ) (tag : List ℕ) (a b : List (List ℕ × Count)) → IsStacks xs object tag a → IsStacks ys object tag b → a ≡ b
+  pub bad : (process : ℕ) (a b : List (ℕ × List ℕ × ℕ)) → IsBad xs process a → IsBad ys process b → a ≡ b
+
+-- counts over two lists put together are sums
+pub record CountsAddUp (xs ys : List Event) : Type 0 where
+  pub tally : (slot : Slot) (stack : List ℕ) → tally (xs ++ ys) slot stack ≡ plus_count (tally xs slot stack) (tally ys slot stack)
+  pub under : (path : List ℕ) (slot : Slot) → under (xs ++ ys) path slot ≡ plus_count (under xs path slot) (under ys path slot)
+  pub balance : (object : ℕ) (tag : List ℕ) → balance (xs ++ ys) object tag ≡ plus_count (balance xs object tag) (balance ys object tag)
+
+-- the latest event and the greatest sequence over a union are the later and the greater of both
+pub record LaterOfBoth (xs ys zs : List Event) : Type 0 where
+  pub latest : (process handle : ℕ) (a b : Option Event) → LatestIs (Contains xs) process handle a → LatestIs (Contains ys) process handle b → LatestIs (Contains zs) process handle (later a b)
+  pub greatest : (a b : ℕ) → IsGreatestSequence (Contains xs) a → IsGreatestSequence (Contains ys) b → IsGreatestSequence (Contains zs) (max a b)
+  pub mark : (process a b : ℕ) → IsMark (Contains xs) process a → IsMark (Contains ys) process b → IsMark (Contains zs) process (max a b)
+  pub last_exit : (process a b : ℕ) → IsLastExit (Contains xs) process a → IsLastExit (Contains ys) process b → IsLastExit (Contains zs) process (max a b)

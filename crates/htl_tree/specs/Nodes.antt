@@ -1,0 +1,80 @@
+-- What a node counts, and which nodes are in normal form.
+use Rattle.std.specs.Prelude.{◌≡◌, ℕ, ◌≢◌, List, [], ◌∷◌, Option, Some, None, unwrap_or}
+use Rattle.std.specs.Ordering.{nat_cmp}
+use Rattle.std.specs.FinMap.Entries.{find, put}
+use Rattle.htl_event.specs.declared.slot.Slot.{Slot}
+use Rattle.htl_event.specs.declared.slot.Sign.{Sign}
+use Rattle.htl_event.specs.declared.slot.Count.{Count}
+use Rattle.htl_event.specs.Tallies.{zero_count, IsPositive}
+use Rattle.htl_sorted.specs.Entries.{IsSorted, Each}
+use Rattle.htl_tree.specs.declared.node.Node.{Node}
+use Rattle.htl_tree.specs.declared.node.Node.TheViews.{out-Node}
+use Rattle.htl_tree.specs.Slots.{slot_cmp}
+use Rattle.htl_tree.specs.Trees.{bump}
+
+abbrev pub own : {A : Type 0} → Node A → List (Slot × Count)
+own {A} n = (out-Node A n).counts.items
+
+abbrev pub kids : {A : Type 0} → Node A → List (ℕ × Node A)
+kids {A} n = (out-Node A n).children.items
+
+abbrev pub at_child : {X : Type 0} → (X → Count) → Option X → Count
+at_child g None = zero_count
+at_child g (Some c) = g c
+
+-- the count of a slot at the node that a path from the outermost frame leads to
+abbrev pub tally : {A : Type 0} → List ℕ → Slot → Node A → Count
+tally [] s n = unwrap_or (find slot_cmp s (own n)) zero_count
+tally (f ∷ p) s n = at_child (λ c. tally p s c) (find nat_cmp f (kids n))
+
+abbrev pub IsNonEmpty : {A : Type 0} → Node A → Type 0
+IsNonEmpty n = own n ≡ [] → kids n ≢ []
+
+pub record IsNormalNode {A : Type 0} (n : Node A) : Type 0 where
+  pub slots : IsSorted slot_cmp (own n)
+  pub positive : Each IsPositive (own n)
+  pub frames : IsSorted nat_cmp (kids n)
+  pub nonempty : Each (λ c. IsNonEmpty c) (kids n)
+
+abbrev pub AtChild : {X : Type 0} → (X → Type 0) → Option X → Type 0
+AtChild P None = Unit {0}
+AtChild P (Some c) = P c
+
+abbrev pub NormalAt : {A : Type 0} → List ℕ → Node A → Type 0
+NormalAt [] n = IsNormalNode n
+NormalAt (f ∷ p) n = AtChild (λ c. NormalAt p c) (find nat_cmp f (kids n))
+
+-- each node is in order, and none below the root is empty
+pub record IsNormal {A : Type 0} (n : Node A) : Type 0 where
+  pub everywhere : (p : List ℕ) → NormalAt p n
+
+abbrev pub tally_of : {A : Type 0} → Node A → List ℕ → Slot → Count
+tally_of n p s = tally p s n
+
+abbrev pub no_tally : List ℕ → Slot → Count
+no_tally p s = zero_count
+
+abbrev pub IsSameTally : (List ℕ → Slot → Count) → (List ℕ → Slot → Count) → Type 0
+IsSameTally old new = (p : List ℕ) (s : Slot) → new p s ≡ old p s
+
+-- one more at one place, and no change at any other
+pub record AddsOne (path : List ℕ) (slot : Slot) (sign : Sign) (old new : List ℕ → Slot → Count) : Type 0 where
+  pub here : new path slot ≡ bump sign (old path slot)
+  pub elsewhere : (p : List ℕ) (s : Slot) → (p ≡ path → s ≢ slot) → new p s ≡ old p s
+
+pub record IsBranch {A : Type 0} (path : List ℕ) (slot : Slot) (sign : Sign) (n : Node A) : Type 0 where
+  pub normal : IsNormal n
+  pub counts : AddsOne path slot sign no_tally (tally_of n)
+
+-- the counts with one more at the slot
+abbrev pub counted : Slot → Sign → List (Slot × Count) → List (Slot × Count)
+counted s sign es = put slot_cmp s (bump sign (unwrap_or (find slot_cmp s es) zero_count)) es
+
+pub record IsAdded {A : Type 0} (path : List ℕ) (slot : Slot) (sign : Sign) (old new : Node A) : Type 0 where
+  pub normal : IsNormal new
+  pub counts : AddsOne path slot sign (tally_of old) (tally_of new)
+
+pub record IsKept {A : Type 0} (old new : Node A) : Type 0 where
+  pub normal : IsNormal new
+  pub counts : IsSameTally (tally_of old) (tally_of new)
+  pub nonempty : IsNonEmpty old → IsNonEmpty new

@@ -1,0 +1,11 @@
+//! A counted stack tree: how often each slot came with each call stack.
+//!
+//! A tree is its tally (`specs/Tree.antt`): the counts that aren't zero, in the order of their stacks and
+//! slots. Equal tallies have one tree, so `StackTree::same` walks two trees side by side.
+#![tactic(auto)]
+
+mod node;
+mod order;
+mod tree;
+
+pub use tree::StackTree;

@@ -1,0 +1,45 @@
+//! What a node's two lists are sorted by.
+
+use crate::node::Node;
+use htl_event::{Count, Slot};
+use htl_sorted::Keyed;
+use std::alloc::Allocator;
+use std::marker::PhantomData;
+
+/// A node's counts, by slot.
+pub struct BySlot;
+
+impl Keyed for BySlot {
+    ghost use Rattle.htl_tree.specs.Slots.{slot_same};
+
+    type Row = (Slot, Count);
+    type Key = Slot;
+    type Value = Count;
+
+    ghost key_of = { λ row. row.0 };
+    ghost value_of = { λ row. row.1 };
+    ghost proper = { slot_same };
+
+    fn key(row: &(Slot, Count)) -> Slot {
+        row.0
+    }
+}
+
+/// A node's children, by frame.
+pub struct ByFrame<A: Allocator>(PhantomData<A>);
+
+impl<A: Allocator> Keyed for ByFrame<A> {
+    ghost use Rattle.std.specs.FinMap.{nat_cmp-IsAntisymmetric};
+
+    type Row = (u64, Node<A>);
+    type Key = u64;
+    type Value = Node<A>;
+
+    ghost key_of = { λ row. row.0 };
+    ghost value_of = { λ row. row.1 };
+    ghost proper = { nat_cmp-IsAntisymmetric };
+
+    fn key(row: &(u64, Node<A>)) -> u64 {
+        row.0
+    }
+}

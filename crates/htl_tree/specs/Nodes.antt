@@ -1,5 +1,6 @@
 -- What a node counts, and which nodes are in normal form.
-use Rattle.std.specs.Prelude.{◌≡◌, ℕ, ◌≢◌, List, [], ◌∷◌, Option, Some, None, unwrap_or}
+use Rattle.std.specs.Prelude.{◌≡◌, ℕ, ◌+◌, ◌<◌, max, ◌^◌, ◌≢◌, List, [], ◌∷◌, ◌++◌, map, reverse, Option, Some, None, unwrap_or}
+use Rattle.std.specs.List.{flat_map}
 use Rattle.std.specs.Ordering.{nat_cmp}
 use Rattle.std.specs.FinMap.Entries.{find, put}
 use Rattle.htl_event.specs.declared.slot.Slot.{Slot}
@@ -8,9 +9,11 @@ use Rattle.htl_event.specs.declared.slot.Count.{Count}
 use Rattle.htl_event.specs.Tallies.{zero_count, IsPositive}
 use Rattle.htl_sorted.specs.Entries.{IsSorted, Each}
 use Rattle.htl_tree.specs.declared.node.Node.{Node}
+use Rattle.htl_tree.specs.declared.node.Node.TheOpen.{Node-F}
 use Rattle.htl_tree.specs.declared.node.Node.TheViews.{out-Node}
+use Rattle.htl_tree.specs.declared.node.Node.TheFolds.{fold-Node}
 use Rattle.htl_tree.specs.Slots.{slot_cmp}
-use Rattle.htl_tree.specs.Trees.{bump}
+use Rattle.htl_tree.specs.Trees.{Tree, bump, total_count}
 
 abbrev pub own : {A : Type 0} → Node A → List (Slot × Count)
 own {A} n = (out-Node A n).counts.items
@@ -78,3 +81,43 @@ pub record IsKept {A : Type 0} (old new : Node A) : Type 0 where
   pub normal : IsNormal new
   pub counts : IsSameTally (tally_of old) (tally_of new)
   pub nonempty : IsNonEmpty old → IsNonEmpty new
+
+-- ---- all that a node counts
+
+-- a row one frame further in
+abbrev pub below : ℕ → (List ℕ × Slot) × Count → (List ℕ × Slot) × Count
+below f row = ((f ∷ row.0.0, row.0.1), row.1)
+
+abbrev pub rows_step : {A : Type 0} → Node-F A Tree → Tree
+rows_step x = map (λ e. (([], e.0), e.1)) x.counts.items ++ flat_map (λ k. map (λ row. below k.0 row) k.1) x.children.items
+
+-- the counts of a node and of all below it, by path from the node
+abbrev pub rows : {A : Type 0} → Node A → Tree
+rows {A} = fold-Node A Tree rows_step
+
+-- the root is made by the first count
+abbrev pub tree_of : {A : Type 0} → Option (Node A) → Tree
+tree_of None = []
+tree_of (Some n) = map (λ row. ((reverse row.0.0, row.0.1), row.1)) (rows n)
+
+abbrev pub IsNormalRoot : {A : Type 0} → Option (Node A) → Type 0
+IsNormalRoot None = Unit {0}
+IsNormalRoot (Some n) = IsNormal n × IsNonEmpty n
+
+pub record IsRoot {A : Type 0} (root : Option (Node A)) (total : ℕ) : Type 0 where
+  pub normal : IsNormalRoot root
+  pub counted : total ≡ total_count (tree_of root)
+  pub fits : total < 2 ^ 64
+
+-- ---- how deep a node goes
+
+abbrev pub max_of : List (ℕ × ℕ) → ℕ
+max_of [] = 0
+max_of (e ∷ es) = max e.1 (max_of es)
+
+abbrev pub height_step : {A : Type 0} → Node-F A ℕ → ℕ
+height_step x = max_of x.children.items + 1
+
+-- the number of nodes on the longest path
+abbrev pub height : {A : Type 0} → Node A → ℕ
+height {A} = fold-Node A ℕ height_step

@@ -51,3 +51,6 @@ total_count tree = sum_by (λ row. total_of row.1) tree
 pub record IsTree (tree : Tree) : Type 0 where
   pub ordered : IsSorted place_cmp tree
   pub positive : Each IsPositive tree
+
+abbrev pub IsSameTally : Tree → Tree → Type 0
+IsSameTally tree other = (slot : Slot) (stack : List ℕ) → count_at tree slot stack ≡ count_at other slot stack

@@ -1,9 +1,10 @@
 //! A counted stack tree: how often each slot came with each call stack.
 //!
-//! A tree is its tally (`specs/Tree.antt`): the counts that aren't zero, in the order of their stacks and
+//! A tree is its tally (`specs/Trees.antt`): the counts that aren't zero, in the order of their stacks and
 //! slots. Equal tallies have one tree, so `StackTree::same` walks two trees side by side.
 #![tactic(auto)]
 
+mod compare;
 mod node;
 mod order;
 mod tree;

@@ -7,8 +7,9 @@ use Rattle.std.specs.List.{insert}
 use Rattle.std.specs.FinMap.Entries.{find, put}
 use Rattle.std.proofs.lemmas.List.{get_or-map, map_push, map-append, map-set, drop-map, take-map, length-map, take_all, get_or_default}
 use Rattle.htl_sorted.specs.Entries.{IsSorted, IsPlace, IsGap, entries, joined_at}
+use Rattle.htl_sorted.specs.Made.{Made}
 use Rattle.htl_sorted.proofs.Places.{place}
-use Rattle.htl_sorted.proofs.SideBySide.{join, pair, Made, MadeAt, find_made, sorted_made, sorted_join, find_join, Carries, carry_less, carry_greater, carry_equal, carries_end}
+use Rattle.htl_sorted.proofs.SideBySide.{join, pair, MadeAt, find_made, sorted_made, sorted_join, find_join, Carries, carry_less, carry_greater, carry_equal, carries_end}
 
 -- what is left of a list, as a slice to its end gives it
 pub rest_is : {X : Type 0} (xs : List X) (i : ℕ) → take (length xs - i) (drop i xs) ≡ drop i xs

@@ -8,6 +8,7 @@ use Rattle.std.specs.FinMap.Entries.{find, below_all, by_order}
 use Rattle.std.proofs.lemmas.Bool.{cases_lt}
 use Rattle.std.proofs.lemmas.List.{drop_more, drop_all}
 use Rattle.htl_sorted.specs.Entries.{IsSorted}
+use Rattle.htl_sorted.specs.Made.{Made}
 use Rattle.htl_sorted.proofs.Bools.{both, both_left, both_right}
 use Rattle.htl_sorted.proofs.Places.{turn}
 use Rattle.htl_sorted.proofs.Finds.{find_below_all, below_lower, below_tied}
@@ -27,13 +28,6 @@ abbrev pub pair : {X Y : Type 0} → Option X → Option Y → Option (Option X 
 pair None None = None
 pair None (Some y) = Some (None, Some y)
 pair (Some x) p = Some (Some x, p)
-
--- the second list has, key by key, a value that P allows for the first's
-abbrev pub Made : {K J X : Type 0} → (J → X → Type 0) → List (K × J) → List (K × X) → Type 0
-Made P [] [] = Unit {0}
-Made P [] (o ∷ os) = ⊥
-Made P (j ∷ js) [] = ⊥
-Made P (j ∷ js) (o ∷ os) = (j.0 ≡ o.0) × P j.1 o.1 × Made P js os
 
 -- there is a value exactly where there is one to make it of
 abbrev pub MadeAt : {J X : Type 0} → (J → X → Type 0) → Option J → Option X → Type 0

@@ -9,5 +9,5 @@ mod searching;
 #[cfg(test)]
 mod tests;
 
-pub use merging::{Joined, merge};
+pub use merging::{Joined, merge, merged_len};
 pub use searching::{Keyed, search};

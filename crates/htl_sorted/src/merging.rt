@@ -67,20 +67,8 @@ pub fn merge<L: Joined, A: Allocator>(
     Ok(rows)
 }
 
-fn append<L: Joined, A: Allocator>(
-    rows: &mut Vec<L::Row, A>,
-    more: &[L::Row],
-) -> Result<(), AllocError>
-    ensures { OnOk result (rows.new.items ≡ rows.old.items ++ more.now) }
-{
-    for row in more {
-        rows.push(L::copy(row))?;
-    }
-    Ok(())
-}
-
-/// How many keys the two lists have, so that the merged list grows once.
-fn merged_len<L: Keyed>(left: &[L::Row], right: &[L::Row]) -> usize {
+/// How many keys the two lists have, so that a merged list may grow once.
+pub fn merged_len<L: Keyed>(left: &[L::Row], right: &[L::Row]) -> usize {
     let mut shared = 0;
     let mut i = 0;
     let mut j = 0;
@@ -96,4 +84,16 @@ fn merged_len<L: Keyed>(left: &[L::Row], right: &[L::Row]) -> usize {
         }
     }
     (left.len() - shared).saturating_add(right.len())
+}
+
+fn append<L: Joined, A: Allocator>(
+    rows: &mut Vec<L::Row, A>,
+    more: &[L::Row],
+) -> Result<(), AllocError>
+    ensures { OnOk result (rows.new.items ≡ rows.old.items ++ more.now) }
+{
+    for row in more {
+        rows.push(L::copy(row))?;
+    }
+    Ok(())
 }

@@ -6,3 +6,4 @@ pub mod Equal
 pub mod Kids
 pub mod TreeFacts
 pub mod Roots
+pub mod SumFacts

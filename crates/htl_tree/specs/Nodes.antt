@@ -6,8 +6,9 @@ use Rattle.std.specs.FinMap.Entries.{find, put}
 use Rattle.htl_event.specs.declared.slot.Slot.{Slot}
 use Rattle.htl_event.specs.declared.slot.Sign.{Sign}
 use Rattle.htl_event.specs.declared.slot.Count.{Count}
-use Rattle.htl_event.specs.Tallies.{zero_count, IsPositive}
+use Rattle.htl_event.specs.Tallies.{zero_count, plus_count, total_of, IsPositive}
 use Rattle.htl_sorted.specs.Entries.{IsSorted, Each}
+use Rattle.htl_sorted.specs.Made.{Made}
 use Rattle.htl_tree.specs.declared.node.Node.{Node}
 use Rattle.htl_tree.specs.declared.node.Node.TheOpen.{Node-F}
 use Rattle.htl_tree.specs.declared.node.Node.TheViews.{out-Node}
@@ -21,13 +22,17 @@ own {A} n = (out-Node A n).counts.items
 abbrev pub kids : {A : Type 0} → Node A → List (ℕ × Node A)
 kids {A} n = (out-Node A n).children.items
 
+-- a slot's count in a node's list
+abbrev pub count_in : List (Slot × Count) → Slot → Count
+count_in counts slot = unwrap_or (find slot_cmp slot counts) zero_count
+
 abbrev pub at_child : {X : Type 0} → (X → Count) → Option X → Count
 at_child g None = zero_count
 at_child g (Some c) = g c
 
 -- the count of a slot at the node that a path from the outermost frame leads to
 abbrev pub tally : {A : Type 0} → List ℕ → Slot → Node A → Count
-tally [] s n = unwrap_or (find slot_cmp s (own n)) zero_count
+tally [] s n = count_in (own n) s
 tally (f ∷ p) s n = at_child (λ c. tally p s c) (find nat_cmp f (kids n))
 
 abbrev pub IsNonEmpty : {A : Type 0} → Node A → Type 0
@@ -71,7 +76,7 @@ pub record IsBranch {A : Type 0} (path : List ℕ) (slot : Slot) (sign : Sign) (
 
 -- the counts with one more at the slot
 abbrev pub counted : Slot → Sign → List (Slot × Count) → List (Slot × Count)
-counted s sign es = put slot_cmp s (bump sign (unwrap_or (find slot_cmp s es) zero_count)) es
+counted s sign es = put slot_cmp s (bump sign (count_in es s)) es
 
 pub record IsAdded {A : Type 0} (path : List ℕ) (slot : Slot) (sign : Sign) (old new : Node A) : Type 0 where
   pub normal : IsNormal new
@@ -121,3 +126,28 @@ height_step x = max_of x.children.items + 1
 -- the number of nodes on the longest path
 abbrev pub height : {A : Type 0} → Node A → ℕ
 height {A} = fold-Node A ℕ height_step
+
+-- the height of the highest child
+abbrev pub heights : {A : Type 0} → List (ℕ × Node A) → ℕ
+heights ks = max_of (map (λ k. (k.0, height k.1)) ks)
+
+-- ---- nodes made of others
+
+pub record IsCopy {A : Type 0} (node copy : Node A) : Type 0 where
+  pub normal : IsNormal copy
+  pub counts : IsSameTally (tally_of node) (tally_of copy)
+
+abbrev pub EachNormal : {A : Type 0} → List (ℕ × Node A) → Type 0
+EachNormal ks = Each (λ c. IsNormal c) ks
+
+abbrev pub AppendsCopies : {A : Type 0} → List (ℕ × Node A) → List (ℕ × Node A) → List (ℕ × Node A) → Type 0
+AppendsCopies {A} ks old new = (copies : List (ℕ × Node A)) × (new ≡ old ++ copies) × Made (λ k c. IsCopy k c) ks copies
+
+-- the counts of both sides add up
+pub record IsSum {A : Type 0} (left right sum : Node A) : Type 0 where
+  pub normal : IsNormal sum
+  pub counts : (p : List ℕ) (s : Slot) → tally p s sum ≡ plus_count (tally p s left) (tally p s right)
+
+-- the counts of both sides add up to numbers of 64 bits
+abbrev pub FitsSum : {A : Type 0} → Node A → Node A → Type 0
+FitsSum left right = (p : List ℕ) (s : Slot) → total_of (tally p s left) + total_of (tally p s right) < 2 ^ 64

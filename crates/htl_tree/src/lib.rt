@@ -7,6 +7,7 @@
 mod compare;
 mod node;
 mod order;
+mod sums;
 mod tree;
 
 pub use tree::StackTree;

@@ -1,13 +1,12 @@
 //! A node: the counts of one stack, and the nodes one frame further in.
 
-ghost use Rattle.std.specs.Prelude.{◌≡◌, ◌+◌, ◌<◌, ◌^◌, reverse, IfOk, IfErr, OnOk, OnErr, MatchResult, unwrap_or};
+ghost use Rattle.std.specs.Prelude.{◌≡◌, ◌+◌, ◌<◌, ◌^◌, reverse, IfOk, IfErr, OnOk, OnErr, MatchResult};
 ghost use Rattle.std.specs.Ordering.{nat_cmp};
-ghost use Rattle.std.specs.FinMap.Entries.{find};
-ghost use Rattle.htl_event.specs.Tallies.{zero_count, total_of};
+ghost use Rattle.htl_event.specs.Tallies.{total_of};
 ghost use Rattle.htl_sorted.specs.Entries.{IsSorted, IsPlace, IsGap};
 ghost use Rattle.htl_tree.specs.Slots.{slot_cmp};
 ghost use Rattle.htl_tree.specs.Trees.{bump};
-ghost use Rattle.htl_tree.specs.Nodes.{tally, IsNormal, counted, IsBranch, IsAdded, IsKept};
+ghost use Rattle.htl_tree.specs.Nodes.{tally, count_in, IsNormal, counted, IsBranch, IsAdded, IsKept};
 
 use crate::order::{ByFrame, BySlot};
 use htl_event::{Count, NoMemory, Sign, Slot};
@@ -122,7 +121,7 @@ fn count_one<A: Allocator>(
     sign: Sign,
 ) -> Result<(), NoMemory>
     requires sorted { IsSorted slot_cmp counts.old.items }
-    requires fits { total_of (unwrap_or (find slot_cmp slot counts.old.items) zero_count) + 1 < 2 ^ 64 }
+    requires fits { total_of (count_in counts.old.items slot) + 1 < 2 ^ 64 }
     ensures ok { OnOk result (counts.new.items ≡ counted slot sign counts.old.items) }
     ensures err { OnErr result (counts.new.items ≡ counts.old.items) }
 {

@@ -2,7 +2,7 @@
 
 use crate::node::Node;
 use htl_event::{Count, Slot};
-use htl_sorted::Keyed;
+use htl_sorted::{Joined, Keyed};
 use std::alloc::Allocator;
 use std::marker::PhantomData;
 
@@ -22,6 +22,27 @@ impl Keyed for BySlot {
 
     fn key(row: &(Slot, Count)) -> Slot {
         row.0
+    }
+}
+
+/// Two counts of one slot add up.
+impl Joined for BySlot {
+    ghost use Rattle.std.specs.Prelude.{◌+◌, ◌<◌, ◌^◌};
+    ghost use Rattle.htl_event.specs.Tallies.{plus_count, total_of};
+
+    ghost can_join = { λ x y. total_of x + total_of y < 2 ^ 64 };
+    ghost joined = { plus_count };
+
+    fn copy(row: &(Slot, Count)) -> (Slot, Count) {
+        *row
+    }
+
+    fn join(left: &(Slot, Count), right: &(Slot, Count)) -> (Slot, Count) {
+        let count = Count {
+            plus: left.1.plus + right.1.plus,
+            minus: left.1.minus + right.1.minus,
+        };
+        (left.0, count)
     }
 }
 

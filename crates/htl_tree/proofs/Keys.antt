@@ -1,7 +1,7 @@
 -- Lists of entries whose keys are changed alike, or put one after the other.
 use Rattle.std.proofs.Common.{◌≡◌, ℕ, ◌+◌, List, [], ◌∷◌, ◌++◌, map, Option, Some, None, T, true, false, cond, unwrap_or, refl, sym, ◌∙◌, ap, subst, arith}
 use Rattle.std.specs.Ordering.{is_lt, is_eq, eq_by_cmp}
-use Rattle.std.specs.List.{sum_by}
+use Rattle.std.specs.List.{sum_by, AllByRecursion}
 use Rattle.std.specs.declared.cmp.Ordering.{Ordering}
 use Rattle.std.specs.declared.cmp.Ordering.TheVariants.{Less, Equal, Greater}
 use Rattle.std.specs.Cmp.{IsTotalOrder}
@@ -50,25 +50,56 @@ module _ {K X : Type 0} (R : K → K → Ordering) where
       ] refl)),
     )
 
-    -- how a sum over the values changes where one is put
-    pub sum_by-put : (size : X → ℕ) (zero : X) → size zero ≡ 0 → (k : K) (v : X) (es : List (K × X)) → IsSorted R es → sum_by (λ e. size e.1) (put R k v es) + size (unwrap_or (find R k es) zero) ≡ sum_by (λ e. size e.1) es + size v
-    sum_by-put size zero none k v [] s = rw (sum_by-cons (λ (x : K × X). size x.1) (k, v) [], none) (omega arith)
-    sum_by-put size zero none k v (e ∷ es) s =
-        (elim (R k e.0) as (λ r. R k e.0 ≡ r → sum_by (λ e. size e.1) (by_order r ((k, v) ∷ e ∷ es) ((e.0, v) ∷ es) (e ∷ put R k v es)) + size (unwrap_or (cond (is_eq r) (Some e.1) (find R k es)) zero) ≡ sum_by (λ e. size e.1) (e ∷ es) + size v) [
+    -- how a sum over the entries changes where one is put
+    pub sum_by-put : (proper : (x y : K) → R x y ≡ Equal → x ≡ y) (weight : K → X → ℕ) (zero : X) → ((k : K) → weight k zero ≡ 0) → (k : K) (v : X) (es : List (K × X)) → IsSorted R es → sum_by (λ e. weight e.0 e.1) (put R k v es) + weight k (unwrap_or (find R k es) zero) ≡ sum_by (λ e. weight e.0 e.1) es + weight k v
+    sum_by-put proper weight zero none k v [] s = rw (sum_by-cons (λ (x : K × X). weight x.0 x.1) (k, v) [], none k) (omega arith)
+    sum_by-put proper weight zero none k v (e ∷ es) s =
+        let old : sum_by (λ x. weight x.0 x.1) (e ∷ es) ≡ weight e.0 e.1 + sum_by (λ x. weight x.0 x.1) es = sum_by-cons (λ (x : K × X). weight x.0 x.1) e es in
+        (elim (R k e.0) as (λ r. R k e.0 ≡ r → sum_by (λ e. weight e.0 e.1) (by_order r ((k, v) ∷ e ∷ es) ((e.0, v) ∷ es) (e ∷ put R k v es)) + weight k (unwrap_or (cond (is_eq r) (Some e.1) (find R k es)) zero) ≡ sum_by (λ e. weight e.0 e.1) (e ∷ es) + weight k v) [
           | Less ↦ λ c.
               let absent : find R k es ≡ None = find_below R o k es (below_lower R o k e.0 es c (both_left _ _ s)) in
-              let first = sum_by-cons (λ (x : K × X). size x.1) (k, v) (e ∷ es) in
-              rw (absent, none) (omega (arith, first))
+              let first = sum_by-cons (λ (x : K × X). weight x.0 x.1) (k, v) (e ∷ es) in
+              let nothing = none k in
+              rw absent (omega (arith, first, nothing))
           | Equal ↦ λ c.
-              let new = sum_by-cons (λ (x : K × X). size x.1) (e.0, v) es in
-              let old = sum_by-cons (λ (x : K × X). size x.1) e es in
-              omega (arith, new, old)
+              let same : k ≡ e.0 = proper k e.0 c in
+              let new = sum_by-cons (λ (x : K × X). weight x.0 x.1) (e.0, v) es in
+              let same_old : weight k e.1 ≡ weight e.0 e.1 = ap (λ q. weight q e.1) same in
+              let same_new : weight k v ≡ weight e.0 v = ap (λ q. weight q v) same in
+              omega (arith, new, old, same_old, same_new)
           | Greater ↦ λ c.
-              let new = sum_by-cons (λ (x : K × X). size x.1) e (put R k v es) in
-              let old = sum_by-cons (λ (x : K × X). size x.1) e es in
-              let rest = sum_by-put size zero none k v es (both_right _ _ s) in
+              let new = sum_by-cons (λ (x : K × X). weight x.0 x.1) e (put R k v es) in
+              let rest = sum_by-put proper weight zero none k v es (both_right _ _ s) in
               omega (arith, new, old, rest)
         ] refl)
+
+    -- what holds of each key that is there
+    pub all_keys_from_found : (P : K → Type 0) (es : List (K × X)) → IsSorted R es → ((k : K) (v : X) → find R k es ≡ Some v → P k) → AllByRecursion (λ e. P e.0) es
+    all_keys_from_found P [] s h = tt
+    all_keys_from_found P (e ∷ es) s h = (
+      h e.0 e.1 (find_first R o e es),
+      all_keys_from_found P es (both_right _ _ s) (λ k v found. h k v (elim (R k e.0) as (λ r. R k e.0 ≡ r → cond (is_eq r) (Some e.1) (find R k es) ≡ Some v) [
+        | Less ↦ λ c. found
+        | Equal ↦ λ c. absurd (let none : find R k es ≡ None = find_below R o k es (below_tied R o k e.0 es c (both_left _ _ s)) in let never : None ≡ Some v = sym none ∙ found in cc)
+        | Greater ↦ λ c. found
+      ] refl)),
+    )
+
+    pub all_keys_put : (P : K → Type 0) (k : K) (v : X) (es : List (K × X)) → P k → AllByRecursion (λ e. P e.0) es → AllByRecursion (λ e. P e.0) (put R k v es)
+    all_keys_put P k v [] p h = (p, tt)
+    all_keys_put P k v (e ∷ es) p h = elim (R k e.0) as (λ r. AllByRecursion (λ e. P e.0) (by_order r ((k, v) ∷ e ∷ es) ((e.0, v) ∷ es) (e ∷ put R k v es))) [
+      | Less ↦ (p, h)
+      | Equal ↦ h
+      | Greater ↦ (h.0, all_keys_put P k v es p h.1)
+    ]
+
+    pub key_found : ((x y : K) → R x y ≡ Equal → x ≡ y) → (P : K → Type 0) (k : K) (v : X) (es : List (K × X)) → AllByRecursion (λ e. P e.0) es → find R k es ≡ Some v → P k
+    key_found proper P k v [] h e = cc
+    key_found proper P k v (e ∷ es) h found = (elim (R k e.0) as (λ r. R k e.0 ≡ r → cond (is_eq r) (Some e.1) (find R k es) ≡ Some v → P k) [
+      | Less ↦ λ c is. key_found proper P k v es h.1 is
+      | Equal ↦ λ c is. subst P (sym (proper k e.0 c)) h.0
+      | Greater ↦ λ c is. key_found proper P k v es h.1 is
+    ]) refl found
 
 module _ {J K X : Type 0} (h : K → J) (S : J → J → Ordering) where
   -- a key that no changed key ties with

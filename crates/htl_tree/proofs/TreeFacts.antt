@@ -1,5 +1,5 @@
 -- Trees as lists: equal tallies have one tree, and what one more count changes.
-use Rattle.std.proofs.Common.{◌≡◌, ℕ, ◌+◌, ◌≤◌, ◌≢◌, List, [], ◌∷◌, map, reverse, Option, Some, None, true, false, cond, unwrap_or, refl, sym, ◌∙◌, ap, subst, arith}
+use Rattle.std.proofs.Common.{◌≡◌, ℕ, ◌+◌, ◌≤◌, ◌≢◌, List, [], ◌∷◌, map, reverse, length, Option, Some, None, true, false, cond, unwrap_or, refl, sym, ◌∙◌, ap, subst, arith}
 use Rattle.std.specs.List.{sum_by}
 use Rattle.std.specs.Ordering.{nat_cmp, eq_by_cmp, is_eq, ordering_then}
 use Rattle.std.specs.Cmp.{IsTotalOrder, tied_itself, on_total, then_total}
@@ -15,11 +15,11 @@ use Rattle.htl_event.specs.declared.slot.Sign.TheVariants.{Plus, Minus}
 use Rattle.htl_event.specs.declared.slot.Count.{Count}
 use Rattle.htl_event.specs.Stacks.{stack_cmp, stack_total}
 use Rattle.htl_event.specs.Tallies.{zero_count, total_of, IsPositive}
-use Rattle.htl_sorted.specs.Entries.{Each}
+use Rattle.htl_sorted.specs.Entries.{IsSorted, Each}
 use Rattle.htl_sorted.proofs.Finds.{find_put_same, find_put_other, each_put}
 use Rattle.htl_tree.specs.Slots.{slot_cmp, slot_total, slot_same, same_lists}
 use Rattle.htl_tree.specs.Trees.{Tree, place_cmp, count_at, bump, with_one, total_count, IsTree, IsSameTally}
-use Rattle.htl_tree.proofs.Keys.{sum_by-put}
+use Rattle.htl_tree.proofs.Keys.{sum_by-put, all_keys_put}
 use Rattle.htl_tree.proofs.NodeFacts.{bump_positive}
 use Rattle.htl_tree.proofs.Canonical.{found_positive, same_option}
 
@@ -29,7 +29,7 @@ place_total = then_total (on_total (λ (place : List ℕ × Slot). place.0) stac
 same_stacks : (a b : List ℕ) → stack_cmp a b ≡ Equal → a ≡ b
 same_stacks a b e = sym (reverse-reverse a) ∙ ap reverse (same_lists (reverse a) (reverse b) e) ∙ reverse-reverse b
 
-place_same : (x y : List ℕ × Slot) → place_cmp x y ≡ Equal → x ≡ y
+pub place_same : (x y : List ℕ × Slot) → place_cmp x y ≡ Equal → x ≡ y
 place_same x y e = (elim (stack_cmp x.0 y.0) as (λ r. stack_cmp x.0 y.0 ≡ r → ordering_then r (slot_cmp x.1 y.1) ≡ Equal → x ≡ y) [
   | Less ↦ λ c is. absurd (cc)
   | Equal ↦ λ c is.
@@ -39,17 +39,18 @@ place_same x y e = (elim (stack_cmp x.0 y.0) as (λ r. stack_cmp x.0 y.0 ≡ r �
   | Greater ↦ λ c is. absurd (cc)
 ]) refl e
 
-pub canonical_trees : (t u : Tree) → IsTree t → IsTree u → IsSameTally t u → t ≡ u
-canonical_trees t u a b same =
-    same_entries place_cmp place_total place_same t u a.ordered b.ordered (λ q. same_option _ _ (found_positive place_cmp q t a.positive) (found_positive place_cmp q u b.positive) (sym (same q.1 q.0)))
+pub canonical_trees : (t u : Tree) → IsSorted place_cmp t → Each IsPositive t → IsSorted place_cmp u → Each IsPositive u → IsSameTally t u → t ≡ u
+canonical_trees t u t_sorted t_positive u_sorted u_positive same =
+    same_entries place_cmp place_total place_same t u t_sorted u_sorted (λ q. same_option _ _ (found_positive place_cmp q t t_positive) (found_positive place_cmp q u u_positive) (sym (same q.1 q.0)))
 
 pub nothing_is_tree : IsTree []
-nothing_is_tree = record { ordered = tt; positive = tt }
+nothing_is_tree = record { ordered = tt; positive = tt; shallow = tt }
 
-pub with_one_is_tree : (t : Tree) → IsTree t → (slot : Slot) (sign : Sign) (stack : List ℕ) → IsTree (with_one t slot sign stack)
-with_one_is_tree t h slot sign stack = record {
+pub with_one_is_tree : (t : Tree) → IsTree t → (slot : Slot) (sign : Sign) (stack : List ℕ) → length stack ≤ 64 → IsTree (with_one t slot sign stack)
+with_one_is_tree t h slot sign stack short = record {
   ordered = is_sorted-put place_cmp place_total (stack, slot) _ t h.ordered;
   positive = each_put place_cmp IsPositive (stack, slot) _ t (bump_positive sign _) h.positive;
+  shallow = all_keys_put place_cmp place_total (λ place. length place.0 ≤ 64) (stack, slot) _ t short h.shallow;
 }
 
 pub count_with_one : (t : Tree) (slot : Slot) (sign : Sign) (stack : List ℕ) → count_at (with_one t slot sign stack) slot stack ≡ bump sign (count_at t slot stack)
@@ -60,8 +61,9 @@ count_with_one-other t slot sign stack s k other =
     ap (λ (o : Option Count). unwrap_or o zero_count) (find_put_other place_cmp place_total place_same (k, s) (stack, slot) _ t (λ e. other (ap (λ (x : List ℕ × Slot). x.0) e) (ap (λ (x : List ℕ × Slot). x.1) e)))
 
 -- a tree with one more is the only one that counts so
-pub is_with_one : (t u : Tree) → IsTree t → IsTree u → (slot : Slot) (sign : Sign) (stack : List ℕ) → count_at u slot stack ≡ bump sign (count_at t slot stack) → ((s : Slot) (k : List ℕ) → (k ≡ stack → s ≢ slot) → count_at u s k ≡ count_at t s k) → u ≡ with_one t slot sign stack
-is_with_one t u a b slot sign stack here elsewhere = canonical_trees u (with_one t slot sign stack) b (with_one_is_tree t a slot sign stack) same
+pub is_with_one : (t u : Tree) → IsSorted place_cmp t → Each IsPositive t → IsSorted place_cmp u → Each IsPositive u → (slot : Slot) (sign : Sign) (stack : List ℕ) → count_at u slot stack ≡ bump sign (count_at t slot stack) → ((s : Slot) (k : List ℕ) → (k ≡ stack → s ≢ slot) → count_at u s k ≡ count_at t s k) → u ≡ with_one t slot sign stack
+is_with_one t u t_sorted t_positive u_sorted u_positive slot sign stack here elsewhere =
+    canonical_trees u (with_one t slot sign stack) u_sorted u_positive (is_sorted-put place_cmp place_total (stack, slot) _ t t_sorted) (each_put place_cmp IsPositive (stack, slot) _ t (bump_positive sign _) t_positive) same
   where
     same : IsSameTally u (with_one t slot sign stack)
     same s k = elim (place_cmp (k, s) (stack, slot)) as (λ r. place_cmp (k, s) (stack, slot) ≡ r → count_at u s k ≡ count_at (with_one t slot sign stack) s k) [
@@ -87,7 +89,7 @@ bump_total Minus c = omega arith
 
 pub total-with_one : (t : Tree) → IsTree t → (slot : Slot) (sign : Sign) (stack : List ℕ) → total_count (with_one t slot sign stack) ≡ total_count t + 1
 total-with_one t h slot sign stack =
-    let sums = sum_by-put place_cmp place_total total_of zero_count refl (stack, slot) (bump sign (count_at t slot stack)) t h.ordered in
+    let sums = sum_by-put place_cmp place_total place_same (λ k c. total_of c) zero_count (λ k. refl) (stack, slot) (bump sign (count_at t slot stack)) t h.ordered in
     let more = bump_total sign (count_at t slot stack) in
     omega (arith, sums, more)
 

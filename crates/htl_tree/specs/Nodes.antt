@@ -1,5 +1,5 @@
 -- What a node counts, and which nodes are in normal form.
-use Rattle.std.specs.Prelude.{◌≡◌, ℕ, ◌+◌, ◌<◌, max, ◌^◌, ◌≢◌, List, [], ◌∷◌, ◌++◌, map, reverse, Option, Some, None, unwrap_or}
+use Rattle.std.specs.Prelude.{◌≡◌, ℕ, ◌+◌, ◌<◌, ◌≤◌, max, ◌^◌, ◌≢◌, List, [], ◌∷◌, ◌++◌, map, reverse, length, Option, Some, None, unwrap_or}
 use Rattle.std.specs.List.{flat_map}
 use Rattle.std.specs.Ordering.{nat_cmp}
 use Rattle.std.specs.FinMap.Entries.{find, put}
@@ -14,7 +14,7 @@ use Rattle.htl_tree.specs.declared.node.Node.TheOpen.{Node-F}
 use Rattle.htl_tree.specs.declared.node.Node.TheViews.{out-Node}
 use Rattle.htl_tree.specs.declared.node.Node.TheFolds.{fold-Node}
 use Rattle.htl_tree.specs.Slots.{slot_cmp}
-use Rattle.htl_tree.specs.Trees.{Tree, bump, total_count}
+use Rattle.htl_tree.specs.Trees.{Tree, AllShort, bump, total_count}
 
 abbrev pub own : {A : Type 0} → Node A → List (Slot × Count)
 own {A} n = (out-Node A n).counts.items
@@ -105,9 +105,18 @@ abbrev pub tree_of : {A : Type 0} → Option (Node A) → Tree
 tree_of None = []
 tree_of (Some n) = map (λ row. ((reverse row.0.0, row.0.1), row.1)) (rows n)
 
+-- no stack is longer than 64 frames, so no node is deeper
+abbrev pub IsShallow : {A : Type 0} → Node A → Type 0
+IsShallow n = AllShort (rows n)
+
+pub record IsNormalTop {A : Type 0} (n : Node A) : Type 0 where
+  pub normal : IsNormal n
+  pub nonempty : IsNonEmpty n
+  pub shallow : IsShallow n
+
 abbrev pub IsNormalRoot : {A : Type 0} → Option (Node A) → Type 0
 IsNormalRoot None = Unit {0}
-IsNormalRoot (Some n) = IsNormal n × IsNonEmpty n
+IsNormalRoot (Some n) = IsNormalTop n
 
 pub record IsRoot {A : Type 0} (root : Option (Node A)) (total : ℕ) : Type 0 where
   pub normal : IsNormalRoot root

@@ -1,6 +1,6 @@
 -- A tree as its tally: the counts that aren't zero, by stack and then by slot.
 use Rattle.std.specs.Prelude.{◌≡◌, ℕ, ◌+◌, ◌≤◌, List, [], ◌∷◌, Bool, ◌&&◌, if◌then◌else◌, nat_eq, unwrap_or, length}
-use Rattle.std.specs.List.{sum_by, starts_with}
+use Rattle.std.specs.List.{sum_by, starts_with, AllByRecursion}
 use Rattle.std.specs.Ordering.{on, then_cmp}
 use Rattle.std.specs.FinMap.Entries.{find, put}
 use Rattle.std.specs.declared.cmp.Ordering.{Ordering}
@@ -47,10 +47,19 @@ count_under tree path slot = sum_where (λ stack. starts_with nat_eq (outer stac
 abbrev pub total_count : Tree → ℕ
 total_count tree = sum_by (λ row. total_of row.1) tree
 
+-- no stack is longer than a stack may be
+abbrev pub AllShort : Tree → Type 0
+AllShort tree = AllByRecursion (λ (row : (List ℕ × Slot) × Count). length row.0.0 ≤ 64) tree
+
 -- What every tree is. So equal tallies have one tree.
 pub record IsTree (tree : Tree) : Type 0 where
   pub ordered : IsSorted place_cmp tree
   pub positive : Each IsPositive tree
+  pub shallow : AllShort tree
 
 abbrev pub IsSameTally : Tree → Tree → Type 0
 IsSameTally tree other = (slot : Slot) (stack : List ℕ) → count_at tree slot stack ≡ count_at other slot stack
+
+-- the tally of the second and that of the third add up to that of the first
+abbrev pub IsSumTally : Tree → Tree → Tree → Type 0
+IsSumTally sum tree other = (slot : Slot) (stack : List ℕ) → count_at sum slot stack ≡ plus_count (count_at tree slot stack) (count_at other slot stack)

@@ -1,12 +1,12 @@
 //! The tree as its callers see it.
 
-ghost use Rattle.std.specs.Prelude.{◌≡◌, ◌+◌, ◌<◌, ◌^◌, ◌↔◌, IsTrue, MatchResult};
+ghost use Rattle.std.specs.Prelude.{◌≡◌, ◌+◌, ◌<◌, ◌≤◌, ◌^◌, ◌↔◌, length, IsTrue, MatchResult};
 ghost use Rattle.htl_event.specs.Tallies.{total_of};
 ghost use Rattle.htl_tree.specs.Trees.{count_at, with_one, IsSameTally};
 ghost use Rattle.htl_tree.specs.Nodes.{tree_of, IsNormalRoot};
 
 use crate::node::Node;
-use htl_event::{Count, NoMemory, Sign, Slot, Stack};
+use htl_event::{Count, MAX_FRAMES, NoMemory, Sign, Slot, Stack};
 use std::alloc::Allocator;
 use std::marker::Model;
 
@@ -97,6 +97,7 @@ fn add_to_root<A: Allocator + Clone>(
     stack: &[u64],
 ) -> Result<(), NoMemory>
     requires normal { IsNormalRoot root.old }
+    requires short { length stack.now ≤ MAX_FRAMES }
     requires fits { total_of (count_at (tree_of root.old) slot stack.now) + 1 < 2 ^ 64 }
     ensures { MatchResult result
         (λ _. IsNormalRoot root.new × (tree_of root.new ≡ with_one (tree_of root.old) slot sign stack.now))

@@ -8,7 +8,7 @@ pub same-requires : goal.same-requires
 same-requires g c =
     let left : IsNormalRoot (Some c.in-Some-Some.left) = subst (λ r. IsNormalRoot r) c.in-Some-Some.is-0 c.requires.left in
     let right : IsNormalRoot (Some c.in-Some-Some.right) = subst (λ r. IsNormalRoot r) c.in-Some-Some.is-1 c.requires.right in
-    record { left = left.0; right = right.0 }
+    record { left = left.normal; right = right.normal }
 
 pub returns-in-Some-Some : goal.returns-in-Some-Some
 returns-in-Some-Some g c =
@@ -17,8 +17,8 @@ returns-in-Some-Some g c =
     let left : IsNormalRoot (Some n) = subst (λ r. IsNormalRoot r) c.in-Some-Some.is-0 c.requires.left in
     let right : IsNormalRoot (Some m) = subst (λ r. IsNormalRoot r) c.in-Some-Some.is-1 c.requires.right in
     rw (c.in-Some-Some.is-0, c.in-Some-Some.is-1) (
-      λ yes. same_trees n m left.0 right.0 (c.same.ensures.0 yes),
-      λ same. c.same.ensures.1 (same_nodes n m left.0 right.0 same),
+      λ yes. same_trees n m left.normal right.normal (c.same.ensures.0 yes),
+      λ same. c.same.ensures.1 (same_nodes n m left.normal right.normal same),
     )
 
 pub returns-in-None-Some : goal.returns-in-None-Some

@@ -5,5 +5,6 @@ pub mod Canonical
 pub mod Equal
 pub mod Kids
 pub mod TreeFacts
+pub mod Weights
 pub mod Roots
 pub mod SumFacts

@@ -8,16 +8,18 @@ use Rattle.htl_sorted.specs.Entries.{IsSorted, Each}
 use Rattle.htl_event.specs.declared.slot.Slot.{Slot}
 use Rattle.htl_event.specs.declared.slot.Sign.{Sign}
 use Rattle.htl_event.specs.declared.slot.Count.{Count}
-use Rattle.htl_event.specs.Tallies.{zero_count, IsPositive}
+use Rattle.htl_event.specs.Tallies.{zero_count, plus_count, total_of, IsPositive}
 use Rattle.htl_tree.specs.declared.node.Node.{Node}
 use Rattle.htl_tree.specs.Slots.{slot_cmp}
-use Rattle.htl_tree.specs.Trees.{Tree, place_cmp, count_at, bump, with_one, IsTree, AllShort, IsSameTally as IsSameTree}
-use Rattle.htl_tree.specs.Nodes.{tally, tally_of, no_tally, rows, tree_of, IsNormal, IsNonEmpty, IsNormalTop, IsNormalRoot, AddsOne, IsAdded, IsKept, IsBranch, IsSameTally}
+use Rattle.htl_tree.specs.Trees.{Tree, place_cmp, count_at, bump, with_one, total_count, IsTree, AllShort, IsSumTally, IsSameTally as IsSameTree}
+use Rattle.htl_tree.specs.Nodes.{tally, tally_of, no_tally, rows, tree_of, IsNormal, IsNonEmpty, IsNormalTop, IsNormalRoot, AddsOne, IsAdded, IsKept, IsBranch, IsSameTally, IsCopy, IsSum, FitsSum}
 use Rattle.htl_tree.proofs.Keys.{find-map_key, sorted-map_key, each-map_key}
 use Rattle.htl_tree.proofs.Flat.{path_cmp, tally_rows, rows_sorted, rows_positive}
 use Rattle.htl_tree.proofs.NodeFacts.{nonempty_from, bump_positive}
 use Rattle.htl_tree.proofs.Canonical.{inhabited}
-use Rattle.htl_tree.proofs.TreeFacts.{canonical_trees, is_with_one, with_one_is_tree, nothing_is_tree}
+use Rattle.htl_tree.proofs.TreeFacts.{canonical_trees, is_with_one, with_one_is_tree, nothing_is_tree, count_le_total}
+use Rattle.htl_tree.proofs.SumFacts.{copied_nonempty, summed_nonempty, zero_left, zero_right}
+use Rattle.htl_tree.proofs.Weights.{sum_short}
 
 abbrev outward : List ℕ × Slot → List ℕ × Slot
 outward place = (reverse place.0, place.1)
@@ -105,3 +107,30 @@ counts_something n h none =
     let zero : tally w.path w.slot n ≡ zero_count = tally_tree n h.normal w.path w.slot ∙ none w.slot (reverse w.path) in
     let never : IsPositive zero_count = subst IsPositive zero w.counts in
     omega (arith, never)
+
+-- ---- copies and sums
+
+pub copied_tree : {A : Type 0} (n m : Node A) → IsNormalTop n → IsCopy n m → IsNormalRoot (Some m) × (tree_of (Some m) ≡ tree_of (Some n))
+copied_tree n m h copy =
+    let is = same_tree n m h.normal copy.normal copy.counts in
+    (top m copy.normal (copied_nonempty n m h.normal copy h.nonempty) (root_is_tree (Some n) h) is, is)
+
+pub summed_tree : {A : Type 0} (a b c : Node A) → IsNormalTop a → IsNormalTop b → IsSum a b c → IsNormalRoot (Some c) × IsSumTally (tree_of (Some c)) (tree_of (Some a)) (tree_of (Some b))
+summed_tree a b c g h sum =
+    let added : IsSumTally (tree_of (Some c)) (tree_of (Some a)) (tree_of (Some b)) = λ slot stack.
+    count_tree c sum.normal slot stack ∙ sum.counts (reverse stack) slot ∙ sym (ap (λ d. plus_count d (count_at (tree_of (Some b)) slot stack)) (count_tree a g.normal slot stack) ∙ ap (λ d. plus_count (tally (reverse stack) slot a) d) (count_tree b h.normal slot stack)) in
+    let short : AllShort (tree_of (Some c)) = sum_short (tree_of (Some c)) (tree_of (Some a)) (tree_of (Some b)) (sorted_tree c sum.normal) (positive_tree c sum.normal) (root_is_tree (Some a) g) (root_is_tree (Some b) h) added in
+    (record { normal = sum.normal; nonempty = summed_nonempty a b c g.normal sum g.nonempty; shallow = all_inward (rows c) short }, added)
+
+pub fits_roots : {A : Type 0} (a b : Node A) → IsNormal a → IsNormal b → total_count (tree_of (Some a)) + total_count (tree_of (Some b)) < 2 ^ 64 → FitsSum a b
+fits_roots a b g h fits p s =
+    let left : total_of (tally p s a) ≤ total_count (tree_of (Some a)) = subst (λ c. total_of c ≤ total_count (tree_of (Some a))) (sym (tally_tree a g p s)) (count_le_total (tree_of (Some a)) s (reverse p)) in
+    let right : total_of (tally p s b) ≤ total_count (tree_of (Some b)) = subst (λ c. total_of c ≤ total_count (tree_of (Some b))) (sym (tally_tree b h p s)) (count_le_total (tree_of (Some b)) s (reverse p)) in
+    omega (arith, left, right, fits)
+
+-- nothing and a tree add up to that tree
+pub sum_left : (t : Tree) → IsSumTally t [] t
+sum_left t slot stack = zero_left (count_at t slot stack)
+
+pub sum_right : (t : Tree) → IsSumTally t t []
+sum_right t slot stack = zero_right (count_at t slot stack)

@@ -21,7 +21,7 @@ use Rattle.htl_tree.proofs.NodeFacts.{normal_here, normal_child, nonempty_from}
 
 -- ---- copies
 
-copied_nonempty : {A : Type 0} (n m : Node A) → IsNormal n → IsCopy n m → IsNonEmpty n → IsNonEmpty m
+pub copied_nonempty : {A : Type 0} (n m : Node A) → IsNormal n → IsCopy n m → IsNonEmpty n → IsNonEmpty m
 copied_nonempty n m h copy some = let w = inhabited n h some in nonempty_from m w.path w.slot (subst IsPositive (sym (copy.counts w.path w.slot)) w.counts)
 
 abbrev CopyAt : {A : Type 0} → Option (Node A) → Option (Node A) → Type 0
@@ -107,7 +107,7 @@ sum_normal p None (Some y) (Some z) m = m.normal.everywhere p
 sum_normal p (Some x) None (Some z) m = m.normal.everywhere p
 sum_normal p (Some x) (Some y) (Some z) m = m.normal.everywhere p
 
-summed_nonempty : {A : Type 0} (a b c : Node A) → IsNormal a → IsSum a b c → IsNonEmpty a → IsNonEmpty c
+pub summed_nonempty : {A : Type 0} (a b c : Node A) → IsNormal a → IsSum a b c → IsNonEmpty a → IsNonEmpty c
 summed_nonempty a b c h sum some =
     let w = inhabited a h some in
     let is = sum.counts w.path w.slot in

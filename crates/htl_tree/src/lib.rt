@@ -7,6 +7,7 @@
 mod compare;
 mod node;
 mod order;
+mod root;
 mod sums;
 mod tree;
 

@@ -1,12 +1,8 @@
 //! The tree as its callers see it.
 
-ghost use Rattle.std.specs.Prelude.{◌≡◌, ◌+◌, ◌<◌, ◌≤◌, ◌^◌, ◌↔◌, length, IsTrue, MatchResult};
-ghost use Rattle.htl_event.specs.Tallies.{total_of};
-ghost use Rattle.htl_tree.specs.Trees.{count_at, with_one, IsSameTally};
-ghost use Rattle.htl_tree.specs.Nodes.{tree_of, IsNormalRoot};
-
 use crate::node::Node;
-use htl_event::{Count, MAX_FRAMES, NoMemory, Sign, Slot, Stack};
+use crate::root::{add_to_root, copy_root, plus_roots, same_roots};
+use htl_event::{Count, NoMemory, Sign, Slot, Stack};
 use std::alloc::Allocator;
 use std::marker::Model;
 
@@ -30,8 +26,8 @@ impl<A: Allocator> Model for StackTree<A> {
 }
 
 impl<A: Allocator> StackTree<A> {
-    ghost use Rattle.std.specs.Prelude.{◌≡◌, ◌+◌, ◌<◌, ◌^◌, [], ◌↔◌, IsTrue, OnOk, OnErr};
-    ghost use Rattle.htl_tree.specs.Trees.{count_at, total_count, with_one, IsTree, IsSameTally};
+    ghost use Rattle.std.specs.Prelude.{◌≡◌, ◌+◌, ◌<◌, ◌^◌, [], ◌↔◌, IsTrue, IfOk, OnOk, OnErr};
+    ghost use Rattle.htl_tree.specs.Trees.{count_at, total_count, with_one, IsTree, IsSameTally, IsSumTally};
 
     pub fn new(alloc: A) -> Self
         ensures { result ≡ [] }
@@ -75,6 +71,36 @@ impl<A: Allocator> StackTree<A> {
         same_roots(&self.root, &other.root)
     }
 
+    pub fn copy(&self) -> Result<Self, NoMemory>
+    where
+        A: Clone,
+        ensures { IfOk result (λ copy. copy ≡ self.now) }
+    {
+        let root = copy_root(&self.root, &self.alloc)?;
+        Ok(StackTree {
+            alloc: self.alloc.clone()?,
+            total: self.total,
+            root,
+        })
+    }
+
+    /// The tree that counts what both trees count, made in one pass over both.
+    pub fn plus(&self, other: &Self) -> Result<Self, NoMemory>
+    where
+        A: Clone,
+        requires { total_count self.now + total_count other.now < 2 ^ 64 }
+        ensures tally { IfOk result (λ sum. IsSumTally sum self.now other.now) }
+        ensures total { IfOk result (λ sum. total_count sum ≡ total_count self.now + total_count other.now) }
+    {
+        let root = plus_roots(&self.root, &other.root, &self.alloc)?;
+        Ok(StackTree {
+            alloc: self.alloc.clone()?,
+            total: self.total + other.total,
+            root,
+        })
+    }
+
+    /// Counts one more.
     pub fn add(&mut self, slot: Slot, sign: Sign, stack: &Stack) -> Result<(), NoMemory>
     where
         A: Clone,
@@ -86,40 +112,5 @@ impl<A: Allocator> StackTree<A> {
         add_to_root(&mut self.root, &self.alloc, slot, sign, stack.frames())?;
         self.total += 1;
         Ok(())
-    }
-}
-
-fn add_to_root<A: Allocator + Clone>(
-    root: &mut Option<Node<A>>,
-    alloc: &A,
-    slot: Slot,
-    sign: Sign,
-    stack: &[u64],
-) -> Result<(), NoMemory>
-    requires normal { IsNormalRoot root.old }
-    requires short { length stack.now ≤ MAX_FRAMES }
-    requires fits { total_of (count_at (tree_of root.old) slot stack.now) + 1 < 2 ^ 64 }
-    ensures { MatchResult result
-        (λ _. IsNormalRoot root.new × (tree_of root.new ≡ with_one (tree_of root.old) slot sign stack.now))
-        (λ _. IsNormalRoot root.new × (tree_of root.new ≡ tree_of root.old)) }
-{
-    if let Some(root) = root {
-        return root.add(slot, sign, stack);
-    }
-    let branch = Node::branch(alloc, slot, sign, stack)?;
-    *root = Some(branch);
-    Ok(())
-}
-
-fn same_roots<A: Allocator>(left: &Option<Node<A>>, right: &Option<Node<A>>) -> bool
-    requires left { IsNormalRoot left.now }
-    requires right { IsNormalRoot right.now }
-    ensures { IsTrue result ↔ IsSameTally (tree_of left.now) (tree_of right.now) }
-{
-    match (left, right) {
-        (None, None) => true,
-        (Some(left), Some(right)) => left.same(right),
-        (None, Some(_)) => false,
-        (Some(_), None) => false,
     }
 }

@@ -4,7 +4,7 @@ use Rattle.htl_tree.specs.Trees.{count_at, with_one}
 use Rattle.htl_tree.specs.Nodes.{tally, tree_of, IsNormalRoot}
 use Rattle.htl_tree.proofs.NodeFacts.{match_result}
 use Rattle.htl_tree.proofs.Roots.{count_tree, added_tree, kept_tree, branch_tree}
-use Rattle.htl_tree.proofs.tree.add_to_root.Goals as goal
+use Rattle.htl_tree.proofs.root.add_to_root.Goals as goal
 
 pub add-requires-clause-normal : goal.add-requires-clause-normal
 add-requires-clause-normal g c = let h : IsNormalRoot (Some c.in-Some.root) = subst (λ r. IsNormalRoot r) c.in-Some.is c.requires.normal in h.normal

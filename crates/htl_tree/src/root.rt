@@ -1,0 +1,75 @@
+//! The root of a tree. It is made by the first count.
+
+ghost use Rattle.std.specs.Prelude.{◌≡◌, ◌+◌, ◌<◌, ◌≤◌, ◌^◌, ◌↔◌, length, IsTrue, IfOk, MatchResult};
+ghost use Rattle.htl_event.specs.Tallies.{total_of};
+ghost use Rattle.htl_tree.specs.Trees.{count_at, total_count, with_one, IsSameTally, IsSumTally};
+ghost use Rattle.htl_tree.specs.Nodes.{tree_of, IsNormalRoot};
+
+use crate::node::Node;
+use htl_event::{MAX_FRAMES, NoMemory, Sign, Slot};
+use std::alloc::Allocator;
+
+pub fn add_to_root<A: Allocator + Clone>(
+    root: &mut Option<Node<A>>,
+    alloc: &A,
+    slot: Slot,
+    sign: Sign,
+    stack: &[u64],
+) -> Result<(), NoMemory>
+    requires normal { IsNormalRoot root.old }
+    requires short { length stack.now ≤ MAX_FRAMES }
+    requires fits { total_of (count_at (tree_of root.old) slot stack.now) + 1 < 2 ^ 64 }
+    ensures { MatchResult result
+        (λ _. IsNormalRoot root.new × (tree_of root.new ≡ with_one (tree_of root.old) slot sign stack.now))
+        (λ _. IsNormalRoot root.new × (tree_of root.new ≡ tree_of root.old)) }
+{
+    if let Some(root) = root {
+        return root.add(slot, sign, stack);
+    }
+    let branch = Node::branch(alloc, slot, sign, stack)?;
+    *root = Some(branch);
+    Ok(())
+}
+
+pub fn same_roots<A: Allocator>(left: &Option<Node<A>>, right: &Option<Node<A>>) -> bool
+    requires left { IsNormalRoot left.now }
+    requires right { IsNormalRoot right.now }
+    ensures { IsTrue result ↔ IsSameTally (tree_of left.now) (tree_of right.now) }
+{
+    match (left, right) {
+        (None, None) => true,
+        (Some(left), Some(right)) => left.same(right),
+        (None, Some(_)) => false,
+        (Some(_), None) => false,
+    }
+}
+
+pub fn copy_root<A: Allocator + Clone>(
+    root: &Option<Node<A>>,
+    alloc: &A,
+) -> Result<Option<Node<A>>, NoMemory>
+    requires { IsNormalRoot root.now }
+    ensures { IfOk result (λ copy. IsNormalRoot copy × (tree_of copy ≡ tree_of root.now)) }
+{
+    match root {
+        None => Ok(None),
+        Some(root) => Ok(Some(root.copy(alloc)?)),
+    }
+}
+
+pub fn plus_roots<A: Allocator + Clone>(
+    left: &Option<Node<A>>,
+    right: &Option<Node<A>>,
+    alloc: &A,
+) -> Result<Option<Node<A>>, NoMemory>
+    requires left { IsNormalRoot left.now }
+    requires right { IsNormalRoot right.now }
+    requires fits { total_count (tree_of left.now) + total_count (tree_of right.now) < 2 ^ 64 }
+    ensures { IfOk result (λ sum. IsNormalRoot sum × IsSumTally (tree_of sum) (tree_of left.now) (tree_of right.now)) }
+{
+    match (left, right) {
+        (None, right) => copy_root(right, alloc),
+        (left, None) => copy_root(left, alloc),
+        (Some(left), Some(right)) => Ok(Some(left.plus(right, alloc)?)),
+    }
+}

@@ -8,3 +8,5 @@ pub mod TreeFacts
 pub mod Weights
 pub mod Roots
 pub mod SumFacts
+pub mod Under
+pub mod Events

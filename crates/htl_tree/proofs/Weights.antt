@@ -60,7 +60,7 @@ positive_built (x ∷ xs) h = each_put place_cmp IsPositive x.0 _ (built xs) (pl
 pub is_built : (t : Tree) → IsTree t → (xs : List Row) → Each IsPositive xs → ((slot : Slot) (stack : List ℕ) → count_at t slot stack ≡ sum_at xs slot stack) → t ≡ built xs
 is_built t h xs p same = canonical_trees t (built xs) h.ordered h.positive (sorted_built xs) (positive_built xs p) (λ slot stack. same slot stack ∙ sym (count_built xs slot stack))
 
-plus_assoc : (c d e : Count) → plus_count (plus_count c d) e ≡ plus_count c (plus_count d e)
+pub plus_assoc : (c d e : Count) → plus_count (plus_count c d) e ≡ plus_count c (plus_count d e)
 plus_assoc c d e =
     let p : (c.plus + d.plus) + e.plus ≡ c.plus + (d.plus + e.plus) = omega arith in
     let m : (c.minus + d.minus) + e.minus ≡ c.minus + (d.minus + e.minus) = omega arith in

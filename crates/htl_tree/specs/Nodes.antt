@@ -1,6 +1,6 @@
 -- What a node counts, and which nodes are in normal form.
-use Rattle.std.specs.Prelude.{◌≡◌, ℕ, ◌+◌, ◌<◌, ◌≤◌, max, ◌^◌, ◌≢◌, List, [], ◌∷◌, ◌++◌, map, reverse, length, Option, Some, None, unwrap_or}
-use Rattle.std.specs.List.{flat_map}
+use Rattle.std.specs.Prelude.{◌≡◌, ℕ, ◌+◌, ◌<◌, ◌≤◌, max, ◌^◌, ◌≢◌, List, [], ◌∷◌, ◌++◌, map, reverse, length, Option, Some, None, unwrap_or, nat_eq}
+use Rattle.std.specs.List.{flat_map, starts_with}
 use Rattle.std.specs.Ordering.{nat_cmp}
 use Rattle.std.specs.FinMap.Entries.{find, put}
 use Rattle.htl_event.specs.declared.slot.Slot.{Slot}
@@ -14,7 +14,7 @@ use Rattle.htl_tree.specs.declared.node.Node.TheOpen.{Node-F}
 use Rattle.htl_tree.specs.declared.node.Node.TheViews.{out-Node}
 use Rattle.htl_tree.specs.declared.node.Node.TheFolds.{fold-Node}
 use Rattle.htl_tree.specs.Slots.{slot_cmp}
-use Rattle.htl_tree.specs.Trees.{Tree, AllShort, bump, total_count}
+use Rattle.htl_tree.specs.Trees.{Tree, AllShort, bump, total_count, sum_where}
 
 abbrev pub own : {A : Type 0} → Node A → List (Slot × Count)
 own {A} n = (out-Node A n).counts.items
@@ -160,3 +160,7 @@ pub record IsSum {A : Type 0} (left right sum : Node A) : Type 0 where
 -- the counts of both sides add up to numbers of 64 bits
 abbrev pub FitsSum : {A : Type 0} → Node A → Node A → Type 0
 FitsSum left right = (p : List ℕ) (s : Slot) → total_of (tally p s left) + total_of (tally p s right) < 2 ^ 64
+
+-- what a node counts of a slot at the paths that begin with this one
+abbrev pub sum_under : {A : Type 0} → List ℕ → Slot → Node A → Count
+sum_under path slot n = sum_where (λ p. starts_with nat_eq p path) slot (rows n)

@@ -4,13 +4,14 @@ use Rattle.std.specs.List.{sum_by, starts_with, AllByRecursion}
 use Rattle.std.specs.Ordering.{on, then_cmp}
 use Rattle.std.specs.FinMap.Entries.{find, put}
 use Rattle.std.specs.declared.cmp.Ordering.{Ordering}
+use Rattle.htl_event.specs.declared.event.Event.{Event}
 use Rattle.htl_event.specs.declared.slot.Slot.{Slot}
 use Rattle.htl_event.specs.declared.slot.Sign.{Sign}
 use Rattle.htl_event.specs.declared.slot.Sign.TheVariants.{Plus, Minus}
 use Rattle.htl_event.specs.declared.slot.Count.{Count}
 use Rattle.htl_event.specs.Slots.{same_slot}
 use Rattle.htl_event.specs.Stacks.{outer, stack_cmp}
-use Rattle.htl_event.specs.Tallies.{zero_count, plus_count, total_of, IsPositive}
+use Rattle.htl_event.specs.Tallies.{zero_count, plus_count, total_of, IsPositive, tally}
 use Rattle.htl_sorted.specs.Entries.{IsSorted, Each}
 use Rattle.htl_tree.specs.Slots.{slot_cmp}
 
@@ -63,3 +64,7 @@ IsSameTally tree other = (slot : Slot) (stack : List ℕ) → count_at tree slot
 -- the tally of the second and that of the third add up to that of the first
 abbrev pub IsSumTally : Tree → Tree → Tree → Type 0
 IsSumTally sum tree other = (slot : Slot) (stack : List ℕ) → count_at sum slot stack ≡ plus_count (count_at tree slot stack) (count_at other slot stack)
+
+-- the tree is the tally of the events
+abbrev pub HasTally : Tree → List Event → Type 0
+HasTally tree events = (slot : Slot) (stack : List ℕ) → count_at tree slot stack ≡ tally events slot stack

@@ -7,6 +7,7 @@
 mod compare;
 mod node;
 mod order;
+mod prefix;
 mod root;
 mod sums;
 mod tree;

@@ -2,7 +2,7 @@
 
 ghost use Rattle.std.specs.Prelude.{◌≡◌, ◌+◌, ◌<◌, ◌^◌, reverse, IfOk, IfErr, OnOk, OnErr, MatchResult};
 ghost use Rattle.std.specs.Ordering.{nat_cmp};
-ghost use Rattle.htl_event.specs.Tallies.{total_of};
+ghost use Rattle.htl_event.specs.Tallies.{total_of, plus_count};
 ghost use Rattle.htl_sorted.specs.Entries.{IsSorted, IsPlace, IsGap};
 ghost use Rattle.htl_tree.specs.Slots.{slot_cmp};
 ghost use Rattle.htl_tree.specs.Trees.{bump};
@@ -20,6 +20,8 @@ pub struct Node<A: Allocator> {
     pub counts: Vec<(Slot, Count), A>,
     pub children: Vec<(u64, Node<A>), A>,
 }
+
+pub const ZERO: Count = Count { plus: 0, minus: 0 };
 
 pub fn find_slot(counts: &[(Slot, Count)], slot: Slot) -> Result<usize, usize>
     requires { IsSorted slot_cmp counts.now }
@@ -44,13 +46,10 @@ impl<A: Allocator> Node<A> {
         ensures { result ≡ tally (reverse stack.now) slot self.now }
     {
         match stack.split_last() {
-            None => match find_slot(&self.counts, slot) {
-                Ok(i) => self.counts[i].1,
-                Err(_) => Count { plus: 0, minus: 0 },
-            },
+            None => count_of(&self.counts, slot),
             Some((frame, rest)) => match find_frame(&self.children, *frame) {
                 Ok(i) => self.children[i].1.at(slot, rest),
-                Err(_) => Count { plus: 0, minus: 0 },
+                Err(_) => ZERO,
             },
         }
     }
@@ -65,7 +64,7 @@ impl<A: Allocator> Node<A> {
         let mut children = Vec::new(alloc.clone()?);
         match stack.split_last() {
             None => {
-                counts.push((slot, bumped(Count { plus: 0, minus: 0 }, sign)))?;
+                counts.push((slot, bumped(ZERO, sign)))?;
                 Ok(Node { counts, children })
             }
             Some((frame, rest)) => {
@@ -96,6 +95,26 @@ impl<A: Allocator> Node<A> {
                 }
             },
         }
+    }
+}
+
+pub fn count_of(counts: &[(Slot, Count)], slot: Slot) -> Count
+    requires { IsSorted slot_cmp counts.now }
+    ensures { result ≡ count_in counts.now slot }
+{
+    match find_slot(counts, slot) {
+        Ok(i) => counts[i].1,
+        Err(_) => ZERO,
+    }
+}
+
+pub fn sum_of(left: Count, right: Count) -> Count
+    requires { total_of (plus_count left right) < 2 ^ 64 }
+    ensures { result ≡ plus_count left right }
+{
+    Count {
+        plus: left.plus + right.plus,
+        minus: left.minus + right.minus,
     }
 }
 
@@ -132,7 +151,7 @@ fn count_one<A: Allocator>(
             Ok(())
         }
         Err(i) => {
-            let count = bumped(Count { plus: 0, minus: 0 }, sign);
+            let count = bumped(ZERO, sign);
             counts.insert(i, (slot, count))?;
             Ok(())
         }

@@ -1,6 +1,6 @@
 //! What a node's two lists are sorted by.
 
-use crate::node::Node;
+use crate::node::{Node, sum_of};
 use htl_event::{Count, Slot};
 use htl_sorted::{Joined, Keyed};
 use std::alloc::Allocator;
@@ -38,11 +38,7 @@ impl Joined for BySlot {
     }
 
     fn join(left: &(Slot, Count), right: &(Slot, Count)) -> (Slot, Count) {
-        let count = Count {
-            plus: left.1.plus + right.1.plus,
-            minus: left.1.minus + right.1.minus,
-        };
-        (left.0, count)
+        (left.0, sum_of(left.1, right.1))
     }
 }
 

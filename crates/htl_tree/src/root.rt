@@ -2,11 +2,11 @@
 
 ghost use Rattle.std.specs.Prelude.{◌≡◌, ◌+◌, ◌<◌, ◌≤◌, ◌^◌, ◌↔◌, length, IsTrue, IfOk, MatchResult};
 ghost use Rattle.htl_event.specs.Tallies.{total_of};
-ghost use Rattle.htl_tree.specs.Trees.{count_at, total_count, with_one, IsSameTally, IsSumTally};
+ghost use Rattle.htl_tree.specs.Trees.{count_at, count_under, total_count, with_one, IsSameTally, IsSumTally};
 ghost use Rattle.htl_tree.specs.Nodes.{tree_of, IsNormalRoot};
 
-use crate::node::Node;
-use htl_event::{MAX_FRAMES, NoMemory, Sign, Slot};
+use crate::node::{Node, ZERO};
+use htl_event::{Count, MAX_FRAMES, NoMemory, Sign, Slot};
 use std::alloc::Allocator;
 
 pub fn add_to_root<A: Allocator + Clone>(
@@ -29,6 +29,17 @@ pub fn add_to_root<A: Allocator + Clone>(
     let branch = Node::branch(alloc, slot, sign, stack)?;
     *root = Some(branch);
     Ok(())
+}
+
+pub fn under_root<A: Allocator>(root: &Option<Node<A>>, path: &[u64], slot: Slot) -> Count
+    requires normal { IsNormalRoot root.now }
+    requires fits { total_count (tree_of root.now) < 2 ^ 64 }
+    ensures { result ≡ count_under (tree_of root.now) path.now slot }
+{
+    match root {
+        None => ZERO,
+        Some(root) => root.under(path, slot),
+    }
 }
 
 pub fn same_roots<A: Allocator>(left: &Option<Node<A>>, right: &Option<Node<A>>) -> bool

@@ -1,7 +1,7 @@
 //! The tree as its callers see it.
 
-use crate::node::Node;
-use crate::root::{add_to_root, copy_root, plus_roots, same_roots};
+use crate::node::{Node, ZERO};
+use crate::root::{add_to_root, copy_root, plus_roots, same_roots, under_root};
 use htl_event::{Count, NoMemory, Sign, Slot, Stack};
 use std::alloc::Allocator;
 use std::marker::Model;
@@ -26,8 +26,10 @@ impl<A: Allocator> Model for StackTree<A> {
 }
 
 impl<A: Allocator> StackTree<A> {
-    ghost use Rattle.std.specs.Prelude.{◌≡◌, ◌+◌, ◌<◌, ◌^◌, [], ◌↔◌, IsTrue, IfOk, OnOk, OnErr};
-    ghost use Rattle.htl_tree.specs.Trees.{count_at, total_count, with_one, IsTree, IsSameTally, IsSumTally};
+    ghost use Rattle.std.specs.Prelude.{◌≡◌, List, ◌+◌, ◌<◌, ◌^◌, [], ◌↔◌, IsTrue, IfOk, OnOk, OnErr};
+    ghost use Rattle.htl_tree.specs.Trees.{count_at, count_under, total_count, with_one, IsTree, IsSameTally, IsSumTally, HasTally};
+    ghost use Rattle.htl_event.specs.declared.event.Event.{Event};
+    ghost use Rattle.htl_event.specs.Tallies.{under};
 
     pub fn new(alloc: A) -> Self
         ensures { result ≡ [] }
@@ -59,9 +61,18 @@ impl<A: Allocator> StackTree<A> {
         ensures { result ≡ count_at self.now slot stack.now }
     {
         match &self.root {
-            None => Count { plus: 0, minus: 0 },
+            None => ZERO,
             Some(root) => root.at(slot, stack.frames()),
         }
+    }
+
+    /// How often the slot came with a stack that begins with the path, read from the outermost frame.
+    pub fn under(&self, path: &[u64], slot: Slot) -> Count
+        ensures value { result ≡ count_under self.now path.now slot }
+        // It is the prefix tally of any events that the tree is the tally of.
+        ensures events { (events : List Event) → HasTally self.now events → result ≡ under events path.now slot }
+    {
+        under_root(&self.root, path, slot)
     }
 
     pub fn same(&self, other: &Self) -> bool

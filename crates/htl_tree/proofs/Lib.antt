@@ -10,3 +10,4 @@ pub mod Roots
 pub mod SumFacts
 pub mod Under
 pub mod Events
+pub mod SlotRows

@@ -1,11 +1,12 @@
 -- What a node counts, and which nodes are in normal form.
-use Rattle.std.specs.Prelude.{◌≡◌, ℕ, ◌+◌, ◌<◌, ◌≤◌, max, ◌^◌, ◌≢◌, List, [], ◌∷◌, ◌++◌, map, reverse, length, Option, Some, None, unwrap_or, nat_eq}
-use Rattle.std.specs.List.{flat_map, starts_with}
+use Rattle.std.specs.Prelude.{◌≡◌, ℕ, ◌+◌, ◌<◌, ◌≤◌, max, ◌^◌, ◌≢◌, List, [], ◌∷◌, ◌++◌, map, reverse, length, Option, Some, None, unwrap_or, nat_eq, if◌then◌else◌}
+use Rattle.std.specs.List.{flat_map, starts_with, AllByRecursion}
 use Rattle.std.specs.Ordering.{nat_cmp}
 use Rattle.std.specs.FinMap.Entries.{find, put}
 use Rattle.htl_event.specs.declared.slot.Slot.{Slot}
 use Rattle.htl_event.specs.declared.slot.Sign.{Sign}
 use Rattle.htl_event.specs.declared.slot.Count.{Count}
+use Rattle.htl_event.specs.Slots.{same_slot}
 use Rattle.htl_event.specs.Tallies.{zero_count, plus_count, total_of, IsPositive}
 use Rattle.htl_sorted.specs.Entries.{IsSorted, Each}
 use Rattle.htl_sorted.specs.Made.{Made}
@@ -164,3 +165,20 @@ FitsSum left right = (p : List ℕ) (s : Slot) → total_of (tally p s left) + t
 -- what a node counts of a slot at the paths that begin with this one
 abbrev pub sum_under : {A : Type 0} → List ℕ → Slot → Node A → Count
 sum_under path slot n = sum_where (λ p. starts_with nat_eq p path) slot (rows n)
+
+-- ---- lists of what a node counts
+
+-- the slot's rows with their stacks, at and below a node that the path leads to
+abbrev pub slot_rows : Slot → List ℕ → Tree → List (List ℕ × Count)
+slot_rows slot path [] = []
+slot_rows slot path (row ∷ rows) =
+    if same_slot slot row.0.1 then (reverse (path ++ row.0.0), row.1) ∷ slot_rows slot path rows else slot_rows slot path rows
+
+-- a node's own row, if it has one
+abbrev pub one_row : List ℕ → Option Count → List (List ℕ × Count)
+one_row path None = []
+one_row path (Some count) = (reverse path, count) ∷ []
+
+-- below so many frames no stack is longer than a stack may be
+abbrev pub IsShortFrom : ℕ → Tree → Type 0
+IsShortFrom depth t = AllByRecursion (λ (row : (List ℕ × Slot) × Count). depth + length row.0.0 ≤ 64) t

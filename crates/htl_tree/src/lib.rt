@@ -5,6 +5,7 @@
 #![tactic(auto)]
 
 mod compare;
+mod listing;
 mod node;
 mod order;
 mod prefix;

@@ -10,7 +10,7 @@ use Rattle.htl_event.specs.declared.slot.Count.{Count}
 use Rattle.htl_event.specs.contracts.slot.SlotPartialEq.TheImpl as slot
 use Rattle.htl_event.specs.contracts.slot.CountPartialEq.TheImpl as count
 
-slot_Decides : (x y : Slot) → Decides (slot.ghosts.eq x y) (x ≡ y)
+pub slot_Decides : (x y : Slot) → Decides (slot.ghosts.eq x y) (x ≡ y)
 slot_Decides (Tagged a b) (Tagged c d) = let tags = pointwise_decides unsigned_Decides b d in grind (arith, nat_tests, tags)
 slot_Decides (Handles a) (Handles b) = grind (arith, nat_tests)
 slot_Decides (Bad a b) (Bad c d) = grind (arith, nat_tests)

@@ -2,12 +2,13 @@
 use Rattle.std.proofs.Common.{◌≡◌, ℕ, zero, suc, ◌+◌, ◌<◌, ◌≤◌, List, [], ◌∷◌, ◌++◌, length, map, reverse, drop, get_or, Option, Some, None, T, Bool, true, false, cond, unwrap_or, append_assoc, append-nil, refl, sym, ◌∙◌, ap, subst, arith, inl, inr, ◌⊎◌}
 use Rattle.std.specs.Prelude.{Contains, ◌↔◌}
 use Rattle.std.specs.List.{AllByRecursion}
+use Rattle.std.specs.List.Sorted.{IsStrictlySortedBy}
 use Rattle.std.specs.Ordering.{is_eq, is_lt, ordering_then}
 use Rattle.std.specs.Cmp.{tied_itself}
 use Rattle.std.specs.FinMap.Entries.{find, below_all}
 use Rattle.std.specs.declared.cmp.Ordering.{Ordering}
 use Rattle.std.specs.declared.cmp.Ordering.TheVariants.{Less, Equal, Greater}
-use Rattle.std.proofs.lemmas.List.{drop_more, drop_all}
+use Rattle.std.proofs.lemmas.List.{drop_more, drop_all, map-append}
 use Rattle.htl_event.specs.declared.slot.Slot.{Slot}
 use Rattle.htl_event.specs.declared.slot.Count.{Count}
 use Rattle.htl_event.specs.Slots.{same_slot}
@@ -20,10 +21,10 @@ use Rattle.htl_sorted.proofs.Bools.{both_left, both_right, less}
 use Rattle.htl_sorted.proofs.Finds.{find_below, below_tied, find_first, find_skip, each_found}
 use Rattle.htl_tree.specs.declared.node.Node.{Node}
 use Rattle.htl_tree.specs.Slots.{slot_cmp, slot_total, slot_same}
-use Rattle.htl_tree.specs.Trees.{Tree, AllShort, place_cmp, count_at, IsTree}
-use Rattle.htl_tree.specs.Nodes.{own, kids, below, rows, tree_of, slot_rows, one_row, IsShortFrom}
+use Rattle.htl_tree.specs.Trees.{Tree, AllShort, place_cmp, count_at, IsTree, ListsRows, ListsSlots, BySlot}
+use Rattle.htl_tree.specs.Nodes.{own, kids, below, rows, tree_of, slot_rows, one_row, IsShortFrom, slots_of}
 use Rattle.htl_tree.proofs.Flat.{own_rows, kid_rows, rows_is}
-use Rattle.htl_tree.proofs.TreeFacts.{place_total, place_same}
+use Rattle.htl_tree.proofs.TreeFacts.{place_total, place_same, nothing_is_tree}
 use Rattle.htl_tree.proofs.Under.{same_slot_Decides, same_slot_tied}
 
 abbrev Row : Type 0
@@ -116,6 +117,14 @@ listed_tree slot n = of (rows n)
     of [] = refl
     of (row ∷ t) = ap (λ l. cond (same_slot slot row.0.1) ((reverse row.0.0, row.1) ∷ l) l) (of t)
 
+-- what is found behind the first row is found in the whole
+found_later : (row : Row) (t : Tree) → IsSorted place_cmp (row ∷ t) → (k : List ℕ × Slot) (c : Count) → find place_cmp k t ≡ Some c → find place_cmp k (row ∷ t) ≡ Some c
+found_later row t s k c found = (elim (place_cmp k row.0) as (λ r. place_cmp k row.0 ≡ r → cond (is_eq r) (Some row.1) (find place_cmp k t) ≡ Some c) [
+  | Less ↦ λ e. found
+  | Equal ↦ λ e. absurd (let none : find place_cmp k t ≡ None = find_below place_cmp place_total k t (below_tied place_cmp place_total k row.0 t e (both_left _ _ s)) in let never : None ≡ Some c = sym none ∙ found in cc)
+  | Greater ↦ λ e. found
+]) refl
+
 module _ (slot : Slot) where
   -- rows of one slot are in stack order
   stack_below : (a b : List ℕ) → place_cmp (a, slot) (b, slot) ≡ Less → stack_cmp a b ≡ Less
@@ -152,17 +161,10 @@ module _ (slot : Slot) where
       | inl is ↦
           let mine : slot ≡ row.0.1 = (same_slot_Decides slot row.0.1).0 e in
           ap (λ (y : List ℕ × Count). find place_cmp (y.0, slot) (row ∷ t)) (sym is) ∙ ap (λ s. find place_cmp (row.0.0, s) (row ∷ t)) mine ∙ find_first place_cmp place_total row t ∙ ap (λ (y : List ℕ × Count). Some y.1) is
-      | inr there ↦ later (listed_found t (both_right _ _ s) x there)
+      | inr there ↦ found_later row t s (x.0, slot) x.1 (listed_found t (both_right _ _ s) x there)
     ]
-    | false ↦ λ e c. later (listed_found t (both_right _ _ s) x c)
+    | false ↦ λ e c. found_later row t s (x.0, slot) x.1 (listed_found t (both_right _ _ s) x c)
   ]) refl h
-    where
-      later : find place_cmp (x.0, slot) t ≡ Some x.1 → find place_cmp (x.0, slot) (row ∷ t) ≡ Some x.1
-      later found = (elim (place_cmp (x.0, slot) row.0) as (λ r. place_cmp (x.0, slot) row.0 ≡ r → cond (is_eq r) (Some row.1) (find place_cmp (x.0, slot) t) ≡ Some x.1) [
-        | Less ↦ λ c. found
-        | Equal ↦ λ c. absurd (let none : find place_cmp (x.0, slot) t ≡ None = find_below place_cmp place_total (x.0, slot) t (below_tied place_cmp place_total (x.0, slot) row.0 t c (both_left _ _ s)) in let never : None ≡ Some x.1 = sym none ∙ found in cc)
-        | Greater ↦ λ c. found
-      ]) refl
 
   found_listed : (t : Tree) (stack : List ℕ) (c : Count) → find place_cmp (stack, slot) t ≡ Some c → Contains (listed slot t) (stack, c)
   found_listed [] stack c found = cc
@@ -181,7 +183,7 @@ module _ (slot : Slot) where
       further h = elim (same_slot slot row.0.1) as (λ b. Contains (cond b ((row.0.0, row.1) ∷ listed slot t) (listed slot t)) (stack, c)) [ true ↦ Contains-there (row.0.0, row.1) (listed slot t) (stack, c) h | false ↦ h ]
 
   -- the rows of a slot are its counts that aren't zero, in stack order
-  pub lists_rows : (t : Tree) → IsTree t → Lists ByStack (λ row. (row.1 ≡ count_at t slot row.0) × IsPositive row.1) (listed slot t)
+  pub lists_rows : (t : Tree) → IsTree t → ListsRows t slot (listed slot t)
   lists_rows t h = record { rising = rising t h.ordered; members = λ x. (into x, out x) }
     where
       into : (x : List ℕ × Count) → Contains (listed slot t) x → (x.1 ≡ count_at t slot x.0) × IsPositive x.1
@@ -193,3 +195,79 @@ module _ (slot : Slot) where
           of : (o : Option Count) → find place_cmp (x.0, slot) t ≡ o → Contains (listed slot t) x
           of None none = let zero : x.1 ≡ zero_count = is ∙ ap (λ (o : Option Count). unwrap_or o zero_count) none in let never : IsPositive zero_count = subst IsPositive zero some in absurd (omega (arith, never))
           of (Some c) found = let value : c ≡ x.1 = sym (is ∙ ap (λ (o : Option Count). unwrap_or o zero_count) found) in found_listed t x.0 x.1 (found ∙ ap (λ (d : Count). Some d) value)
+
+-- ---- the slots of a whole tree
+
+pub slots_tree : {A : Type 0} (n : Node A) → slots_of (tree_of (Some n)) ≡ slots_of (rows n)
+slots_tree n = of (rows n)
+  where
+    of : (t : Tree) → slots_of (map (λ row. ((reverse row.0.0, row.0.1), row.1)) t) ≡ slots_of t
+    of [] = refl
+    of (row ∷ t) = ap (λ l. row.0.1 ∷ l) (of t)
+
+slots_of-append : (xs ys : Tree) → slots_of (xs ++ ys) ≡ slots_of xs ++ slots_of ys
+slots_of-append xs ys = map-append (λ (row : Row). row.0.1) xs ys
+
+slots_of-below : (f : ℕ) (t : Tree) → slots_of (map (λ row. below f row) t) ≡ slots_of t
+slots_of-below f [] = refl
+slots_of-below f (row ∷ t) = ap (λ l. row.0.1 ∷ l) (slots_of-below f t)
+
+slots_of-own : (es : List (Slot × Count)) → slots_of (own_rows es) ≡ map (λ (e : Slot × Count). e.0) es
+slots_of-own [] = refl
+slots_of-own (e ∷ es) = ap (λ l. e.0 ∷ l) (slots_of-own es)
+
+-- the slots of a node are its own and those of its children
+pub slots_of-node : {A : Type 0} (n : Node A) → slots_of (rows n) ≡ map (λ (e : Slot × Count). e.0) (own n) ++ slots_of (kid_rows (kids n))
+slots_of-node n = ap slots_of (rows_is n) ∙ slots_of-append (own_rows (own n)) (kid_rows (kids n)) ∙ ap (λ l. l ++ slots_of (kid_rows (kids n))) (slots_of-own (own n))
+
+pub kid_slots_drop : {A : Type 0} (ks : List (ℕ × Node A)) (i : ℕ) (k : ℕ × Node A) → i < length ks → k ≡ get_or ks i k → slots_of (kid_rows (drop i ks)) ≡ slots_of (rows k.1) ++ slots_of (kid_rows (drop (i + 1) ks))
+kid_slots_drop {A} ks i k lt is =
+    ap (λ l. slots_of (kid_rows l)) (drop_more ks i k lt ∙ ap (λ (j : ℕ × Node A). j ∷ drop (i + 1) ks) (sym is))
+    ∙ slots_of-append (map (λ row. below k.0 row) (rows k.1)) (kid_rows (drop (i + 1) ks))
+    ∙ ap (λ l. l ++ slots_of (kid_rows (drop (i + 1) ks))) (slots_of-below k.0 (rows k.1))
+
+pub kid_slots_end : {A : Type 0} (ks : List (ℕ × Node A)) (i : ℕ) → length ks ≤ i → slots_of (kid_rows (drop i ks)) ≡ []
+kid_slots_end ks i past = ap (λ l. slots_of (kid_rows l)) (drop_all i ks past)
+
+slot_found : (t : Tree) → IsSorted place_cmp t → (slot : Slot) → Contains (slots_of t) slot → (stack : List ℕ) × (c : Count) × (find place_cmp (stack, slot) t ≡ Some c)
+slot_found [] s slot h = absurd (Contains-nil slot h)
+slot_found (row ∷ t) s slot h = elim (Contains-cases row.0.1 (slots_of t) slot h) [
+  | inl is ↦ (row.0.0, row.1, ap (λ u. find place_cmp (row.0.0, u) (row ∷ t)) (sym is) ∙ find_first place_cmp place_total row t)
+  | inr there ↦ let r = slot_found t (both_right _ _ s) slot there in (r.0, r.1, found_later row t s (r.0, slot) r.1 r.2)
+]
+
+found_slot : (t : Tree) (slot : Slot) (stack : List ℕ) (c : Count) → find place_cmp (stack, slot) t ≡ Some c → Contains (slots_of t) slot
+found_slot [] slot stack c found = cc
+found_slot (row ∷ t) slot stack c found = (elim (place_cmp (stack, slot) row.0) as (λ r. place_cmp (stack, slot) row.0 ≡ r → cond (is_eq r) (Some row.1) (find place_cmp (stack, slot) t) ≡ Some c → Contains (row.0.1 ∷ slots_of t) slot) [
+  | Less ↦ λ e is. Contains-there row.0.1 (slots_of t) slot (found_slot t slot stack c is)
+  | Equal ↦ λ e is. let same = place_same (stack, slot) row.0 e in subst (λ u. Contains (row.0.1 ∷ slots_of t) u) (sym (ap (λ (k : List ℕ × Slot). k.1) same)) (Contains-here row.0.1 (slots_of t))
+  | Greater ↦ λ e is. Contains-there row.0.1 (slots_of t) slot (found_slot t slot stack c is)
+]) refl found
+
+-- the slots of the rows, put in order, are those that are counted somewhere
+pub lists_slots : (t : Tree) → IsTree t → (slots : List Slot) → IsRising BySlot slots → ((slot : Slot) → Contains slots slot ↔ Contains (slots_of t) slot) → ListsSlots t slots
+lists_slots t h slots rising members = record { rising = rising; members = λ slot. (λ c. into slot ((members slot).0 c), λ p. (members slot).1 (out slot p)) }
+  where
+    into : (slot : Slot) → Contains (slots_of t) slot → (stack : List ℕ) × IsPositive (count_at t slot stack)
+    into slot c =
+        let r = slot_found t h.ordered slot c in
+        (r.0, subst IsPositive (sym (ap (λ (o : Option Count). unwrap_or o zero_count) r.2)) (each_found place_cmp IsPositive (r.0, slot) r.1 t h.positive r.2))
+
+    out : (slot : Slot) → (stack : List ℕ) × IsPositive (count_at t slot stack) → Contains (slots_of t) slot
+    out slot (stack, some) = of (find place_cmp (stack, slot) t) refl
+      where
+        of : (o : Option Count) → find place_cmp (stack, slot) t ≡ o → Contains (slots_of t) slot
+        of None none = let never : IsPositive zero_count = subst IsPositive (ap (λ (o : Option Count). unwrap_or o zero_count) none) some in absurd (omega (arith, never))
+        of (Some c) found = found_slot t slot stack c found
+
+-- a list in strict order rises
+pub rising_strict : (slots : List Slot) → IsStrictlySortedBy slot_cmp slots → IsRising BySlot slots
+unfolding IsStrictlySortedBy
+rising_strict [] h = tt
+rising_strict (s ∷ slots) h = (h.0, rising_strict slots h.1)
+
+pub no_rows : (slot : Slot) → ListsRows [] slot []
+no_rows slot = lists_rows slot [] nothing_is_tree
+
+pub no_slots : ListsSlots [] []
+no_slots = lists_slots [] nothing_is_tree [] tt (λ slot. (λ h. h, λ h. h))

@@ -182,3 +182,6 @@ one_row path (Some count) = (reverse path, count) ∷ []
 -- below so many frames no stack is longer than a stack may be
 abbrev pub IsShortFrom : ℕ → Tree → Type 0
 IsShortFrom depth t = AllByRecursion (λ (row : (List ℕ × Slot) × Count). depth + length row.0.0 ≤ 64) t
+
+abbrev pub slots_of : Tree → List Slot
+slots_of t = map (λ row. row.0.1) t

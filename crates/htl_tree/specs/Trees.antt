@@ -4,14 +4,16 @@ use Rattle.std.specs.List.{sum_by, starts_with, AllByRecursion}
 use Rattle.std.specs.Ordering.{on, then_cmp}
 use Rattle.std.specs.FinMap.Entries.{find, put}
 use Rattle.std.specs.declared.cmp.Ordering.{Ordering}
+use Rattle.std.specs.declared.cmp.Ordering.TheVariants.{Less}
 use Rattle.htl_event.specs.declared.event.Event.{Event}
 use Rattle.htl_event.specs.declared.slot.Slot.{Slot}
 use Rattle.htl_event.specs.declared.slot.Sign.{Sign}
 use Rattle.htl_event.specs.declared.slot.Sign.TheVariants.{Plus, Minus}
 use Rattle.htl_event.specs.declared.slot.Count.{Count}
 use Rattle.htl_event.specs.Slots.{same_slot}
+use Rattle.htl_event.specs.Members.{Lists}
 use Rattle.htl_event.specs.Stacks.{outer, stack_cmp}
-use Rattle.htl_event.specs.Tallies.{zero_count, plus_count, total_of, IsPositive, tally}
+use Rattle.htl_event.specs.Tallies.{zero_count, plus_count, total_of, IsPositive, tally, ByStack}
 use Rattle.htl_sorted.specs.Entries.{IsSorted, Each}
 use Rattle.htl_tree.specs.Slots.{slot_cmp}
 
@@ -68,3 +70,16 @@ IsSumTally sum tree other = (slot : Slot) (stack : List ℕ) → count_at sum sl
 -- the tree is the tally of the events
 abbrev pub HasTally : Tree → List Event → Type 0
 HasTally tree events = (slot : Slot) (stack : List ℕ) → count_at tree slot stack ≡ tally events slot stack
+
+-- ---- lists of what a tree counts
+
+-- the slot's counts that aren't zero, in stack order
+abbrev pub ListsRows : Tree → Slot → List (List ℕ × Count) → Type 0
+ListsRows tree slot rows = Lists ByStack (λ row. (row.1 ≡ count_at tree slot row.0) × IsPositive row.1) rows
+
+abbrev pub BySlot : Slot → Slot → Type 0
+BySlot s t = slot_cmp s t ≡ Less
+
+-- the slots that are counted at some stack, in slot order
+abbrev pub ListsSlots : Tree → List Slot → Type 0
+ListsSlots tree slots = Lists BySlot (λ slot. (stack : List ℕ) × IsPositive (count_at tree slot stack)) slots

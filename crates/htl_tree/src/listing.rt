@@ -1,10 +1,13 @@
 //! Lists of what a node counts.
 
-ghost use Rattle.std.specs.Prelude.{◌≡◌, ◌<◌, ◌≤◌, ◌++◌, length, reverse, OnOk};
+ghost use Rattle.std.specs.Prelude.{◌≡◌, ◌<◌, ◌≤◌, ◌++◌, ◌↔◌, length, map, reverse, Contains, OnOk};
+ghost use Rattle.htl_event.specs.declared.slot.Slot.{Slot};
+ghost use Rattle.htl_event.specs.Members.{IsRising};
+ghost use Rattle.htl_tree.specs.Trees.{BySlot};
 ghost use Rattle.std.specs.FinMap.Entries.{find};
 ghost use Rattle.htl_sorted.specs.Entries.{IsSorted};
 ghost use Rattle.htl_tree.specs.Slots.{slot_cmp};
-ghost use Rattle.htl_tree.specs.Nodes.{IsNormal, rows, slot_rows, one_row, IsShortFrom};
+ghost use Rattle.htl_tree.specs.Nodes.{IsNormal, rows, slot_rows, one_row, IsShortFrom, slots_of};
 
 use crate::node::{Node, find_slot};
 use htl_event::{Count, MAX_FRAMES, NoMemory, Slot, Stack};
@@ -32,6 +35,35 @@ impl<A: Allocator> Node<A> {
         }
         Ok(())
     }
+
+    /// Adds the slots that are counted at this node and below, each as often as it is counted.
+    pub fn list_slots(&self, into: &mut Vec<Slot>) -> Result<(), NoMemory>
+        ensures { OnOk result (into.new.items ≡ into.old.items ++ slots_of (rows self.now)) }
+    {
+        list_own_slots(&self.counts, into)?;
+        for (_, child) in &self.children {
+            child.list_slots(into)?;
+        }
+        Ok(())
+    }
+}
+
+fn list_own_slots(counts: &[(Slot, Count)], into: &mut Vec<Slot>) -> Result<(), NoMemory>
+    ensures { OnOk result (into.new.items ≡ into.old.items ++ map (λ entry. entry.0) counts.now) }
+{
+    for (slot, _) in counts {
+        into.push(*slot)?;
+    }
+    Ok(())
+}
+
+/// Puts slots in order, each once.
+pub fn order_slots(slots: &mut Vec<Slot>)
+    ensures rising { IsRising BySlot slots.new.items }
+    ensures members { (slot : Slot) → Contains slots.new.items slot ↔ Contains slots.old.items slot }
+{
+    slots.sort_unstable();
+    slots.dedup();
 }
 
 fn list_own(

@@ -2,12 +2,13 @@
 
 ghost use Rattle.std.specs.Prelude.{◌≡◌, ◌+◌, ◌<◌, ◌≤◌, ◌^◌, ◌↔◌, length, IsTrue, IfOk, MatchResult};
 ghost use Rattle.htl_event.specs.Tallies.{total_of};
-ghost use Rattle.htl_tree.specs.Trees.{count_at, count_under, total_count, with_one, IsSameTally, IsSumTally};
+ghost use Rattle.htl_tree.specs.Trees.{count_at, count_under, total_count, with_one, IsSameTally, IsSumTally, ListsRows, ListsSlots};
 ghost use Rattle.htl_tree.specs.Nodes.{tree_of, IsNormalRoot};
 
+use crate::listing::order_slots;
 use crate::node::{Node, ZERO};
-use htl_event::{Count, MAX_FRAMES, NoMemory, Sign, Slot};
-use std::alloc::Allocator;
+use htl_event::{Count, MAX_FRAMES, NoMemory, Sign, Slot, Stack};
+use std::alloc::{Allocator, Global};
 
 pub fn add_to_root<A: Allocator + Clone>(
     root: &mut Option<Node<A>>,
@@ -82,5 +83,42 @@ pub fn plus_roots<A: Allocator + Clone>(
         (None, right) => copy_root(right, alloc),
         (left, None) => copy_root(left, alloc),
         (Some(left), Some(right)) => Ok(Some(left.plus(right, alloc)?)),
+    }
+}
+
+pub fn list_root_rows<A: Allocator>(
+    root: &Option<Node<A>>,
+    alloc: Global,
+    slot: Slot,
+) -> Result<Vec<(Stack, Count)>, NoMemory>
+    requires { IsNormalRoot root.now }
+    ensures { IfOk result (λ rows. ListsRows (tree_of root.now) slot rows.items) }
+{
+    let mut rows = Vec::new(alloc);
+    match root {
+        None => Ok(rows),
+        Some(root) => {
+            let mut path = Vec::with_capacity(alloc, MAX_FRAMES)?;
+            root.list_rows(slot, &mut path, &mut rows)?;
+            Ok(rows)
+        }
+    }
+}
+
+pub fn list_root_slots<A: Allocator>(
+    root: &Option<Node<A>>,
+    alloc: Global,
+) -> Result<Vec<Slot>, NoMemory>
+    requires { IsNormalRoot root.now }
+    ensures { IfOk result (λ slots. ListsSlots (tree_of root.now) slots.items) }
+{
+    let mut slots = Vec::new(alloc);
+    match root {
+        None => Ok(slots),
+        Some(root) => {
+            root.list_slots(&mut slots)?;
+            order_slots(&mut slots);
+            Ok(slots)
+        }
     }
 }

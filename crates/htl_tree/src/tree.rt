@@ -1,9 +1,11 @@
 //! The tree as its callers see it.
 
 use crate::node::{Node, ZERO};
-use crate::root::{add_to_root, copy_root, plus_roots, same_roots, under_root};
+use crate::root::{
+    add_to_root, copy_root, list_root_rows, list_root_slots, plus_roots, same_roots, under_root,
+};
 use htl_event::{Count, NoMemory, Sign, Slot, Stack};
-use std::alloc::Allocator;
+use std::alloc::{Allocator, Global};
 use std::marker::Model;
 
 /// How often each slot came with each stack, under any allocator.
@@ -27,7 +29,7 @@ impl<A: Allocator> Model for StackTree<A> {
 
 impl<A: Allocator> StackTree<A> {
     ghost use Rattle.std.specs.Prelude.{◌≡◌, List, ◌+◌, ◌<◌, ◌^◌, [], ◌↔◌, IsTrue, IfOk, OnOk, OnErr};
-    ghost use Rattle.htl_tree.specs.Trees.{count_at, count_under, total_count, with_one, IsTree, IsSameTally, IsSumTally, HasTally};
+    ghost use Rattle.htl_tree.specs.Trees.{count_at, count_under, total_count, with_one, IsTree, IsSameTally, IsSumTally, HasTally, ListsRows, ListsSlots};
     ghost use Rattle.htl_event.specs.declared.event.Event.{Event};
     ghost use Rattle.htl_event.specs.Tallies.{under};
 
@@ -123,5 +125,19 @@ impl<A: Allocator> StackTree<A> {
         add_to_root(&mut self.root, &self.alloc, slot, sign, stack.frames())?;
         self.total += 1;
         Ok(())
+    }
+
+    /// The slot's counts that aren't zero, in stack order.
+    pub fn rows(&self, alloc: Global, slot: Slot) -> Result<Vec<(Stack, Count)>, NoMemory>
+        ensures { IfOk result (λ rows. ListsRows self.now slot rows.items) }
+    {
+        list_root_rows(&self.root, alloc, slot)
+    }
+
+    /// Each slot with a count that isn't zero, once, in slot order.
+    pub fn slots(&self, alloc: Global) -> Result<Vec<Slot>, NoMemory>
+        ensures { IfOk result (λ slots. ListsSlots self.now slots.items) }
+    {
+        list_root_slots(&self.root, alloc)
     }
 }

@@ -16,12 +16,13 @@ use Rattle.htl_event.specs.declared.slot.Count.{Count}
 use Rattle.htl_event.specs.Slots.{slot_of, same_slot, same_sign, is_slot, is_counted}
 use Rattle.htl_event.specs.Stacks.{outer}
 use Rattle.htl_event.specs.Tallies.{zero_count, plus_count, count_where, has_stack, tally, under, IsPositive}
-use Rattle.htl_event.proofs.Counts.{count_where-append}
+use Rattle.htl_event.proofs.Counts.{count_where-append, count_where-IsPermutation}
+use Rattle.std.specs.List.Sorted.{IsPermutation}
 use Rattle.htl_sorted.specs.Entries.{Each}
-use Rattle.htl_tree.specs.Trees.{Tree, place_cmp, bump, sum_where, count_at, count_under, IsTree, HasTally}
+use Rattle.htl_tree.specs.Trees.{Tree, place_cmp, bump, sum_where, with_one, count_at, count_under, IsTree, HasTally}
 use Rattle.htl_tree.proofs.NodeFacts.{bump_positive}
-use Rattle.htl_tree.proofs.TreeFacts.{place_total, place_same}
-use Rattle.htl_tree.proofs.SumFacts.{zero_left}
+use Rattle.htl_tree.proofs.TreeFacts.{place_total, place_same, count_with_one, count_with_one-other}
+use Rattle.htl_tree.proofs.SumFacts.{zero_left, zero_right}
 use Rattle.htl_tree.proofs.Weights.{sum_at, weigh, weigh_rows}
 use Rattle.htl_tree.proofs.Under.{same_slot_Decides}
 
@@ -180,3 +181,34 @@ module _ (passes : List ℕ → Bool) (slot : Slot) (sign : Sign) where
 -- the prefix tally of a tree is that of the events whose tally it is
 pub under_events : (t : Tree) → IsTree t → (events : List Event) → HasTally t events → (path : List ℕ) (slot : Slot) → count_under t path slot ≡ under events path slot
 under_events t h events tallied path slot = same_sides _ _ (λ sign. side_same (λ stack. starts_with nat_eq (outer stack) path) slot sign t h events tallied)
+
+-- ---- one event more
+
+bump_plus : (sign : Sign) (c : Count) → bump sign c ≡ plus_count c (bump sign zero_count)
+bump_plus Plus c = let m : c.minus ≡ c.minus + 0 = omega arith in λ i. record { plus = c.plus + 1; minus = m i }
+bump_plus Minus c = let p : c.plus ≡ c.plus + 0 = omega arith in λ i. record { plus = p i; minus = c.minus + 1 }
+
+tally_push : (events : List Event) (e : Event) (slot : Slot) (stack : List ℕ) → tally (events ++ e ∷ []) slot stack ≡ plus_count (tally events slot stack) (tally (e ∷ []) slot stack)
+tally_push events e slot stack = count_where-append (has_stack stack) events (e ∷ []) slot
+
+-- an event that is counted adds one
+pub tally_with_one : (t : Tree) (events : List Event) (e : Event) (slot : Slot) (sign : Sign) → HasTally t events → slot_of e ≡ Some (slot, sign) → HasTally (with_one t slot sign e.stack) (events ++ e ∷ [])
+tally_with_one t events e slot sign tallied is s k =
+    let whole = tally_push events e s k ∙ ap (plus_count (tally events s k)) (one_event (has_stack k) e s (slot, sign) is) in
+    (elim (same_slot s slot && pointwise nat_eq e.stack k) as (λ b. (same_slot s slot && pointwise nat_eq e.stack k) ≡ b → count_at (with_one t slot sign e.stack) s k ≡ plus_count (tally events s k) (cond b (bump sign zero_count) zero_count)) [
+      | true ↦ λ yes.
+          let here = (and_Decides _ _ _ _ (same_slot_Decides s slot) (pointwise_decides unsigned_Decides e.stack k)).0 yes in
+          ap (λ u. count_at (with_one t slot sign e.stack) u k) here.0 ∙ ap (λ l. count_at (with_one t slot sign e.stack) slot l) (sym here.1) ∙ count_with_one t slot sign e.stack
+          ∙ ap (λ l. bump sign (count_at t slot l)) here.1 ∙ ap (λ u. bump sign (count_at t u k)) (sym here.0) ∙ ap (bump sign) (tallied s k) ∙ bump_plus sign (tally events s k)
+      | false ↦ λ differs.
+          let other : k ≡ e.stack → s ≡ slot → ⊥ = λ same_stack same. let yes = (and_Decides _ _ _ _ (same_slot_Decides s slot) (pointwise_decides unsigned_Decides e.stack k)).1 (same, sym same_stack) in let never : false ≡ true = sym differs ∙ yes in cc in
+          count_with_one-other t slot sign e.stack s k other ∙ tallied s k ∙ zero_right (tally events s k)
+    ]) refl ∙ sym whole
+
+-- an event that is counted nowhere changes nothing
+pub tally_same : (t : Tree) (events : List Event) (e : Event) → HasTally t events → slot_of e ≡ None → HasTally t (events ++ e ∷ [])
+tally_same t events e tallied is s k = tallied s k ∙ zero_right (tally events s k) ∙ ap (plus_count (tally events s k)) (sym (no_event (has_stack k) e s is)) ∙ sym (tally_push events e s k)
+
+-- the tally doesn't turn on the order of the events
+pub tally_moved : (t : Tree) (xs ys : List Event) → IsPermutation xs ys → HasTally t ys → HasTally t xs
+tally_moved t xs ys moved tallied s k = tallied s k ∙ sym (count_where-IsPermutation (has_stack k) xs ys moved s)

@@ -10,6 +10,7 @@ mod node;
 mod order;
 mod prefix;
 mod root;
+mod sorting;
 mod sums;
 mod tree;
 

@@ -4,7 +4,8 @@ use crate::node::{Node, ZERO};
 use crate::root::{
     add_to_root, copy_root, list_root_rows, list_root_slots, plus_roots, same_roots, under_root,
 };
-use htl_event::{Count, NoMemory, Sign, Slot, Stack};
+use crate::sorting::by_place;
+use htl_event::{Count, Event, NoMemory, Sign, Slot, Stack};
 use std::alloc::{Allocator, Global};
 use std::marker::Model;
 
@@ -28,7 +29,7 @@ impl<A: Allocator> Model for StackTree<A> {
 }
 
 impl<A: Allocator> StackTree<A> {
-    ghost use Rattle.std.specs.Prelude.{◌≡◌, List, ◌+◌, ◌<◌, ◌^◌, [], ◌↔◌, IsTrue, IfOk, OnOk, OnErr};
+    ghost use Rattle.std.specs.Prelude.{◌≡◌, List, ◌+◌, ◌<◌, ◌≤◌, ◌^◌, [], ◌∷◌, ◌++◌, ◌↔◌, IsTrue, IfOk, OnOk, OnErr};
     ghost use Rattle.htl_tree.specs.Trees.{count_at, count_under, total_count, with_one, IsTree, IsSameTally, IsSumTally, HasTally, ListsRows, ListsSlots};
     ghost use Rattle.htl_event.specs.declared.event.Event.{Event};
     ghost use Rattle.htl_event.specs.Tallies.{under};
@@ -41,6 +42,20 @@ impl<A: Allocator> StackTree<A> {
             total: 0,
             root: None,
         }
+    }
+
+    /// The tally of the events, whatever their order.
+    pub fn of(alloc: A, events: &[Event]) -> Result<Self, NoMemory>
+    where
+        A: Clone,
+        ensures { IfOk result (λ tree. HasTally tree events.now) }
+    {
+        let places = by_place(alloc.clone()?, events)?;
+        let mut tree = StackTree::new(alloc);
+        for event in &places {
+            tree.add_event(event)?;
+        }
+        Ok(tree)
     }
 
     /// The sum of all counts.
@@ -139,5 +154,18 @@ impl<A: Allocator> StackTree<A> {
         ensures { IfOk result (λ slots. ListsSlots self.now slots.items) }
     {
         list_root_slots(&self.root, alloc)
+    }
+
+    fn add_event(&mut self, event: &Event) -> Result<(), NoMemory>
+    where
+        A: Clone,
+        requires { total_count self.old + 1 < 2 ^ 64 }
+        ensures tally { OnOk result ((events : List Event) → HasTally self.old events → HasTally self.new (events ++ event.now ∷ [])) }
+        ensures total { OnOk result (total_count self.new ≤ total_count self.old + 1) }
+    {
+        match event.slot() {
+            None => Ok(()),
+            Some((slot, sign)) => self.add(slot, sign, &event.stack),
+        }
     }
 }

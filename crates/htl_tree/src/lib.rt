@@ -12,6 +12,8 @@ mod prefix;
 mod root;
 mod sorting;
 mod sums;
+#[cfg(test)]
+mod tests;
 mod tree;
 
 pub use tree::StackTree;

@@ -4,10 +4,11 @@ pub mod Flat
 pub mod Canonical
 pub mod Equal
 pub mod Kids
+pub mod SumFacts
 pub mod TreeFacts
 pub mod Weights
-pub mod Roots
-pub mod SumFacts
 pub mod Under
 pub mod Events
 pub mod SlotRows
+pub mod Depth
+pub mod Roots

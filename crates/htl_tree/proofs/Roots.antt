@@ -17,6 +17,8 @@ use Rattle.htl_tree.proofs.Keys.{find-map_key, sorted-map_key, each-map_key}
 use Rattle.htl_tree.proofs.Flat.{path_cmp, tally_rows, rows_sorted, rows_positive}
 use Rattle.htl_tree.proofs.NodeFacts.{nonempty_from, bump_positive}
 use Rattle.htl_tree.proofs.Canonical.{inhabited}
+use Rattle.htl_tree.proofs.Depth.{low_node}
+use Rattle.htl_tree.proofs.SlotRows.{short_root}
 use Rattle.htl_tree.proofs.TreeFacts.{canonical_trees, is_with_one, with_one_is_tree, nothing_is_tree, count_le_total}
 use Rattle.htl_tree.proofs.SumFacts.{copied_nonempty, summed_nonempty, zero_left, zero_right}
 use Rattle.htl_tree.proofs.Weights.{sum_short}
@@ -41,9 +43,15 @@ sorted_tree n h = sorted-map_key outward place_cmp path_cmp outward_cmp (rows n)
 positive_tree : {A : Type 0} (n : Node A) → IsNormal n → Each IsPositive (tree_of (Some n))
 positive_tree n h = each-map_key outward place_cmp IsPositive (rows n) (rows_positive n h)
 
--- a node whose tree is one
+-- a root with short stacks
+pub root_from : {A : Type 0} (n : Node A) → IsNormal n → IsNonEmpty n → AllShort (rows n) → IsNormalTop n
+root_from n h some short =
+    let low = low_node n 0 h some (short_root (rows n) short) in
+    record { normal = h; nonempty = some; shallow = short; low = omega (arith, low) }
+
+-- a root whose tree is one
 pub top : {A : Type 0} {t : Tree} (n : Node A) → IsNormal n → IsNonEmpty n → IsTree t → tree_of (Some n) ≡ t → IsNormalTop n
-top {A} {t} n h some tree is = record { normal = h; nonempty = some; shallow = all_inward (rows n) (subst (λ u. AllShort u) (sym is) tree.shallow) }
+top {A} {t} n h some tree is = root_from n h some (all_inward (rows n) (subst (λ u. AllShort u) (sym is) tree.shallow))
 
 pub root_is_tree : {A : Type 0} (root : Option (Node A)) → IsNormalRoot root → IsTree (tree_of root)
 root_is_tree None h = nothing_is_tree
@@ -120,7 +128,7 @@ summed_tree a b c g h sum =
     let added : IsSumTally (tree_of (Some c)) (tree_of (Some a)) (tree_of (Some b)) = λ slot stack.
     count_tree c sum.normal slot stack ∙ sum.counts (reverse stack) slot ∙ sym (ap (λ d. plus_count d (count_at (tree_of (Some b)) slot stack)) (count_tree a g.normal slot stack) ∙ ap (λ d. plus_count (tally (reverse stack) slot a) d) (count_tree b h.normal slot stack)) in
     let short : AllShort (tree_of (Some c)) = sum_short (tree_of (Some c)) (tree_of (Some a)) (tree_of (Some b)) (sorted_tree c sum.normal) (positive_tree c sum.normal) (root_is_tree (Some a) g) (root_is_tree (Some b) h) added in
-    (record { normal = sum.normal; nonempty = summed_nonempty a b c g.normal sum g.nonempty; shallow = all_inward (rows c) short }, added)
+    (root_from c sum.normal (summed_nonempty a b c g.normal sum g.nonempty) (all_inward (rows c) short), added)
 
 pub fits_roots : {A : Type 0} (a b : Node A) → IsNormal a → IsNormal b → total_count (tree_of (Some a)) + total_count (tree_of (Some b)) < 2 ^ 64 → FitsSum a b
 fits_roots a b g h fits p s =

@@ -70,11 +70,11 @@ module _ (slot : Slot) where
 
 -- ---- no stack too long
 
-all_left : (P : Row → Type 0) (xs ys : List Row) → AllByRecursion P (xs ++ ys) → AllByRecursion P xs
+pub all_left : (P : Row → Type 0) (xs ys : List Row) → AllByRecursion P (xs ++ ys) → AllByRecursion P xs
 all_left P [] ys h = tt
 all_left P (x ∷ xs) ys h = (h.0, all_left P xs ys h.1)
 
-all_right : (P : Row → Type 0) (xs ys : List Row) → AllByRecursion P (xs ++ ys) → AllByRecursion P ys
+pub all_right : (P : Row → Type 0) (xs ys : List Row) → AllByRecursion P (xs ++ ys) → AllByRecursion P ys
 all_right P [] ys h = h
 all_right P (x ∷ xs) ys h = all_right P xs ys h.1
 
@@ -86,7 +86,7 @@ short_own depth (e ∷ es) i h lt = omega (arith, h.0)
 pub short_here : {A : Type 0} (n : Node A) (depth : ℕ) → IsShortFrom depth (rows n) → 0 < length (own n) → depth ≤ 64
 short_here n depth h lt = short_own depth (own n) 0 (all_left (λ (row : Row). depth + length row.0.0 ≤ 64) (own_rows (own n)) (kid_rows (kids n)) (subst (λ t. IsShortFrom depth t) (rows_is n) h)) lt
 
-short_below : (depth f : ℕ) (t : Tree) → IsShortFrom depth (map (λ row. below f row) t) → IsShortFrom (depth + 1) t
+pub short_below : (depth f : ℕ) (t : Tree) → IsShortFrom depth (map (λ row. below f row) t) → IsShortFrom (depth + 1) t
 short_below depth f [] h = tt
 short_below depth f (row ∷ t) h = (omega (arith, h.0), short_below depth f t h.1)
 

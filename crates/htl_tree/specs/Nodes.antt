@@ -106,24 +106,6 @@ abbrev pub tree_of : {A : Type 0} → Option (Node A) → Tree
 tree_of None = []
 tree_of (Some n) = map (λ row. ((reverse row.0.0, row.0.1), row.1)) (rows n)
 
--- no stack is longer than 64 frames, so no node is deeper
-abbrev pub IsShallow : {A : Type 0} → Node A → Type 0
-IsShallow n = AllShort (rows n)
-
-pub record IsNormalTop {A : Type 0} (n : Node A) : Type 0 where
-  pub normal : IsNormal n
-  pub nonempty : IsNonEmpty n
-  pub shallow : IsShallow n
-
-abbrev pub IsNormalRoot : {A : Type 0} → Option (Node A) → Type 0
-IsNormalRoot None = Unit {0}
-IsNormalRoot (Some n) = IsNormalTop n
-
-pub record IsRoot {A : Type 0} (root : Option (Node A)) (total : ℕ) : Type 0 where
-  pub normal : IsNormalRoot root
-  pub counted : total ≡ total_count (tree_of root)
-  pub fits : total < 2 ^ 64
-
 -- ---- how deep a node goes
 
 abbrev pub max_of : List (ℕ × ℕ) → ℕ
@@ -140,6 +122,27 @@ height {A} = fold-Node A ℕ height_step
 -- the height of the highest child
 abbrev pub heights : {A : Type 0} → List (ℕ × Node A) → ℕ
 heights ks = max_of (map (λ k. (k.0, height k.1)) ks)
+
+-- no stack is longer than 64 frames
+abbrev pub IsShallow : {A : Type 0} → Node A → Type 0
+IsShallow n = AllShort (rows n)
+
+-- What each root is. The recursions on nodes go down one node a call, so by `low` none is more than 64
+-- calls deep.
+pub record IsNormalTop {A : Type 0} (n : Node A) : Type 0 where
+  pub normal : IsNormal n
+  pub nonempty : IsNonEmpty n
+  pub shallow : IsShallow n
+  pub low : height n ≤ 64 + 1
+
+abbrev pub IsNormalRoot : {A : Type 0} → Option (Node A) → Type 0
+IsNormalRoot None = Unit {0}
+IsNormalRoot (Some n) = IsNormalTop n
+
+pub record IsRoot {A : Type 0} (root : Option (Node A)) (total : ℕ) : Type 0 where
+  pub normal : IsNormalRoot root
+  pub counted : total ≡ total_count (tree_of root)
+  pub fits : total < 2 ^ 64
 
 -- ---- nodes made of others
 

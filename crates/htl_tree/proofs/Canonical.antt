@@ -1,24 +1,24 @@
 -- Equal tallies have one tree.
-use Rattle.std.proofs.Common.{◌≡◌, ℕ, zero, suc, ◌+◌, ◌<◌, ◌≤◌, ◌≢◌, List, [], ◌∷◌, length, map, get_or, Option, Some, None, T, cond, true, false, unwrap_or, refl, inl, inr, sym, ◌∙◌, ap, subst, arith, rules}
+use Rattle.std.proofs.Common.{◌≡◌, ℕ, zero, suc, ◌<◌, List, [], ◌∷◌, length, map, get_or, Option, Some, None, cond, true, false, unwrap_or, refl, inl, inr, sym, ◌∙◌, ap, subst, arith}
 use Rattle.std.proofs.lemmas.Bool.{cases_eq}
-use Rattle.std.specs.Cmp.{nat_cmp_total, tied_itself}
-use Rattle.std.specs.Ordering.{nat_cmp, is_eq, eq_by_cmp, ordering_reverse}
+use Rattle.std.specs.Cmp.{nat_cmp_total}
+use Rattle.std.specs.Ordering.{nat_cmp, eq_by_cmp, ordering_reverse}
 use Rattle.std.specs.declared.cmp.Ordering.{Ordering}
 use Rattle.std.specs.declared.cmp.Ordering.TheVariants.{Less, Equal, Greater}
 use Rattle.std.specs.FinMap.{nat_cmp-IsAntisymmetric}
-use Rattle.std.specs.FinMap.Entries.{find, put, same_entries, below_all}
+use Rattle.std.specs.FinMap.Entries.{find, same_entries}
 use Rattle.htl_event.specs.declared.slot.Slot.{Slot}
 use Rattle.htl_event.specs.declared.slot.Count.{Count}
-use Rattle.htl_event.specs.Tallies.{zero_count, total_of, IsPositive}
+use Rattle.htl_event.specs.Tallies.{zero_count, IsPositive}
 use Rattle.htl_sorted.specs.Entries.{IsSorted, Each}
 use Rattle.htl_sorted.proofs.Bools.{both_left, both_right}
-use Rattle.htl_sorted.proofs.Finds.{find_below, find_below_all, find_first, find_skip, each_found}
+use Rattle.htl_sorted.proofs.Finds.{find_below, find_below_all, find_first, find_skip}
 use Rattle.htl_tree.specs.declared.node.Node.{Node}
 use Rattle.htl_tree.specs.declared.node.Node.TheOpen.{Node-F}
-use Rattle.htl_tree.specs.declared.node.Node.TheViews.{roll-Node, out-roll-Node}
+use Rattle.htl_tree.specs.declared.node.Node.TheViews.{roll-Node}
 use Rattle.htl_tree.specs.declared.node.Node.TheFolds.{ind-Node}
 use Rattle.htl_tree.specs.Slots.{slot_cmp, slot_total, slot_same}
-use Rattle.htl_tree.specs.Nodes.{tally, tally_of, own, kids, at_child, IsNonEmpty, IsNormal, IsNormalNode, IsSameTally}
+use Rattle.htl_tree.specs.Nodes.{tally, tally_of, own, kids, at_child, IsNonEmpty, IsNormal, IsSameTally}
 use Rattle.htl_tree.proofs.NodeFacts.{normal_here, normal_child, own_of, kids_of}
 
 abbrev or_zero : Option Count → Count

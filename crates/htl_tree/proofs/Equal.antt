@@ -1,5 +1,5 @@
 -- What `==` says of slots and counts.
-use Rattle.std.proofs.Common.{◌≡◌, ℕ, arith, ◌&&◌, List, rules}
+use Rattle.std.proofs.Common.{◌≡◌, arith, ◌&&◌, rules}
 use Rattle.std.specs.Bool.{Decides}
 use Rattle.std.proofs.lemmas.Bool.Decides.{nat_tests}
 use Rattle.std.specs.Cmp.{unsigned_Decides}

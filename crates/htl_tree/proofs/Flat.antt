@@ -1,8 +1,8 @@
 -- The rows of a node: what is found in them, and their order.
-use Rattle.std.proofs.Common.{◌≡◌, ℕ, ◌+◌, List, [], ◌∷◌, ◌++◌, map, reverse, Option, Some, None, T, true, false, cond, unwrap_or, refl, sym, ◌∙◌, ap, subst, arith}
+use Rattle.std.proofs.Common.{◌≡◌, ℕ, List, [], ◌∷◌, ◌++◌, map, Option, Some, None, T, true, false, cond, unwrap_or, refl, sym, ◌∙◌, ap}
 use Rattle.std.specs.Prelude.{option_and_then}
 use Rattle.std.specs.List.{flat_map}
-use Rattle.std.specs.Ordering.{nat_cmp, is_lt, is_eq, ordering_then, on, then_cmp, eq_by_cmp, ordering_reverse}
+use Rattle.std.specs.Ordering.{nat_cmp, is_eq, on, then_cmp, eq_by_cmp}
 use Rattle.std.specs.Cmp.{IsTotalOrder, nat_cmp_total, tied_itself, on_total, then_total}
 use Rattle.std.specs.Cmp.Lexicographic.{slice_cmp, nat_list_cmp_total}
 use Rattle.std.specs.FinMap.{nat_cmp-IsAntisymmetric}
@@ -13,17 +13,17 @@ use Rattle.htl_event.specs.declared.slot.Slot.{Slot}
 use Rattle.htl_event.specs.declared.slot.Count.{Count}
 use Rattle.htl_event.specs.Tallies.{zero_count, IsPositive}
 use Rattle.htl_sorted.specs.Entries.{IsSorted, Each}
-use Rattle.htl_sorted.proofs.Bools.{both, both_left, both_right, less}
+use Rattle.htl_sorted.proofs.Bools.{both_left, both_right, less}
 use Rattle.htl_sorted.proofs.Finds.{find_below, below_tied, each_found}
 use Rattle.htl_tree.specs.declared.node.Node.{Node}
 use Rattle.htl_tree.specs.declared.node.Node.TheOpen.{Node-F}
-use Rattle.htl_tree.specs.declared.node.Node.TheViews.{roll-Node, out-roll-Node}
+use Rattle.htl_tree.specs.declared.node.Node.TheViews.{roll-Node}
 use Rattle.htl_tree.specs.declared.node.Node.TheFolds.{fold_out-Node, ind-Node}
-use Rattle.htl_tree.specs.Slots.{slot_cmp, slot_total, slot_same}
+use Rattle.htl_tree.specs.Slots.{slot_cmp, slot_total}
 use Rattle.htl_tree.specs.Trees.{Tree}
-use Rattle.htl_tree.specs.Nodes.{tally, own, kids, at_child, below, rows, rows_step, IsNormal, IsNonEmpty}
+use Rattle.htl_tree.specs.Nodes.{tally, own, kids, at_child, below, rows, rows_step, IsNormal}
 use Rattle.htl_tree.proofs.Keys.{find-append_left, find-append_right, below_append, AllBelow, sorted_append, each_from_found, find-map_other, find-map_key, below-map, sorted-map_key}
-use Rattle.htl_tree.proofs.NodeFacts.{normal_here, normal_child, own_of, kids_of}
+use Rattle.htl_tree.proofs.NodeFacts.{normal_here, normal_child, kids_of}
 
 -- by path, and then by slot
 abbrev pub path_cmp : List ℕ × Slot → List ℕ × Slot → Ordering

@@ -1,17 +1,17 @@
 -- Nodes before and after a count was added.
-use Rattle.std.proofs.Common.{◌≡◌, ℕ, zero, suc, ◌+◌, ◌<◌, ◌≤◌, ◌≢◌, ◌++◌, List, [], ◌∷◌, length, get_or, set, reverse, Option, Some, None, Result, Ok, Err, MatchResult, OnOk, OnErr, IsErr, unwrap_or, refl, sym, inl, inr, ◌∙◌, ap, subst, arith, rules}
+use Rattle.std.proofs.Common.{◌≡◌, ℕ, ◌≢◌, ◌++◌, List, [], ◌∷◌, get_or, set, reverse, Option, Some, None, Result, Ok, Err, MatchResult, OnOk, OnErr, IsErr, unwrap_or, refl, sym, inl, inr, ◌∙◌, ap, subst, arith}
 use Rattle.std.specs.Cmp.{tied_itself, nat_cmp_total}
 use Rattle.std.specs.Ordering.{nat_cmp}
 use Rattle.std.specs.List.{insert}
 use Rattle.std.specs.FinMap.{nat_cmp-IsAntisymmetric}
 use Rattle.std.specs.FinMap.Entries.{find, put, is_sorted-put}
 use Rattle.std.proofs.lemmas.Bool.{cases_eq}
-use Rattle.std.proofs.lemmas.List.{reverse-append, get_or_default}
+use Rattle.std.proofs.lemmas.List.{reverse-append}
 use Rattle.htl_event.specs.declared.slot.Slot.{Slot}
 use Rattle.htl_event.specs.declared.slot.Sign.{Sign}
 use Rattle.htl_event.specs.declared.slot.Sign.TheVariants.{Plus, Minus}
 use Rattle.htl_event.specs.declared.slot.Count.{Count}
-use Rattle.htl_event.specs.Tallies.{zero_count, total_of, IsPositive}
+use Rattle.htl_event.specs.Tallies.{zero_count, IsPositive}
 use Rattle.htl_sorted.specs.Entries.{IsSorted, IsPlace, IsGap, Each}
 use Rattle.htl_sorted.proofs.Finds.{find_put_same, find_put_other, each_put, put_some, each_found}
 use Rattle.htl_tree.specs.declared.node.Node.{Node}

@@ -1,8 +1,7 @@
 -- The root of a tree, and the tree that it is seen as.
-use Rattle.std.proofs.Common.{◌≡◌, ℕ, ◌+◌, ◌<◌, ◌≤◌, ◌^◌, ◌≢◌, List, [], ◌∷◌, map, reverse, length, Option, Some, None, Result, Ok, Err, MatchResult, OnOk, OnErr, unwrap_or, refl, sym, ◌∙◌, ap, subst, arith}
+use Rattle.std.proofs.Common.{◌≡◌, ℕ, ◌+◌, ◌<◌, ◌≤◌, ◌^◌, ◌≢◌, List, [], ◌∷◌, map, reverse, length, Option, Some, None, unwrap_or, sym, ◌∙◌, ap, subst, arith}
 use Rattle.std.specs.Ordering.{nat_cmp, ordering_then}
 use Rattle.std.specs.Cmp.Lexicographic.{slice_cmp}
-use Rattle.std.specs.FinMap.Entries.{find}
 use Rattle.std.proofs.lemmas.List.{reverse-reverse, length-reverse}
 use Rattle.htl_sorted.specs.Entries.{IsSorted, Each}
 use Rattle.htl_event.specs.declared.slot.Slot.{Slot}
@@ -12,7 +11,7 @@ use Rattle.htl_event.specs.Tallies.{zero_count, plus_count, total_of, IsPositive
 use Rattle.htl_tree.specs.declared.node.Node.{Node}
 use Rattle.htl_tree.specs.Slots.{slot_cmp}
 use Rattle.htl_tree.specs.Trees.{Tree, place_cmp, count_at, bump, with_one, total_count, IsTree, AllShort, IsSumTally, IsSameTally as IsSameTree}
-use Rattle.htl_tree.specs.Nodes.{tally, tally_of, no_tally, rows, tree_of, IsNormal, IsNonEmpty, IsNormalTop, IsNormalRoot, AddsOne, IsAdded, IsKept, IsBranch, IsSameTally, IsCopy, IsSum, FitsSum}
+use Rattle.htl_tree.specs.Nodes.{tally, tally_of, rows, tree_of, IsNormal, IsNonEmpty, IsNormalTop, IsNormalRoot, IsAdded, IsKept, IsBranch, IsSameTally, IsCopy, IsSum, FitsSum}
 use Rattle.htl_tree.proofs.Keys.{find-map_key, sorted-map_key, each-map_key}
 use Rattle.htl_tree.proofs.Flat.{path_cmp, tally_rows, rows_sorted, rows_positive}
 use Rattle.htl_tree.proofs.NodeFacts.{nonempty_from, bump_positive}

@@ -1,26 +1,25 @@
 -- The rows of one slot.
-use Rattle.std.proofs.Common.{◌≡◌, ℕ, zero, suc, ◌+◌, ◌<◌, ◌≤◌, List, [], ◌∷◌, ◌++◌, length, map, reverse, drop, get_or, Option, Some, None, T, Bool, true, false, cond, unwrap_or, append_assoc, append-nil, refl, sym, ◌∙◌, ap, subst, arith, inl, inr, ◌⊎◌}
+use Rattle.std.proofs.Common.{◌≡◌, ℕ, zero, suc, ◌+◌, ◌<◌, ◌≤◌, List, [], ◌∷◌, ◌++◌, length, map, reverse, drop, get_or, Option, Some, None, T, true, false, cond, unwrap_or, append_assoc, append-nil, refl, sym, ◌∙◌, ap, subst, arith, inl, inr}
 use Rattle.std.specs.Prelude.{Contains, ◌↔◌}
 use Rattle.std.specs.List.{AllByRecursion}
 use Rattle.std.specs.List.Sorted.{IsStrictlySortedBy}
-use Rattle.std.specs.Ordering.{is_eq, is_lt, ordering_then}
+use Rattle.std.specs.Ordering.{is_eq, ordering_then}
 use Rattle.std.specs.Cmp.{tied_itself}
 use Rattle.std.specs.FinMap.Entries.{find, below_all}
-use Rattle.std.specs.declared.cmp.Ordering.{Ordering}
 use Rattle.std.specs.declared.cmp.Ordering.TheVariants.{Less, Equal, Greater}
 use Rattle.std.proofs.lemmas.List.{drop_more, drop_all, map-append}
 use Rattle.htl_event.specs.declared.slot.Slot.{Slot}
 use Rattle.htl_event.specs.declared.slot.Count.{Count}
 use Rattle.htl_event.specs.Slots.{same_slot}
 use Rattle.htl_event.specs.Stacks.{stack_cmp}
-use Rattle.htl_event.specs.Members.{IsRising, Lists}
+use Rattle.htl_event.specs.Members.{IsRising}
 use Rattle.htl_event.specs.Tallies.{zero_count, IsPositive, ByStack}
 use Rattle.htl_event.proofs.Members.{Contains-here, Contains-there, Contains-cases, Contains-nil}
-use Rattle.htl_sorted.specs.Entries.{IsSorted, Each}
+use Rattle.htl_sorted.specs.Entries.{IsSorted}
 use Rattle.htl_sorted.proofs.Bools.{both_left, both_right, less}
-use Rattle.htl_sorted.proofs.Finds.{find_below, below_tied, find_first, find_skip, each_found}
+use Rattle.htl_sorted.proofs.Finds.{find_below, below_tied, find_first, each_found}
 use Rattle.htl_tree.specs.declared.node.Node.{Node}
-use Rattle.htl_tree.specs.Slots.{slot_cmp, slot_total, slot_same}
+use Rattle.htl_tree.specs.Slots.{slot_cmp, slot_total}
 use Rattle.htl_tree.specs.Trees.{Tree, AllShort, place_cmp, count_at, IsTree, ListsRows, ListsSlots, BySlot}
 use Rattle.htl_tree.specs.Nodes.{own, kids, below, rows, tree_of, slot_rows, one_row, IsShortFrom, slots_of}
 use Rattle.htl_tree.proofs.Flat.{own_rows, kid_rows, rows_is}

@@ -1,5 +1,5 @@
 -- Nodes made of others: copies and sums.
-use Rattle.std.proofs.Common.{◌≡◌, ℕ, ◌+◌, ◌<◌, ◌≤◌, ◌^◌, List, [], ◌∷◌, ◌++◌, length, map, drop, get_or, max, Option, Some, None, unwrap_or, refl, sym, ◌∙◌, ap, subst, arith}
+use Rattle.std.proofs.Common.{◌≡◌, ℕ, ◌+◌, ◌<◌, ◌≤◌, ◌^◌, List, [], ◌∷◌, ◌++◌, length, map, drop, get_or, Option, Some, None, unwrap_or, refl, sym, ◌∙◌, ap, subst, arith}
 use Rattle.std.specs.Cmp.{nat_cmp_total}
 use Rattle.std.specs.Ordering.{nat_cmp}
 use Rattle.std.specs.declared.cmp.Ordering.{Ordering}
@@ -8,14 +8,14 @@ use Rattle.std.specs.FinMap.Entries.{find}
 use Rattle.htl_event.specs.declared.slot.Slot.{Slot}
 use Rattle.htl_event.specs.declared.slot.Count.{Count}
 use Rattle.htl_event.specs.Tallies.{zero_count, plus_count, total_of, IsPositive}
-use Rattle.htl_sorted.specs.Entries.{IsSorted, Each, joined_at}
+use Rattle.htl_sorted.specs.Entries.{IsSorted, joined_at}
 use Rattle.htl_sorted.specs.Made.{Made}
 use Rattle.htl_sorted.proofs.Finds.{each_found}
 use Rattle.htl_sorted.proofs.SideBySide.{join, pair, MadeAt, find_made, sorted_made, sorted_join, find_join, Carries, carry_less, carry_greater, carry_equal, carries_end}
 use Rattle.htl_tree.specs.declared.node.Node.{Node}
 use Rattle.htl_tree.specs.Slots.{slot_cmp, slot_total}
 use Rattle.htl_tree.specs.Nodes.{tally, own, kids, at_child, AtChild, NormalAt, IsNormal, IsNonEmpty, IsCopy, IsSum, AppendsCopies, FitsSum}
-use Rattle.htl_tree.proofs.Canonical.{Witness, inhabited}
+use Rattle.htl_tree.proofs.Canonical.{inhabited}
 use Rattle.htl_tree.proofs.Keys.{each_from_found}
 use Rattle.htl_tree.proofs.NodeFacts.{normal_here, normal_child, nonempty_from}
 

@@ -1,5 +1,5 @@
 -- The order of slots: that of the variants, and then of their fields.
-use Rattle.std.specs.Prelude.{◌≡◌, ℕ, List, refl, nat_eq}
+use Rattle.std.specs.Prelude.{◌≡◌, ℕ, List, refl}
 use Rattle.std.proofs.Common.{arith, ap, ◌∙◌}
 use Rattle.std.proofs.lemmas.Bool.Decides.{nat_tests}
 use Rattle.std.specs.Ordering.{nat_cmp, is_eq, ordering_then}

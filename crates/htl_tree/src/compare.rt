@@ -19,7 +19,8 @@ impl<A: Allocator> Node<A> {
         requires right { IsNormal other.now }
         ensures { IsTrue result ↔ IsSameTally (tally_of self.now) (tally_of other.now) }
     {
-        if !same_counts(&self.counts, &other.counts) || self.children.len() != other.children.len()
+        if !same_counts(&self.counts, &other.counts)
+            || self.children.len() != other.children.len()
         {
             return false;
         }

@@ -13,11 +13,15 @@ impl Keyed for BySlot {
     ghost use Rattle.htl_tree.specs.Slots.{slot_same};
 
     type Row = (Slot, Count);
+
     type Key = Slot;
+
     type Value = Count;
 
     ghost key_of = { λ row. row.0 };
+
     ghost value_of = { λ row. row.1 };
+
     ghost proper = { slot_same };
 
     fn key(row: &(Slot, Count)) -> Slot {
@@ -31,6 +35,7 @@ impl Joined for BySlot {
     ghost use Rattle.htl_event.specs.Tallies.{plus_count, total_of};
 
     ghost can_join = { λ x y. total_of x + total_of y < 2 ^ 64 };
+
     ghost joined = { plus_count };
 
     fn copy(row: &(Slot, Count)) -> (Slot, Count) {
@@ -49,11 +54,15 @@ impl<A: Allocator> Keyed for ByFrame<A> {
     ghost use Rattle.std.specs.FinMap.{nat_cmp-IsAntisymmetric};
 
     type Row = (u64, Node<A>);
+
     type Key = u64;
+
     type Value = Node<A>;
 
     ghost key_of = { λ row. row.0 };
+
     ghost value_of = { λ row. row.1 };
+
     ghost proper = { nat_cmp-IsAntisymmetric };
 
     fn key(row: &(u64, Node<A>)) -> u64 {

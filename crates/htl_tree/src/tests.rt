@@ -11,6 +11,7 @@ const SLOT: Slot = Slot::Tagged {
 };
 
 const X: [u64; 3] = [0x30, 0x20, 0x10];
+
 const Y: [u64; 3] = [0x40, 0x20, 0x10];
 
 fn stack(frames: &[u64]) -> Stack {
@@ -43,10 +44,7 @@ fn shared<A: Allocator + Clone>(
     Ok(tree)
 }
 
-fn shared_outer_frames<A: Allocator + Clone>(
-    rt: &impl Abort,
-    alloc: A,
-) -> Result<(), NoMemory> {
+fn shared_outer_frames<A: Allocator + Clone>(rt: &impl Abort, alloc: A) -> Result<(), NoMemory> {
     let tree = shared(rt, alloc.clone()?, &[0, 1, 2])?;
     assert_eq!(rt; tree.under(&[], SLOT), count(2, 1));
     assert_eq!(rt; tree.under(&[0x10, 0x20], SLOT), count(2, 0));

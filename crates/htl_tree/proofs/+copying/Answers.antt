@@ -1,9 +1,7 @@
-use Rattle.std.proofs.Common.{rules, ◌≡◌, ℕ, ◌+◌, ◌<◌, ◌≤◌, List, [], ◌∷◌, ◌++◌, length, take, get_or, sym, ap, ◌∙◌, subst, arith}
-use Rattle.std.proofs.lemmas.List.{take_all}
+use Rattle.std.proofs.Common.{rules, ◌≡◌, ◌+◌, ◌≤◌, ◌++◌, sym, ap, ◌∙◌, subst}
 use Rattle.htl_sorted.specs.Made.{Made}
-use Rattle.htl_tree.specs.declared.node.Node.{Node}
-use Rattle.htl_tree.specs.declared.node.Node.TheViews.{out-Node, roll-Node}
-use Rattle.htl_tree.specs.Nodes.{kids, height, heights, IsNormal, IsCopy, EachNormal, AppendsCopies}
+use Rattle.htl_tree.specs.declared.node.Node.TheViews.{roll-Node}
+use Rattle.htl_tree.specs.Nodes.{kids, height, heights, IsNormal, IsCopy, EachNormal}
 use Rattle.htl_tree.proofs.NodeFacts.{own_of, kids_of}
 use Rattle.htl_tree.proofs.Flat.{kids_normal}
 use Rattle.htl_tree.proofs.Kids.{height_at, height_is, each_at, appends_more}

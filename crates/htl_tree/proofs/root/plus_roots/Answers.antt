@@ -1,6 +1,5 @@
-use Rattle.std.proofs.Common.{◌≡◌, ◌+◌, ◌<◌, ◌^◌, Option, Some, sym, ap, ◌∙◌, subst}
-use Rattle.htl_tree.specs.declared.node.Node.{Node}
-use Rattle.htl_tree.specs.Trees.{total_count, IsSumTally}
+use Rattle.std.proofs.Common.{◌+◌, ◌<◌, ◌^◌, Some, subst}
+use Rattle.htl_tree.specs.Trees.{total_count}
 use Rattle.htl_tree.specs.Nodes.{tree_of, IsNormalRoot}
 use Rattle.htl_tree.proofs.Roots.{fits_roots, summed_tree}
 use Rattle.htl_tree.proofs.root.plus_roots.Goals as goal

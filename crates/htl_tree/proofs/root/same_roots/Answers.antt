@@ -1,6 +1,5 @@
-use Rattle.std.proofs.Common.{◌≡◌, None, Some, sym, subst}
-use Rattle.htl_tree.specs.Trees.{IsSameTally}
-use Rattle.htl_tree.specs.Nodes.{tree_of, IsNormalRoot}
+use Rattle.std.proofs.Common.{Some, sym, subst}
+use Rattle.htl_tree.specs.Nodes.{IsNormalRoot}
 use Rattle.htl_tree.proofs.Roots.{same_trees, same_nodes, counts_something}
 use Rattle.htl_tree.proofs.root.same_roots.Goals as goal
 

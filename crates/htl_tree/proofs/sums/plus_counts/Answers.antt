@@ -1,8 +1,6 @@
-use Rattle.std.proofs.Common.{◌≡◌, ◌+◌, ◌<◌, ◌^◌, List, map, Some, unwrap_or, sym, ap, ◌∙◌, subst, refl}
+use Rattle.std.proofs.Common.{◌≡◌, ◌+◌, ◌<◌, ◌^◌, map, unwrap_or, sym, ap, ◌∙◌, subst}
 use Rattle.std.specs.FinMap.Entries.{find}
 use Rattle.std.proofs.lemmas.List.{map-id}
-use Rattle.htl_event.specs.declared.slot.Slot.{Slot}
-use Rattle.htl_event.specs.declared.slot.Count.{Count}
 use Rattle.htl_event.specs.Tallies.{zero_count, plus_count, total_of}
 use Rattle.htl_sorted.specs.Entries.{IsSorted, joined_at}
 use Rattle.htl_tree.specs.Slots.{slot_cmp}

@@ -1,9 +1,9 @@
-use Rattle.std.proofs.Common.{rules, arith, sym, ◌+◌, ◌<◌, ◌^◌, length, get_or, ◌≡◌, ◌≤◌, ap, ◌∙◌, refl, reverse, ◌∷◌}
+use Rattle.std.proofs.Common.{rules, sym, ◌+◌, ◌<◌, ◌^◌, ◌≡◌, ap, ◌∙◌, refl, reverse}
 use Rattle.std.specs.Vec.{with_item}
 use Rattle.htl_tree.specs.declared.node.Node.TheViews.{out-Node, roll-Node}
 use Rattle.htl_event.specs.Tallies.{total_of}
-use Rattle.htl_tree.specs.Nodes.{IsNormal, kids, tally}
-use Rattle.htl_tree.proofs.NodeFacts.{normal_here, kept_own, added_own, match_result, path_is, child_normal, child_tally, stepped, grafted, own_of, kids_of, ended, refused}
+use Rattle.htl_tree.specs.Nodes.{IsNormal, tally}
+use Rattle.htl_tree.proofs.NodeFacts.{normal_here, kept_own, path_is, child_normal, child_tally, stepped, grafted, own_of, kids_of, ended, refused}
 use Rattle.std.proofs.lemmas.List.{nil_from_length}
 use Rattle.htl_tree.proofs.node.Node.+add.Goals as goal
 

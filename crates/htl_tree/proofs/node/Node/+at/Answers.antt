@@ -1,4 +1,4 @@
-use Rattle.std.proofs.Common.{rules, arith, sym, length, get_or, ◌≡◌, ap, ◌∙◌}
+use Rattle.std.proofs.Common.{rules, sym, get_or, ◌≡◌, ap, ◌∙◌}
 use Rattle.htl_tree.proofs.NodeFacts.{normal_here, normal_child, child_there}
 use Rattle.htl_tree.specs.Nodes.{IsNormal}
 use Rattle.htl_tree.proofs.node.Node.+at.Goals as goal

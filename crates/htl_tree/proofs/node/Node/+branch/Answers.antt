@@ -1,4 +1,4 @@
-use Rattle.std.proofs.Common.{rules, arith, sym, length, get_or, ◌≡◌, ◌≤◌, ap, ◌∙◌, refl, reverse, ◌∷◌, ◌++◌, []}
+use Rattle.std.proofs.Common.{ap, ◌∙◌, reverse, ◌∷◌, ◌++◌, []}
 use Rattle.htl_tree.specs.declared.node.Node.TheViews.{roll-Node}
 use Rattle.std.proofs.lemmas.List.{nil_from_length}
 use Rattle.htl_tree.proofs.NodeFacts.{own_of, kids_of, path_is, branch_end, branch_on}

@@ -1,10 +1,8 @@
-use Rattle.std.proofs.Common.{rules, ◌≡◌, ℕ, ◌+◌, ◌<◌, ◌≤◌, ◌^◌, List, ◌∷◌, ◌++◌, length, drop, get_or, Some, [], sym, ap, ◌∙◌, subst, arith}
+use Rattle.std.proofs.Common.{rules, ◌≡◌, ℕ, ◌+◌, ◌<◌, ◌≤◌, ◌^◌, List, length, drop, get_or, Some, [], sym, ap, ◌∙◌, subst, arith}
 use Rattle.std.specs.Ordering.{nat_cmp}
 use Rattle.std.specs.FinMap.{nat_cmp-IsAntisymmetric}
 use Rattle.std.specs.FinMap.Entries.{find}
 use Rattle.std.specs.declared.cmp.Ordering.TheVariants.{Less, Equal, Greater}
-use Rattle.htl_event.specs.declared.slot.Slot.{Slot}
-use Rattle.htl_event.specs.declared.slot.Count.{Count}
 use Rattle.htl_event.specs.Tallies.{plus_count, total_of}
 use Rattle.htl_sorted.specs.Entries.{IsSorted, joined_at}
 use Rattle.htl_sorted.specs.Made.{Made}

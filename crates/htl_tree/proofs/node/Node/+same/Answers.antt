@@ -1,8 +1,8 @@
-use Rattle.std.proofs.Common.{rules, ◌≡◌, ℕ, ◌+◌, ◌<◌, ap, sym, ◌∙◌, subst, arith, get_or, length, cond, true, false}
+use Rattle.std.proofs.Common.{rules, ◌≡◌, ℕ, ◌<◌, ap, sym, ◌∙◌, get_or, length}
 use Rattle.htl_tree.specs.Nodes.{tally_of, IsSameTally, IsNormal, own, kids, height}
 use Rattle.htl_tree.specs.declared.node.Node.{Node}
 use Rattle.htl_tree.proofs.Kids.{kid_normal, kid_height}
-use Rattle.htl_tree.proofs.Canonical.{SamePlace, SameKids, canonical_own, canonical_kids, same_from, same_length, same_place, same_places}
+use Rattle.htl_tree.proofs.Canonical.{SamePlace, canonical_own, canonical_kids, same_from, same_length, same_place, same_places}
 use Rattle.htl_tree.proofs.node.Node.+same.Goals as goal
 use Rattle.htl_tree.proofs.node.Node.+same.Goals.{then-x-y-via-then-x-y, then-x-y-via-else-x-y+then-not-same, then-not-same_counts-via-then-not-same_counts, then-not-same_counts-via-else-not-same_counts+then-len}
 

@@ -1,7 +1,7 @@
-use Rattle.std.proofs.Common.{◌≡◌, ◌+◌, ◌<◌, ◌≤◌, ◌^◌, sym, ap, ◌∙◌, arith}
+use Rattle.std.proofs.Common.{◌≡◌, ◌+◌, ◌≤◌, ap, ◌∙◌, arith}
 use Rattle.htl_event.specs.Tallies.{total_of}
-use Rattle.htl_tree.specs.Trees.{count_at, with_one, total_count}
-use Rattle.htl_tree.specs.Nodes.{tree_of, IsRoot}
+use Rattle.htl_tree.specs.Trees.{count_at, total_count}
+use Rattle.htl_tree.specs.Nodes.{tree_of}
 use Rattle.htl_tree.proofs.Roots.{root_is_tree}
 use Rattle.htl_tree.proofs.TreeFacts.{count_le_total, total-with_one}
 use Rattle.htl_tree.proofs.tree.StackTree.add.Goals as goal

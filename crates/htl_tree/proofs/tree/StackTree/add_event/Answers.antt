@@ -1,7 +1,7 @@
-use Rattle.std.proofs.Common.{◌≡◌, List, [], ◌∷◌, ◌++◌, Some, Result, Ok, Err, OnOk, sym, ap, ◌∙◌, subst}
+use Rattle.std.proofs.Common.{◌≡◌, List, [], ◌∷◌, ◌++◌, Some, Result, Ok, Err, OnOk, sym, ◌∙◌, subst}
 use Rattle.htl_event.specs.declared.event.Event.{Event}
 use Rattle.htl_event.specs.Slots.{slot_of}
-use Rattle.htl_tree.specs.Trees.{HasTally, with_one}
+use Rattle.htl_tree.specs.Trees.{HasTally}
 use Rattle.htl_tree.proofs.Events.{tally_with_one, tally_same}
 use Rattle.htl_tree.proofs.tree.StackTree.add_event.Goals as goal
 

@@ -1,9 +1,8 @@
-use Rattle.std.proofs.Common.{rules, ◌≡◌, ℕ, ◌+◌, ◌<◌, ◌≤◌, ◌^◌, List, [], ◌∷◌, ◌++◌, length, map, take, get_or, refl, sym, ap, ◌∙◌, subst, arith}
+use Rattle.std.proofs.Common.{◌≡◌, ◌+◌, List, [], ◌∷◌, ◌++◌, map, take, sym, ap, ◌∙◌, subst, arith}
 use Rattle.std.specs.Borrow.{Bor}
-use Rattle.std.specs.List.Sorted.{IsPermutation}
 use Rattle.std.proofs.lemmas.List.{take_all, map_more}
 use Rattle.htl_event.specs.declared.event.Event.{Event}
-use Rattle.htl_tree.specs.Trees.{HasTally, total_count}
+use Rattle.htl_tree.specs.Trees.{HasTally}
 use Rattle.htl_tree.proofs.Events.{tally_moved}
 use Rattle.htl_tree.proofs.tree.StackTree.of.Goals as goal
 

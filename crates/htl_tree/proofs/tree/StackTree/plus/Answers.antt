@@ -1,4 +1,4 @@
-use Rattle.std.proofs.Common.{◌≡◌, ◌+◌, sym, ap, ◌∙◌, arith}
+use Rattle.std.proofs.Common.{◌≡◌, ap, arith}
 use Rattle.htl_tree.specs.Trees.{total_count}
 use Rattle.htl_tree.specs.Nodes.{tree_of}
 use Rattle.htl_tree.proofs.Roots.{root_is_tree}

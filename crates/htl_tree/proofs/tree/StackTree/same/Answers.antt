@@ -1,4 +1,4 @@
-use Rattle.std.proofs.Common.{◌≡◌, refl, sym, ap, ◌∙◌, subst}
+use Rattle.std.proofs.Common.{refl, sym, ◌∙◌, subst}
 use Rattle.htl_tree.specs.Trees.{Tree, IsSameTally}
 use Rattle.htl_tree.specs.Nodes.{tree_of}
 use Rattle.htl_tree.proofs.Roots.{equal_trees}

@@ -1,4 +1,4 @@
-use Rattle.std.proofs.Common.{◌≡◌, sym, ap, ◌∙◌, subst}
+use Rattle.std.proofs.Common.{ap, ◌∙◌, subst}
 use Rattle.htl_tree.specs.Trees.{count_under, IsTree}
 use Rattle.htl_tree.proofs.Roots.{root_is_tree}
 use Rattle.htl_tree.proofs.Events.{under_events}

@@ -1,0 +1,5 @@
+pub mod Bools
+pub mod Places
+pub mod Finds
+pub mod SideBySide
+pub mod Rows

@@ -1,0 +1,13 @@
+//! Lists in the order of their keys: search by halves, and the merge of two lists in one pass.
+//!
+//! A list in order has each key once. Its contracts speak of its entries, the keys with their values, in
+//! the words `find` and `put` of std's `FinMap.Entries`.
+#![tactic(auto)]
+
+mod merging;
+mod searching;
+#[cfg(test)]
+mod tests;
+
+pub use merging::{Joined, merge, merged_len};
+pub use searching::{Keyed, search};

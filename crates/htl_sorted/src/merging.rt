@@ -1,0 +1,99 @@
+ghost use Rattle.std.specs.Prelude.{◌≡◌, ◌++◌, Some, IfOk, OnOk};
+ghost use Rattle.std.specs.FinMap.Entries.{find};
+ghost use Rattle.htl_sorted.specs.Entries.{IsSorted, entries, joined_at};
+
+use crate::searching::Keyed;
+use std::alloc::{AllocError, Allocator};
+use std::cmp::Ordering;
+
+/// How two lists of rows become one.
+pub trait Joined: Keyed<Row: Drop> {
+    ghost can_join: { Self.Value → Self.Value → Type 0 };
+
+    ghost joined: { Self.Value → Self.Value → Self.Value };
+
+    fn copy(row: &Self::Row) -> Self::Row
+        ensures { result ≡ row.now };
+
+    /// One row of two that have one key.
+    fn join(left: &Self::Row, right: &Self::Row) -> Self::Row
+        requires same_key { Self.key_of left.now ≡ Self.key_of right.now }
+        requires fits { can_join (Self.value_of left.now) (Self.value_of right.now) }
+        ensures key { Self.key_of result ≡ Self.key_of left.now }
+        ensures value { Self.value_of result ≡ joined (Self.value_of left.now) (Self.value_of right.now) };
+}
+
+/// The rows of both lists in the order of their keys, one row for each key.
+pub fn merge<L: Joined, A: Allocator>(
+    alloc: A,
+    left: &[L::Row],
+    right: &[L::Row],
+) -> Result<Vec<L::Row, A>, AllocError>
+    requires left { IsSorted L.Key.cmp (entries L.key_of L.value_of left.now) }
+    requires right { IsSorted L.Key.cmp (entries L.key_of L.value_of right.now) }
+    requires fits { (k : L.Key) (x y : L.Value)
+        → find L.Key.cmp k (entries L.key_of L.value_of left.now) ≡ Some x
+        → find L.Key.cmp k (entries L.key_of L.value_of right.now) ≡ Some y
+        → L.can_join x y }
+    ensures sorted { IfOk result (λ rows. IsSorted L.Key.cmp (entries L.key_of L.value_of rows.items)) }
+    ensures values { IfOk result (λ rows. (k : L.Key)
+        → find L.Key.cmp k (entries L.key_of L.value_of rows.items)
+        ≡ joined_at L.joined (find L.Key.cmp k (entries L.key_of L.value_of left.now))
+        (find L.Key.cmp k (entries L.key_of L.value_of right.now))) }
+{
+    let mut rows = Vec::with_capacity(alloc, merged_len::<L>(left, right))?;
+    let mut i = 0;
+    let mut j = 0;
+    while i < left.len() && j < right.len() {
+        let (x, y) = (&left[i], &right[j]);
+        match L::key(x).cmp(&L::key(y)) {
+            Ordering::Less => {
+                rows.push(L::copy(x))?;
+                i += 1;
+            }
+            Ordering::Greater => {
+                rows.push(L::copy(y))?;
+                j += 1;
+            }
+            Ordering::Equal => {
+                rows.push(L::join(x, y))?;
+                i += 1;
+                j += 1;
+            }
+        }
+    }
+    append::<L, A>(&mut rows, &left[i..])?;
+    append::<L, A>(&mut rows, &right[j..])?;
+    Ok(rows)
+}
+
+/// How many keys the two lists have, so that a merged list may grow once.
+pub fn merged_len<L: Keyed>(left: &[L::Row], right: &[L::Row]) -> usize {
+    let mut shared = 0;
+    let mut i = 0;
+    let mut j = 0;
+    while i < left.len() && j < right.len() {
+        match L::key(&left[i]).cmp(&L::key(&right[j])) {
+            Ordering::Less => i += 1,
+            Ordering::Greater => j += 1,
+            Ordering::Equal => {
+                shared += 1;
+                i += 1;
+                j += 1;
+            }
+        }
+    }
+    (left.len() - shared).saturating_add(right.len())
+}
+
+fn append<L: Joined, A: Allocator>(
+    rows: &mut Vec<L::Row, A>,
+    more: &[L::Row],
+) -> Result<(), AllocError>
+    ensures { OnOk result (rows.new.items ≡ rows.old.items ++ more.now) }
+{
+    for row in more {
+        rows.push(L::copy(row))?;
+    }
+    Ok(())
+}

@@ -1,0 +1,31 @@
+ghost use Rattle.std.specs.Prelude.{◌≡◌, IfOk, IfErr};
+ghost use Rattle.std.specs.declared.cmp.Ordering.TheVariants.{Equal};
+ghost use Rattle.htl_sorted.specs.Entries.{IsSorted, IsPlace, IsGap, entries};
+
+/// How the rows of a list are keyed.
+pub trait Keyed {
+    type Row;
+
+    type Key: Ord + Copy;
+    /// What a row has at its key. Only contracts name it.
+    type Value;
+
+    ghost key_of: { Self.Row → Self.Key };
+
+    ghost value_of: { Self.Row → Self.Value };
+
+    fn key(row: &Self::Row) -> Self::Key
+        ensures { result ≡ key_of row.now };
+
+    /// Keys that tie are equal.
+    ghost proper: { (x y : Self.Key) → Self.Key.cmp x y ≡ Equal → x ≡ y };
+}
+
+/// The place of the key's row, or else the place where it would go.
+pub fn search<L: Keyed>(rows: &[L::Row], key: L::Key) -> Result<usize, usize>
+    requires { IsSorted L.Key.cmp (entries L.key_of L.value_of rows.now) }
+    ensures found { IfOk result (IsPlace L.Key.cmp (entries L.key_of L.value_of rows.now) key) }
+    ensures absent { IfErr result (IsGap L.Key.cmp (entries L.key_of L.value_of rows.now) key) }
+{
+    rows.binary_search_by_key(&key, |row| L::key(row))
+}

@@ -1,0 +1,14 @@
+pub mod NodeFacts
+pub mod Keys
+pub mod Flat
+pub mod Canonical
+pub mod Equal
+pub mod Kids
+pub mod SumFacts
+pub mod TreeFacts
+pub mod Weights
+pub mod Under
+pub mod Events
+pub mod SlotRows
+pub mod Depth
+pub mod Roots

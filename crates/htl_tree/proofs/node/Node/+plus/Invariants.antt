@@ -1,0 +1,15 @@
+use Rattle.std.proofs.Common.{◌+◌, ◌-◌, length}
+use Rattle.std.specs.Ordering.{nat_cmp}
+use Rattle.htl_sorted.proofs.SideBySide.{Carries}
+use Rattle.htl_tree.specs.Nodes.{height}
+use Rattle.htl_tree.proofs.SumFacts.{SumOf}
+use Rattle.htl_tree.proofs.node.Node.+plus.Given as goal
+
+abbrev pub decreases-plus : goal.decreases-plus
+decreases-plus g l = height l.self.now
+
+abbrev pub invariant-loop-i : goal.invariant-loop-i
+invariant-loop-i g l = Carries nat_cmp (λ sides sum. SumOf sides sum) l.left l.right l.i l.j l.children.items
+
+abbrev pub decreases-loop-i : goal.decreases-loop-i
+decreases-loop-i g l = (length l.left - l.i) + (length l.right - l.j)

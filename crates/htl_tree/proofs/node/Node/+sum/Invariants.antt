@@ -1,0 +1,11 @@
+use Rattle.std.proofs.Common.{◌≡◌, [], drop}
+use Rattle.htl_event.specs.Tallies.{plus_count}
+use Rattle.htl_tree.specs.Nodes.{kids, height, sum_under}
+use Rattle.htl_tree.proofs.Under.{kid_sum}
+use Rattle.htl_tree.proofs.node.Node.+sum.Given as goal
+
+abbrev pub decreases-sum : goal.decreases-sum
+decreases-sum g l = height l.self.now
+
+abbrev pub invariant-loop-child : goal.invariant-loop-child
+invariant-loop-child g l = plus_count l.sum (kid_sum l.slot (drop l.child-index (kids l.self))) ≡ sum_under [] l.slot l.self

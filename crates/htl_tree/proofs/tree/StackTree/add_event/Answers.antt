@@ -1,0 +1,19 @@
+use Rattle.std.proofs.Common.{◌≡◌, List, [], ◌∷◌, ◌++◌, Some, Result, Ok, Err, OnOk, sym, ◌∙◌, subst}
+use Rattle.htl_event.specs.declared.event.Event.{Event}
+use Rattle.htl_event.specs.Slots.{slot_of}
+use Rattle.htl_tree.specs.Trees.{HasTally}
+use Rattle.htl_tree.proofs.Events.{tally_with_one, tally_same}
+use Rattle.htl_tree.proofs.tree.StackTree.add_event.Goals as goal
+
+on_ok : {X E P Q : Type 0} (r : Result X E) → OnOk r P → (P → Q) → OnOk r Q
+on_ok (Ok x) h f = f h
+on_ok (Err e) h f = tt
+
+pub returns-in-None-clause-tally : goal.returns-in-None-clause-tally
+returns-in-None-clause-tally g c events tallied = tally_same c.args.self.now events c.args.event.now tallied (sym c.slot.ensures ∙ c.in-None.is)
+
+pub returns-in-Some-clause-tally : goal.returns-in-Some-clause-tally
+returns-in-Some-clause-tally g c =
+    let is : slot_of c.args.event.now ≡ Some (c.in-Some.slot, c.in-Some.sign) = sym c.slot.ensures ∙ c.in-Some.is in
+    let Gains = (events : List Event) → HasTally c.args.self.now events → HasTally c.add.new.self (events ++ c.args.event.now ∷ []) in
+    on_ok {Q = Gains} c.add.result c.add.ensures.ok (λ one events tallied. subst (λ t. HasTally t (events ++ c.args.event.now ∷ [])) (sym one) (tally_with_one c.args.self.now events c.args.event.now c.in-Some.slot c.in-Some.sign tallied is))

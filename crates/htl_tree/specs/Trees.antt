@@ -1,0 +1,85 @@
+-- A tree as its tally: the counts that aren't zero, by stack and then by slot.
+use Rattle.std.specs.Prelude.{◌≡◌, ℕ, ◌+◌, ◌≤◌, List, [], ◌∷◌, Bool, ◌&&◌, if◌then◌else◌, nat_eq, unwrap_or, length}
+use Rattle.std.specs.List.{sum_by, starts_with, AllByRecursion}
+use Rattle.std.specs.Ordering.{on, then_cmp}
+use Rattle.std.specs.FinMap.Entries.{find, put}
+use Rattle.std.specs.declared.cmp.Ordering.{Ordering}
+use Rattle.std.specs.declared.cmp.Ordering.TheVariants.{Less}
+use Rattle.htl_event.specs.declared.event.Event.{Event}
+use Rattle.htl_event.specs.declared.slot.Slot.{Slot}
+use Rattle.htl_event.specs.declared.slot.Sign.{Sign}
+use Rattle.htl_event.specs.declared.slot.Sign.TheVariants.{Plus, Minus}
+use Rattle.htl_event.specs.declared.slot.Count.{Count}
+use Rattle.htl_event.specs.Slots.{same_slot}
+use Rattle.htl_event.specs.Members.{Lists}
+use Rattle.htl_event.specs.Stacks.{outer, stack_cmp}
+use Rattle.htl_event.specs.Tallies.{zero_count, plus_count, total_of, IsPositive, tally, ByStack}
+use Rattle.htl_sorted.specs.Entries.{IsSorted, Each}
+use Rattle.htl_tree.specs.Slots.{slot_cmp}
+
+abbrev pub Tree : Type 0
+Tree = List ((List ℕ × Slot) × Count)
+
+-- stack order, and then slot order
+abbrev pub place_cmp : List ℕ × Slot → List ℕ × Slot → Ordering
+place_cmp = then_cmp (on (λ place. place.0) stack_cmp) (on (λ place. place.1) slot_cmp)
+
+-- the tally: how often the slot came with exactly this stack
+abbrev pub count_at : Tree → Slot → List ℕ → Count
+count_at tree slot stack = unwrap_or (find place_cmp (stack, slot) tree) zero_count
+
+abbrev pub bump : Sign → Count → Count
+bump Plus count = record { plus = count.plus + 1; minus = count.minus }
+bump Minus count = record { plus = count.plus; minus = count.minus + 1 }
+
+-- one more of the slot with the stack
+abbrev pub with_one : Tree → Slot → Sign → List ℕ → Tree
+with_one tree slot sign stack = put place_cmp (stack, slot) (bump sign (count_at tree slot stack)) tree
+
+-- the sum of the slot's counts at the stacks that pass
+abbrev pub sum_where : (List ℕ → Bool) → Slot → Tree → Count
+sum_where passes slot [] = zero_count
+sum_where passes slot (row ∷ rows) =
+    if same_slot slot row.0.1 && passes row.0.0 then plus_count row.1 (sum_where passes slot rows) else sum_where passes slot rows
+
+-- the prefix tally: how often the slot came with a stack that begins with the path, read from the outermost call
+abbrev pub count_under : Tree → List ℕ → Slot → Count
+count_under tree path slot = sum_where (λ stack. starts_with nat_eq (outer stack) path) slot tree
+
+-- the sum of all counts
+abbrev pub total_count : Tree → ℕ
+total_count tree = sum_by (λ row. total_of row.1) tree
+
+-- no stack is longer than a stack may be
+abbrev pub AllShort : Tree → Type 0
+AllShort tree = AllByRecursion (λ (row : (List ℕ × Slot) × Count). length row.0.0 ≤ 64) tree
+
+-- What every tree is. So equal tallies have one tree.
+pub record IsTree (tree : Tree) : Type 0 where
+  pub ordered : IsSorted place_cmp tree
+  pub positive : Each IsPositive tree
+  pub shallow : AllShort tree
+
+abbrev pub IsSameTally : Tree → Tree → Type 0
+IsSameTally tree other = (slot : Slot) (stack : List ℕ) → count_at tree slot stack ≡ count_at other slot stack
+
+-- the tally of the second and that of the third add up to that of the first
+abbrev pub IsSumTally : Tree → Tree → Tree → Type 0
+IsSumTally sum tree other = (slot : Slot) (stack : List ℕ) → count_at sum slot stack ≡ plus_count (count_at tree slot stack) (count_at other slot stack)
+
+-- the tree is the tally of the events
+abbrev pub HasTally : Tree → List Event → Type 0
+HasTally tree events = (slot : Slot) (stack : List ℕ) → count_at tree slot stack ≡ tally events slot stack
+
+-- ---- lists of what a tree counts
+
+-- the slot's counts that aren't zero, in stack order
+abbrev pub ListsRows : Tree → Slot → List (List ℕ × Count) → Type 0
+ListsRows tree slot rows = Lists ByStack (λ row. (row.1 ≡ count_at tree slot row.0) × IsPositive row.1) rows
+
+abbrev pub BySlot : Slot → Slot → Type 0
+BySlot s t = slot_cmp s t ≡ Less
+
+-- the slots that are counted at some stack, in slot order
+abbrev pub ListsSlots : Tree → List Slot → Type 0
+ListsSlots tree slots = Lists BySlot (λ slot. (stack : List ℕ) × IsPositive (count_at tree slot stack)) slots

@@ -1,0 +1,124 @@
+//! The root of a tree. It is made by the first count.
+
+ghost use Rattle.std.specs.Prelude.{◌≡◌, ◌+◌, ◌<◌, ◌≤◌, ◌^◌, ◌↔◌, length, IsTrue, IfOk, MatchResult};
+ghost use Rattle.htl_event.specs.Tallies.{total_of};
+ghost use Rattle.htl_tree.specs.Trees.{count_at, count_under, total_count, with_one, IsSameTally, IsSumTally, ListsRows, ListsSlots};
+ghost use Rattle.htl_tree.specs.Nodes.{tree_of, IsNormalRoot};
+
+use crate::listing::order_slots;
+use crate::node::{Node, ZERO};
+use htl_event::{Count, MAX_FRAMES, NoMemory, Sign, Slot, Stack};
+use std::alloc::{Allocator, Global};
+
+pub fn add_to_root<A: Allocator + Clone>(
+    root: &mut Option<Node<A>>,
+    alloc: &A,
+    slot: Slot,
+    sign: Sign,
+    stack: &[u64],
+) -> Result<(), NoMemory>
+    requires normal { IsNormalRoot root.old }
+    requires short { length stack.now ≤ MAX_FRAMES }
+    requires fits { total_of (count_at (tree_of root.old) slot stack.now) + 1 < 2 ^ 64 }
+    ensures { MatchResult result
+        (λ _. IsNormalRoot root.new × (tree_of root.new ≡ with_one (tree_of root.old) slot sign stack.now))
+        (λ _. IsNormalRoot root.new × (tree_of root.new ≡ tree_of root.old)) }
+{
+    if let Some(root) = root {
+        return root.add(slot, sign, stack);
+    }
+    let branch = Node::branch(alloc, slot, sign, stack)?;
+    *root = Some(branch);
+    Ok(())
+}
+
+pub fn under_root<A: Allocator>(root: &Option<Node<A>>, path: &[u64], slot: Slot) -> Count
+    requires normal { IsNormalRoot root.now }
+    requires fits { total_count (tree_of root.now) < 2 ^ 64 }
+    ensures { result ≡ count_under (tree_of root.now) path.now slot }
+{
+    match root {
+        None => ZERO,
+        Some(root) => root.under(path, slot),
+    }
+}
+
+pub fn same_roots<A: Allocator>(left: &Option<Node<A>>, right: &Option<Node<A>>) -> bool
+    requires left { IsNormalRoot left.now }
+    requires right { IsNormalRoot right.now }
+    ensures { IsTrue result ↔ IsSameTally (tree_of left.now) (tree_of right.now) }
+{
+    match (left, right) {
+        (None, None) => true,
+        (Some(left), Some(right)) => left.same(right),
+        (None, Some(_)) => false,
+        (Some(_), None) => false,
+    }
+}
+
+pub fn copy_root<A: Allocator + Clone>(
+    root: &Option<Node<A>>,
+    alloc: &A,
+) -> Result<Option<Node<A>>, NoMemory>
+    requires { IsNormalRoot root.now }
+    ensures { IfOk result (λ copy. IsNormalRoot copy × (tree_of copy ≡ tree_of root.now)) }
+{
+    match root {
+        None => Ok(None),
+        Some(root) => Ok(Some(root.copy(alloc)?)),
+    }
+}
+
+pub fn plus_roots<A: Allocator + Clone>(
+    left: &Option<Node<A>>,
+    right: &Option<Node<A>>,
+    alloc: &A,
+) -> Result<Option<Node<A>>, NoMemory>
+    requires left { IsNormalRoot left.now }
+    requires right { IsNormalRoot right.now }
+    requires fits { total_count (tree_of left.now) + total_count (tree_of right.now) < 2 ^ 64 }
+    ensures { IfOk result (λ sum. IsNormalRoot sum × IsSumTally (tree_of sum) (tree_of left.now) (tree_of right.now)) }
+{
+    match (left, right) {
+        (None, right) => copy_root(right, alloc),
+        (left, None) => copy_root(left, alloc),
+        (Some(left), Some(right)) => Ok(Some(left.plus(right, alloc)?)),
+    }
+}
+
+pub fn list_root_rows<A: Allocator>(
+    root: &Option<Node<A>>,
+    alloc: Global,
+    slot: Slot,
+) -> Result<Vec<(Stack, Count)>, NoMemory>
+    requires { IsNormalRoot root.now }
+    ensures { IfOk result (λ rows. ListsRows (tree_of root.now) slot rows.items) }
+{
+    let mut rows = Vec::new(alloc);
+    match root {
+        None => Ok(rows),
+        Some(root) => {
+            let mut path = Vec::with_capacity(alloc, MAX_FRAMES)?;
+            root.list_rows(slot, &mut path, &mut rows)?;
+            Ok(rows)
+        }
+    }
+}
+
+pub fn list_root_slots<A: Allocator>(
+    root: &Option<Node<A>>,
+    alloc: Global,
+) -> Result<Vec<Slot>, NoMemory>
+    requires { IsNormalRoot root.now }
+    ensures { IfOk result (λ slots. ListsSlots (tree_of root.now) slots.items) }
+{
+    let mut slots = Vec::new(alloc);
+    match root {
+        None => Ok(slots),
+        Some(root) => {
+            root.list_slots(&mut slots)?;
+            order_slots(&mut slots);
+            Ok(slots)
+        }
+    }
+}

@@ -29,7 +29,7 @@ impl<A: Allocator> Model for StackTree<A> {
 }
 
 impl<A: Allocator> StackTree<A> {
-    ghost use Rattle.std.specs.Prelude.{◌≡◌, List, ◌+◌, ◌<◌, ◌≤◌, ◌^◌, [], ◌∷◌, ◌++◌, ◌↔◌, IsTrue, IfOk, OnOk, OnErr};
+    ghost use Rattle.std.specs.Prelude.{◌≡◌, List, ◌+◌, ◌<◌, ◌≤◌, ◌^◌, [], ◌∷◌, ◌++◌, ◌↔◌, length, IsTrue, IfOk, OnOk, OnErr};
     ghost use Rattle.htl_tree.specs.Trees.{count_at, count_under, total_count, with_one, IsTree, IsSameTally, IsSumTally, HasTally, ListsRows, ListsSlots};
     ghost use Rattle.htl_event.specs.declared.event.Event.{Event};
     ghost use Rattle.htl_event.specs.Tallies.{under};
@@ -48,7 +48,8 @@ impl<A: Allocator> StackTree<A> {
     pub fn of(alloc: A, events: &[Event]) -> Result<Self, NoMemory>
     where
         A: Clone,
-        ensures { IfOk result (λ tree. HasTally tree events.now) }
+        ensures tally { IfOk result (λ tree. HasTally tree events.now) }
+        ensures total { IfOk result (λ tree. total_count tree ≤ length events.now) }
     {
         let places = by_place(alloc.clone()?, events)?;
         let mut tree = StackTree::new(alloc);

@@ -1,6 +1,7 @@
-use Rattle.std.proofs.Common.{◌≡◌, ◌+◌, List, [], ◌∷◌, ◌++◌, map, take, sym, ap, ◌∙◌, subst, arith}
+use Rattle.std.proofs.Common.{◌≡◌, ◌+◌, List, [], ◌∷◌, ◌++◌, map, take, sym, ap, ◌∙◌, subst, length, arith}
 use Rattle.std.specs.Borrow.{Bor}
-use Rattle.std.proofs.lemmas.List.{take_all, map_more}
+use Rattle.std.proofs.lemmas.List.{take_all, map_more, length-map}
+use Rattle.std.proofs.lemmas.List.Sorted.{length_permutation}
 use Rattle.htl_event.specs.declared.event.Event.{Event}
 use Rattle.htl_tree.specs.Trees.{HasTally}
 use Rattle.htl_tree.proofs.Events.{tally_moved}
@@ -21,10 +22,15 @@ loop-event-preserved g c =
       total = omega (arith, c.in_ok-add_event.ensures.total, c.loop-event.invariant.total);
     }
 
-pub returns : goal.returns
-returns g c =
+pub returns-clause-tally : goal.returns-clause-tally
+returns-clause-tally g c =
     let places = c.deref-event-items.result.now in
     let all : map (λ (place : Bor Event). place.now) (take c.loop-event.event-index places) ≡ map (λ (place : Bor Event). place.now) c.in_ok-places.places.items =
     ap (map (λ (place : Bor Event). place.now)) (take_all c.loop-event.event-index places c.loop-event-test.false ∙ c.deref-event-items.ensures.value) in
     tally_moved c.loop-event.tree c.args.events.now (map (λ (place : Bor Event). place.now) c.in_ok-places.places.items) c.in_ok-places.ensures
     (subst (λ (l : List Event). HasTally c.loop-event.tree l) all c.loop-event.invariant.tally)
+
+pub returns-clause-total : goal.returns-clause-total
+returns-clause-total g c =
+    let places = c.in_ok-places.places.items in
+    omega (arith, c.loop-event.invariant.total, ap length c.deref-event-items.ensures.value, length-map places (λ (place : Bor Event). place.now), length_permutation c.args.events.now (map (λ (place : Bor Event). place.now) places) c.in_ok-places.ensures)

@@ -8,4 +8,5 @@ pub mod ComputedHandles
 pub mod ComputedCounts
 pub mod RowsHandles
 pub mod RowsCounts
+pub mod EventsEqual
 pub mod Sums

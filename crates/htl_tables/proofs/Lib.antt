@@ -1,0 +1,10 @@
+pub mod KeyOrder
+pub mod Noting
+pub mod Tables
+pub mod TurnOrder
+pub mod Concerning
+pub mod FirstNoted
+pub mod Bulk
+pub mod Sequences
+pub mod Moments
+pub mod OneMore

@@ -1,4 +1,13 @@
-//! Segments of a trace as bytes, in the format HLS1.
+//! Segments of a trace as bytes in the format HLS1, one by one, in bundles, and in pieces.
+//!
+//! `decode` accepts exactly the spellings and gives the spelt segment; of other bytes it tells the first
+//! rule that they break. `laws` has what follows for readers and writers of the format.
+//!
+//! `specs/` is read in this order: `Versions` (limits), `Content` (what a segment says, and what fits),
+//! `Spelling` (its bytes), `Reading` (what bytes say), `Faults` (the first rule that they break),
+//! `Bundles` and `Pieces`; beside them `Numbers`, `Records` (events in place), `Building` (a segment from
+//! its parts) and `Hexadecimal`. In `proofs/`, `RecordLaws`, `HeaderLaws` and `SegmentLaws` show both
+//! directions between bytes and segments, and `BundleLaws` and `PiecesLaws` what follows for bundles.
 #![tactic(auto)]
 
 mod building;

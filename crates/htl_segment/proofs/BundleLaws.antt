@@ -14,7 +14,7 @@ use Rattle.htl_segment.specs.Content.{Content, Fits}
 use Rattle.htl_segment.specs.Spelling.{records, header_bytes, spelling, BeginsWith}
 use Rattle.htl_segment.specs.Reading.{version_of, frames_in, after_record, version_in, length_in, body_in}
 use Rattle.htl_segment.specs.Faults.{or_else, header_fault, record_fault, records_fault, first_fault}
-use Rattle.htl_segment.specs.Bundles.{bundle, Splits, SplitsMore, BundleFault, cut_off, IsRest, IsWhole, IsLateFault, IsRefused, is_early_end}
+use Rattle.htl_segment.specs.Bundles.{bundle, Splits, SplitsMore, BundleFault, IsBoundary, cut_off, IsRest, IsWhole, IsLateFault, IsRefused, is_early_end}
 use Rattle.htl_segment.proofs.Passed.{some_is}
 use Rattle.htl_segment.proofs.HeaderLaws.{length-header_bytes}
 use Rattle.htl_segment.proofs.SegmentLaws.{first_fault-header, first_fault-cut, first_fault-records, begins, segment_again, one_spelling}
@@ -137,23 +137,35 @@ some_left : (rest : List ℕ) (fault : Fault) → first_fault rest ≡ Some faul
 some_left [] fault is late = absurd (let same = some_is faults.Short fault (sym (short_end [] (omega arith)) ∙ is) in cc (ap is_early_end same ∙ late))
 some_left (x ∷ rest) fault is late = omega arith
 
+boundary : (b : List ℕ) (old new : List Content) (rest : List ℕ) → SplitsMore b old new rest → IsBoundary b (length b - length rest)
+boundary b old new rest so_far = record {
+  before = so_far.more;
+  rest = rest;
+  splits = so_far.splits;
+  offset_is = omega (arith, ap length so_far.splits.parts, length-append (bundle so_far.more) rest);
+}
+
 pub refused : (b : List ℕ) (old new : List Content) (rest : List ℕ) (fault : Fault) → SplitsMore b old new rest → is_early_end fault ≡ false → (fault ≡ faults.NoMemory) ⊎ (first_fault rest ≡ Some fault)
     → IsRefused b (length b - length rest) fault
-refused b old new rest fault so_far late cause = record {
-  inside = omega arith;
-  late = late;
-  cause = elim cause [
-    | inl memory ↦ inl memory
-    | inr is ↦ inr (record {
-      before = so_far.more;
-      rest = rest;
-      splits = so_far.splits;
-      offset_is = omega (arith, ap length so_far.splits.parts, length-append (bundle so_far.more) rest);
-      some = some_left rest fault is late;
-      fault_is = is;
-    })
-  ];
-}
+unfolding boundary
+refused b old new rest fault so_far late cause =
+    let here = boundary b old new rest so_far in
+    record {
+      inside = omega arith;
+      boundary = here;
+      late = late;
+      cause = elim cause [
+        | inl memory ↦ inl memory
+        | inr is ↦ inr (record {
+          before = so_far.more;
+          rest = rest;
+          splits = so_far.splits;
+          offset_is = here.offset_is;
+          some = some_left rest fault is late;
+          fault_is = is;
+        })
+      ];
+    }
 
 -- ---- what `decode` tells
 

@@ -1,18 +1,19 @@
 -- Bundles put together from their parts.
-use Rattle.std.proofs.Common.{◌≡◌, ℕ, ◌+◌, ◌<◌, ◌≤◌, Bool, true, false, List, [], ◌∷◌, ◌++◌, length, get_or, take, drop, Option, Some, None, Result, Ok, Err, cond, eqb, Bor, refl, sym, ap, ◌∙◌, append_assoc, arith, inl, inr}
+use Rattle.std.proofs.Common.{◌≡◌, ℕ, ◌+◌, ◌-◌, ◌<◌, ◌≤◌, Bool, true, false, List, [], ◌∷◌, ◌++◌, length, get_or, take, drop, Option, Some, None, Result, Ok, Err, cond, eqb, Bor, refl, sym, ap, ◌∙◌, append_assoc, arith, inl, inr, ◌⊎◌}
 use Rattle.std.proofs.lemmas.List.{append-nil, length-append, take-append-drop, take_more}
 use Rattle.std.proofs.lemmas.Bool.{eqb-false}
 use Rattle.std.proofs.lemmas.Grind.{flat_map-append}
 use Rattle.std.proofs.lemmas.List.Elements.{All-nil, All-append}
 use Rattle.htl_segment.specs.declared.fault.Fault.{Fault}
+use Rattle.htl_segment.specs.declared.fault.Fault.TheVariants as faults
 use Rattle.htl_segment.specs.Content.{Content, Fits}
 use Rattle.htl_segment.specs.Spelling.{spelling}
 use Rattle.htl_segment.specs.Reading.{length_in}
 use Rattle.htl_segment.specs.Faults.{header_fault}
-use Rattle.htl_segment.specs.Bundles.{bundle, Splits, SplitsMore, BundleFault, IsRest, IsWhole, IsLateFault, IsRefused, is_early_end, cut_off}
-use Rattle.htl_segment.specs.Pieces.{Pieces, Brings, joined, Extends, Fills, ended, start_of}
+use Rattle.htl_segment.specs.Bundles.{bundle, Splits, SplitsMore, IsBoundary, BundleFault, IsRest, IsWhole, IsLateFault, IsRefused, is_early_end, cut_off}
+use Rattle.htl_segment.specs.Pieces.{Pieces, Refuses, joined, Extends, Fills, ended, start_of}
 use Rattle.htl_segment.proofs.Extended.{number-append, header_fault-append, first_fault-append}
-use Rattle.htl_segment.proofs.BundleLaws.{late_stays, first_fault-rest}
+use Rattle.htl_segment.proofs.BundleLaws.{refused, late_stays, first_fault-rest}
 
 bundle-append : (ss ts : List Content) → bundle (ss ++ ts) ≡ bundle ss ++ bundle ts
 bundle-append ss ts = flat_map-append spelling ss ts
@@ -31,12 +32,24 @@ splits_more a b rest ss new first second = rw second.pushed (splits_after a b re
 abbrev failed : ℕ × Fault → Result (Unit {0}) (ℕ × Fault)
 failed refused = Err refused
 
+offset_after : (a b rest : List ℕ) (ss ts : List Content) (offset : ℕ) → Splits a ss [] → Splits b ts rest → offset ≡ length (bundle ts) → length a + offset ≡ length (bundle (ss ++ ts))
+offset_after a b rest ss ts offset first second is =
+    omega (arith, ap length first.parts, length-append (bundle ss) [], ap length (bundle-append ss ts), length-append (bundle ss) (bundle ts), is)
+
+boundary_after : (a b : List ℕ) (ss : List Content) (offset : ℕ) → Splits a ss [] → IsBoundary b offset → IsBoundary (a ++ b) (length a + offset)
+boundary_after a b ss offset first here = record {
+  before = ss ++ here.before;
+  rest = here.rest;
+  splits = splits_after a b here.rest ss here.before first here.splits;
+  offset_is = offset_after a b here.rest ss here.before offset first here.splits here.offset_is;
+}
+
 fault_after : (a b : List ℕ) (ss : List Content) (offset : ℕ) (fault : Fault) → Splits a ss [] → BundleFault b offset fault → BundleFault (a ++ b) (length a + offset) fault
 fault_after a b ss offset fault first found = record {
   before = ss ++ found.before;
   rest = found.rest;
   splits = splits_after a b found.rest ss found.before first found.splits;
-  offset_is = omega (arith, ap length first.parts, length-append (bundle ss) [], ap length (bundle-append ss found.before), length-append (bundle ss) (bundle found.before), found.offset_is);
+  offset_is = offset_after a b found.rest ss found.before offset first found.splits found.offset_is;
   some = found.some;
   fault_is = found.fault_is;
 }
@@ -44,12 +57,18 @@ fault_after a b ss offset fault first found = record {
 pub refused_after : (a b : List ℕ) (ss : List Content) (offset : ℕ) (fault : Fault) → Splits a ss [] → IsRefused b offset fault → IsRefused (a ++ b) (length a + offset) fault
 refused_after a b ss offset fault first second = record {
   inside = omega (arith, length-append a b, second.inside);
+  boundary = boundary_after a b ss offset first second.boundary;
   late = second.late;
   cause = elim (second.cause) [
     | inl memory ↦ inl memory
     | inr found ↦ inr (fault_after a b ss offset fault first found)
   ];
 }
+
+-- memory was refused where the rest was to be kept
+pub tail_refused : (a b rest : List ℕ) (ss new : List Content) → Splits a ss [] → SplitsMore b ss new rest → IsRefused (a ++ b) (length a + (length b - length rest)) faults.NoMemory
+tail_refused a b rest ss new first second =
+    refused_after a b ss (length b - length rest) faults.NoMemory first (refused b ss new rest faults.NoMemory second refl (inl refl))
 
 -- ---- bytes put behind others
 
@@ -97,22 +116,34 @@ pub used_up : (old piece new left : List ℕ) → old ++ piece ≡ new ++ left �
 used_up old piece new left same nothing = sym (append-nil new) ∙ ap (λ (x : List ℕ). new ++ x) (sym nothing) ∙ sym same
 
 -- a fault of the segment that the bytes begin with
-pub refused_whole : (b more : List ℕ) (fault : Fault) → IsWhole b → IsLateFault b fault → IsRefused (b ++ more) 0 fault
-refused_whole b more fault whole is = record {
+-- a fault of the segment that the bytes begin with
+pub refused_first : (b : List ℕ) (fault : Fault) → 0 < length b → IsLateFault b fault → IsRefused b 0 fault
+refused_first b fault some is = record {
   inside = omega arith;
+  boundary = record { before = []; rest = b; splits = record { parts = refl; fits = All-nil Fits }; offset_is = refl };
   late = is.late;
   cause = elim (is.cause) [
     | inl memory ↦ inl memory
     | inr first ↦ inr (record {
       before = [];
-      rest = b ++ more;
+      rest = b;
       splits = record { parts = refl; fits = All-nil Fits };
       offset_is = refl;
-      some = omega (arith, length-append b more, whole.long);
-      fault_is = first_fault-append b more whole.long (omega (arith, whole.len)) ∙ first;
+      some = some;
+      fault_is = first;
     })
   ];
 }
+
+pub refused_whole : (b more : List ℕ) (fault : Fault) → IsWhole b → IsLateFault b fault → IsRefused (b ++ more) 0 fault
+refused_whole b more fault whole is =
+    refused_first (b ++ more) fault (omega (arith, length-append b more, whole.long)) (record {
+      late = is.late;
+      cause = elim (is.cause) [
+        | inl memory ↦ inl memory
+        | inr first ↦ inr (first_fault-append b more whole.long (omega (arith, whole.len)) ∙ first)
+      ];
+    })
 
 -- the rest is no longer than what was fed
 pub rest_inside : (held piece rest : List ℕ) (segments : List Content) (fed : ℕ) → Splits (held ++ piece) segments rest → length held ≤ fed → length rest ≤ fed + length piece
@@ -144,12 +175,21 @@ fault_more b more offset fault late found = record {
   fault_is = late_stays found.rest more fault late found.fault_is;
 }
 
-pub brought : (s : Pieces) (a piece more : List ℕ) (ss : List Content) (offset : ℕ) (fault : Fault) → Splits a ss s.rest → s.fed ≡ length a → Brings s piece offset fault → BundleFault ((a ++ piece) ++ more) offset fault
-brought s a piece more ss offset fault split fed brings =
-    let start : offset ≡ length (bundle ss) + brings.inside = omega (arith, brings.offset_is, fed, ap length split.parts, length-append (bundle ss) s.rest) in
-    let found = fault_after (bundle ss) (s.rest ++ piece) ss brings.inside fault (front_split a s.rest ss split) brings.found in
+fault_here : (s : Pieces) (a piece more : List ℕ) (ss : List Content) (offset inside : ℕ) (fault : Fault) → Splits a ss s.rest → s.fed ≡ length a → offset ≡ start_of s + inside → is_early_end fault ≡ false → BundleFault (s.rest ++ piece) inside fault
+    → BundleFault ((a ++ piece) ++ more) offset fault
+fault_here s a piece more ss offset inside fault split fed is late fault_inside =
+    let start : offset ≡ length (bundle ss) + inside = omega (arith, is, fed, ap length split.parts, length-append (bundle ss) s.rest) in
+    let found = fault_after (bundle ss) (s.rest ++ piece) ss inside fault (front_split a s.rest ss split) fault_inside in
     let here : BundleFault (a ++ piece) offset fault = rw (regroup a s.rest piece ss split, start) found in
-    fault_more (a ++ piece) more offset fault brings.late here
+    fault_more (a ++ piece) more offset fault late here
+
+pub brought : (s : Pieces) (a piece more : List ℕ) (ss : List Content) (refusal : ℕ × Fault) → Splits a ss s.rest → s.fed ≡ length a → Refuses s piece refusal
+    → (refusal.1 ≡ faults.NoMemory) ⊎ BundleFault ((a ++ piece) ++ more) refusal.0 refusal.1
+brought s a piece more ss refusal split fed refuses =
+    elim (refuses.refused.cause) [
+      | inl memory ↦ inl memory
+      | inr found ↦ inr (fault_here s a piece more ss refusal.0 refuses.inside refusal.1 split fed refuses.offset_is refuses.refused.late found)
+    ]
 
 abbrev pub no_piece : Bor (List ℕ)
 no_piece = record { ref_ptr = (0, 0); now = [] }

@@ -17,6 +17,13 @@ pub record Splits (bytes : List ℕ) (segments : List Content) (rest : List ℕ)
   pub parts : bytes ≡ bundle segments ++ rest
   pub fits : All Fits segments
 
+-- at this offset some whole segments end
+pub record IsBoundary (bytes : List ℕ) (offset : ℕ) : Type 0 where
+  pub before : List Content
+  pub rest : List ℕ
+  pub splits : Splits bytes before rest
+  pub offset_is : offset ≡ length (bundle before)
+
 -- some segments, and then at this offset bytes that begin with none: their first fault
 pub record BundleFault (bytes : List ℕ) (offset : ℕ) (fault : Fault) : Type 0 where
   pub before : List Content
@@ -51,9 +58,10 @@ pub record IsLateFault (bytes : List ℕ) (fault : Fault) : Type 0 where
   pub late : is_early_end fault ≡ false
   pub cause : (fault ≡ faults.NoMemory) ⊎ (first_fault bytes ≡ Some fault)
 
--- No more bytes make these a bundle, or memory was refused while they were read.
+-- What begins at the offset is a segment by no more bytes, or memory was refused while it was read.
 pub record IsRefused (bytes : List ℕ) (offset : ℕ) (fault : Fault) : Type 0 where
   pub inside : offset ≤ length bytes
+  pub boundary : IsBoundary bytes offset
   pub late : is_early_end fault ≡ false
   pub cause : (fault ≡ faults.NoMemory) ⊎ BundleFault bytes offset fault
 

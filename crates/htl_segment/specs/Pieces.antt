@@ -1,9 +1,10 @@
 -- Bundles that come in pieces (this project's own).
 use Rattle.std.specs.Borrow.{Bor}
-use Rattle.std.specs.Prelude.{◌≡◌, ℕ, ◌+◌, ◌-◌, List, ◌++◌, length, false, Option, Some, None, Result, Ok, Err, ◌==◌, if◌then◌else◌}
+use Rattle.std.specs.Prelude.{◌≡◌, ℕ, ◌+◌, ◌-◌, List, ◌++◌, length, Bool, true, false, Option, Some, None, Result, Ok, Err, ◌==◌, if◌then◌else◌}
 use Rattle.std.specs.List.{flat_map}
 use Rattle.htl_segment.specs.declared.fault.Fault.{Fault}
-use Rattle.htl_segment.specs.Bundles.{BundleFault, IsRest, IsWhole, cut_off, is_early_end}
+use Rattle.htl_segment.specs.declared.fault.Fault.TheVariants as faults
+use Rattle.htl_segment.specs.Bundles.{IsRest, IsWhole, IsRefused, cut_off}
 
 -- What a splitter has: the number of bytes fed, those of them that make no segment yet, and the fault
 -- that it answers for good.
@@ -16,12 +17,19 @@ pub record Pieces : Type 0 where
 abbrev pub start_of : Pieces → ℕ
 start_of s = s.fed - length s.rest
 
--- A fault that the piece brings, where more bytes can't mend it. It stands at its offset among all bytes fed.
-pub record Brings (s : Pieces) (piece : List ℕ) (offset : ℕ) (fault : Fault) : Type 0 where
-  pub late : is_early_end fault ≡ false
+-- The refusal of a piece tells where the refused segment begins among all bytes fed.
+pub record Refuses (s : Pieces) (piece : List ℕ) (refusal : ℕ × Fault) : Type 0 where
   pub inside : ℕ
-  pub offset_is : offset ≡ start_of s + inside
-  pub found : BundleFault (s.rest ++ piece) inside fault
+  pub offset_is : refusal.0 ≡ start_of s + inside
+  pub refused : IsRefused (s.rest ++ piece) inside refusal.1
+
+abbrev pub is_memory : Fault → Bool
+is_memory faults.NoMemory = true
+is_memory fault = false
+
+-- After a refusal the fault is kept. Where memory was refused nothing changes.
+abbrev pub after_refusal : Pieces → ℕ × Fault → Pieces
+after_refusal s refusal = if is_memory refusal.1 then s else record s { fault = Some refusal }
 
 abbrev pub ended : Option (ℕ × Fault) → ℕ → List ℕ → Result (Unit {0}) (ℕ × Fault)
 ended (Some fault) start rest = Err fault

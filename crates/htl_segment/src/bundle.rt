@@ -1,6 +1,6 @@
 //! Segments one after another.
 ghost use Rattle.std.specs.Prelude.{◌≡◌, ◌⊎◌, [], IfOk, IfErr, MatchResult};
-ghost use Rattle.htl_segment.specs.Bundles.{Splits, SplitsMore, IsRest, IsRefused, BundleFault, cut_off};
+ghost use Rattle.htl_segment.specs.Bundles.{Splits, SplitsMore, IsBoundary, IsRest, IsRefused, BundleFault, cut_off};
 
 use crate::decoding::decode;
 use crate::fault::Fault;
@@ -12,6 +12,7 @@ use std::alloc::Global;
 /// refused segment begins.
 pub fn decode_bundle(alloc: Global, bytes: &[u8]) -> Result<Vec<Segment>, (u64, Fault)>
     ensures found { IfOk result (λ segments. Splits bytes.now segments.items []) }
+    ensures boundary { IfErr result (λ refused. IsBoundary bytes.now refused.0) }
     ensures fault { IfErr result (λ refused. (refused.1 ≡ Fault.NoMemory) ⊎ BundleFault bytes.now refused.0 refused.1) }
 {
     let mut segments = Vec::new(alloc);

@@ -1,12 +1,16 @@
-//! Segments of a trace as bytes, in the format HLS1, and the definition of a trace.
+//! Segments of a trace as bytes in the format HLS1, one by one, in bundles, and in pieces; and what a
+//! trace of segments is.
 //!
-//! The format: `version.rt` has the limits, `header.rt` and `record.rt` the rules, `segment_bytes.rt` a checked
-//! segment where it lies in bytes, `decoding.rt` and `encoding.rt` the way to a `Segment` and back,
-//! `building.rt` a segment from its parts. `bundle.rt` and `splitter.rt` read segments one after another, whole
-//! or in pieces, and `hexadecimal.rt` the digits. `laws.rt` has the laws of the format.
+//! `decode` accepts exactly the spellings and gives the spelt segment; of other bytes it tells the first
+//! rule that they break. `laws` has what follows for readers and writers of the format.
 //!
-//! Traces: `specs/Keys` and `specs/Traces` say what a trace is and which events a set of its keys has, and
-//! `trace_laws.rt` has their laws.
+//! `specs/` is read in this order: `Versions` (limits), `Content` (what a segment says, and what fits),
+//! `Spelling` (its bytes), `Reading` (what bytes say), `Faults` (the first rule that they break),
+//! `Bundles` and `Pieces`; beside them `Numbers`, `Records` (events in place), `Building` (a segment from
+//! its parts) and `Hexadecimal`. In `proofs/`, `RecordLaws`, `HeaderLaws` and `SegmentLaws` show both
+//! directions between bytes and segments, and `BundleLaws` and `PiecesLaws` what follows for bundles.
+//!
+//! A trace is said by `Keys` and `Traces`, with the events of a set of its keys; `trace_laws` has their laws.
 #![tactic(auto)]
 
 mod building;

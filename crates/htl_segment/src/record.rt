@@ -1,5 +1,5 @@
 //! One record: its rules, and its fields where they lie in the bytes.
-ghost use Rattle.std.specs.Prelude.{◌≡◌, ◌≤◌, ◌*◌, ◌/◌, length, None, Some, MatchResult};
+ghost use Rattle.std.specs.Prelude.{◌≡◌, ◌≤◌, ◌*◌, ◌/◌, [], length, None, Some, MatchResult};
 ghost use Rattle.htl_segment.specs.Numbers.{numbers};
 ghost use Rattle.htl_segment.specs.Content.{fields_fit};
 ghost use Rattle.htl_segment.specs.Reading.{kind_of};
@@ -31,10 +31,9 @@ pub struct Record<'a> {
 }
 
 impl<'a> Record<'a> {
-    ghost use Rattle.std.specs.Prelude.{◌≡◌, ◌*◌, length, None, Some, MatchResult};
-    ghost use Rattle.htl_segment.specs.Reading.{event_in, frames_in, after_record};
+    ghost use Rattle.std.specs.Prelude.{◌≡◌};
+    ghost use Rattle.htl_segment.specs.Reading.{event_in, after_record};
     ghost use Rattle.htl_segment.specs.Records.{event_of, HasRecord};
-    ghost use Rattle.htl_segment.specs.Faults.{record_fault};
 
     /// The record at the front of `bytes`, and what follows it.
     #[tactic(auto, unfolding(crate::specs::Reading::event_in))]
@@ -63,7 +62,7 @@ impl<'a> Record<'a> {
     pub fn event(&self) -> Event
         ensures { result ≡ event_of self.now }
     {
-        Event {
+        let mut event = Event {
             sequence: self.sequence,
             kind: self.kind,
             process: self.process,
@@ -71,8 +70,11 @@ impl<'a> Record<'a> {
             handle: self.handle,
             object: self.object,
             tag: self.tag,
-            stack: stack_of(self.frames),
-        }
+            stack: Stack::new(),
+        };
+        // A stack is large, so it is filled where it lies.
+        push_frames(&mut event.stack, self.frames);
+        event
     }
 }
 
@@ -136,14 +138,13 @@ fn kind_of(code: u8) -> Kind
     }
 }
 
-/// The stack of these addresses, eight bytes each.
-fn stack_of(frames: &[u8]) -> Stack
-    requires { length frames.now ≤ 8 * MAX_FRAMES }
-    ensures { result ≡ numbers 0 (length frames.now / 8) frames.now }
+/// Fills an empty stack with these addresses, eight bytes each.
+fn push_frames(stack: &mut Stack, frames: &[u8])
+    requires empty { stack.old ≡ [] }
+    requires few { length frames.now ≤ 8 * MAX_FRAMES }
+    ensures { stack.new ≡ numbers 0 (length frames.now / 8) frames.now }
 {
-    let mut stack = Stack::new();
     for frame in 0..frames.len() / 8 {
         stack.push(u64_at(frames, 8 * frame));
     }
-    stack
 }

@@ -35,10 +35,10 @@ impl Model for Splitter {
 }
 
 impl Splitter {
-    ghost use Rattle.std.specs.Prelude.{◌≡◌, ◌⊎◌, ℕ, ◌+◌, ◌<◌, ◌≤◌, ◌^◌, ◌++◌, [], length, None, Some, Ok, Err, IfOk, IfErr};
+    ghost use Rattle.std.specs.Prelude.{◌≡◌, ℕ, ◌+◌, ◌<◌, ◌≤◌, ◌^◌, ◌++◌, [], length, None, Some, Ok, Err, IfOk, IfErr};
     ghost use Rattle.htl_segment.specs.declared.fault.Fault.{Fault};
     ghost use Rattle.htl_segment.specs.Bundles.{Splits, IsRest};
-    ghost use Rattle.htl_segment.specs.Pieces.{Brings, finish_of};
+    ghost use Rattle.htl_segment.specs.Pieces.{Refuses, after_refusal, finish_of};
 
     pub fn new(alloc: Global) -> Splitter
         ensures { result ≡ record { fed = 0; rest = []; fault = None } }
@@ -73,10 +73,8 @@ impl Splitter {
         ensures taken { self.old.fault ≡ None → IfOk result (λ segments.
             Splits (self.old.rest ++ piece.now) segments.items self.new.rest
             × (self.new ≡ record self.new { fed = self.old.fed + length piece.now; fault = None })) }
-        ensures refused { self.old.fault ≡ None → IfErr result (λ refused.
-            (refused.1 ≡ Fault.NoMemory × self.new ≡ self.old)
-            ⊎ (Brings self.old piece.now refused.0 refused.1
-            × self.new ≡ record self.old { fault = Some refused })) }
+        ensures refused { self.old.fault ≡ None → IfErr result (λ refusal.
+            Refuses self.old piece.now refusal × self.new ≡ after_refusal self.old refusal) }
     {
         if let Some(fault) = self.fault {
             return Err(fault);

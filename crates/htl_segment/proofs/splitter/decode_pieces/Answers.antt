@@ -1,4 +1,4 @@
-use Rattle.std.proofs.Common.{◌≡◌, ◌+◌, ◌++◌, length, get_or, take, drop, arith, inl, inr, ap}
+use Rattle.std.proofs.Common.{◌≡◌, ◌+◌, ◌++◌, length, get_or, take, drop, arith, inr, ap}
 use Rattle.std.proofs.lemmas.List.{length-append, take_all}
 use Rattle.std.proofs.lemmas.Grind.{common_steps}
 use Rattle.std.proofs.lemmas.Result.{err_from_is_err_and}
@@ -21,10 +21,7 @@ returns-in_err-more-clause-fault c =
     let pieces = c.args.pieces.now in
     let i = c.loop-piece.piece-index in
     let inv = c.loop-piece.invariant in
-    rw (p.1, p.2) (elim (c.in_err-more.ensures.refused inv.no_fault) [
-      | inl memory ↦ inl memory.0
-      | inr told ↦ inr (rw (joined-around pieces i c.loop-piece-test.true) (brought c.loop-piece.splitter (joined (take i pieces)) (get_or pieces i no_piece).now (joined (drop (i + 1) pieces)) c.loop-piece.segments.items _ _ inv.split inv.fed told.0))
-    ])
+    rw (p.1, p.2, joined-around pieces i c.loop-piece-test.true) (brought c.loop-piece.splitter (joined (take i pieces)) (get_or pieces i no_piece).now (joined (drop (i + 1) pieces)) c.loop-piece.segments.items _ inv.split inv.fed (c.in_err-more.ensures.refused inv.no_fault).0)
 
 pub loop-piece-preserved : goal.loop-piece-preserved
 loop-piece-preserved c =

@@ -1,6 +1,6 @@
 use Rattle.std.proofs.Common.{◌≡◌, ◌-◌, ◌*◌, ◌/◌, ◌≤◌, ◌++◌, length}
 use Rattle.htl_segment.specs.Numbers.{numbers}
-use Rattle.htl_segment.proofs.record.stack_of.Given as goal
+use Rattle.htl_segment.proofs.record.push_frames.Given as goal
 
 abbrev pub invariant-loop-frame : goal.invariant-loop-frame
 invariant-loop-frame l = record {

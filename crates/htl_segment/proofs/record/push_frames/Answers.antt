@@ -2,7 +2,7 @@ use Rattle.std.proofs.Common.{arith, ◌≡◌, ◌*◌, ◌/◌, ◌++◌, ◌�
 use Rattle.std.proofs.lemmas.Grind.{common_steps}
 use Rattle.htl_segment.specs.Numbers.{number}
 use Rattle.htl_segment.proofs.Frames.{numbers-more, numbers-all}
-use Rattle.htl_segment.proofs.record.stack_of.Goals as goal
+use Rattle.htl_segment.proofs.record.push_frames.Goals as goal
 
 pub loop-frame-preserved : goal.loop-frame-preserved
 loop-frame-preserved c =

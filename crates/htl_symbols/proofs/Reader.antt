@@ -16,7 +16,8 @@ use Rattle.csv.specs.declared.error.ErrorKind.TheVariants as k
 use Rattle.std.specs.declared.io.Error.{Error as IoError}
 use Rattle.htl_symbols.specs.declared.fault.SymbolFault.TheVariants as fault
 use Rattle.csv.proofs.ReadFacts.{rows-end}
-use Rattle.htl_symbols.proofs.Records.{length-strip_bom, next-starts, records-few, records-more, records-none}
+use Rattle.htl_symbols.proofs.RecordEnds.{next-starts}
+use Rattle.htl_symbols.proofs.Records.{length-strip_bom, records-few, records-more, records-none}
 
 abbrev source : SliceReader → Option (List ℕ)
 source reader = source_of (λ s. Some s.now) reader

@@ -17,10 +17,12 @@ all_digits radix text = list_all (λ c. is_digit c radix) text
 abbrev pub IsNumberOf : ℕ → ℕ → List ℕ → Type 0
 IsNumberOf n radix text = (IsNumeral radix text × (digits_value radix text < 2 ^ 64)) × (n ≡ digits_value radix text)
 
+-- both parts of a conjunction that holds
 both : (a b : Bool) → (a && b) ≡ true → (a ≡ true) × (b ≡ true)
 both true b h = (refl, h)
 both false b h = cc
 
+-- a number is not at most a lower one
 above-leb : (a b : ℕ) → b < a → leb a b ≡ false
 above-leb a b l = grind (arith, nat_tests)
 

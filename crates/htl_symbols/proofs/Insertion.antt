@@ -17,6 +17,7 @@ use Rattle.htl_symbols.proofs.Members.{Contains-cons_cases, Contains-head, Conta
 use Rattle.htl_symbols.proofs.Begun.{apart}
 use Rattle.htl_symbols.proofs.Overlaps.{not-met}
 
+-- an entry of the map
 abbrev Entry : Type 0
 Entry = ℕ × Symbol
 
@@ -82,6 +83,7 @@ pub gains : (m n : BTreeMap ℕ Symbol) (start : ℕ) (v : Symbol) → IsOrdered
     → IsPermutation ((start, v) ∷ m.entries) n.entries
 gains m n start v o t some none e = rw e (insert_entry-IsPermutation m.entries start v (new-key m start v o t some none))
 
+-- and it is a table again
 pub IsTable-insert : (m n : BTreeMap ℕ Symbol) (start : ℕ) (v : Symbol) → IsOrdered nat_cmp m → IsOrdered nat_cmp n → IsTable (ranges_of m.entries)
     → start < v.end → list_any (meets start v.end) (ranges_of m.entries) ≡ false
     → n.entries ≡ insert_entry nat_cmp m.entries start v → IsTable (ranges_of n.entries)

@@ -15,25 +15,32 @@ use Rattle.htl_symbols.specs.Rows.{Record}
 abbrev EndsAtStart : State × Action → Type 0
 EndsAtStart p = is_end p.1 ≡ true → is_start p.0 ≡ true
 
+-- either of two steps
 either : (b : Bool) (x y : State × Action) → EndsAtStart x → EndsAtStart y → EndsAtStart (cond b x y)
 either true x y hx hy = hx
 either false x y hx hy = hy
 
+-- a step that doesn't end a record
 goes-on : (s : State) (a : Action) → is_end a ≡ false → EndsAtStart (s, a)
 goes-on s a none e = absurd (cc)
 
+-- a byte that ends a line
 line-end : (c : ℕ) → EndsAtStart (after_end default_config.terminator c, act.EndRecord)
 line-end c e = elim (c == 13) as (λ b. is_start (cond b st.AfterCr st.StartRecord) ≡ true) [ true ↦ refl | false ↦ refl ]
 
+-- a byte in each state, by the state machine's definitions
 in-field : (c : ℕ) → EndsAtStart (in_field default_config c)
 in-field c = either (c == 44) _ _ (goes-on st.StartField act.EndField refl) (either (ends_with default_config.terminator c) _ _ (line-end c) (goes-on st.InField act.Copy refl))
 
+-- at the start of a field
 start-field : (c : ℕ) → EndsAtStart (start_field default_config c)
 start-field c = either (c == 34) _ _ (goes-on st.InQuoted act.Skip refl) (in-field c)
 
+-- at the start of a record
 start-record : (c : ℕ) → EndsAtStart (start_record default_config c)
 start-record c = either (ends_with default_config.terminator c) _ _ (goes-on st.StartRecord act.Skip refl) (start-field c)
 
+-- in any state
 step-end : (s : State) (c : ℕ) → EndsAtStart (step default_config s c)
 step-end st.StartRecord c = start-record c
 step-end st.StartField c = start-field c

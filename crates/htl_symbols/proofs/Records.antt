@@ -7,6 +7,7 @@ use Rattle.htl_symbols.specs.Records.{is_start}
 use Rattle.htl_symbols.specs.Rows.{Record}
 use Rattle.htl_symbols.proofs.RecordEnds.{next-lt, next-starts}
 
+-- the records that so many turns give
 abbrev records_by : ℕ → State → List ℕ → List Record
 records_by n s xs = records_from default_config n s xs
 
@@ -33,6 +34,7 @@ records-more s xs p start e =
     let shorter = next-lt s xs p start e in
     rw (add-one (length xs), e) (ap (λ (rs : List Record). p.0 ∷ rs) (records-enough (length xs) (length p.2 + 1) p.1 p.2 (next-starts s [] [] xs p e) shorter (omega arith)))
 
+-- a text without a next record has none
 pub records-none : (s : State) (xs : List ℕ) → next_record default_config s [] [] xs ≡ None → records_by (length xs + 1) s xs ≡ []
 unfolding records_from
 records-none s xs e = rw (add-one (length xs), e) refl

@@ -1,11 +1,11 @@
--- What `from_str_radix` gives at a text of digits: their number, where it is below 2 ^ 64.
-use Rattle.std.proofs.Common.{◌≡◌, ◌<◌, ◌≤◌, ◌^◌, ◌≢◌, ℕ, Bool, true, false, List, [], ◌∷◌, length, refl, arith, get_or, ltb, leb, sym}
+-- A text of digits that `from_str_radix` refuses.
+use Rattle.std.proofs.Common.{◌≡◌, ◌<◌, ◌≤◌, ◌^◌, ◌≢◌, ℕ, Bool, true, false, List, [], ◌∷◌, length, refl, arith, get_or, ltb, leb}
 use Rattle.std.specs.Prelude.{Err, Some, None, ◌&&◌, if◌then◌else◌}
 use Rattle.std.specs.List.{list_all}
 use Rattle.std.specs.Char.{digit_value, is_digit}
 use Rattle.std.specs.Str.Parse.{AllDigits, IsNumeral, ParsesUnsigned, digits_value, without_leading_plus}
 use Rattle.std.proofs.lemmas.Str.Parse.{without_leading_plus_none}
-use Rattle.std.proofs.lemmas.Bool.{le-leb, lt-ltb, ltb-true}
+use Rattle.std.proofs.lemmas.Bool.{lt-ltb, ltb-true}
 use Rattle.std.proofs.lemmas.Bool.Decides.{nat_tests}
 use Rattle.htl_numbers.specs.Numbers.{number_of}
 
@@ -13,14 +13,12 @@ use Rattle.htl_numbers.specs.Numbers.{number_of}
 abbrev pub all_digits : ℕ → List ℕ → Bool
 all_digits radix text = list_all (λ c. is_digit c radix) text
 
--- what `from_str_radix` says of a number n that it reads in a text
-abbrev pub IsNumberOf : ℕ → ℕ → List ℕ → Type 0
-IsNumberOf n radix text = (IsNumeral radix text × (digits_value radix text < 2 ^ 64)) × (n ≡ digits_value radix text)
-
+-- both parts of a conjunction that holds
 both : (a b : Bool) → (a && b) ≡ true → (a ≡ true) × (b ≡ true)
 both true b h = (refl, h)
 both false b h = cc
 
+-- a number is not at most a lower one
 above-leb : (a b : ℕ) → b < a → leb a b ≡ false
 above-leb a b l = grind (arith, nat_tests)
 
@@ -43,15 +41,6 @@ no-plus radix (c ∷ cs) low h e =
 -- so digits have no sign before them
 no-sign : (radix : ℕ) (text : List ℕ) → radix ≤ 16 → all_digits radix text ≡ true → without_leading_plus text ≡ text
 no-sign radix text low h = without_leading_plus_none text (no-plus radix text low h)
-
--- a number that is read and at most `most` is the text's number
-pub number-read : (radix most n : ℕ) (text : List ℕ) → radix ≤ 16 → all_digits radix text ≡ true
-    → IsNumberOf n radix (without_leading_plus text) → n ≤ most → Some n ≡ number_of radix most text
-unfolding number_of
-number-read radix most n text low h read fits =
-    let is = rw (no-sign radix text low h) at read in
-    let within : digits_value radix text ≤ most = rw (sym is.1) fits in
-    rw (h, lt-ltb 0 (length text) is.0.0.0, le-leb (digits_value radix text) most within, is.1) refl
 
 -- a text of digits that is refused has no digit or a number above every `most`
 pub number-refused : {E : Type 0} (radix most : ℕ) (e : E) (text : List ℕ) → radix ≤ 16 → most < 2 ^ 64 → all_digits radix text ≡ true

@@ -10,6 +10,7 @@ number_of radix most text =
     if list_all (λ c. is_digit c radix) text && (nat_lt 0 (length text) && nat_le (digits_value radix text) most)
     then Some (digits_value radix text) else None
 
+-- in decimal digits
 abbrev pub decimal_number : ℕ → List ℕ → Option ℕ
 decimal_number most text = number_of 10 most text
 

@@ -3,6 +3,10 @@ use Rattle.std.specs.Prelude.{false, ◌-◌, ◌++◌, ◌∷◌, [], ◌==◌,
 use Rattle.std.specs.Fmt.{digits}
 use Rattle.htl_symbols.specs.Ranges.{Range, resolved}
 
+-- what ends every line
+abbrev pub line_feed : List ℕ
+line_feed = 10 ∷ []
+
 -- lower-case hexadecimal without leading zeros
 abbrev pub hex : ℕ → List ℕ
 hex n = digits 16 false n
@@ -22,7 +26,7 @@ named address (Some s) = s.0 ++ (codes "!" ++ (s.1 ++ after_start s.2))
 
 -- the line of a frame
 abbrev pub frame_line : List Range → ℕ → List ℕ
-frame_line symbols address = codes "  " ++ (named address (resolved symbols address) ++ 10 ∷ [])
+frame_line symbols address = codes "  " ++ (named address (resolved symbols address) ++ line_feed)
 
 -- the lines of a stack, the innermost frame first
 abbrev pub stack_lines : List Range → List ℕ → List ℕ

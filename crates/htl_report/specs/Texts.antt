@@ -5,7 +5,8 @@ use Rattle.htl_event.specs.declared.event.Event.{Event}
 use Rattle.htl_event.specs.declared.slot.Count.{Count}
 use Rattle.htl_symbols.specs.Ranges.{Range}
 use Rattle.htl_report.specs.Addresses.{stack_lines}
-use Rattle.htl_report.specs.Lines.{bad_line, diff_head, event_line, leak_line, process_head, stack_line, stacks_head, tag_line, tags_head, trace_head, word_of}
+use Rattle.htl_report.specs.Heads.{diff_head, process_head, stacks_head, tags_head, trace_head}
+use Rattle.htl_report.specs.Lines.{bad_line, event_line, leak_line, stack_line, tag_line, word_of}
 use Rattle.htl_report.specs.declared.answer.Answer.{Answer}
 use Rattle.htl_report.specs.declared.answer.Answer.TheVariants.{Outstanding, Diff, Tags, Bad, Leaks, Stacks, Trace}
 
@@ -17,15 +18,19 @@ open_lines symbols e = event_line (codes "OPEN") (base_of e.handle) e ++ stack_l
 abbrev pub listed_lines : List Range → Event → List ℕ
 listed_lines symbols e = event_line (word_of e.kind) e.handle e ++ stack_lines symbols e.stack
 
+-- a tag, which has no stack
 abbrev pub tag_row : List ℕ × Count → List ℕ
 tag_row row = tag_line row.0 row.1
 
+-- bad references of one handle from one stack
 abbrev pub bad_lines : List Range → ℕ × List ℕ × ℕ → List ℕ
 bad_lines symbols row = bad_line row.0 row.2 ++ stack_lines symbols row.1
 
+-- a leaking stack
 abbrev pub leak_lines : List Range → List ℕ × ℕ → List ℕ
 leak_lines symbols row = leak_line row.1 ++ stack_lines symbols row.0
 
+-- a stack of references and dereferences
 abbrev pub reference_lines : List Range → List ℕ × Count → List ℕ
 reference_lines symbols row = stack_line row.1 ++ stack_lines symbols row.0
 

@@ -1,5 +1,5 @@
-ghost use Rattle.std.specs.Prelude.{◌≡◌, ◌++◌, ◌∷◌, [], codes, OnOk, string_bytes};
-ghost use Rattle.htl_report.specs.Addresses.{frame_line, hex16, stack_lines};
+ghost use Rattle.std.specs.Prelude.{◌≡◌, ◌++◌, codes, OnOk, string_bytes};
+ghost use Rattle.htl_report.specs.Addresses.{frame_line, hex16, line_feed, stack_lines};
 
 use htl_symbols::Symbols;
 use std::alloc::AllocError;
@@ -29,7 +29,7 @@ fn write_frame(out: &mut String, symbols: &Symbols, address: u64) -> Result<(), 
 }
 
 fn write_unnamed(out: &mut String, address: u64) -> Result<(), AllocError>
-    ensures { OnOk result (string_bytes out.new ≡ string_bytes out.old ++ (codes "  0x" ++ (hex16 address ++ 10 ∷ []))) }
+    ensures { OnOk result (string_bytes out.new ≡ string_bytes out.old ++ (codes "  0x" ++ (hex16 address ++ line_feed))) }
 {
     out.push_str("  0x")?;
     write_padded(out, address)?;

@@ -1,7 +1,7 @@
 ghost use Rattle.std.specs.Prelude.{◌≡◌, ◌++◌, IfOk, OnOk, string_bytes};
 ghost use Rattle.htl_report.specs.Texts.{first_line, row_lines, text_of};
 
-use crate::{line, rows};
+use crate::{head, rows};
 use htl_event::{Count, Event, NoMemory, Stack, base};
 use htl_symbols::Symbols;
 use std::alloc::{AllocError, Global};
@@ -71,7 +71,7 @@ fn write_first_line(out: &mut String, answer: &Answer) -> Result<(), AllocError>
     ensures { OnOk result (string_bytes out.new ≡ string_bytes out.old ++ first_line answer.now) }
 {
     match answer {
-        Answer::Outstanding { process, rows } => line::write_process_head(
+        Answer::Outstanding { process, rows } => head::write_process_head(
             out,
             "outstanding",
             *process,
@@ -81,16 +81,16 @@ fn write_first_line(out: &mut String, answer: &Answer) -> Result<(), AllocError>
             process,
             since,
             rows,
-        } => line::write_diff_head(out, *process, *since, rows.len()),
-        Answer::Tags { object, rows } => line::write_tags_head(out, *object, rows.len()),
-        Answer::Bad { process, rows } => line::write_process_head(out, "bad", *process, rows.len()),
-        Answer::Leaks { process, rows } => line::write_process_head(
+        } => head::write_diff_head(out, *process, *since, rows.len()),
+        Answer::Tags { object, rows } => head::write_tags_head(out, *object, rows.len()),
+        Answer::Bad { process, rows } => head::write_process_head(out, "bad", *process, rows.len()),
+        Answer::Leaks { process, rows } => head::write_process_head(
             out,
             "leaks",
             *process,
             rows.len(),
         ),
-        Answer::Stacks { object, tag, rows } => line::write_stacks_head(
+        Answer::Stacks { object, tag, rows } => head::write_stacks_head(
             out,
             *object,
             tag,
@@ -100,7 +100,7 @@ fn write_first_line(out: &mut String, answer: &Answer) -> Result<(), AllocError>
             process,
             handle,
             rows,
-        } => line::write_trace_head(out, *process, base(*handle), rows.len()),
+        } => head::write_trace_head(out, *process, base(*handle), rows.len()),
     }
 }
 

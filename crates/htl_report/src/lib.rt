@@ -6,8 +6,10 @@
 
 mod address;
 mod answer;
+mod head;
 mod line;
 mod rows;
+mod tag;
 
 pub use answer::{Answer, text};
 

@@ -1,89 +1,11 @@
-ghost use Rattle.std.specs.Prelude.{◌≡◌, ◌++◌, ◌<◌, map, OnOk, string_bytes};
-ghost use Rattle.htl_report.specs.Lines.{balance, bad_line, count_part, counts, diff_head, event_line, leak_line, object_part, process_head, shown_byte, stack_line, stacks_head, tag_line, tags_head, trace_head, word_of};
+//! The lines of rows, without their stacks.
 
-use crate::address::write_padded;
+ghost use Rattle.std.specs.Prelude.{◌≡◌, ◌++◌, OnOk, string_bytes};
+ghost use Rattle.htl_report.specs.Lines.{bad_line, balance, counts, event_line, leak_line, stack_line, tag_line, word_of};
+
+use crate::tag::write_tag;
 use htl_event::{Count, Event, Kind};
 use std::alloc::AllocError;
-
-// ---- first lines
-
-#[tactic(auto, unfolding(crate::specs::Lines::process_head))]
-pub(crate) fn write_process_head(
-    out: &mut String,
-    word: &str,
-    process: u32,
-    count: usize,
-) -> Result<(), AllocError>
-    ensures { OnOk result (string_bytes out.new ≡ string_bytes out.old ++ process_head word.now process count) }
-{
-    writeln!(out, "{word} process={process} count={count}")
-}
-
-#[tactic(auto, unfolding(crate::specs::Lines::diff_head))]
-pub(crate) fn write_diff_head(
-    out: &mut String,
-    process: u32,
-    since: u64,
-    count: usize,
-) -> Result<(), AllocError>
-    ensures { OnOk result (string_bytes out.new ≡ string_bytes out.old ++ diff_head process since count) }
-{
-    writeln!(out, "diff process={process} since={since} count={count}")
-}
-
-#[tactic(auto, unfolding(crate::specs::Lines::trace_head))]
-pub(crate) fn write_trace_head(
-    out: &mut String,
-    process: u32,
-    handle: u32,
-    count: usize,
-) -> Result<(), AllocError>
-    ensures { OnOk result (string_bytes out.new ≡ string_bytes out.old ++ trace_head process handle count) }
-{
-    writeln!(
-        out,
-        "trace process={process} handle=0x{handle:x} count={count}"
-    )
-}
-
-pub(crate) fn write_tags_head(out: &mut String, object: u64, count: usize) -> Result<(), AllocError>
-    ensures { OnOk result (string_bytes out.new ≡ string_bytes out.old ++ tags_head object count) }
-{
-    write_object(out, "tags", object)?;
-    write_count(out, count)
-}
-
-pub(crate) fn write_stacks_head(
-    out: &mut String,
-    object: u64,
-    tag: &[u8],
-    count: usize,
-) -> Result<(), AllocError>
-    ensures { OnOk result (string_bytes out.new ≡ string_bytes out.old ++ stacks_head object tag.now count) }
-{
-    write_object(out, "stacks", object)?;
-    out.push_str(" tag=")?;
-    write_tag(out, tag)?;
-    write_count(out, count)
-}
-
-#[tactic(auto, unfolding(crate::specs::Lines::object_part))]
-fn write_object(out: &mut String, word: &str, object: u64) -> Result<(), AllocError>
-    ensures { OnOk result (string_bytes out.new ≡ string_bytes out.old ++ object_part word.now object) }
-{
-    out.push_str(word)?;
-    out.push_str(" object=0x")?;
-    write_padded(out, object)
-}
-
-#[tactic(auto, unfolding(crate::specs::Lines::count_part))]
-fn write_count(out: &mut String, count: usize) -> Result<(), AllocError>
-    ensures { OnOk result (string_bytes out.new ≡ string_bytes out.old ++ count_part count) }
-{
-    writeln!(out, " count={count}")
-}
-
-// ---- lines of rows
 
 #[tactic(auto, unfolding(crate::specs::Lines::event_line))]
 pub(crate) fn write_event(
@@ -175,25 +97,5 @@ fn write_balance(out: &mut String, count: Count) -> Result<(), AllocError>
         write!(out, "under={under}")
     } else {
         out.push_str("balanced")
-    }
-}
-
-fn write_tag(out: &mut String, tag: &[u8]) -> Result<(), AllocError>
-    ensures { OnOk result (string_bytes out.new ≡ string_bytes out.old ++ map shown_byte tag.now) }
-{
-    for byte in tag {
-        out.push(shown(*byte))?;
-    }
-    Ok(())
-}
-
-fn shown(byte: u8) -> char
-    ensures value { result ≡ shown_byte byte }
-    ensures ascii { result < 128 }
-{
-    if (0x20..=0x7e).contains(&byte) {
-        char::from(byte)
-    } else {
-        '.'
     }
 }

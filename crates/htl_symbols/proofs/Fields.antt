@@ -10,9 +10,11 @@ use Rattle.htl_symbols.specs.Rows.{Record, address_of, header, range_between, ra
 use Rattle.htl_symbols.specs.Steps.{columns_eq}
 use Rattle.htl_symbols.specs.declared.fault.SymbolFault.TheVariants as fault
 
+-- a record that lacks one of the first four fields hasn't four
 pub not-four : (fields : Record) (i : ℕ) → i < 4 → None ≡ field_at fields i → length fields ≢ 4
 not-four fields i low none four = field-there fields i (omega arith) (sym none)
 
+-- a record of four fields is these four
 pub four : (fields : Record) (a b c d : List ℕ) → length fields ≡ 4 → Some a ≡ field_at fields 0 → Some b ≡ field_at fields 1
     → Some c ≡ field_at fields 2 → Some d ≡ field_at fields 3 → fields ≡ a ∷ b ∷ c ∷ d ∷ []
 unfolding field_at
@@ -44,6 +46,7 @@ pub header-wrong : (fields : Record) → length fields ≢ 4 → fields ≢ head
 unfolding header
 header-wrong fields n same = n (ap length same)
 
+-- the test of the header's columns tells whether a record is the header
 pub columns-header : (fields : Record) (a b c d : List ℕ) → fields ≡ a ∷ b ∷ c ∷ d ∷ [] → Decides (columns_eq a b c d) (fields ≡ header)
 unfolding header
 columns-header fields a b c d is = (to, from)

@@ -5,7 +5,7 @@ use Rattle.std.specs.List.{Contains, list_any}
 use Rattle.std.specs.List.Sorted.{IsStrictlySortedBy}
 use Rattle.std.specs.Map.{keys_of}
 use Rattle.std.specs.Ordering.{nat_cmp}
-use Rattle.std.proofs.lemmas.Bool.{cases_lt, cases_order, le-ltb, lt-ltb, ne_eqb}
+use Rattle.std.proofs.lemmas.Bool.{cases_order, le-ltb, lt-ltb, ne_eqb}
 use Rattle.std.proofs.lemmas.List.{get_or-map, length-map}
 use Rattle.std.proofs.lemmas.List.Elements.{All-contains, Contains-get_or}
 use Rattle.std.proofs.lemmas.List.Sorted.{Contains-permutation, IsPermutation-cons, IsPermutation-refl, IsPermutation-swap, IsPermutation-sym, IsPermutation-trans}
@@ -13,9 +13,11 @@ use Rattle.std.proofs.lemmas.Map.Keys.{below_from_sorted}
 use Rattle.htl_symbols.specs.Ranges.{IsTable, Range, meets}
 use Rattle.htl_symbols.specs.Symbols.{range_of, ranges_of}
 use Rattle.htl_symbols.specs.declared.symbols.Symbol.{Symbol}
-use Rattle.htl_symbols.proofs.Members.{Contains-cons_cases, Contains-head, Contains-map, Contains-tail, list_any-true}
-use Rattle.htl_symbols.proofs.Tables.{apart, meets-true}
+use Rattle.htl_symbols.proofs.Members.{Contains-cons_cases, Contains-head, Contains-map, Contains-tail}
+use Rattle.htl_symbols.proofs.Begun.{apart}
+use Rattle.htl_symbols.proofs.Overlaps.{not-met}
 
+-- an entry of the map
 abbrev Entry : Type 0
 Entry = ℕ × Symbol
 
@@ -33,17 +35,6 @@ insert_entry-IsPermutation (e ∷ es) k v new = elim (cases_order k e.0) [
       (IsPermutation-swap ((k, v) ∷ e ∷ es) (e ∷ (k, v) ∷ es) 0 1 (omega arith) (omega arith) refl)
       (IsPermutation-cons e ((k, v) ∷ es) (insert_entry nat_cmp es k v) later)
       )
-]
-
--- a range that isn't met lies behind or before
-not-met : (table : List Range) (start end : ℕ) (r : Range) → list_any (meets start end) table ≡ false → Contains table r
-    → (end ≤ r.start) ⊎ (r.end ≤ start)
-not-met table start end r none listed = elim (cases_lt r.start end) [
-  | inr behind ↦ inl behind
-  | inl low ↦ elim (cases_lt start r.end) [
-    | inr before ↦ inr before
-    | inl high ↦ let met = list_any-true (meets start end) table r listed (meets-true start end r low high) in absurd (cc)
-  ]
 ]
 
 -- sorted entries that are filled and of which each ends before those that start later are a table
@@ -92,6 +83,7 @@ pub gains : (m n : BTreeMap ℕ Symbol) (start : ℕ) (v : Symbol) → IsOrdered
     → IsPermutation ((start, v) ∷ m.entries) n.entries
 gains m n start v o t some none e = rw e (insert_entry-IsPermutation m.entries start v (new-key m start v o t some none))
 
+-- and it is a table again
 pub IsTable-insert : (m n : BTreeMap ℕ Symbol) (start : ℕ) (v : Symbol) → IsOrdered nat_cmp m → IsOrdered nat_cmp n → IsTable (ranges_of m.entries)
     → start < v.end → list_any (meets start v.end) (ranges_of m.entries) ≡ false
     → n.entries ≡ insert_entry nat_cmp m.entries start v → IsTable (ranges_of n.entries)

@@ -1,8 +1,11 @@
 pub mod Members
-pub mod Tables
+pub mod Begun
+pub mod Resolving
+pub mod Overlaps
 pub mod Insertion
+pub mod Fields
+pub mod RecordEnds
 pub mod Records
 pub mod Reader
-pub mod Fields
 pub mod Adding
 pub mod Progress

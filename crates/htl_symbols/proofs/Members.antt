@@ -8,9 +8,11 @@ use Rattle.std.proofs.lemmas.List.Folds.{list_any_at}
 pub Contains-head : {X : Type 0} (x : X) (xs : List X) → Contains (x ∷ xs) x
 Contains-head x xs = (0, omega arith, refl)
 
+-- one of the later elements
 pub Contains-tail : {X : Type 0} (x : X) (xs : List X) (y : X) → Contains xs y → Contains (x ∷ xs) y
 Contains-tail x xs y (k, below, at) = (suc k, omega arith, at)
 
+-- there is no other
 pub Contains-cons_cases : {X : Type 0} (x : X) (xs : List X) (y : X) → Contains (x ∷ xs) y → (y ≡ x) ⊎ Contains xs y
 Contains-cons_cases x xs y (zero, below, at) = inl (sym at)
 Contains-cons_cases x xs y (suc k, below, at) = inr (k, omega arith, at)
@@ -22,6 +24,7 @@ Contains-map_cases f (x ∷ xs) y (zero, below, at) = (x, Contains-head x xs, at
 Contains-map_cases f (x ∷ xs) y (suc k, below, at) =
     let more = Contains-map_cases f xs y (k, omega arith, at) in (more.0, Contains-tail x xs more.0 more.1, more.2)
 
+-- what f gives of an element is an element of the mapped list
 pub Contains-map : {X Y : Type 0} (f : X → Y) (xs : List X) (x : X) → Contains xs x → Contains (map f xs) (f x)
 Contains-map f [] x (k, below, at) = absurd (omega arith)
 Contains-map f (y ∷ ys) x (zero, below, at) = rw (sym at) (Contains-head (f y) (map f ys))
@@ -39,13 +42,16 @@ find-only p (y ∷ ys) x listed passes only = elim (cases_Bool (p y)) [
   ]
 ]
 
+-- where no element passes, none is found
 pub find-none : {X : Type 0} (p : X → Bool) (xs : List X) → ((y : X) → Contains xs y → p y ≡ false) → find p xs ≡ None
 find-none p [] fails = refl
 find-none p (y ∷ ys) fails = rw (fails y (Contains-head y ys)) (find-none p ys (λ z there. fails z (Contains-tail y ys z there)))
 
+-- one element that passes is enough
 pub list_any-true : {X : Type 0} (p : X → Bool) (xs : List X) (x : X) → Contains xs x → p x ≡ true → list_any p xs ≡ true
 list_any-true p xs x (k, below, at) passes = list_any_at p xs k x below (rw at passes)
 
+-- no element passes
 pub list_any-false : {X : Type 0} (p : X → Bool) (xs : List X) → ((y : X) → Contains xs y → p y ≡ false) → list_any p xs ≡ false
 list_any-false p [] fails = refl
 list_any-false p (y ∷ ys) fails = rw (fails y (Contains-head y ys)) (list_any-false p ys (λ z there. fails z (Contains-tail y ys z there)))

@@ -1,5 +1,5 @@
 -- How far the reading of a table's rows has come.
-use Rattle.std.proofs.Common.{◌≡◌, ◌<◌, ◌+◌, ℕ, Bool, true, false, List, [], ◌∷◌, ◌++◌, length, map, refl, sym, ap, ◌∙◌, arith, IsPermutation, append_assoc, length-append, inr, get_or, ltb, add-zero, add_comm, append-nil}
+use Rattle.std.proofs.Common.{◌≡◌, ◌<◌, ◌+◌, ℕ, Bool, true, false, List, [], ◌∷◌, ◌++◌, length, map, refl, sym, ap, ◌∙◌, arith, IsPermutation, append_assoc, length-append, get_or, ltb, add-zero, add_comm}
 use Rattle.std.specs.Prelude.{Ok, Err, Result}
 use Rattle.std.specs.List.{enumerate_from, list_any}
 use Rattle.std.proofs.Math.Bool.{and_comm}
@@ -8,7 +8,7 @@ use Rattle.std.proofs.lemmas.List.{map-append}
 use Rattle.std.proofs.lemmas.List.Folds.{list_any_at}
 use Rattle.std.proofs.lemmas.List.Elements.{All-push}
 use Rattle.std.proofs.lemmas.List.Quantifiers.{all_pairs_push}
-use Rattle.std.proofs.lemmas.List.Sorted.{IsPermutation-push_more, IsPermutation-refl, list_any-IsPermutation}
+use Rattle.std.proofs.lemmas.List.Sorted.{IsPermutation-push_more, list_any-IsPermutation}
 use Rattle.csv.specs.Records.{AllText}
 use Rattle.htl_symbols.specs.Ranges.{IsTable, Range, overlap}
 use Rattle.htl_symbols.specs.Reading.{Reads, StopsAt, WriteRanges, WritesNone}
@@ -67,6 +67,7 @@ WriteRanges-push rows ranges fields r right text written none =
 any-written : (r : Range) (ranges table : List Range) (b : Bool) → IsPermutation ranges table → list_any (overlap r) table ≡ b → list_any (overlap r) ranges ≡ b
 any-written r ranges table b moved any = list_any-IsPermutation (overlap r) ranges table moved ∙ any
 
+-- a row that is added is one more
 pub progress-goes : (all : List Record) (number : ℕ) (a b : SliceReader) (old new : List Range) (fields : Record) (u : Unit {0})
     → Progress all number a old → RecordRead number a b fields (Ok true) → RowAdded (number, fields) old new (Ok u) → Progress all (number + 1) b new
 progress-goes all number a b old new fields u p read added =
@@ -96,12 +97,14 @@ stops all number a table bad later IsFaulty p left fault = record {
   fault = fault;
 }
 
+-- a row that writes no range ends the reading
 writes-none : (all : List Record) (number : ℕ) (a : SliceReader) (old : List Range) (fields : Record) (n : ℕ) (fault : SymbolFault)
     → Progress all number a old → (later : List Record) → records_left a ≡ fields ∷ later → AllText fields
     → WritesNothing (number, fields) n fault → WritesNone (header ∷ all) n fault
 writes-none all number a old fields n fault p later left text failed =
     rw failed.0 (stops all number a old fields later (λ _ bad. AllText bad × (range_of_row (number, bad) ≡ Err fault)) p left (text, failed.1))
 
+-- and so does any row that isn't added
 pub progress-fails : (all : List Record) (number : ℕ) (a b : SliceReader) (old new : List Range) (fields : Record) (fault : SymbolFault)
     → Progress all number a old → RecordRead number a b fields (Ok true) → RowAdded (number, fields) old new (Err fault) → Reads (header ∷ all) (Err fault)
 progress-fails all number a b old new fields (Overlap n) p read failed =

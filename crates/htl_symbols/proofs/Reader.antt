@@ -16,8 +16,10 @@ use Rattle.csv.specs.declared.error.ErrorKind.TheVariants as k
 use Rattle.std.specs.declared.io.Error.{Error as IoError}
 use Rattle.htl_symbols.specs.declared.fault.SymbolFault.TheVariants as fault
 use Rattle.csv.proofs.ReadFacts.{rows-end}
-use Rattle.htl_symbols.proofs.Records.{length-strip_bom, next-starts, records-few, records-more, records-none}
+use Rattle.htl_symbols.proofs.RecordEnds.{next-starts}
+use Rattle.htl_symbols.proofs.Records.{length-strip_bom, records-few, records-more, records-none}
 
+-- the bytes left, if they are known
 abbrev source : SliceReader → Option (List ℕ)
 source reader = source_of (λ s. Some s.now) reader
 
@@ -47,6 +49,7 @@ took-first a k f t at r =
     let some = reads-some a.state (bytes_left a) k f t (rw (at.config, known-bytes a at.known) at r) in
     (some.0, some.1, next-starts a.state [] [] (bytes_left a) (f, t, some.0) some.2, records-more a.state (bytes_left a) (f, t, some.0) at.start some.2)
 
+-- a read that found a record
 read-found : (number : ℕ) (a b : SliceReader) (f : Record) → IsAtRecord a → ReadRecord (λ s. Some s.now) a b true f
     → is_flexible b ≡ is_flexible a → took_first b ≡ true → AllText f → RecordRead number a b f (Ok true)
 unfolding records_left
@@ -65,6 +68,7 @@ read-found number a b f at r flexible first text =
       text,
     )
 
+-- a read that found none
 read-end : (number : ℕ) (a b : SliceReader) (f : Record) → IsAtRecord a → ReadRecord (λ s. Some s.now) a b false f → RecordRead number a b f (Ok false)
 unfolding records_left
 read-end number a b f at r =
@@ -92,6 +96,7 @@ pub records_left-fresh : (reader : SliceReader) (bytes : List ℕ) → reader_st
 unfolding records_left records_of
 records_left-fresh reader bytes state left = rw (left, state) refl
 
+-- the records of a text are no more than its bytes
 pub length-records_of : (bytes : List ℕ) → length (records_of bytes) ≤ length bytes
 unfolding records_of
 length-records_of bytes =

@@ -8,6 +8,7 @@ pub record Range : Type 0 where
   pub «module» : List ℕ
   pub name : List ℕ
 
+-- an address is in a range
 abbrev pub has : ℕ → Range → Bool
 has address r = nat_le r.start address && nat_lt address r.end
 
@@ -19,6 +20,7 @@ resolved table address = option_map (λ r. (r.module, r.name, address - r.start)
 abbrev pub meets : ℕ → ℕ → Range → Bool
 meets start end r = nat_lt r.start end && nat_lt start r.end
 
+-- two ranges have an address in common
 abbrev pub overlap : Range → Range → Bool
 overlap a b = meets a.start a.end b
 

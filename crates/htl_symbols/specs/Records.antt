@@ -8,6 +8,7 @@ use Rattle.csv.specs.declared.reader.Reader.{Reader}
 use Rattle.csv.specs.declared.reader.Trim.TheVariants as trim
 use Rattle.htl_symbols.specs.Rows.{Record}
 
+-- a reader of bytes in memory
 abbrev pub SliceReader : Type 0
 SliceReader = Reader (Bor (List ℕ))
 

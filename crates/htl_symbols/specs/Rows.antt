@@ -13,6 +13,7 @@ Record = List (List ℕ)
 unfoldable pub header : Record
 header = codes "start" ∷ codes "end" ∷ codes "module" ∷ codes "name" ∷ []
 
+-- an address as a row writes it
 abbrev pub address_of : List ℕ → Option ℕ
 address_of text = hexadecimal_number (2 ^ 64 - 1) text
 

@@ -8,6 +8,7 @@ use Rattle.htl_symbols.specs.Ranges.{Range}
 abbrev pub range_of : ℕ × Symbol → Range
 range_of e = record { start = e.0; end = e.1.end; «module» = string_bytes e.1.module; name = string_bytes e.1.name }
 
+-- all entries
 abbrev pub ranges_of : List (ℕ × Symbol) → List Range
 ranges_of entries = map range_of entries
 

@@ -1,10 +1,6 @@
 use Rattle.std.proofs.Common.{rules, sym, ◌∙◌}
-use Rattle.htl_numbers.proofs.Digits.{number-read, number-refused}
+use Rattle.htl_numbers.proofs.Digits.{number-refused}
 use Rattle.htl_numbers.proofs.number.Goals as goal
-
-pub returns-in-Ok-clause-value : goal.returns-in-Ok-clause-value
-returns-in-Ok-clause-value c =
-    number-read c.args.radix c.args.most c.in-Ok.number c.args.text.now (search rules) (sym c.all_digits.ensures ∙ c.if-not-all_digits.false) (rw c.in-Ok.is at c.from_str_radix.ensures.value) c.if-number-most.true
 
 pub returns-in_default-2-clause-value : goal.returns-in_default-2-clause-value
 returns-in_default-2-clause-value c =

@@ -1,6 +1,6 @@
 use Rattle.std.proofs.Common.{sym}
 use Rattle.std.proofs.lemmas.Map.Keys.{le_from_not_gt, ge_from_not_lt}
-use Rattle.htl_symbols.proofs.Tables.{IsLastBegun-from_map, begin-after_from_map, not_gt_from_le}
+use Rattle.htl_symbols.proofs.Begun.{IsLastBegun-from_map, begin-after_from_map, not_gt_from_le}
 use Rattle.htl_symbols.proofs.symbols.Symbols.last_begun.Goals as goal
 
 pub returns-in_err-start-clause-last : goal.returns-in_err-start-clause-last

@@ -1,4 +1,4 @@
-use Rattle.htl_symbols.proofs.Tables.{any-met, none-met}
+use Rattle.htl_symbols.proofs.Overlaps.{any-met, none-met}
 use Rattle.htl_symbols.proofs.symbols.Symbols.overlaps.Goals as goal
 
 pub returns-in-Some : goal.returns-in-Some

@@ -1,5 +1,5 @@
 use Rattle.std.proofs.Common.{sym}
-use Rattle.htl_symbols.proofs.Tables.{resolved-before, resolved-inside, resolved-outside}
+use Rattle.htl_symbols.proofs.Resolving.{resolved-before, resolved-inside, resolved-outside}
 use Rattle.htl_symbols.proofs.symbols.Symbols.resolve.Goals as goal
 
 pub returns-in_err-start-clause-value : goal.returns-in_err-start-clause-value

@@ -1,4 +1,4 @@
-ghost use Rattle.std.specs.Prelude.{◌≡◌, ◌++◌, Some, IfOk, OnOk};
+ghost use Rattle.std.specs.Prelude.{◌≡◌, ◌+◌, ◌≤◌, ◌++◌, length, Some, IfOk, OnOk};
 ghost use Rattle.std.specs.FinMap.Entries.{find};
 ghost use Rattle.htl_sorted.specs.Entries.{IsSorted, entries, joined_at};
 
@@ -68,7 +68,11 @@ pub fn merge<L: Joined, A: Allocator>(
 }
 
 /// How many keys the two lists have, so that a merged list may grow once.
-pub fn merged_len<L: Keyed>(left: &[L::Row], right: &[L::Row]) -> usize {
+pub fn merged_len<L: Keyed>(left: &[L::Row], right: &[L::Row]) -> usize
+    ensures left { length left.now ≤ result }
+    ensures right { length right.now ≤ result }
+    ensures both { result ≤ length left.now + length right.now }
+{
     let mut shared = 0;
     let mut i = 0;
     let mut j = 0;

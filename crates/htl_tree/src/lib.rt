@@ -5,6 +5,7 @@
 #![tactic(auto)]
 
 mod compare;
+pub mod laws;
 mod listing;
 mod node;
 mod order;

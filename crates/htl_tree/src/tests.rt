@@ -127,7 +127,14 @@ fn refused_at(rt: &impl Abort, heap: &LocalHeap) -> Result<(), NoMemory> {
     assert!(rt; copy.fits(1));
     let added = copy.add(SLOT, Sign::Plus, &stack(&[0x50, 0x10]));
     assert!(rt; added.is_ok() || copy.same(&tree));
-    added
+    added?;
+    let events = [
+        event(Kind::Deref, stack(&[])),
+        event(Kind::Ref, stack(&Y)),
+        event(Kind::Ref, stack(&X)),
+    ];
+    assert!(rt; StackTree::of(heap, &events)?.same(&tree));
+    Ok(())
 }
 
 #[test]

@@ -34,6 +34,7 @@ impl<A: Allocator> StackTree<A> {
     ghost use Rattle.htl_event.specs.declared.event.Event.{Event};
     ghost use Rattle.htl_event.specs.Tallies.{under};
 
+    /// The tree that counts nothing. It takes no memory before the first count.
     pub fn new(alloc: A) -> Self
         ensures { result ≡ [] }
     {
@@ -44,7 +45,8 @@ impl<A: Allocator> StackTree<A> {
         }
     }
 
-    /// The tally of the events, whatever their order.
+    /// The tally of the events, whatever their order. The events are sorted by reference, and nothing is
+    /// moved or copied but addresses.
     pub fn of(alloc: A, events: &[Event]) -> Result<Self, NoMemory>
     where
         A: Clone,
@@ -93,6 +95,7 @@ impl<A: Allocator> StackTree<A> {
         under_root(&self.root, path, slot)
     }
 
+    /// Whether both trees count the same. Equal tallies have one tree.
     pub fn same(&self, other: &Self) -> bool
         ensures tally { IsTrue result ↔ IsSameTally self.now other.now }
         ensures equal { IsTrue result ↔ (self.now ≡ other.now) }
@@ -100,6 +103,7 @@ impl<A: Allocator> StackTree<A> {
         same_roots(&self.root, &other.root)
     }
 
+    /// An equal tree, under a clone of this one's allocator.
     pub fn copy(&self) -> Result<Self, NoMemory>
     where
         A: Clone,
@@ -113,7 +117,8 @@ impl<A: Allocator> StackTree<A> {
         })
     }
 
-    /// The tree that counts what both trees count, made in one pass over both.
+    /// The tree that counts what both trees count, under a clone of this one's allocator. It is made in
+    /// one pass over both.
     pub fn plus(&self, other: &Self) -> Result<Self, NoMemory>
     where
         A: Clone,
@@ -129,7 +134,7 @@ impl<A: Allocator> StackTree<A> {
         })
     }
 
-    /// Counts one more.
+    /// Counts one more. A branch that isn't there is built apart and attached by one growth.
     pub fn add(&mut self, slot: Slot, sign: Sign, stack: &Stack) -> Result<(), NoMemory>
     where
         A: Clone,

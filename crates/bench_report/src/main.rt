@@ -4,12 +4,11 @@
 #![tactic(auto)]
 
 mod input;
-mod stopwatch;
 
+use bench_clock::Stopwatch;
 use htl_report::{Answer, text};
 use htl_symbols::Symbols;
 use std::env;
-use stopwatch::Stopwatch;
 
 /// The number of rows where no argument tells another.
 const FEW: u32 = 1000;
@@ -26,7 +25,8 @@ fn main(rt: HostRuntime) -> anyhow::Result<()> {
     };
     let mut watch = Stopwatch::start(&rt)?;
     let symbols = Symbols::read(rt.alloc(), table.as_bytes())?;
-    watch.lap("symbol table", table.len())?;
+    watch.lap("bytes of a symbol table", table.len() as u64)?;
     let printed = text(rt.alloc(), &answer, &symbols)?;
-    watch.lap("text", printed.len())
+    watch.lap("bytes of text", printed.len() as u64)?;
+    Ok(())
 }

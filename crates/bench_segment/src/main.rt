@@ -2,12 +2,11 @@
 //! to standard output and the speeds to standard error.
 #![tactic(auto)]
 
+use bench_clock::Stopwatch;
 use htl_event::{Event, Kind, NoMemory, Stack};
 use htl_segment::{Fault, Segment, SegmentBytes, Splitter, decode, decode_bundle, encode};
 use std::alloc::Global;
 use std::process::ExitCode;
-use std::rt::Clock;
-use std::time::Instant;
 use std::{env, io};
 
 /// The events of one segment, with 0 to 30 frames each.
@@ -92,11 +91,6 @@ fn in_pieces(alloc: Global, bytes: &[u8], len: usize) -> Result<u64, (u64, Fault
     Ok(segments)
 }
 
-fn report(rt: &(impl Eprint + Clock), name: &str, len: usize, start: Instant) -> io::Result<()> {
-    let micros = start.elapsed(rt)?.as_micros().max(1);
-    eprintln!(rt; "{name}: {} MB/s", len as u128 / micros)
-}
-
 fn main(rt: HostRuntime) -> io::Result<ExitCode> {
     let alloc = rt.alloc();
     let mut words = env::args(&rt)?.skip(1);
@@ -107,28 +101,28 @@ fn main(rt: HostRuntime) -> io::Result<ExitCode> {
     let Ok(bytes) = bundle(alloc, count) else {
         return Ok(ExitCode::FAILURE);
     };
-    let len = bytes.len();
+    let len = bytes.len() as u64;
+    let mut watch = Stopwatch::start(&rt)?;
 
-    let start = Instant::now(&rt)?;
     let events = one_by_one(alloc, &bytes, count).unwrap_or(0);
-    report(&rt, "decode and drop", len, start)?;
-    println!(rt; "events={events}")?;
+    watch.lap("bytes decoded, the events dropped", len)?;
+    println!(rt; "events: {events}")?;
 
-    let start = Instant::now(&rt)?;
+    watch.restart()?;
     let kept = decode_bundle(alloc, &bytes).map_or(0, |segments| segments.len());
-    report(&rt, "decode_bundle, kept", len, start)?;
-    println!(rt; "segments={kept}")?;
+    watch.lap("bytes decoded, the events kept", len)?;
+    println!(rt; "segments: {kept}")?;
 
-    let start = Instant::now(&rt)?;
+    watch.restart()?;
     let sum = in_place(&bytes, count).unwrap_or(0);
-    report(&rt, "records in place", len, start)?;
-    println!(rt; "sum={sum}")?;
+    watch.lap("bytes read in place", len)?;
+    println!(rt; "sum of the frames' bytes: {sum}")?;
 
     for piece in [65_536, 1] {
-        let start = Instant::now(&rt)?;
+        watch.restart()?;
         let segments = in_pieces(alloc, &bytes, piece).unwrap_or(0);
-        report(&rt, "pieces", len, start)?;
-        println!(rt; "piece={piece} segments={segments}")?;
+        watch.lap("bytes split", len)?;
+        println!(rt; "segments in pieces of {piece}: {segments}")?;
     }
     Ok(ExitCode::SUCCESS)
 }

@@ -1,4 +1,4 @@
-use crate::stopwatch::Stopwatch;
+use bench_clock::Stopwatch;
 use htl_event::{Event, Kind, MAX_FRAMES, Stack};
 use htl_tables::{Exits, Latest};
 use std::alloc::Global;
@@ -59,7 +59,8 @@ pub fn join_tables(
     let joined = left.join(&right)?;
     watch.lap("tables joined", joined.rows().len() as u64)?;
     let same = joined.same(&right);
-    watch.lap("tables compared", same as u64)
+    watch.lap("tables compared", same as u64)?;
+    Ok(())
 }
 
 /// Makes a table of a list in mixed order.
@@ -75,7 +76,8 @@ pub fn make_table(
     }
     watch.lap("events listed", events.len() as u64)?;
     let table = Latest::of(alloc, &events)?;
-    watch.lap("table of the list", table.rows().len() as u64)
+    watch.lap("table of the list", table.rows().len() as u64)?;
+    Ok(())
 }
 
 /// Notes exits in order of process, and joins the table with one that is as large.
@@ -93,5 +95,6 @@ pub fn join_exits(
     }
     watch.lap("exits noted", exits.rows().len() as u64)?;
     let joined = exits.join(&exits)?;
-    watch.lap("exits joined", joined.rows().len() as u64)
+    watch.lap("exits joined", joined.rows().len() as u64)?;
+    Ok(())
 }

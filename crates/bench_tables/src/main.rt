@@ -4,10 +4,9 @@
 
 mod events;
 mod numbers;
-mod stopwatch;
 
+use bench_clock::Stopwatch;
 use std::env;
-use stopwatch::Stopwatch;
 
 /// The size where no argument tells another.
 const SMALL: u32 = 1000;

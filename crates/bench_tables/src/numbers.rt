@@ -1,6 +1,6 @@
 ghost use Rattle.std.specs.Prelude.{◌≡◌, ◌<◌, length, IfOk};
 
-use crate::stopwatch::Stopwatch;
+use bench_clock::Stopwatch;
 use htl_event::NoMemory;
 use htl_taken::Taken;
 use std::alloc::Global;
@@ -16,7 +16,8 @@ pub fn settle_run(
     taken.insert(0, 0)?;
     watch.lap("numbers inserted", taken.len())?;
     taken.settle(0);
-    watch.lap("numbers settled", taken.front(0) as u64)
+    watch.lap("numbers settled", taken.front(0) as u64)?;
+    Ok(())
 }
 
 /// Unites the even numbers with the odd ones.
@@ -35,7 +36,8 @@ pub fn unite_halves(
     let copy = union.copy()?;
     watch.lap("union copied", copy.len())?;
     let same = copy.same(&union);
-    watch.lap("union compared", same as u64)
+    watch.lap("union compared", same as u64)?;
+    Ok(())
 }
 
 /// The loose numbers of one processor, from the first one upwards.

@@ -3,12 +3,12 @@
 #![tactic(auto)]
 
 use anyhow::{Context, Result};
+use bench_clock::Stopwatch;
 use htl_event::{Event, Kind, NoMemory, Sign, Slot, Stack};
 use htl_tree::StackTree;
 use std::alloc::Global;
 use std::env;
 use std::rt::{Clock, Env};
-use std::time::Instant;
 
 /// Which slots and stacks are counted.
 #[derive(Clone, Copy)]
@@ -108,51 +108,60 @@ fn events(alloc: Global, shape: Shape, numbers: u64) -> Result<Vec<Event>, NoMem
     Ok(events)
 }
 
-fn measure<R: Alloc<A = Global> + Print + Eprint + Clock>(
+/// Fills a tree in order, and copies, compares, doubles and lists it.
+fn measure_filled<R: Alloc<A = Global> + Print + Eprint + Clock>(
     rt: &R,
     shape: Shape,
     numbers: u64,
 ) -> Result<()> {
     let name = shape.name();
-    let start = Instant::now(rt)?;
+    let mut watch = Stopwatch::start(rt)?;
     let tree = filled(rt.alloc(), shape, numbers)?;
-    let added = start.elapsed(rt)?.as_millis();
-    let start = Instant::now(rt)?;
+    watch.lap(&format!(in rt.alloc(); "{name}: counts added")?, numbers)?;
     let copy = tree.copy()?;
-    let copied = start.elapsed(rt)?.as_millis();
-    let start = Instant::now(rt)?;
+    watch.lap(
+        &format!(in rt.alloc(); "{name}: counts copied")?,
+        copy.total(),
+    )?;
     let same = tree.same(&copy);
-    let compared = start.elapsed(rt)?.as_millis();
-    let start = Instant::now(rt)?;
-    let total = if tree.fits(copy.total()) {
-        tree.plus(&copy)?.total()
-    } else {
-        0
-    };
-    let summed = start.elapsed(rt)?.as_millis();
-    let start = Instant::now(rt)?;
+    watch.lap(
+        &format!(in rt.alloc(); "{name}: trees compared")?,
+        u64::from(same),
+    )?;
+    if tree.fits(copy.total()) {
+        let sum = tree.plus(&copy)?;
+        watch.lap(
+            &format!(in rt.alloc(); "{name}: counts of both")?,
+            sum.total(),
+        )?;
+    }
     let slots = tree.slots(rt.alloc())?.len();
-    let listed = start.elapsed(rt)?.as_millis();
-    println!(rt; "{name} counts={numbers} total={total} slots={slots} same={same}")?;
-    eprintln!(rt;
-        "{name} counts={numbers} add={added} copy={copied} same={compared} plus={summed} slots={listed} ms"
+    watch.lap(
+        &format!(in rt.alloc(); "{name}: slots listed")?,
+        slots as u64,
     )?;
     Ok(())
 }
 
-fn measure_of<R: Alloc<A = Global> + Print + Eprint + Clock>(
+/// Makes a tree of events in mixed order, and compares it with one that was filled in order.
+fn measure_made<R: Alloc<A = Global> + Print + Eprint + Clock>(
     rt: &R,
     shape: Shape,
     numbers: u64,
 ) -> Result<()> {
     let name = shape.name();
     let events = events(rt.alloc(), shape, numbers)?;
-    let start = Instant::now(rt)?;
+    let mut watch = Stopwatch::start(rt)?;
     let tree = StackTree::of(rt.alloc(), &events)?;
-    let made = start.elapsed(rt)?.as_millis();
+    watch.lap(
+        &format!(in rt.alloc(); "{name}: events made a tree")?,
+        tree.total(),
+    )?;
     let same = tree.same(&filled(rt.alloc(), shape, numbers)?);
-    println!(rt; "{name} events={numbers} same={same}")?;
-    eprintln!(rt; "{name} events={numbers} of={made} ms")?;
+    watch.lap(
+        &format!(in rt.alloc(); "{name}: tree filled and compared")?,
+        u64::from(same),
+    )?;
     Ok(())
 }
 
@@ -166,10 +175,10 @@ fn number_of<R: Env + Alloc<A = Global>>(rt: &R) -> Result<u64> {
 fn main(rt: HostRuntime) -> Result<()> {
     let numbers = number_of(&rt)?;
     for shape in [Shape::Deep, Shape::Wide] {
-        measure(&rt, shape, numbers / 4)?;
-        measure(&rt, shape, numbers)?;
-        measure_of(&rt, shape, numbers / 16)?;
-        measure_of(&rt, shape, numbers / 4)?;
+        measure_filled(&rt, shape, numbers / 4)?;
+        measure_filled(&rt, shape, numbers)?;
+        measure_made(&rt, shape, numbers / 16)?;
+        measure_made(&rt, shape, numbers / 4)?;
     }
     Ok(())
 }

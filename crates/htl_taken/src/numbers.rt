@@ -33,8 +33,8 @@ pub(crate) fn skip_below(numbers: &[u32], least: u32) -> &[u32]
     &numbers[start..]
 }
 
-#[tactic(auto, using(crate::proofs::Rising::next_below))]
 /// The first number from `start` on that a rising list, which has none below `start`, doesn't have.
+#[tactic(auto, using(crate::proofs::Rising::next_below))]
 pub(crate) fn reach_over(numbers: &[u32], start: u32) -> u32
     requires { Rises start MAX_FRONT numbers.now }
     ensures value { result ≡ reach_from start numbers.now }

@@ -119,9 +119,6 @@ pub begins_long : (b : List ℕ) (n : ℕ) (s : Content) → BeginsWith b n s �
 begins_long b n s front =
     omega (arith, ap length front.spells.bytes, length-take n b, front.inside, length-append (header_bytes s (length (records s.events))) (records s.events), length-header_bytes s (length (records s.events)))
 
-pub splits_nothing : (b : List ℕ) (old : List Content) → SplitsMore b old old b
-splits_nothing b old = record { more = []; pushed = sym (append-nil old); splits = record { parts = refl; fits = All-nil Fits } }
-
 pub splits_one : (b : List ℕ) (old new : List Content) (rest : List ℕ) (n : ℕ) (s : Content) → SplitsMore b old new rest → BeginsWith rest n s → SplitsMore b old (new ++ s ∷ []) (drop n rest)
 splits_one b old new rest n s so_far front = record {
   more = so_far.more ++ s ∷ [];

@@ -63,13 +63,6 @@ pub length-bytes_of : (n x : ℕ) → length (bytes_of n x) ≡ n
 unfolding bytes_of
 length-bytes_of n x = length-bytes_low_first 0 n x
 
--- a number that stands at a place is read there
-pub number_in : (front : List ℕ) (n x : ℕ) (rest : List ℕ) (place : ℕ) → length front ≡ place → x < 256 ^ n → number place n (front ++ (bytes_of n x ++ rest)) ≡ x
-unfolding number bytes_of
-number_in front n x rest place len lt =
-    let e : drop place (front ++ (bytes_of n x ++ rest)) ≡ bytes_of n x ++ rest = rw (← len) (drop-append_seam front (bytes_of n x ++ rest)) in
-    ap (little_from 0 n) e ∙ little_number-reads_back n x rest lt
-
 -- two lists of bytes of one length and one number are equal
 pub bytes_from_number : (a b : List ℕ) → IsBytes a → IsBytes b → length a ≡ length b → number 0 (length a) a ≡ number 0 (length a) b → a ≡ b
 bytes_from_number a b sa sb len same =

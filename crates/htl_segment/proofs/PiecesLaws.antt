@@ -104,14 +104,6 @@ is_rest old new long none extends fewer =
     let made : IsRest (old ++ extends.more) = record { cut_off = inr (header_fault-append old extends.more long ∙ none, less) } in
     rw extends.is made
 
--- what is held with a header has one without a fault, and less than it tells
-pub has_header : (b : List ℕ) → IsRest b → 32 ≤ length b → (header_fault b ≡ None) × (length b < length_in b)
-has_header b rest long =
-    elim (rest.cut_off) [
-      | inl short ↦ absurd (omega (arith, short, long))
-      | inr cut ↦ cut
-    ]
-
 pub used_up : (old piece new left : List ℕ) → old ++ piece ≡ new ++ left → left ≡ [] → new ≡ old ++ piece
 used_up old piece new left same nothing = sym (append-nil new) ∙ ap (λ (x : List ℕ). new ++ x) (sym nothing) ∙ sym same
 

@@ -18,7 +18,7 @@ use Rattle.htl_event.specs.declared.kind.Kind.TheVariants.{Opened, Closed, BadRe
 use Rattle.htl_event.specs.Slots.{base_of}
 use Rattle.htl_event.specs.Members.{IsRising}
 use Rattle.htl_event.specs.Handles.{IsLatest, LatestIs, IsLastExit, IsOpen, ByBase, IsOutstanding, HaveOwnSequences}
-use Rattle.htl_event.proofs.Members.{Contains-here, Contains-there, Contains-cases, Contains-nil, each_member, Contains-filter, Contains-from_filter, filter-pass, filter-skip}
+use Rattle.htl_event.proofs.Members.{each_member, Contains-map, Contains-from_map, Contains-filter, Contains-from_filter, filter-pass, filter-skip}
 use Rattle.htl_event.proofs.Determined.{IsGreatestSequence-unique, one_event}
 use Rattle.htl_handles.specs.Survivors.{is_opened, survives, survivors}
 
@@ -36,24 +36,6 @@ opened_is Snapshot e = cc
 opened_is Ref e = cc
 opened_is Deref e = cc
 opened_is Exited e = cc
-
--- ---- members of a mapped list
-
-Contains-map : {X Y : Type 0} (f : X → Y) (xs : List X) (x : X) → Contains xs x → Contains (map f xs) (f x)
-Contains-map f [] x h = absurd (Contains-nil x h)
-Contains-map f (z ∷ xs) x h =
-    elim (Contains-cases z xs x h) [
-      | inl is ↦ subst (λ w. Contains (map f (z ∷ xs)) (f w)) is (Contains-here (f z) (map f xs))
-      | inr there ↦ Contains-there (f z) (map f xs) (f x) (Contains-map f xs x there)
-    ]
-
-Contains-from_map : {X Y : Type 0} (f : X → Y) (xs : List X) (y : Y) → Contains (map f xs) y → (x : X) × Contains xs x × (f x ≡ y)
-Contains-from_map f [] y h = absurd (Contains-nil y h)
-Contains-from_map f (z ∷ xs) y h =
-    elim (Contains-cases (f z) (map f xs) y h) [
-      | inl is ↦ (z, Contains-here z xs, is)
-      | inr there ↦ let r = Contains-from_map f xs y there in (r.0, Contains-there z xs r.0 r.1, r.2)
-    ]
 
 -- ---- in order
 

@@ -9,7 +9,7 @@ pub mod EventsIn
 pub mod Traces
 pub mod Sequences
 pub mod BuildingLaws
-pub mod EventsEqual
+pub mod ContentsEqual
 pub mod BundleLaws
 pub mod Extended
 pub mod PiecesLaws

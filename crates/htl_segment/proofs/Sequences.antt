@@ -1,5 +1,5 @@
 -- The sequences of a segment's events differ, since they rise.
-use Rattle.std.proofs.Common.{◌≡◌, ◌≢◌, ℕ, ◌<◌, List, [], ◌∷◌, arith}
+use Rattle.std.proofs.Common.{◌≢◌, ℕ, ◌<◌, List, [], ◌∷◌, arith}
 use Rattle.std.specs.List.{AllByRecursion}
 use Rattle.htl_event.specs.declared.event.Event.{Event}
 use Rattle.htl_event.specs.Handles.{HaveOwnSequences}

@@ -1,7 +1,8 @@
 use Rattle.std.proofs.Common.{◌≡◌, refl, sym, ap, ◌∙◌, Decides}
 use Rattle.std.proofs.lemmas.Slice.Eq.{slice_eq-Decides}
 use Rattle.htl_segment.specs.Content.{Content}
-use Rattle.htl_segment.proofs.EventsEqual.{events_decide, same_content}
+use Rattle.htl_event.proofs.EventsEqual.{events_decide}
+use Rattle.htl_segment.proofs.ContentsEqual.{same_content}
 use Rattle.htl_segment.proofs.segment.Segment.same.Goals as goal
 
 pub returns-then-same_header : goal.returns-then-same_header

@@ -25,6 +25,7 @@ impl Event {
     ghost use Rattle.htl_event.specs.Slots.{slot_of};
     ghost use Rattle.htl_event.specs.Ranges.{InRange};
 
+    /// An equal event. It takes no memory.
     pub fn copy(&self) -> Event
         ensures { result ≡ self.now }
     {

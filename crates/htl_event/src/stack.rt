@@ -26,6 +26,7 @@ impl Model for Stack {
 }
 
 impl Stack {
+    /// A stack with no address.
     pub fn new() -> Stack
         ensures { result ≡ [] }
     {
@@ -42,6 +43,7 @@ impl Stack {
         self.frames.try_push(address).is_ok()
     }
 
+    /// The addresses, the innermost call first.
     pub fn frames(&self) -> &[u64]
         ensures value { result.now ≡ self.now }
         ensures fits { length result.now ≤ MAX_FRAMES }
@@ -49,6 +51,7 @@ impl Stack {
         self.frames.as_slice()
     }
 
+    /// An equal stack. It takes no memory.
     pub fn copy(&self) -> Stack
         ensures { result ≡ self.now }
     {

@@ -7,7 +7,7 @@ use Rattle.htl_segment.specs.Content.{Content}
 use Rattle.htl_segment.specs.Hexadecimal.{hex_fault, WritesBytes}
 use Rattle.htl_segment.specs.Spelling.{Spells}
 use Rattle.htl_segment.specs.Faults.{first_fault}
-use Rattle.htl_report.specs.Lines.{process_head}
+use Rattle.htl_report.specs.Heads.{process_head}
 use Rattle.htl_report.specs.Texts.{open_lines}
 use Rattle.htl_device.specs.Devices.{AppendsPrefix}
 use Rattle.htl_main.specs.declared.fault.RunFault.{RunFault}

@@ -59,6 +59,7 @@ impl Segment {
         self.version.number()
     }
 
+    /// The number that all segments of one trace share.
     pub fn trace_id(&self) -> u64
         ensures { result ≡ self.now.trace_id }
     {
@@ -87,6 +88,7 @@ impl Segment {
         self.number
     }
 
+    /// The events, in strictly rising order of their sequences.
     pub fn events(&self) -> &[Event]
         ensures value { result.now ≡ self.now.events }
         // What every segment keeps, so that callers have it too.
@@ -95,6 +97,7 @@ impl Segment {
         self.events.as_slice()
     }
 
+    /// An equal segment.
     pub fn copy(&self, alloc: Global) -> Result<Segment, NoMemory>
         ensures { IfOk result (λ copy. copy ≡ self.now) }
     {

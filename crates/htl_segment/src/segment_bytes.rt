@@ -62,6 +62,7 @@ impl<'a> SegmentBytes<'a> {
         self.bytes.len()
     }
 
+    /// The records in order, each where it lies.
     pub fn records(&self) -> Records<'a>
         ensures value { result ≡ self.now.events }
         // What every segment keeps, so that callers have it too.
@@ -104,6 +105,7 @@ impl SegmentBytes<'_> {
         Version::from_number(u16_at(self.bytes, 4)).unwrap_or(Version::V1)
     }
 
+    /// The number that all segments of one trace share.
     pub fn trace_id(&self) -> u64
         ensures { result ≡ self.now.trace_id }
     {

@@ -40,6 +40,7 @@ impl Splitter {
     ghost use Rattle.htl_segment.specs.Bundles.{Splits, IsRest};
     ghost use Rattle.htl_segment.specs.Pieces.{Refuses, after_refusal, finish_of};
 
+    /// A splitter that was fed nothing.
     pub fn new(alloc: Global) -> Splitter
         ensures { result ≡ record { fed = 0; rest = []; fault = None } }
     {

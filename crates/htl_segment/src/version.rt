@@ -58,6 +58,7 @@ impl Version {
         }
     }
 
+    /// How large the parts of a segment of this version may be.
     pub fn limits(self) -> Limits
         ensures { result ≡ limits_of self }
     {

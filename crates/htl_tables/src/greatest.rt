@@ -74,6 +74,7 @@ impl<M: Moment, A: Allocator> Greatest<M, A> {
     ghost use Rattle.htl_event.specs.Members.{Lists};
     ghost use Rattle.htl_tables.specs.Greatest.{sequence_at, HasLowerProcess, IsKept, IsOf};
 
+    /// A table of nothing. It takes no memory.
     pub fn new(alloc: A) -> Greatest<M, A>
         ensures { result ≡ [] }
     {
@@ -162,6 +163,7 @@ impl<M: Moment, A: Allocator + Clone> Greatest<M, A> {
         })
     }
 
+    /// An equal table, under a clone of the allocator.
     pub fn copy(&self) -> Result<Greatest<M, A>, NoMemory>
         ensures { IfOk result (λ t. t ≡ self.now) }
     {

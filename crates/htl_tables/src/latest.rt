@@ -42,6 +42,7 @@ impl<A: Allocator> Latest<A> {
     ghost use Rattle.htl_tables.specs.Keys.{IsBefore};
     ghost use Rattle.htl_tables.specs.Latest.{event_at, with_event, IsKept};
 
+    /// A table of nothing. It takes no memory.
     pub fn new(alloc: A) -> Latest<A>
         ensures { result ≡ [] }
     {
@@ -117,6 +118,7 @@ impl<A: Allocator + Clone> Latest<A> {
         })
     }
 
+    /// An equal table, under a clone of the allocator.
     pub fn copy(&self) -> Result<Latest<A>, NoMemory>
         ensures { IfOk result (λ t. t ≡ self.now) }
     {

@@ -5,14 +5,17 @@ pub fn union_unites_keys()
     ensures { UnitesKeys }
 {}
 
+/// It is all one which of two sets is united with the other.
 pub fn union_is_commutative()
     ensures { IsCommutative }
 {}
 
+/// It is all one which two of three sets are united first.
 pub fn union_is_associative()
     ensures { IsAssociative }
 {}
 
+/// A set united with itself stays as it is.
 pub fn union_is_idempotent()
     ensures { IsIdempotent }
 {}

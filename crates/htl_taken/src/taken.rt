@@ -37,6 +37,7 @@ impl<A: Allocator> Taken<A> {
         self.rows.len() as u16
     }
 
+    /// Whether the segment was taken. None of a processor that is not there was.
     pub fn has(&self, processor: u16, number: u32) -> bool
         ensures { IsTrue result ↔ Has (place_at self.now processor) number }
     {
@@ -94,6 +95,7 @@ impl<A: Allocator> Taken<A> {
         len
     }
 
+    /// Whether no segment was taken.
     pub fn is_empty(&self) -> bool
         ensures { IsTrue result ↔ (sum_by size_of self.now ≡ 0) }
     {
@@ -195,6 +197,7 @@ impl<A: Allocator + Clone> Taken<A> {
         Ok(Taken { rows })
     }
 
+    /// An equal set, under clones of the allocator.
     pub fn copy(&self) -> Result<Taken<A>, NoMemory>
         ensures { IfOk result (λ t. t ≡ self.now) }
     {

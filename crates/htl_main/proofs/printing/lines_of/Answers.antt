@@ -3,7 +3,7 @@ use Rattle.std.specs.Prelude.{Contains, codes, flat_map}
 use Rattle.htl_event.specs.declared.event.Event.{Event}
 use Rattle.htl_event.specs.Handles.{IsOutstanding}
 use Rattle.htl_symbols.specs.Ranges.{Range}
-use Rattle.htl_report.specs.Lines.{process_head}
+use Rattle.htl_report.specs.Heads.{process_head}
 use Rattle.htl_report.specs.Texts.{open_lines, text_of}
 use Rattle.htl_segment.proofs.Sequences.{own_sequences}
 use Rattle.htl_main.proofs.printing.lines_of.Goals as goal

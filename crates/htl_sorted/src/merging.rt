@@ -67,7 +67,9 @@ pub fn merge<L: Joined, A: Allocator>(
     Ok(rows)
 }
 
-/// How many keys the two lists have, so that a merged list may grow once.
+/// Room for the merged list, so that it grows once: how many keys two sorted lists have.
+///
+/// It only sets a capacity, so the contract bounds it and doesn't say that it is exact.
 pub fn merged_len<L: Keyed>(left: &[L::Row], right: &[L::Row]) -> usize
     ensures left { length left.now ≤ result }
     ensures right { length right.now ≤ result }

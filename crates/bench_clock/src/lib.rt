@@ -1,8 +1,21 @@
-//! The time that the steps of a benchmark take.
+//! What every benchmark does: it reads its size from the command line and times its steps.
 #![tactic(auto)]
 
-use std::io;
+use std::alloc::Global;
+use std::rt::Env;
 use std::time::{Clock, Instant};
+use std::{env, io};
+
+/// The size that the first word behind the program's name tells, or `otherwise` where there is none. A word
+/// that is no decimal number below 2^32 is refused.
+pub fn size<R: Env + Alloc<A = Global>>(rt: &R, otherwise: u32) -> io::Result<u32> {
+    match env::args(rt)?.nth(1) {
+        None => Ok(otherwise),
+        Some(word) => word
+            .parse::<u32>()
+            .map_err(|_| io::Error::from(io::ErrorKind::InvalidInput)),
+    }
+}
 
 /// Times one step after the other.
 ///

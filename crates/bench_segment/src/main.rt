@@ -1,59 +1,53 @@
-//! Measures how fast a bundle is read: `bench_segment SEGMENTS` (2 by default) of 0.6 MB each. The counts go
-//! to standard output and the speeds to standard error.
+//! How fast bundles are read, and in how much memory. The argument is the number of segments that each of
+//! four processors has, 1 where there is none; a segment has some 0.8 MB. Counts go to standard output,
+//! speeds and memory to standard error.
 #![tactic(auto)]
 
+use anyhow::Result;
 use bench_clock::Stopwatch;
-use htl_event::{Event, Kind, NoMemory, Stack};
-use htl_segment::{Fault, Segment, SegmentBytes, Splitter, decode, decode_bundle, encode};
+use htl_samples::{RandomTrace, SMALL};
+use htl_segment::{Fault, Segment, SegmentBytes, Splitter, decode, decode_bundle};
 use std::alloc::Global;
-use std::process::ExitCode;
-use std::{env, io};
+use std::fs;
+use std::rt::{Clock, Files};
 
-/// The events of one segment, with 0 to 30 frames each.
-fn events(alloc: Global) -> Result<Vec<Event>, NoMemory> {
-    let mut events = Vec::with_capacity(alloc, 4096)?;
-    for place in 0..4096u64 {
-        let mut stack = Stack::new();
-        for frame in 0..place % 31 {
-            stack.push(0x1000 * frame);
+/// How many bytes a source gives at once.
+const PIECE: usize = 65_536;
+
+/// A trace with so many stacks.
+fn trace_of(segments: u32, stacks: u32) -> RandomTrace {
+    RandomTrace {
+        processors: 4,
+        segments,
+        events: 4096,
+        processes: 16,
+        handles: 100_000,
+        stacks,
+        least_frames: 8,
+        most_frames: 32,
+        ..SMALL
+    }
+}
+
+/// Reads the records of each segment in place, and adds up the bytes of their frames.
+fn in_place(bytes: &[u8], segments: u32) -> Result<u64, Fault> {
+    let mut rest = bytes;
+    let mut sum = 0u64;
+    for _ in 0..segments {
+        let segment = SegmentBytes::check(rest)?;
+        for record in segment.records() {
+            sum = sum.wrapping_add(record.frames.len() as u64);
         }
-        let kind = if place % 2 == 0 {
-            Kind::Opened
-        } else {
-            Kind::Closed
-        };
-        events.push(Event {
-            sequence: place + 1,
-            kind,
-            process: 4,
-            thread: 12,
-            handle: 0x44,
-            object: 0,
-            tag: [0; 4],
-            stack,
-        })?;
+        rest = rest.get(segment.byte_len()..).unwrap_or(&[]);
     }
-    Ok(events)
+    Ok(sum)
 }
 
-/// A bundle of one segment so many times.
-fn bundle(alloc: Global, count: u32) -> Result<Vec<u8>, NoMemory> {
-    let Ok(segment) = Segment::build(7, 1, 0, 0, events(alloc)?) else {
-        return Ok(Vec::new(alloc));
-    };
-    let bytes = encode(alloc, &segment)?;
-    let mut bundle = Vec::new(alloc);
-    for _ in 0..count {
-        bundle.extend_from_slice(&bytes)?;
-    }
-    Ok(bundle)
-}
-
-/// Decodes each segment, counts its events and drops it.
-fn one_by_one(alloc: Global, bytes: &[u8], count: u32) -> Result<u64, Fault> {
+/// Decodes each segment by itself, counts its events and drops it.
+fn one_by_one(alloc: Global, bytes: &[u8], segments: u32) -> Result<u64, Fault> {
     let mut rest = bytes;
     let mut events = 0u64;
-    for _ in 0..count {
+    for _ in 0..segments {
         let (segment, used) = decode(alloc, rest)?;
         events = events.wrapping_add(segment.events().len() as u64);
         rest = rest.get(used..).unwrap_or(&[]);
@@ -61,68 +55,80 @@ fn one_by_one(alloc: Global, bytes: &[u8], count: u32) -> Result<u64, Fault> {
     Ok(events)
 }
 
-/// Reads the records of each segment in place, and adds up the bytes of their frames.
-fn in_place(bytes: &[u8], count: u32) -> Result<u64, Fault> {
-    let mut rest = bytes;
-    let mut sum = 0u64;
-    for _ in 0..count {
-        let segment = SegmentBytes::check(rest)?;
-        for record in segment.records() {
-            for byte in record.frames {
-                sum = sum.wrapping_add(*byte as u64);
-            }
-        }
-        rest = rest.get(segment.byte_len()..).unwrap_or(&[]);
-    }
-    Ok(sum)
-}
-
-/// Feeds a splitter pieces of this length, and counts the segments that it hands out.
-fn in_pieces(alloc: Global, bytes: &[u8], len: usize) -> Result<u64, (u64, Fault)> {
+/// The segments that a splitter hands out for pieces of this length.
+fn in_pieces(alloc: Global, bytes: &[u8], len: usize) -> Result<Vec<Segment>> {
     let mut splitter = Splitter::new(alloc);
-    let mut segments = 0u64;
+    let mut segments = Vec::new(alloc);
     for piece in bytes.chunks(len.max(1)) {
         if splitter.fed() > 1 << 40 || piece.len() > 1 << 40 {
             break;
         }
-        segments = segments.wrapping_add(splitter.feed(alloc, piece)?.len() as u64);
+        let Ok(mut more) = splitter.feed(alloc, piece) else {
+            break;
+        };
+        segments.append(&mut more)?;
     }
-    splitter.finish()?;
     Ok(segments)
 }
 
-fn main(rt: HostRuntime) -> io::Result<ExitCode> {
-    let alloc = rt.alloc();
-    let mut words = env::args(&rt)?.skip(1);
-    let count = words
-        .next()
-        .and_then(|word| word.parse::<u32>().ok())
-        .unwrap_or(2);
-    let Ok(bytes) = bundle(alloc, count) else {
-        return Ok(ExitCode::FAILURE);
+/// How many bytes of memory the program has, where the system tells it.
+fn memory<R: Files + Alloc<A = Global>>(rt: &R) -> u64 {
+    let Ok(text) = fs::read_to_string(rt, "/proc/self/statm") else {
+        return 0;
     };
+    let pages = text
+        .split_whitespace()
+        .nth(1)
+        .and_then(|word| word.parse::<u64>().ok());
+    pages.unwrap_or(0).wrapping_mul(4096)
+}
+
+fn measure<R: Clock + Print + Eprint + Files + Alloc<A = Global>>(
+    rt: &R,
+    per_processor: u32,
+    stacks: u32,
+) -> Result<()> {
+    let alloc = rt.alloc();
+    let trace = trace_of(per_processor, stacks);
+    let segments = per_processor.wrapping_mul(4);
+    let bytes = trace.bundle(alloc)?;
     let len = bytes.len() as u64;
-    let mut watch = Stopwatch::start(&rt)?;
+    println!(rt; "stacks: {stacks}")?;
 
-    let events = one_by_one(alloc, &bytes, count).unwrap_or(0);
-    watch.lap("bytes decoded, the events dropped", len)?;
-    println!(rt; "events: {events}")?;
+    let mut watch = Stopwatch::start(rt)?;
+    let frames = in_place(&bytes, segments)?;
+    watch.lap("bytes read in place", len)?;
+    println!(rt; "bytes of frames: {frames}")?;
 
+    let before = memory(rt);
     watch.restart()?;
-    let kept = decode_bundle(alloc, &bytes).map_or(0, |segments| segments.len());
-    watch.lap("bytes decoded, the events kept", len)?;
+    let kept = in_pieces(alloc, &bytes, PIECE)?;
+    watch.lap("bytes split, in pieces of 65536, the events kept", len)?;
+    let share = memory(rt).saturating_sub(before).wrapping_mul(100) / len.max(1);
+    eprintln!(rt; "memory kept: {share} % of the bytes")?;
+    println!(rt; "segments: {}", kept.len())?;
+    watch.restart()?;
+    drop(kept);
+    watch.lap("bytes whose events were dropped", len)?;
+
+    let kept = in_pieces(alloc, &bytes, 64)?.len();
+    watch.lap("bytes split, in pieces of 64", len)?;
     println!(rt; "segments: {kept}")?;
 
-    watch.restart()?;
-    let sum = in_place(&bytes, count).unwrap_or(0);
-    watch.lap("bytes read in place", len)?;
-    println!(rt; "sum of the frames' bytes: {sum}")?;
+    let kept = decode_bundle(alloc, &bytes).map_or(0, |segments| segments.len());
+    watch.lap("bytes decoded as a bundle", len)?;
+    println!(rt; "segments: {kept}")?;
 
-    for piece in [65_536, 1] {
-        watch.restart()?;
-        let segments = in_pieces(alloc, &bytes, piece).unwrap_or(0);
-        watch.lap("bytes split", len)?;
-        println!(rt; "segments in pieces of {piece}: {segments}")?;
+    let events = one_by_one(alloc, &bytes, segments)?;
+    watch.lap("bytes decoded one by one", len)?;
+    println!(rt; "events: {events}")?;
+    Ok(())
+}
+
+fn main(rt: HostRuntime) -> Result<()> {
+    let segments = bench_clock::size(&rt, 1)?;
+    for stacks in [2_000, 100_000] {
+        measure(&rt, segments, stacks)?;
     }
-    Ok(ExitCode::SUCCESS)
+    Ok(())
 }

@@ -1,25 +1,19 @@
-//! Fills tables and sets of a given size, joins and settles them: `bench_tables SIZE`. Standard error tells
-//! how long each step took, standard output how large its result is.
+//! How long tables take that are made of made-up segments, copied and joined, and sets of numbers that are
+//! filled and united. The argument is the number of segments, 2 where there is none, of 4,096 events each.
+//! Standard error tells how long each step took, standard output how large its result is.
 #![tactic(auto)]
 
-mod events;
 mod numbers;
+mod tables;
 
 use bench_clock::Stopwatch;
-use std::env;
-
-/// The size where no argument tells another.
-const SMALL: u32 = 1000;
 
 fn main(rt: HostRuntime) -> anyhow::Result<()> {
-    let size = match env::args(&rt)?.nth(1) {
-        Some(word) => word.parse()?,
-        None => SMALL,
-    };
+    let segments = bench_clock::size(&rt, 2)?;
     let mut watch = Stopwatch::start(&rt)?;
-    events::join_tables(rt.alloc(), &mut watch, size)?;
-    events::make_table(rt.alloc(), &mut watch, size)?;
-    events::join_exits(rt.alloc(), &mut watch, size)?;
+    tables::make_tables(rt.alloc(), &mut watch, segments)?;
+    tables::join_tables(rt.alloc(), &mut watch, segments)?;
+    let size = segments.saturating_mul(4096);
     numbers::settle_run(rt.alloc(), &mut watch, size)?;
     numbers::unite_halves(rt.alloc(), &mut watch, size)
 }

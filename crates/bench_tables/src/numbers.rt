@@ -1,3 +1,5 @@
+//! Sets of numbers.
+
 ghost use Rattle.std.specs.Prelude.{◌≡◌, ◌<◌, length, IfOk};
 
 use bench_clock::Stopwatch;

@@ -8,7 +8,7 @@ use Rattle.std.specs.declared.cmp.Ordering.{Ordering}
 use Rattle.std.specs.declared.cmp.Ordering.TheVariants.{Less}
 use Rattle.std.proofs.lemmas.Bool.{and_parts, cases_lt, cases_Bool, eqb-true, ltb-true, lt-ltb}
 use Rattle.std.proofs.lemmas.List.Sums.{sum_by-cons}
-use Rattle.htl_event.specs.declared.event.Event.{Event}
+use Rattle.htl_event.specs.Events.{Event}
 use Rattle.htl_event.specs.declared.kind.Kind.{Kind}
 use Rattle.htl_event.specs.declared.kind.Kind.TheVariants.{BadRef, Ref, Deref}
 use Rattle.htl_event.specs.declared.slot.Slot.{Slot}
@@ -82,13 +82,15 @@ module _ {V : Type 0} (cmp : List ℕ × V → List ℕ × V → Ordering) (valu
   abbrev rows_of : List (List ℕ × V)
   rows_of = ordered (comes_first cmp) (rows_where same_list came row keys)
 
-  has_key : ((k : List ℕ) → 0 < size (value k) → Contains keys k) → (r : List ℕ × V) → IsRow r → (k : List ℕ) × Contains keys k × (came k ≡ true) × (row k ≡ r)
+  has_key : ((k : List ℕ) → 0 < size (value k) → Contains keys k) → (r : List ℕ × V) → IsRow r
+      → (k : List ℕ) × Contains keys k × (came k ≡ true) × (row k ≡ r)
   has_key covers r h =
       let some : 0 < size (value r.0) = rw (← h.0) h.1 in
       (r.0, covers r.0 some, lt-ltb 0 _ some, ap (λ (v : V). (r.0, v)) (sym h.0))
 
   -- where the keys have all that were counted
-  Lists-rows_of : ((k : List ℕ) → 0 < size (value k) → Contains keys k) → is_rising (comes_first cmp) rows_of ≡ true → Lists (λ x y. cmp x y ≡ Less) IsRow rows_of
+  Lists-rows_of : ((k : List ℕ) → 0 < size (value k) → Contains keys k) → is_rising (comes_first cmp) rows_of ≡ true
+      → Lists (λ x y. cmp x y ≡ Less) IsRow rows_of
   Lists-rows_of covers =
       Lists-ordered _ _ (λ x y. is_lt-Less (cmp x y)) IsRow _ (
       Contains-rows_where same_list same_list-exact came row IsRow keys (λ k some. (refl, ltb-true 0 _ some)) (has_key covers))
@@ -102,12 +104,14 @@ abbrev pub tags_of : List Event → ℕ → List (List ℕ × Count)
 tags_of es object = rows_of by_tag (balance es object) total_of (map (λ e. e.tag) es)
 
 -- what counts under a tag has it
-counted_tag : (kind : Kind) (e : Event) (object : ℕ) (tag : List ℕ) (sign : Sign) → is_slot (Tagged object tag) sign (slot_by_kind kind e) ≡ true → e.tag ≡ tag
+counted_tag : (kind : Kind) (e : Event) (object : ℕ) (tag : List ℕ) (sign : Sign)
+    → is_slot (Tagged object tag) sign (slot_by_kind kind e) ≡ true → e.tag ≡ tag
 counted_tag Ref e object tag sign h = sym (same_list-exact tag e.tag (and_parts _ _ (and_parts _ _ h).0).1)
 counted_tag Deref e object tag sign h = sym (same_list-exact tag e.tag (and_parts _ _ (and_parts _ _ h).0).1)
 counted_tag kind e object tag sign h = absurd cc
 
-pub IsTags-tags_of : (es : List Event) (object : ℕ) → is_rising (comes_first by_tag) (tags_of es object) ≡ true → IsTags es object (tags_of es object)
+pub IsTags-tags_of : (es : List Event) (object : ℕ) → is_rising (comes_first by_tag) (tags_of es object) ≡ true
+    → IsTags es object (tags_of es object)
 IsTags-tags_of es object =
     Lists-rows_of by_tag (balance es object) total_of (map (λ e. e.tag) es) (
     key_of_slot (Tagged object) (λ k e. true) (λ e. e.tag) (λ k sign e h. counted_tag e.kind e object k sign (and_parts _ _ h).0) es)
@@ -142,7 +146,8 @@ Lists-leaks_of rows =
     key_counted has_stack (λ e. e.stack) (λ k e. same_list-exact e.stack k) rows)
 
 pub IsLeaks-leaks_of : (es : List Event) (process : ℕ) → is_rising by_base (outstanding_of es process) ≡ true
-    → is_rising (comes_first most_first) (leaks_of (outstanding_of es process)) ≡ true → IsLeaks (Contains es) process (leaks_of (outstanding_of es process))
+    → is_rising (comes_first most_first) (leaks_of (outstanding_of es process)) ≡ true
+    → IsLeaks (Contains es) process (leaks_of (outstanding_of es process))
 IsLeaks-leaks_of es process rises most_rises = record {
   outstanding = outstanding_of es process;
   is = IsOutstanding-outstanding_of es process rises;
@@ -161,10 +166,12 @@ same_pair : (h j : ℕ) (s t : List ℕ) → h ≡ j → s ≡ t → ◌≡◌ {
 same_pair h j s t e f = cc
 
 same_key-exact : (a b : ℕ × List ℕ) → same_key a b ≡ true → a ≡ b
-same_key-exact a b e = let parts = and_parts _ _ e in same_pair a.0 b.0 a.1 b.1 (eqb-true a.0 b.0 parts.0) (same_list-exact a.1 b.1 parts.1)
+same_key-exact a b e = let parts = and_parts _ _ e in
+    same_pair a.0 b.0 a.1 b.1 (eqb-true a.0 b.0 parts.0) (same_list-exact a.1 b.1 parts.1)
 
 -- what counts under a handle as written has it
-counted_handle : (kind : Kind) (e : Event) (process handle : ℕ) → is_slot (Bad process handle) Plus (slot_by_kind kind e) ≡ true → e.handle ≡ handle
+counted_handle : (kind : Kind) (e : Event) (process handle : ℕ) → is_slot (Bad process handle) Plus (slot_by_kind kind e) ≡ true
+    → e.handle ≡ handle
 counted_handle BadRef e process handle h = sym (eqb-true handle e.handle (and_parts _ _ (and_parts _ _ h).0).1)
 counted_handle kind e process handle h = absurd cc
 
@@ -186,9 +193,11 @@ module _ (es : List Event) (process : ℕ) where
 
   bad_key : (k : ℕ × List ℕ) → 0 < bad_times k → Contains bad_keys k
   bad_key = key_counted (λ k e. is_counted (Bad process k.0) Plus e && has_stack k.1 e) (λ e. (e.handle, e.stack)) (λ k e h.
-      let parts = and_parts _ _ h in same_pair e.handle k.0 e.stack k.1 (counted_handle e.kind e process k.0 parts.0) (same_list-exact e.stack k.1 parts.1)) es
+      let parts = and_parts _ _ h in same_pair e.handle k.0 e.stack k.1 (counted_handle e.kind e process k.0 parts.0)
+      (same_list-exact e.stack k.1 parts.1)) es
 
-  has_bad_key : (r : ℕ × List ℕ × ℕ) → IsBadRow r → (k : ℕ × List ℕ) × Contains bad_keys k × (nat_lt 0 (bad_times k) ≡ true) × (bad_row k ≡ r)
+  has_bad_key : (r : ℕ × List ℕ × ℕ) → IsBadRow r
+      → (k : ℕ × List ℕ) × Contains bad_keys k × (nat_lt 0 (bad_times k) ≡ true) × (bad_row k ≡ r)
   has_bad_key r h =
       let some : 0 < bad_times (r.0, r.1) = rw (← h.0) h.1 in
       ((r.0, r.1), bad_key (r.0, r.1) some, lt-ltb 0 _ some, ap (λ (n : ℕ). (r.0, r.1, n)) (sym h.0))

@@ -1,16 +1,17 @@
 -- Answers about handles, computed: a function for each, whose value is the answer (a list's, wherever it rises).
-use Rattle.std.proofs.Common.{◌≡◌, ℕ, ◌<◌, ◌≤◌, Bool, true, List, [], ◌∷◌, Option, Some, None, refl, sym, subst, arith, inl, inr, ◌⊎◌, ◌&&◌, ◌||◌}
-use Rattle.std.specs.Prelude.{Contains, ◌↔◌, ◌==◌, nat_lt, nat_le, max, filter, if◌then◌else◌}
+use Rattle.std.proofs.Common.{◌≡◌, ℕ, ◌<◌, ◌≤◌, Bool, true, List, [], ◌∷◌, Option, Some}
+use Rattle.std.proofs.Common.{None, refl, sym, ap, subst, arith, inl, inr, ◌⊎◌, ◌&&◌, ◌||◌}
+use Rattle.std.specs.Prelude.{Contains, ◌↔◌, nat_lt, nat_le, max, filter, if◌then◌else◌}
 use Rattle.std.specs.Bool.{Decides}
 use Rattle.std.proofs.lemmas.Bool.{and_parts, and_from, cases_Bool, ltb-true, leb-true, le-leb, lt-ltb}
-use Rattle.std.proofs.lemmas.Bool.Decides.{Decides-eqb, Decides-and, Decides-or, Decides-like, not_from_Decides}
-use denote.Enum.Bare.{sameb, same_true, true_same}
-use Rattle.htl_event.specs.contracts.kind.Kind.{the_type}
-use Rattle.htl_event.specs.declared.event.Event.{Event}
-use Rattle.htl_event.specs.declared.kind.Kind.{Kind}
+use Rattle.std.proofs.lemmas.Bool.Decides.{Decides-and, Decides-or, Decides-like, not_from_Decides}
+use Rattle.htl_event.specs.Events.{Event}
 use Rattle.htl_event.specs.declared.kind.Kind.TheVariants.{Opened, Closed, BadRef, Snapshot, Exited}
 use Rattle.htl_event.specs.Slots.{base_of}
-use Rattle.htl_event.specs.Handles.{Concerns, LatestIs, later, IsGreatestSequence, IsExit, IsLastExit, IsSnapshot, IsMark, IsOpen, ByBase, IsOutstanding, IsDiff, IsOfHandle, NewestFirst, IsListing}
+use Rattle.htl_event.specs.Handles.{opens_or_closes, IsOf, OpensOrCloses, LatestIs, later, IsGreatestSequence, IsLastExit, IsMark}
+use Rattle.htl_event.specs.Handles.{IsOpen, ByBase, IsOutstanding, IsDiff, IsOfHandle, NewestFirst, IsListing}
+use Rattle.htl_event.proofs.EventTests.{is_kind, is_kind-decides, is_of, is_of-decides}
+use Rattle.htl_event.proofs.EventTests.{names, names-decides, opens_or_closes_base, opens_or_closes_base-decides}
 use Rattle.htl_event.proofs.Members.{Contains-cases, Contains-cons, Contains-nil}
 use Rattle.htl_event.proofs.Determined.{IsGreatestSequence-unique}
 use Rattle.htl_event.proofs.Unions.{LatestIs-later, IsGreatestSequence-max, union_where}
@@ -18,39 +19,14 @@ use Rattle.htl_event.proofs.Ordered.{is_rising, ordered, Lists-filter}
 
 -- ---- tests of one event
 
-abbrev pub is_kind : Kind → Event → Bool
-is_kind kind e = sameb the_type e.kind kind
-
-is_kind-decides : (kind : Kind) (e : Event) → Decides (is_kind kind e) (e.kind ≡ kind)
-is_kind-decides kind e = (same_true the_type tt e.kind kind, true_same the_type e.kind kind)
-
-abbrev pub is_of : Kind → ℕ → Event → Bool
-is_of kind process e = is_kind kind e && e.process == process
-
-is_of-decides : (kind : Kind) (process : ℕ) (e : Event) → Decides (is_of kind process e) ((e.kind ≡ kind) × (e.process ≡ process))
-is_of-decides kind process e = Decides-and _ _ (is_kind-decides kind e) (Decides-eqb e.process process)
-
-abbrev pub names : ℕ → ℕ → Event → Bool
-names process base e = e.process == process && base_of e.handle == base
-
-names-decides : (process base : ℕ) (e : Event) → Decides (names process base e) ((e.process ≡ process) × (base_of e.handle ≡ base))
-names-decides process base e = Decides-and _ _ (Decides-eqb e.process process) (Decides-eqb (base_of e.handle) base)
-
-abbrev pub concerns : ℕ → ℕ → Event → Bool
-concerns process base e = (is_kind Opened e || is_kind Closed e) && names process base e
-
-concerns-decides : (process base : ℕ) (e : Event) → Decides (concerns process base e) (Concerns process base e)
-concerns-decides process base e =
-    Decides-like _ (λ h. record { kind = h.0; owner = h.1.0; handle = h.1.1 }) (λ c. (c.kind, (c.owner, c.handle)))
-    (Decides-and _ _ (Decides-or _ _ (is_kind-decides Opened e) (is_kind-decides Closed e)) (names-decides process base e))
-
 abbrev pub is_of_handle : ℕ → ℕ → Event → Bool
 is_of_handle process base e = (is_kind Opened e || (is_kind Closed e || is_kind BadRef e)) && names process base e
 
 is_of_handle-decides : (process base : ℕ) (e : Event) → Decides (is_of_handle process base e) (IsOfHandle process base e)
 is_of_handle-decides process base e =
     Decides-like _ (λ h. record { kind = h.0; owner = h.1.0; handle = h.1.1 }) (λ c. (c.kind, (c.owner, c.handle)))
-    (Decides-and _ _ (Decides-or _ _ (is_kind-decides Opened e) (Decides-or _ _ (is_kind-decides Closed e) (is_kind-decides BadRef e))) (names-decides process base e))
+    (Decides-and _ _ (Decides-or _ _ (is_kind-decides Opened e) (Decides-or _ _ (is_kind-decides Closed e) (is_kind-decides BadRef e)))
+    (names-decides process base e))
 
 -- ---- the latest event, one by one from the front
 
@@ -58,20 +34,21 @@ head_or_tail : (e : Event) (es : List Event) (x : Event) → Contains (e ∷ es)
 head_or_tail e es x = (Contains-cases e es x, Contains-cons e es x)
 
 abbrev latest_one : Event → ℕ → ℕ → Option Event
-latest_one e process base = if concerns process base e then Some e else None
+latest_one e process base = if opens_or_closes_base process base e then Some e else None
 
 abbrev pub latest_of : List Event → ℕ → ℕ → Option Event
 latest_of [] process base = None
 latest_of (e ∷ es) process base = later (latest_one e process base) (latest_of es process base)
 
 LatestIs-latest_one : (e : Event) (process base : ℕ) → LatestIs (λ x. e ≡ x) process base (latest_one e process base)
-LatestIs-latest_one e process base = elim (cases_Bool (concerns process base e)) [
+LatestIs-latest_one e process base = elim (cases_Bool (opens_or_closes_base process base e)) [
   | inl holds ↦ rw holds (record {
     here = refl;
-    concerned = (concerns-decides process base e).0 holds;
+    of_handle = (opens_or_closes_base-decides process base e).0 holds;
     greatest = λ x is c. subst (λ (y : Event). y.sequence ≤ e.sequence) is (omega arith);
   })
-  | inr fails ↦ rw fails (λ x is c. not_from_Decides _ (concerns-decides process base e) fails (subst (Concerns process base) (sym is) c))
+  | inr fails ↦ rw fails (λ x is c. not_from_Decides _ (opens_or_closes_base-decides process base e) fails
+      (subst (OpensOrCloses process base) (sym is) c))
 ]
 
 pub LatestIs-latest_of : (es : List Event) (process base : ℕ) → LatestIs (Contains es) process base (latest_of es process base)
@@ -95,7 +72,8 @@ module _ (test : Event → Bool) (P : Event → Type 0) (decides : (e : Event) �
       bound = λ x h. subst (λ (y : Event). y.sequence ≤ e.sequence) h.0 (omega arith);
       reached = inr (e, (refl, (decides e).0 holds), refl);
     })
-    | inr fails ↦ rw fails (record { bound = λ x h. absurd (not_from_Decides _ (decides e) fails (subst P (sym h.0) h.1)); reached = inl refl })
+    | inr fails ↦ rw fails
+        (record { bound = λ x h. absurd (not_from_Decides _ (decides e) fails (subst P (sym h.0) h.1)); reached = inl refl })
   ]
 
   pub IsGreatestSequence-greatest_of : (es : List Event) → IsGreatestSequence (λ e. Contains es e × P e) (greatest_of test es)
@@ -108,23 +86,26 @@ abbrev pub mark_of : List Event → ℕ → ℕ
 mark_of es process = greatest_of (is_of Snapshot process) es
 
 pub IsMark-mark_of : (es : List Event) (process : ℕ) → IsMark (Contains es) process (mark_of es process)
-IsMark-mark_of es process = IsGreatestSequence-greatest_of (is_of Snapshot process) (IsSnapshot process) (is_of-decides Snapshot process) es
+IsMark-mark_of es process = IsGreatestSequence-greatest_of (is_of Snapshot process) (IsOf Snapshot process)
+    (is_of-decides Snapshot process) es
 
 abbrev pub last_exit_of : List Event → ℕ → ℕ
 last_exit_of es process = greatest_of (is_of Exited process) es
 
 pub IsLastExit-last_exit_of : (es : List Event) (process : ℕ) → IsLastExit (Contains es) process (last_exit_of es process)
-IsLastExit-last_exit_of es process = IsGreatestSequence-greatest_of (is_of Exited process) (IsExit process) (is_of-decides Exited process) es
+IsLastExit-last_exit_of es process =
+    IsGreatestSequence-greatest_of (is_of Exited process) (IsOf Exited process) (is_of-decides Exited process) es
 
 -- ---- outstanding handles
 
 module _ (es : List Event) (process : ℕ) where
   -- the greatest sequence of the opens and closes of a base handle
   abbrev touched : ℕ → ℕ
-  touched base = greatest_of (concerns process base) es
+  touched base = greatest_of (opens_or_closes_base process base) es
 
-  IsGreatestSequence-touched : (base : ℕ) → IsGreatestSequence (λ x. Contains es x × Concerns process base x) (touched base)
-  IsGreatestSequence-touched base = IsGreatestSequence-greatest_of (concerns process base) (Concerns process base) (concerns-decides process base) es
+  IsGreatestSequence-touched : (base : ℕ) → IsGreatestSequence (λ x. Contains es x × OpensOrCloses process base x) (touched base)
+  IsGreatestSequence-touched base = IsGreatestSequence-greatest_of (opens_or_closes_base process base) (OpensOrCloses process base)
+      (opens_or_closes_base-decides process base) es
 
   -- an open of the process that no open or close of its handle and no exit came after
   abbrev pub is_open : Event → Bool
@@ -141,10 +122,11 @@ module _ (es : List Event) (process : ℕ) where
         opens = opens.0;
         latest = record {
           here = here;
-          concerned = record { kind = inl opens.0; owner = opens.1; handle = refl };
+          of_handle = record { kind = ap opens_or_closes opens.0; owner = opens.1; handle = refl };
           greatest = λ x into c. let le = (IsGreatestSequence-touched (base_of e.handle)).bound x (into, c) in omega (arith, le, last);
         };
-        outlives = λ n exit. let is = IsGreatestSequence-unique _ n _ exit (IsLastExit-last_exit_of es process) in omega (arith, is, after);
+        outlives = λ n exit. let is = IsGreatestSequence-unique _ n _ exit (IsLastExit-last_exit_of es process) in
+            omega (arith, is, after);
       }
 
   test_from_open : (e : Event) → IsOpen (Contains es) process e → is_open e ≡ true
@@ -154,7 +136,8 @@ module _ (es : List Event) (process : ℕ) where
         | inr some ↦ let le = o.latest.greatest some.0 some.1.0 some.1.1 in let is = some.2 in omega (arith, le, is)
       ] in
       let after = o.outlives _ (IsLastExit-last_exit_of es process) in
-      and_from _ _ ((is_of-decides Opened process e).1 (o.opens, o.latest.concerned.owner)) (and_from _ _ (le-leb _ _ last) (lt-ltb _ _ after))
+      and_from _ _ ((is_of-decides Opened process e).1 (o.opens, o.latest.of_handle.owner))
+      (and_from _ _ (le-leb _ _ last) (lt-ltb _ _ after))
 
   open_where : (e : Event) → (Contains es e × (is_open e ≡ true)) ↔ IsOpen (Contains es) process e
   open_where e = (λ h. open_from_test e h.0 h.1, λ o. (o.latest.here, test_from_open e o))
@@ -167,7 +150,8 @@ outstanding_of es process = ordered by_base (filter (is_open es process) es)
 
 pub IsOutstanding-outstanding_of : (es : List Event) (process : ℕ) → is_rising by_base (outstanding_of es process) ≡ true
     → IsOutstanding (Contains es) process (outstanding_of es process)
-IsOutstanding-outstanding_of es process = Lists-filter by_base ByBase (λ a b. ltb-true _ _) (is_open es process) (IsOpen (Contains es) process) es (open_where es process)
+IsOutstanding-outstanding_of es process =
+    Lists-filter by_base ByBase (λ a b. ltb-true _ _) (is_open es process) (IsOpen (Contains es) process) es (open_where es process)
 
 abbrev is_opened_since : List Event → ℕ → ℕ → Event → Bool
 is_opened_since es process since e = is_open es process e && nat_lt since e.sequence
@@ -192,5 +176,6 @@ listing_of es process handle = ordered newest_first (filter (is_of_handle proces
 
 pub IsListing-listing_of : (es : List Event) (process handle : ℕ) → is_rising newest_first (listing_of es process handle) ≡ true
     → IsListing (Contains es) process handle (listing_of es process handle)
-IsListing-listing_of es process handle = Lists-filter newest_first NewestFirst (λ a b. ltb-true _ _) (is_of_handle process (base_of handle)) _ es (λ e.
+IsListing-listing_of es process handle =
+    Lists-filter newest_first NewestFirst (λ a b. ltb-true _ _) (is_of_handle process (base_of handle)) _ es (λ e.
     let decides = is_of_handle-decides process (base_of handle) e in (λ h. (h.0, decides.0 h.1), λ h. (h.0, decides.1 h.1)))

@@ -1,9 +1,11 @@
 -- The same events give the same answers about handles.
 use Rattle.std.proofs.Common.{◌≡◌, ℕ, ◌≤◌, List, [], ◌∷◌, Option, Some, None, refl, sym, ap, ◌∙◌, arith, inl, inr}
 use Rattle.std.specs.Prelude.{Contains, ◌↔◌, ◌≢◌, count_by}
-use Rattle.htl_event.specs.declared.event.Event.{Event}
+use Rattle.htl_event.specs.declared.kind.Kind.TheVariants.{Snapshot, Exited}
+use Rattle.htl_event.specs.Events.{Event}
 use Rattle.htl_event.specs.Slots.{base_of}
-use Rattle.htl_event.specs.Handles.{IsLatest, LatestIs, IsGreatestSequence, IsExit, IsSnapshot, IsOpen, ByBase, IsOutstanding, IsOfHandle, NewestFirst, HaveOwnSequences}
+use Rattle.htl_event.specs.Handles.{IsLatest, LatestIs, IsGreatestSequence, IsOf, IsOpen}
+use Rattle.htl_event.specs.Handles.{ByBase, IsOutstanding, IsOfHandle, NewestFirst, HaveOwnSequences}
 use Rattle.htl_event.specs.Tallies.{has_stack, MostFirst, IsLeaks}
 use Rattle.htl_event.specs.Laws.{HaveSame, HandlesAreDetermined}
 use Rattle.htl_event.proofs.Members.{Contains-cases, Contains-nil, at_member, Lists-same}
@@ -11,18 +13,21 @@ use Rattle.htl_event.proofs.Orders.{ByBase-strict, NewestFirst-strict, MostFirst
 
 -- ---- the same members
 
-pub IsLatest-same : (A B : Event → Type 0) → ((e : Event) → A e ↔ B e) → (process base : ℕ) (e : Event) → IsLatest A process base e → IsLatest B process base e
+pub IsLatest-same : (A B : Event → Type 0) → ((e : Event) → A e ↔ B e) → (process base : ℕ) (e : Event) → IsLatest A process base e
+    → IsLatest B process base e
 IsLatest-same A B same process base e l = record {
   here = (same e).0 l.here;
-  concerned = l.concerned;
+  of_handle = l.of_handle;
   greatest = λ x into c. l.greatest x ((same x).1 into) c;
 }
 
-pub LatestIs-same : (A B : Event → Type 0) → ((e : Event) → A e ↔ B e) → (process base : ℕ) (o : Option Event) → LatestIs A process base o → LatestIs B process base o
+pub LatestIs-same : (A B : Event → Type 0) → ((e : Event) → A e ↔ B e) → (process base : ℕ) (o : Option Event)
+    → LatestIs A process base o → LatestIs B process base o
 LatestIs-same A B same process base None h = λ x into c. h x ((same x).1 into) c
 LatestIs-same A B same process base (Some e) h = IsLatest-same A B same process base e h
 
-pub IsGreatestSequence-same : (A B : Event → Type 0) → ((e : Event) → A e ↔ B e) → (n : ℕ) → IsGreatestSequence A n → IsGreatestSequence B n
+pub IsGreatestSequence-same : (A B : Event → Type 0) → ((e : Event) → A e ↔ B e) → (n : ℕ) → IsGreatestSequence A n
+    → IsGreatestSequence B n
 IsGreatestSequence-same A B same n g = record {
   bound = λ x h. g.bound x ((same x).1 h);
   reached = elim g.reached [
@@ -42,7 +47,8 @@ pub IsOpen-same : (A B : Event → Type 0) → ((e : Event) → A e ↔ B e) →
 IsOpen-same A B same process e o = record {
   opens = o.opens;
   latest = IsLatest-same A B same process (base_of e.handle) e o.latest;
-  outlives = λ n exit. o.outlives n (IsGreatestSequence-same (λ x. B x × IsExit process x) (λ x. A x × IsExit process x) (same_where B A (IsExit process) (turned A B same)) n exit);
+  outlives = λ n exit. o.outlives n (IsGreatestSequence-same (λ x. B x × IsOf Exited process x) (λ x. A x × IsOf Exited process x)
+      (same_where B A (IsOf Exited process) (turned A B same)) n exit);
 }
 
 -- ---- one answer
@@ -75,42 +81,51 @@ one_event (z ∷ es) own x y h k e =
 pub LatestIs-unique : (A : Event → Type 0) → ((x y : Event) → A x → A y → x.sequence ≡ y.sequence → x ≡ y)
     → (process base : ℕ) (a b : Option Event) → LatestIs A process base a → LatestIs A process base b → a ≡ b
 LatestIs-unique A one process base None None p q = refl
-LatestIs-unique A one process base None (Some y) p q = absurd (p y q.here q.concerned)
-LatestIs-unique A one process base (Some x) None p q = absurd (q x p.here p.concerned)
+LatestIs-unique A one process base None (Some y) p q = absurd (p y q.here q.of_handle)
+LatestIs-unique A one process base (Some x) None p q = absurd (q x p.here p.of_handle)
 LatestIs-unique A one process base (Some x) (Some y) p q =
-    let le = p.greatest y q.here q.concerned in
-    let ge = q.greatest x p.here p.concerned in
+    let le = p.greatest y q.here q.of_handle in
+    let ge = q.greatest x p.here p.of_handle in
     ap (λ (e : Event). Some e) (one x y p.here q.here (omega (arith, le, ge)))
 
 -- ---- the law
 
-pub open_in_both : (xs ys : List Event) → HaveSame xs ys → (process : ℕ) (e : Event) → IsOpen (Contains xs) process e ↔ IsOpen (Contains ys) process e
-open_in_both xs ys same process e =
-    (IsOpen-same (Contains xs) (Contains ys) same process e, IsOpen-same (Contains ys) (Contains xs) (turned (Contains xs) (Contains ys) same) process e)
+pub open_in_both : (xs ys : List Event) → HaveSame xs ys → (process : ℕ) (e : Event)
+    → IsOpen (Contains xs) process e ↔ IsOpen (Contains ys) process e
+open_in_both xs ys same process e = (
+  IsOpen-same (Contains xs) (Contains ys) same process e,
+  IsOpen-same (Contains ys) (Contains xs) (turned (Contains xs) (Contains ys) same) process e,
+)
 
-pub outstanding_same : (xs ys : List Event) → HaveSame xs ys → (process : ℕ) (a b : List Event) → IsOutstanding (Contains xs) process a → IsOutstanding (Contains ys) process b → a ≡ b
+pub outstanding_same : (xs ys : List Event) → HaveSame xs ys → (process : ℕ) (a b : List Event) → IsOutstanding (Contains xs) process a
+    → IsOutstanding (Contains ys) process b → a ≡ b
 outstanding_same xs ys same process a b =
     Lists-same ByBase ByBase-strict (IsOpen (Contains xs) process) (IsOpen (Contains ys) process) a b (open_in_both xs ys same process)
 
 sequence_same : (A B : Event → Type 0) → ((e : Event) → A e ↔ B e) → (a b : ℕ) → IsGreatestSequence A a → IsGreatestSequence B b → a ≡ b
 sequence_same A B same a b p q = IsGreatestSequence-unique B a b (IsGreatestSequence-same A B same a p) q
 
-leaks_same : (xs ys : List Event) → HaveSame xs ys → (process : ℕ) (a b : List (List ℕ × ℕ)) → IsLeaks (Contains xs) process a → IsLeaks (Contains ys) process b → a ≡ b
+leaks_same : (xs ys : List Event) → HaveSame xs ys → (process : ℕ) (a b : List (List ℕ × ℕ)) → IsLeaks (Contains xs) process a
+    → IsLeaks (Contains ys) process b → a ≡ b
 leaks_same xs ys same process a b p q =
     let one : p.outstanding ≡ q.outstanding = outstanding_same xs ys same process p.outstanding q.outstanding p.is q.is in
-    let times : (row : List ℕ × ℕ) → count_by (has_stack row.0) p.outstanding ≡ count_by (has_stack row.0) q.outstanding = (λ row. ap (count_by (has_stack row.0)) one) in
-    Lists-same MostFirst MostFirst-strict _ _ a b (λ row. (λ h. (h.0 ∙ times row, h.1), λ h. (h.0 ∙ sym (times row), h.1))) p.stacks q.stacks
+    let times : (row : List ℕ × ℕ) → count_by (has_stack row.0) p.outstanding ≡ count_by (has_stack row.0) q.outstanding =
+    (λ row. ap (count_by (has_stack row.0)) one) in
+    Lists-same MostFirst MostFirst-strict _ _ a b
+    (λ row. (λ h. (h.0 ∙ times row, h.1), λ h. (h.0 ∙ sym (times row), h.1))) p.stacks q.stacks
 
 pub handles_are_determined : (xs ys : List Event) → HaveSame xs ys → HandlesAreDetermined xs ys
 handles_are_determined xs ys same = record {
   latest = λ process handle a b own p q.
-      LatestIs-unique (Contains xs) (one_event xs own) process handle a b p (LatestIs-same (Contains ys) (Contains xs) (turned (Contains xs) (Contains ys) same) process handle b q);
+      LatestIs-unique (Contains xs) (one_event xs own) process handle a b p
+      (LatestIs-same (Contains ys) (Contains xs) (turned (Contains xs) (Contains ys) same) process handle b q);
   greatest = sequence_same (Contains xs) (Contains ys) same;
-  mark = λ process. sequence_same _ _ (same_where (Contains xs) (Contains ys) (IsSnapshot process) same);
-  last_exit = λ process. sequence_same _ _ (same_where (Contains xs) (Contains ys) (IsExit process) same);
+  mark = λ process. sequence_same _ _ (same_where (Contains xs) (Contains ys) (IsOf Snapshot process) same);
+  last_exit = λ process. sequence_same _ _ (same_where (Contains xs) (Contains ys) (IsOf Exited process) same);
   outstanding = outstanding_same xs ys same;
   diff = λ process since a b. Lists-same ByBase ByBase-strict _ _ a b (λ e.
       (λ h. ((open_in_both xs ys same process e).0 h.0, h.1), λ h. ((open_in_both xs ys same process e).1 h.0, h.1)));
-  listing = λ process handle a b. Lists-same NewestFirst NewestFirst-strict _ _ a b (same_where (Contains xs) (Contains ys) (IsOfHandle process (base_of handle)) same);
+  listing = λ process handle a b. Lists-same NewestFirst NewestFirst-strict _ _ a b
+      (same_where (Contains xs) (Contains ys) (IsOfHandle process (base_of handle)) same);
   leaks = leaks_same xs ys same;
 }

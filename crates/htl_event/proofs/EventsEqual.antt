@@ -3,7 +3,7 @@ use Rattle.std.proofs.Common.{◌≡◌, ℕ, List, true, ◌&&◌, eqb, nat_eq,
 use Rattle.std.specs.Cmp.{unsigned_Decides}
 use Rattle.std.specs.Cmp.Lexicographic.{pointwise, pointwise_decides}
 use Rattle.std.proofs.lemmas.Bool.Decides.{Decides-and, Decides-like, Decides-eqb}
-use Rattle.htl_event.specs.declared.event.Event.{Event}
+use Rattle.htl_event.specs.Events.{Event}
 use Rattle.htl_event.specs.declared.kind.Kind.{Kind}
 use Rattle.htl_event.specs.declared.kind.Kind.TheVariants as kinds
 use Rattle.htl_event.specs.contracts.kind.Kind.{the_type}
@@ -37,7 +37,8 @@ event sequence kind process thread handle object tag stack = record {
 }
 
 -- events with equal fields are equal
-same_event : (a b : Event) → a.sequence ≡ b.sequence → a.kind ≡ b.kind → a.process ≡ b.process → a.thread ≡ b.thread → a.handle ≡ b.handle → a.object ≡ b.object → a.tag ≡ b.tag → a.stack ≡ b.stack → a ≡ b
+same_event : (a b : Event) → a.sequence ≡ b.sequence → a.kind ≡ b.kind → a.process ≡ b.process → a.thread ≡ b.thread
+    → a.handle ≡ b.handle → a.object ≡ b.object → a.tag ≡ b.tag → a.stack ≡ b.stack → a ≡ b
 same_event a b sequence kind process thread handle object tag stack =
     ap (λ (x : ℕ). event x a.kind a.process a.thread a.handle a.object a.tag a.stack) sequence
     ∙ ap (λ (x : Kind). event b.sequence x a.process a.thread a.handle a.object a.tag a.stack) kind
@@ -50,9 +51,20 @@ same_event a b sequence kind process thread handle object tag stack =
 
 -- `==` of events tells whether they are equal
 pub events_decide : (a b : Event)
-    → Decides (eqb a.sequence b.sequence && (sameb the_type a.kind b.kind && (eqb a.process b.process && (eqb a.thread b.thread && (eqb a.handle b.handle && (eqb a.object b.object && (pointwise nat_eq a.tag b.tag && pointwise nat_eq a.stack b.stack))))))) (a ≡ b)
+    → Decides (eqb a.sequence b.sequence
+    && (sameb the_type a.kind b.kind
+    && (eqb a.process b.process
+    && (eqb a.thread b.thread
+    && (eqb a.handle b.handle
+    && (eqb a.object b.object && (pointwise nat_eq a.tag b.tag && pointwise nat_eq a.stack b.stack))))))) (a ≡ b)
 events_decide a b =
     let lists = pointwise_decides unsigned_Decides in
     let all =
-    Decides-and _ _ (Decides-eqb a.sequence b.sequence) (Decides-and _ _ (kinds_decide a.kind b.kind) (Decides-and _ _ (Decides-eqb a.process b.process) (Decides-and _ _ (Decides-eqb a.thread b.thread) (Decides-and _ _ (Decides-eqb a.handle b.handle) (Decides-and _ _ (Decides-eqb a.object b.object) (Decides-and _ _ (lists a.tag b.tag) (lists a.stack b.stack))))))) in
-    Decides-like _ (λ p. same_event a b p.0 p.1.0 p.1.1.0 p.1.1.1.0 p.1.1.1.1.0 p.1.1.1.1.1.0 p.1.1.1.1.1.1.0 p.1.1.1.1.1.1.1) (λ e. (cc, (cc, (cc, (cc, (cc, (cc, (cc, cc)))))))) all
+    Decides-and _ _ (Decides-eqb a.sequence b.sequence)
+    (Decides-and _ _ (kinds_decide a.kind b.kind)
+    (Decides-and _ _ (Decides-eqb a.process b.process)
+    (Decides-and _ _ (Decides-eqb a.thread b.thread)
+    (Decides-and _ _ (Decides-eqb a.handle b.handle)
+    (Decides-and _ _ (Decides-eqb a.object b.object) (Decides-and _ _ (lists a.tag b.tag) (lists a.stack b.stack))))))) in
+    Decides-like _ (λ p. same_event a b p.0 p.1.0 p.1.1.0 p.1.1.1.0 p.1.1.1.1.0 p.1.1.1.1.1.0 p.1.1.1.1.1.1.0 p.1.1.1.1.1.1.1)
+    (λ e. (cc, (cc, (cc, (cc, (cc, (cc, (cc, cc)))))))) all

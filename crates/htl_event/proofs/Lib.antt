@@ -4,6 +4,7 @@ pub mod Determined
 pub mod Unions
 pub mod Counts
 pub mod Ordered
+pub mod EventTests
 pub mod ComputedHandles
 pub mod ComputedCounts
 pub mod RowsHandles

@@ -4,7 +4,8 @@ use Rattle.std.specs.Prelude.{Contains, ◌↔◌, filter, map, if◌then◌else
 use Rattle.std.specs.List.{AllByRecursion, list_all, list_any}
 use Rattle.std.proofs.lemmas.Bool.{and_parts, or_cases, cases_Bool}
 use Rattle.htl_event.specs.Members.{IsRising, Lists}
-use Rattle.htl_event.proofs.Members.{Contains-there, Contains-cases, Contains-cons, Contains-filter, Contains-from_filter, Contains-map, Contains-from_map}
+use Rattle.htl_event.proofs.Members.{Contains-there, Contains-cases, Contains-cons, Contains-filter}
+use Rattle.htl_event.proofs.Members.{Contains-from_filter, Contains-map, Contains-from_map}
 
 -- ---- in order
 
@@ -18,7 +19,8 @@ ordered first [] = []
 ordered first (x ∷ xs) = inserted first x (ordered first xs)
 
 -- what goes into a tail goes into the list
-Contains-after : {X : Type 0} (x : X) (xs ys : List X) (z : X) → (Contains xs z → Contains ys z) → Contains (x ∷ xs) z → Contains (x ∷ ys) z
+Contains-after : {X : Type 0} (x : X) (xs ys : List X) (z : X) → (Contains xs z → Contains ys z) → Contains (x ∷ xs) z
+    → Contains (x ∷ ys) z
 Contains-after x xs ys z into h =
     elim (Contains-cases x xs z h) [ inl here ↦ Contains-cons x ys z (inl here) | inr there ↦ Contains-there x ys z (into there) ]
 
@@ -29,7 +31,8 @@ Contains-swapped x y xs z h =
       | inr there ↦ Contains-after y xs (x ∷ xs) z (Contains-there x xs z) there
     ]
 
-Contains-inserted : {X : Type 0} (first : X → X → Bool) (x : X) (ys : List X) (z : X) → Contains (inserted first x ys) z ↔ Contains (x ∷ ys) z
+Contains-inserted : {X : Type 0} (first : X → X → Bool) (x : X) (ys : List X) (z : X)
+    → Contains (inserted first x ys) z ↔ Contains (x ∷ ys) z
 Contains-inserted first x [] z = (λ h. h, λ h. h)
 Contains-inserted first x (y ∷ ys) z =
     let rest = Contains-inserted first x ys z in
@@ -64,7 +67,8 @@ module _ {X : Type 0} (first : X → X → Bool) (before : X → X → Type 0) (
   IsRising-is_rising (x ∷ xs) e = let parts = and_parts _ _ e in (before_all x xs parts.0, IsRising-is_rising xs parts.1)
 
   -- a list whose members have a property, and no others do, names them once it is put in order
-  pub Lists-ordered : (P : X → Type 0) (xs : List X) → ((x : X) → Contains xs x ↔ P x) → is_rising first (ordered first xs) ≡ true → Lists before P (ordered first xs)
+  pub Lists-ordered : (P : X → Type 0) (xs : List X) → ((x : X) → Contains xs x ↔ P x) → is_rising first (ordered first xs) ≡ true
+      → Lists before P (ordered first xs)
   Lists-ordered P xs members rises = record {
     rising = IsRising-is_rising (ordered first xs) rises;
     members = λ x. (λ h. (members x).0 ((Contains-ordered first xs x).0 h), λ p. (Contains-ordered first xs x).1 ((members x).1 p));

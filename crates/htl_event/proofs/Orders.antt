@@ -6,7 +6,7 @@ use Rattle.std.specs.declared.cmp.Ordering.TheVariants.{Less, Equal}
 use Rattle.std.proofs.lemmas.Cmp.{tied_itself, nat_cmp_total, nat_list_cmp_total, on_total, then_total, back_total}
 use Rattle.htl_event.specs.declared.slot.Count.{Count}
 use Rattle.htl_event.specs.Members.{IsStrictOrder}
-use Rattle.htl_event.specs.Stacks.{stack_total}
+use Rattle.htl_event.specs.OrderLaws.{stack_total}
 use Rattle.htl_event.specs.Handles.{ByBase, NewestFirst}
 use Rattle.htl_event.specs.Tallies.{ByTag, ByStack, ByHandleAndStack, MostFirst}
 
@@ -31,8 +31,10 @@ ByStack-strict {X} = strict_from_total (on_total (λ (row : List ℕ × X). row.
 
 pub ByHandleAndStack-strict : IsStrictOrder ByHandleAndStack
 ByHandleAndStack-strict =
-    strict_from_total (then_total (on_total (λ (row : ℕ × List ℕ × ℕ). row.0) nat_cmp_total) (on_total (λ (row : ℕ × List ℕ × ℕ). row.1) stack_total))
+    strict_from_total (then_total (on_total (λ (row : ℕ × List ℕ × ℕ). row.0) nat_cmp_total)
+    (on_total (λ (row : ℕ × List ℕ × ℕ). row.1) stack_total))
 
 pub MostFirst-strict : IsStrictOrder MostFirst
 MostFirst-strict =
-    strict_from_total (then_total (back_total (on_total (λ (row : List ℕ × ℕ). row.1) nat_cmp_total)) (on_total (λ (row : List ℕ × ℕ). row.0) stack_total))
+    strict_from_total (then_total (back_total (on_total (λ (row : List ℕ × ℕ). row.1) nat_cmp_total))
+    (on_total (λ (row : List ℕ × ℕ). row.0) stack_total))

@@ -1,7 +1,7 @@
 -- Worked answers about counts, by the definitions.
 use Rattle.std.proofs.Common.{◌≡◌, ℕ, List, [], ◌∷◌, refl}
 use Rattle.std.specs.Prelude.{Contains, codes}
-use Rattle.htl_event.specs.declared.event.Event.{Event}
+use Rattle.htl_event.specs.Events.{Event}
 use Rattle.htl_event.specs.declared.kind.Kind.{Kind}
 use Rattle.htl_event.specs.declared.kind.Kind.TheVariants.{Opened, BadRef, Ref, Deref}
 use Rattle.htl_event.specs.declared.slot.Slot.{Slot}
@@ -33,7 +33,8 @@ over_and_under =
     ∷ tagged Deref 6 unprintable
     ∷ []
 
-pub over_and_under_tags : IsTags over_and_under 0xffffa00000001000 ((unprintable, counts 0 1) ∷ (codes "Dflt", counts 1 1) ∷ (codes "Lky8", counts 2 1) ∷ [])
+pub over_and_under_tags : IsTags over_and_under 0xffffa00000001000
+    ((unprintable, counts 0 1) ∷ (codes "Dflt", counts 1 1) ∷ (codes "Lky8", counts 2 1) ∷ [])
 over_and_under_tags = IsTags-tags_of over_and_under 0xffffa00000001000 refl
 
 -- ---- Shared outer frames: two stacks that differ in their innermost frame, and an empty one.
@@ -81,7 +82,16 @@ shared_stacks = IsStacks-stacks_of shared 0x1000 (codes "Lky8") refl
 
 abbrev by_handle : Kind → ℕ → ℕ → List ℕ → Event
 by_handle kind sequence handle stack =
-    record { sequence = sequence; kind = kind; process = 4; thread = 12; handle = handle; object = 0; tag = 0 ∷ 0 ∷ 0 ∷ 0 ∷ []; stack = stack }
+    record {
+      sequence = sequence;
+      kind = kind;
+      process = 4;
+      thread = 12;
+      handle = handle;
+      object = 0;
+      tag = 0 ∷ 0 ∷ 0 ∷ 0 ∷ [];
+      stack = stack;
+    }
 
 abbrev leaking : List Event
 leaking =

@@ -1,16 +1,26 @@
 -- Worked answers about handles, by the definitions. Where nothing else is stated, events are of process 4.
 use Rattle.std.proofs.Common.{ℕ, List, [], ◌∷◌, Some, refl}
 use Rattle.std.specs.Prelude.{Contains}
-use Rattle.htl_event.specs.declared.event.Event.{Event}
+use Rattle.htl_event.specs.Events.{Event}
 use Rattle.htl_event.specs.declared.kind.Kind.{Kind}
 use Rattle.htl_event.specs.declared.kind.Kind.TheVariants.{Opened, Closed, BadRef, Snapshot, Exited}
 use Rattle.htl_event.specs.Slots.{base_of}
 use Rattle.htl_event.specs.Handles.{LatestIs, IsOutstanding, IsMark, IsLastExit, IsDiff, IsListing}
-use Rattle.htl_event.proofs.ComputedHandles.{LatestIs-latest_of, IsMark-mark_of, IsLastExit-last_exit_of, IsOutstanding-outstanding_of, IsDiff-diff_of, IsListing-listing_of}
+use Rattle.htl_event.proofs.ComputedHandles.{LatestIs-latest_of, IsMark-mark_of, IsLastExit-last_exit_of}
+use Rattle.htl_event.proofs.ComputedHandles.{IsOutstanding-outstanding_of, IsDiff-diff_of, IsListing-listing_of}
 
 abbrev of_process : ℕ → Kind → ℕ → ℕ → Event
 of_process process kind sequence handle =
-    record { sequence = sequence; kind = kind; process = process; thread = 12; handle = handle; object = 0; tag = 0 ∷ 0 ∷ 0 ∷ 0 ∷ []; stack = [] }
+    record {
+      sequence = sequence;
+      kind = kind;
+      process = process;
+      thread = 12;
+      handle = handle;
+      object = 0;
+      tag = 0 ∷ 0 ∷ 0 ∷ 0 ∷ [];
+      stack = [];
+    }
 
 abbrev event : Kind → ℕ → ℕ → Event
 event = of_process 4
@@ -76,7 +86,8 @@ two_processes_outstanding_6 = IsOutstanding-outstanding_of two_processes 6 refl
 
 abbrev around_snapshot : List Event
 around_snapshot =
-    event Opened 7 0x14 ∷ event Opened 8 0x10 ∷ event Snapshot 10 0 ∷ event Closed 11 0x14 ∷ event Opened 12 0x18 ∷ event Opened 13 0x14 ∷ []
+    event Opened 7 0x14 ∷ event Opened 8 0x10 ∷ event Snapshot 10 0 ∷ event Closed 11 0x14 ∷ event Opened 12 0x18 ∷ event Opened
+    13 0x14 ∷ []
 
 pub snapshot_mark_4 : IsMark (Contains around_snapshot) 4 10
 snapshot_mark_4 = IsMark-mark_of around_snapshot 4
@@ -84,7 +95,8 @@ snapshot_mark_4 = IsMark-mark_of around_snapshot 4
 pub snapshot_mark_5 : IsMark (Contains around_snapshot) 5 0
 snapshot_mark_5 = IsMark-mark_of around_snapshot 5
 
-pub snapshot_outstanding : IsOutstanding (Contains around_snapshot) 4 (event Opened 8 0x10 ∷ event Opened 13 0x14 ∷ event Opened 12 0x18 ∷ [])
+pub snapshot_outstanding : IsOutstanding (Contains around_snapshot) 4
+    (event Opened 8 0x10 ∷ event Opened 13 0x14 ∷ event Opened 12 0x18 ∷ [])
 snapshot_outstanding = IsOutstanding-outstanding_of around_snapshot 4 refl
 
 pub snapshot_diff : IsDiff (Contains around_snapshot) 4 10 (event Opened 13 0x14 ∷ event Opened 12 0x18 ∷ [])

@@ -1,29 +1,35 @@
 -- Which handles of a process are outstanding, over a set of events given by membership. The set of a
 -- list is `Contains events`.
-use Rattle.std.specs.Prelude.{◌≡◌, ◌≢◌, ℕ, ◌<◌, ◌≤◌, nat_lt, if◌then◌else◌, List, [], ◌∷◌, Option, Some, None, MatchOption, ◌⊎◌}
+use Rattle.std.specs.Prelude.{◌≡◌, ◌≢◌, ℕ, ◌<◌, ◌≤◌, Bool, true, false, nat_lt, if◌then◌else◌, List, [], ◌∷◌, Option, Some, None, MatchOption, ◌⊎◌}
 use Rattle.std.specs.List.{AllByRecursion}
-use Rattle.htl_event.specs.declared.event.Event.{Event}
+use Rattle.htl_event.specs.Events.{Event}
+use Rattle.htl_event.specs.declared.kind.Kind.{Kind}
 use Rattle.htl_event.specs.declared.kind.Kind.TheVariants.{Opened, Closed, BadRef, Snapshot, Exited}
 use Rattle.htl_event.specs.Slots.{base_of}
 use Rattle.htl_event.specs.Members.{Lists}
 
+abbrev pub opens_or_closes : Kind → Bool
+opens_or_closes Opened = true
+opens_or_closes Closed = true
+opens_or_closes other = false
+
 -- The event opens or closes the base handle of the process. (`!htrace`: a handle value names an entry of
 -- one process's table, and a closed value may be given out again.)
-pub record Concerns (process base : ℕ) (e : Event) : Type 0 where
-  pub kind : (e.kind ≡ Opened) ⊎ (e.kind ≡ Closed)
+pub record OpensOrCloses (process base : ℕ) (e : Event) : Type 0 where
+  pub kind : opens_or_closes e.kind ≡ true
   pub owner : e.process ≡ process
   pub handle : base_of e.handle ≡ base
 
 -- Latest event: it has the greatest sequence of those that open or close the base handle of the process.
 pub record IsLatest (among : Event → Type 0) (process base : ℕ) (e : Event) : Type 0 where
   pub here : among e
-  pub concerned : Concerns process base e
-  pub greatest : (x : Event) → among x → Concerns process base x → x.sequence ≤ e.sequence
+  pub of_handle : OpensOrCloses process base e
+  pub greatest : (x : Event) → among x → OpensOrCloses process base x → x.sequence ≤ e.sequence
 
 -- that event, or none where no event opens or closes the handle
 abbrev pub LatestIs : (Event → Type 0) → ℕ → ℕ → Option Event → Type 0
 LatestIs among process base o =
-    MatchOption o ((x : Event) → among x → Concerns process base x → ⊥) (IsLatest among process base)
+    MatchOption o ((x : Event) → among x → OpensOrCloses process base x → ⊥) (IsLatest among process base)
 
 -- the later of two, the first where they came at once
 abbrev pub later : Option Event → Option Event → Option Event
@@ -36,13 +42,13 @@ pub record IsGreatestSequence (among : Event → Type 0) (n : ℕ) : Type 0 wher
   pub bound : (x : Event) → among x → x.sequence ≤ n
   pub reached : (n ≡ 0) ⊎ ((x : Event) × among x × (x.sequence ≡ n))
 
--- a process exit of the process
-abbrev pub IsExit : ℕ → Event → Type 0
-IsExit process e = (e.kind ≡ Exited) × (e.process ≡ process)
+-- the event is of the kind and of the process
+abbrev pub IsOf : Kind → ℕ → Event → Type 0
+IsOf kind process e = (e.kind ≡ kind) × (e.process ≡ process)
 
 -- Last exit: the greatest sequence of a process exit of the process, 0 where there is none.
 abbrev pub IsLastExit : (Event → Type 0) → ℕ → ℕ → Type 0
-IsLastExit among process n = IsGreatestSequence (λ e. among e × IsExit process e) n
+IsLastExit among process n = IsGreatestSequence (λ e. among e × IsOf Exited process e) n
 
 -- The event opened a handle of the process that is still open: it is the handle's latest event and came
 -- after the last exit, which closes all handles of its process (Windows Internals).
@@ -58,13 +64,9 @@ ByBase a b = base_of a.handle < base_of b.handle
 abbrev pub IsOutstanding : (Event → Type 0) → ℕ → List Event → Type 0
 IsOutstanding among process rows = Lists ByBase (IsOpen among process) rows
 
--- a snapshot of the process
-abbrev pub IsSnapshot : ℕ → Event → Type 0
-IsSnapshot process e = (e.kind ≡ Snapshot) × (e.process ≡ process)
-
 -- Snapshot mark (`!htrace -snapshot`): the greatest sequence of a snapshot of the process, 0 where there is none.
 abbrev pub IsMark : (Event → Type 0) → ℕ → ℕ → Type 0
-IsMark among process n = IsGreatestSequence (λ e. among e × IsSnapshot process e) n
+IsMark among process n = IsGreatestSequence (λ e. among e × IsOf Snapshot process e) n
 
 -- Difference (`!htrace -diff`): the outstanding handles that were opened after a moment.
 abbrev pub IsDiff : (Event → Type 0) → ℕ → ℕ → List Event → Type 0

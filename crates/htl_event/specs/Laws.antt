@@ -2,7 +2,7 @@
 -- follow from the answers over each.
 use Rattle.std.specs.Prelude.{◌≡◌, ◌≢◌, ℕ, List, [], ◌∷◌, ◌++◌, Option, Contains, ◌↔◌, ◌⊎◌, Bool, true, max, filter, nat_eq}
 use Rattle.std.specs.List.{starts_with}
-use Rattle.htl_event.specs.declared.event.Event.{Event}
+use Rattle.htl_event.specs.Events.{Event}
 use Rattle.htl_event.specs.declared.slot.Slot.{Slot}
 use Rattle.htl_event.specs.declared.slot.Slot.TheVariants.{Tagged}
 use Rattle.htl_event.specs.declared.slot.Sign.{Sign}

@@ -1,7 +1,7 @@
 -- What the types of an event's fields say of their numbers.
 use Rattle.std.specs.Prelude.{◌≡◌, ◌<◌, ◌≤◌, ◌^◌, length}
 use Rattle.std.specs.List.{AllByRecursion}
-use Rattle.htl_event.specs.declared.event.Event.{Event}
+use Rattle.htl_event.specs.Events.{Event}
 
 pub record InRange (e : Event) : Type 0 where
   pub sequence : e.sequence < 2 ^ 64

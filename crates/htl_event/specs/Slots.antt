@@ -1,7 +1,8 @@
 -- What an event is counted under.
 use Rattle.std.specs.Prelude.{ℕ, ◌*◌, ◌/◌, Option, Some, None, Bool, true, false, ◌&&◌, ◌==◌, nat_eq}
 use Rattle.std.specs.Cmp.Lexicographic.{pointwise}
-use Rattle.htl_event.specs.declared.event.Event.{Event}
+use Rattle.htl_event.specs.Events.{Event}
+use Rattle.htl_event.specs.declared.event.Event.{Event as EventWith}
 use Rattle.htl_event.specs.declared.kind.Kind.{Kind}
 use Rattle.htl_event.specs.declared.kind.Kind.TheVariants.{Opened, Closed, BadRef, Snapshot, Ref, Deref, Exited}
 use Rattle.htl_event.specs.declared.slot.Slot.{Slot}
@@ -16,7 +17,7 @@ base_of handle = 4 * (handle / 4)
 
 -- Opens and closes of a process's handles, its bad references to one handle value as written (`!htrace`),
 -- references and dereferences of an object under a tag (`!obtrace`). Other events are not counted.
-abbrev pub slot_by_kind : Kind → Event → Option (Slot × Sign)
+abbrev pub slot_by_kind : {S : Type 0} → Kind → EventWith S → Option (Slot × Sign)
 slot_by_kind Opened e = Some (Handles e.process, Plus)
 slot_by_kind Closed e = Some (Handles e.process, Minus)
 slot_by_kind BadRef e = Some (Bad e.process e.handle, Plus)
@@ -25,7 +26,7 @@ slot_by_kind Ref e = Some (Tagged e.object e.tag, Plus)
 slot_by_kind Deref e = Some (Tagged e.object e.tag, Minus)
 slot_by_kind Exited e = None
 
-abbrev pub slot_of : Event → Option (Slot × Sign)
+abbrev pub slot_of : {S : Type 0} → EventWith S → Option (Slot × Sign)
 slot_of e = slot_by_kind e.kind e
 
 abbrev pub same_slot : Slot → Slot → Bool

@@ -1,13 +1,20 @@
+//! One event of a trace, with a stack of its own or a shared one.
+
 ghost use Rattle.std.specs.Prelude.{◌≡◌, ◌<◌, ◌^◌, length};
 ghost use Rattle.std.specs.List.{AllByRecursion};
 
 use crate::kind::Kind;
+use crate::shared_stack::SharedStack;
 use crate::slot::{Sign, Slot};
 use crate::stack::Stack;
+use std::alloc::AllocError;
 
 /// One event of a trace.
+///
+/// An `Event` has a stack of its own and is for building. A `SharedEvent` shares its stack with all events
+/// that have the same one. Both have one value, so every definition speaks of both.
 #[derive(Debug, PartialEq, Eq, Drop)]
-pub struct Event {
+pub struct Event<S = Stack> {
     pub sequence: u64,
     pub kind: Kind,
     pub process: u32,
@@ -17,31 +24,18 @@ pub struct Event {
     pub object: u64,
     /// The tag in display order.
     pub tag: [u8; 4],
-    pub stack: Stack,
+    pub stack: S,
 }
 
-impl Event {
+/// An event whose stack is shared: 48 bytes.
+pub type SharedEvent = Event<SharedStack>;
+
+impl<S> Event<S> {
     ghost use Rattle.std.specs.Prelude.{◌≡◌};
     ghost use Rattle.htl_event.specs.Slots.{slot_of};
-    ghost use Rattle.htl_event.specs.Ranges.{InRange};
 
-    /// An equal event. It takes no memory.
-    pub fn copy(&self) -> Event
-        ensures { result ≡ self.now }
-    {
-        Event {
-            sequence: self.sequence,
-            kind: self.kind,
-            process: self.process,
-            thread: self.thread,
-            handle: self.handle,
-            object: self.object,
-            tag: self.tag,
-            stack: self.stack.copy(),
-        }
-    }
-
-    /// What this event is counted under, and on which side. A snapshot is counted nowhere.
+    /// What this event is counted under, and on which side. Snapshots and process exits are counted
+    /// nowhere.
     pub fn slot(&self) -> Option<(Slot, Sign)>
         ensures { result ≡ slot_of self.now }
     {
@@ -65,6 +59,27 @@ impl Event {
             Kind::Deref => Some((tagged, Sign::Minus)),
         }
     }
+}
+
+impl Event {
+    ghost use Rattle.std.specs.Prelude.{◌≡◌};
+    ghost use Rattle.htl_event.specs.Ranges.{InRange};
+
+    /// An equal event. It takes no memory.
+    pub fn copy(&self) -> Event
+        ensures { result ≡ self.now }
+    {
+        Event {
+            sequence: self.sequence,
+            kind: self.kind,
+            process: self.process,
+            thread: self.thread,
+            handle: self.handle,
+            object: self.object,
+            tag: self.tag,
+            stack: self.stack.copy(),
+        }
+    }
 
     /// For proofs: what the types of the fields say of their numbers. It does nothing when it runs.
     pub fn in_range(&self)
@@ -78,6 +93,27 @@ impl Event {
         tag_len(self.tag);
         bytes_in_range(&self.tag);
         addresses_in_range(self.stack.frames());
+    }
+}
+
+impl SharedEvent {
+    ghost use Rattle.std.specs.Prelude.{◌≡◌, IfOk};
+
+    /// An equal event that shares the stack. It takes no memory, and refuses only where the stack has as
+    /// many owners as can be counted.
+    pub fn copy(&self) -> Result<SharedEvent, AllocError>
+        ensures { IfOk result (λ copy. copy ≡ self.now) }
+    {
+        Ok(Event {
+            sequence: self.sequence,
+            kind: self.kind,
+            process: self.process,
+            thread: self.thread,
+            handle: self.handle,
+            object: self.object,
+            tag: self.tag,
+            stack: self.stack.copy()?,
+        })
     }
 }
 

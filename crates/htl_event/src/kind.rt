@@ -1,3 +1,5 @@
+//! What events record.
+
 /// What an event records, in the words of the debugger's `!htrace` and `!obtrace`.
 #[derive(Clone, Copy, Debug, PartialEq, Eq)]
 pub enum Kind {
@@ -15,4 +17,16 @@ pub enum Kind {
     Deref,
     /// A process ended, which closed all its handles.
     Exited,
+}
+
+impl Kind {
+    ghost use Rattle.std.specs.Prelude.{◌≡◌};
+    ghost use Rattle.htl_event.specs.Handles.{opens_or_closes};
+
+    /// Whether such an event opens or closes a handle.
+    pub fn opens_or_closes(self) -> bool
+        ensures { result ≡ opens_or_closes self }
+    {
+        matches!(self, Kind::Opened | Kind::Closed)
+    }
 }

@@ -2,15 +2,16 @@
 
 ghost use Rattle.std.specs.Prelude.{List};
 ghost use Rattle.std.specs.List.Sorted.{IsPermutation};
-ghost use Rattle.htl_event.specs.declared.event.Event.{Event};
+ghost use Rattle.htl_event.specs.Events.{Event};
 ghost use Rattle.htl_event.specs.Laws.{HaveSame, HandlesAreDetermined, CountsAreDetermined, CountsAddUp, IsUnion, LaterOfBoth, PrefixTallyIsSum, BalanceIsSum};
 
-/// Each answer about handles is unique and depends on which events there are, and not on their order.
+/// Each answer about handles is the only one, and depends on which events there are and not on their
+/// order. (The latest event where no two have one sequence; an outstanding handle's event has it alone.)
 pub fn handles_are_determined()
     ensures { (xs ys : List Event) → HaveSame xs ys → HandlesAreDetermined xs ys }
 {}
 
-/// Each answer about counts is unique and depends on how often each event is there, and not on their order.
+/// Each answer about counts is the only one, and depends on how often each event is there, and not on their order.
 pub fn counts_are_determined()
     ensures { (xs ys : List Event) → IsPermutation xs ys → CountsAreDetermined xs ys }
 {}

@@ -4,13 +4,15 @@
 //! handles are outstanding and what a handle's listing is (`Handles`), how often a slot came (`Tallies`),
 //! each over events as a set or as a flat list, and what follows from them (`Laws`). `proofs/RowsHandles`
 //! and `proofs/RowsCounts` have worked answers by these definitions. The code has the types alone: no call
-//! of this crate takes memory.
+//! of this crate takes memory but the making of a shared stack.
 #![tactic(auto)]
 
 mod event;
 mod kind;
-mod laws;
+pub mod laws;
 mod memory;
+mod run;
+mod shared_stack;
 mod slot;
 mod stack;
 #[cfg(test)]
@@ -19,13 +21,11 @@ mod tests;
 ghost use Rattle.std.specs.Prelude.{◌≡◌};
 ghost use Rattle.htl_event.specs.Slots.{base_of};
 
-pub use event::Event;
+pub use event::{Event, SharedEvent};
 pub use kind::Kind;
-pub use laws::{
-    balance_is_sum, counts_add_up, counts_are_determined, handles_are_determined, later_of_both,
-    prefix_tally_is_sum,
-};
 pub use memory::NoMemory;
+pub use run::Run;
+pub use shared_stack::SharedStack;
 pub use slot::{Count, Sign, Slot};
 pub use stack::{MAX_FRAMES, Stack};
 

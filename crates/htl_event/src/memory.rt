@@ -1,3 +1,5 @@
+//! The answer for memory that was refused.
+
 use std::alloc::{AllocError, AllocFailed};
 use std::error::Error;
 use std::fmt;

@@ -1,4 +1,7 @@
+//! A call stack in place.
+
 ghost use Rattle.std.specs.Prelude.{◌≡◌, ◌≤◌, ◌<◌, ◌^◌, [], ◌∷◌, ◌++◌, length, nat_lt, if◌then◌else◌, All};
+ghost use Rattle.htl_event.specs.Stacks.{stack_cmp};
 
 use arrayvec::ArrayVec;
 use std::cmp::Ordering;
@@ -87,7 +90,8 @@ impl Eq for Stack {
 
 impl PartialOrd for Stack {
     ghost use Rattle.std.specs.Ordering.{as_partial_cmp};
-    ghost use Rattle.htl_event.specs.Stacks.{stack_cmp, stack_order};
+    ghost use Rattle.htl_event.specs.OrderLaws.{stack_order};
+    ghost use Rattle.htl_event.specs.Stacks.{stack_cmp};
 
     ghost partial_cmp = { as_partial_cmp stack_cmp };
 
@@ -99,7 +103,8 @@ impl PartialOrd for Stack {
 }
 
 impl Ord for Stack {
-    ghost use Rattle.htl_event.specs.Stacks.{stack_cmp, stack_total, stack_ties};
+    ghost use Rattle.htl_event.specs.OrderLaws.{stack_total, stack_ties};
+    ghost use Rattle.htl_event.specs.Stacks.{stack_cmp};
     ghost use Rattle.std.specs.Cmp.Rules.{comparing};
     ghost use Rattle.std.proofs.Common.{rules};
 
@@ -112,6 +117,13 @@ impl Ord for Stack {
     ghost matches_eq = { stack_ties };
 
     fn cmp(&self, other: &Stack) -> Ordering {
-        self.frames().iter().rev().cmp(other.frames().iter().rev())
+        from_outermost(self.frames(), other.frames())
     }
+}
+
+/// How the addresses of two stacks compare, from the outermost call inwards.
+pub(crate) fn from_outermost(one: &[u64], other: &[u64]) -> Ordering
+    ensures { result ≡ stack_cmp one.now other.now }
+{
+    one.iter().rev().cmp(other.iter().rev())
 }

@@ -1,3 +1,5 @@
+//! The length of stacks, and the orders of stacks and slots.
+
 use crate::{Slot, Stack};
 
 fn stack(addresses: &[u64]) -> Stack {

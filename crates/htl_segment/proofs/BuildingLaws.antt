@@ -1,9 +1,10 @@
 -- Parts without a fault make what the format can spell, and what it can spell has parts without a fault.
-use Rattle.std.proofs.Common.{◌≡◌, ℕ, suc, ◌+◌, ◌^◌, ◌<◌, ◌≤◌, false, not, ◌||◌, eqb, nat_lt, nat_le, List, [], ◌∷◌, length, get_or, drop, All, Option, Some, None, refl, sym, ap, ◌∙◌, add-one, arith, drop-cons}
+use Rattle.std.proofs.Common.{◌≡◌, ℕ, suc, ◌+◌, ◌^◌, ◌<◌, ◌≤◌, false, not, ◌||◌, eqb, nat_lt, nat_le, List, [], ◌∷◌, length, get_or, drop}
+use Rattle.std.proofs.Common.{All, Option, Some, None, refl, sym, ap, ◌∙◌, add-one, arith, drop-cons}
 use Rattle.std.proofs.Math.ListN.{drop_of_length-le}
 use Rattle.std.proofs.lemmas.Bool.{ltb-false, leb-false, le-ltb, lt-leb, eqb-false, ne_eqb}
 use Rattle.std.proofs.lemmas.List.Elements.{All-head, All-tail}
-use Rattle.htl_event.specs.declared.event.Event.{Event}
+use Rattle.htl_event.specs.Events.{Event}
 use Rattle.htl_event.specs.Ranges.{InRange}
 use Rattle.htl_segment.specs.declared.version.Version.{Version}
 use Rattle.htl_segment.specs.declared.fault.Fault.{Fault}
@@ -11,7 +12,7 @@ use Rattle.htl_segment.specs.declared.fault.Fault.TheVariants as faults
 use Rattle.htl_segment.specs.Versions.{limits_of}
 use Rattle.htl_segment.specs.Content.{Content, kind_code, fields_fit, EventFits, EventsFit, Fits}
 use Rattle.htl_segment.specs.Building.{event_fault, events_fault, build_fault}
-use Rattle.htl_segment.proofs.Passed.{passed, both_passed, or_false, not_false, no_or, no_not}
+use Rattle.htl_segment.proofs.PassedTests.{passed, both_passed, or_false, not_false, no_or, no_not}
 
 event_fits : (v : Version) (i last : ℕ) (e : Event) → InRange e → event_fault v i last e ≡ None → EventFits v e × (last < e.sequence)
 unfolding event_fault
@@ -79,7 +80,8 @@ drop-here : (i : ℕ) (es : List Event) (e : Event) → i < length es → e ≡ 
     → drop i es ≡ e ∷ drop (i + 1) es
 drop-here i es e lt here = rw add-one (drop-cons es i e lt ∙ ap (λ (x : Event). x ∷ drop (suc i) es) (sym here))
 
-pub goes_on : (v : Version) (i last : ℕ) (es : List Event) (e : Event) (total : Option Fault) → i < length es → e ≡ get_or es i e → event_fault v i last e ≡ None
+pub goes_on : (v : Version) (i last : ℕ) (es : List Event) (e : Event) (total : Option Fault) → i < length es → e ≡ get_or es i e
+    → event_fault v i last e ≡ None
     → events_fault v i last (drop i es) ≡ total → events_fault v (i + 1) e.sequence (drop (i + 1) es) ≡ total
 unfolding events_fault
 goes_on v i last es e total lt here none so_far =
@@ -87,7 +89,8 @@ goes_on v i last es e total lt here none so_far =
     let one : events_fault v i last (drop i es) ≡ events_fault v (i + 1) e.sequence (drop (i + 1) es) = rw (next, none) refl in
     sym one ∙ so_far
 
-pub stops : (v : Version) (i last : ℕ) (es : List Event) (e : Event) (total : Option Fault) (fault : Fault) → i < length es → e ≡ get_or es i e → event_fault v i last e ≡ Some fault
+pub stops : (v : Version) (i last : ℕ) (es : List Event) (e : Event) (total : Option Fault) (fault : Fault) → i < length es
+    → e ≡ get_or es i e → event_fault v i last e ≡ Some fault
     → events_fault v i last (drop i es) ≡ total → total ≡ Some fault
 unfolding events_fault
 stops v i last es e total fault lt here some so_far =
@@ -95,7 +98,8 @@ stops v i last es e total fault lt here some so_far =
     let one : events_fault v i last (drop i es) ≡ Some fault = rw (next, some) refl in
     sym so_far ∙ one
 
-pub is_done : (v : Version) (i last : ℕ) (es : List Event) (total : Option Fault) → length es ≤ i → events_fault v i last (drop i es) ≡ total → total ≡ None
+pub is_done : (v : Version) (i last : ℕ) (es : List Event) (total : Option Fault) → length es ≤ i
+    → events_fault v i last (drop i es) ≡ total → total ≡ None
 unfolding events_fault
 is_done v i last es total le so_far =
     let nothing : drop i es ≡ [] = drop_of_length-le es le in

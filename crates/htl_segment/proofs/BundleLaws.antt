@@ -1,5 +1,7 @@
 -- Bytes split into segments in one way.
-use Rattle.std.proofs.Common.{◌≡◌, ℕ, zero, suc, ◌+◌, ◌-◌, ◌*◌, ◌<◌, ◌≤◌, Bool, true, false, cond, not, ◌||◌, eqb, nat_eq, nat_lt, nat_le, List, [], ◌∷◌, ◌++◌, length, All, drop, Option, Some, None, is_none, refl, sym, ap, ◌∙◌, append_assoc, arith, inl, inr, ◌⊎◌}
+use Rattle.std.proofs.Common.{◌≡◌, ℕ, zero, suc, ◌+◌, ◌-◌, ◌*◌, ◌<◌, ◌≤◌, Bool, true, false, cond, not, ◌||◌, eqb, nat_eq, nat_lt, nat_le}
+use Rattle.std.proofs.Common.{List, [], ◌∷◌, ◌++◌, length, All, drop, Option, Some, None, is_none, refl, sym, ap, ◌∙◌, append_assoc}
+use Rattle.std.proofs.Common.{arith, inl, inr, ◌⊎◌}
 use Rattle.std.specs.Prelude.{codes, MatchOption}
 use Rattle.std.specs.List.{starts_with}
 use Rattle.std.proofs.lemmas.Bool.{cases_lt, lt-ltb, le-ltb}
@@ -14,11 +16,12 @@ use Rattle.htl_segment.specs.Content.{Content, Fits}
 use Rattle.htl_segment.specs.Spelling.{records, header_bytes, spelling, BeginsWith}
 use Rattle.htl_segment.specs.Reading.{version_of, frames_in, after_record, version_in, length_in, body_in}
 use Rattle.htl_segment.specs.Faults.{or_else, header_fault, record_fault, records_fault, first_fault}
-use Rattle.htl_segment.specs.Bundles.{bundle, Splits, SplitsMore, BundleFault, IsBoundary, cut_off, IsRest, IsWhole, IsLateFault, IsRefused, is_early_end}
-use Rattle.htl_segment.proofs.Passed.{some_is}
+use Rattle.htl_segment.specs.Bundles.{bundle, Splits, BundleFault, SegmentAt, IsBoundary, cut_off, IsRest, IsRefused, is_early_end}
+use Rattle.htl_segment.specs.Feeding.{SplitsMore}
+use Rattle.htl_segment.proofs.PassedTests.{some_is}
 use Rattle.htl_segment.proofs.HeaderLaws.{length-header_bytes}
 use Rattle.htl_segment.proofs.SegmentLaws.{first_fault-header, first_fault-cut, first_fault-records, begins, segment_again, one_spelling}
-use Rattle.htl_segment.proofs.Extended.{header_fault-append, first_fault-append}
+use Rattle.htl_segment.proofs.MoreBytes.{header_fault-append, first_fault-append}
 
 -- ---- which faults are early ends
 
@@ -66,7 +69,8 @@ late_records v zero i last b = filled (eqb (length b) 0)
     filled true = tt
     filled false = refl
 late_records v (suc n) i last b =
-    late_or_else (record_fault v i last b) (records_fault v n (i + 1) (number 0 8 b) (after_record b)) (late_record v i last b) (late_records v n (i + 1) (number 0 8 b) (after_record b))
+    late_or_else (record_fault v i last b) (records_fault v n (i + 1) (number 0 8 b) (after_record b)) (late_record v i last b)
+    (late_records v n (i + 1) (number 0 8 b) (after_record b))
 
 is_mended : (first : Option Fault) (fault : Fault) → IsLate first → first ≡ Some fault → is_early_end fault ≡ true → ⊥
 is_mended None fault late is early = cc is
@@ -77,7 +81,8 @@ is_mended (Some other) fault late is early =
 cut_off-long : (b : List ℕ) → 32 ≤ length b → cut_off b ≡ faults.Cut
 cut_off-long b long = let t : nat_lt (length b) 32 ≡ false = le-ltb _ _ long in rw t refl
 
-long_early_end : (b : List ℕ) (fault : Fault) (head : Option Fault) → 32 ≤ length b → header_fault b ≡ head → first_fault b ≡ Some fault → is_early_end fault ≡ true → (header_fault b ≡ None) × (length b < length_in b)
+long_early_end : (b : List ℕ) (fault : Fault) (head : Option Fault) → 32 ≤ length b → header_fault b ≡ head → first_fault b ≡ Some fault
+    → is_early_end fault ≡ true → (header_fault b ≡ None) × (length b < length_in b)
 long_early_end b fault (Some other) long head is early =
     let late : IsLate (Some other) = rw head at (late_header b long) in
     absurd (is_mended (Some other) fault late (sym (first_fault-header b other head) ∙ is) early)
@@ -117,21 +122,32 @@ first_fault-rest b rest =
 
 pub begins_long : (b : List ℕ) (n : ℕ) (s : Content) → BeginsWith b n s → 32 ≤ n
 begins_long b n s front =
-    omega (arith, ap length front.spells.bytes, length-take n b, front.inside, length-append (header_bytes s (length (records s.events))) (records s.events), length-header_bytes s (length (records s.events)))
+    omega (
+      arith,
+      ap length front.spells.bytes,
+      length-take n b,
+      front.inside,
+      length-append (header_bytes s (length (records s.events))) (records s.events),
+      length-header_bytes s (length (records s.events)),
+    )
 
-pub splits_one : (b : List ℕ) (old new : List Content) (rest : List ℕ) (n : ℕ) (s : Content) → SplitsMore b old new rest → BeginsWith rest n s → SplitsMore b old (new ++ s ∷ []) (drop n rest)
+pub splits_one : (b : List ℕ) (old new : List Content) (rest : List ℕ) (n : ℕ) (s : Content) → SplitsMore b old new rest
+    → BeginsWith rest n s → SplitsMore b old (new ++ s ∷ []) (drop n rest)
 splits_one b old new rest n s so_far front = record {
   more = so_far.more ++ s ∷ [];
   pushed = rw so_far.pushed (append_assoc old so_far.more (s ∷ []));
   splits = record {
-    parts = so_far.splits.parts ∙ ap (λ (r : List ℕ). bundle so_far.more ++ r) (sym (take-append-drop n rest) ∙ ap (λ (x : List ℕ). x ++ drop n rest) front.spells.bytes)
-        ∙ sym (append_assoc (bundle so_far.more) (spelling s) (drop n rest)) ∙ ap (λ (x : List ℕ). x ++ drop n rest) (flat_map_more spelling [] so_far.more s);
+    parts = so_far.splits.parts ∙ ap (λ (r : List ℕ). bundle so_far.more ++ r) (sym (take-append-drop n rest)
+        ∙ ap (λ (x : List ℕ). x ++ drop n rest) front.spells.bytes)
+        ∙ sym (append_assoc (bundle so_far.more) (spelling s) (drop n rest))
+        ∙ ap (λ (x : List ℕ). x ++ drop n rest) (flat_map_more spelling [] so_far.more s);
     fits = All-push Fits so_far.more s so_far.splits.fits front.spells.fits;
   };
 }
 
 some_left : (rest : List ℕ) (fault : Fault) → first_fault rest ≡ Some fault → is_early_end fault ≡ false → 0 < length rest
-some_left [] fault is late = absurd (let same = some_is faults.Short fault (sym (short_end [] (omega arith)) ∙ is) in cc (ap is_early_end same ∙ late))
+some_left [] fault is late = absurd (let same = some_is faults.Short fault (sym (short_end [] (omega arith))
+    ∙ is) in cc (ap is_early_end same ∙ late))
 some_left (x ∷ rest) fault is late = omega arith
 
 boundary : (b : List ℕ) (old new : List Content) (rest : List ℕ) → SplitsMore b old new rest → IsBoundary b (length b - length rest)
@@ -142,41 +158,77 @@ boundary b old new rest so_far = record {
   offset_is = omega (arith, ap length so_far.splits.parts, length-append (bundle so_far.more) rest);
 }
 
-pub refused : (b : List ℕ) (old new : List Content) (rest : List ℕ) (fault : Fault) → SplitsMore b old new rest → is_early_end fault ≡ false → (fault ≡ faults.NoMemory) ⊎ (first_fault rest ≡ Some fault)
-    → IsRefused b (length b - length rest) fault
+late_fault_at : (b : List ℕ) (old new : List Content) (rest : List ℕ) (fault : Fault) → SplitsMore b old new rest
+    → is_early_end fault ≡ false
+    → first_fault rest ≡ Some fault → IsRefused b (length b - length rest) fault
 unfolding boundary
-refused b old new rest fault so_far late cause =
-    let here = boundary b old new rest so_far in
-    record {
-      inside = omega arith;
-      boundary = here;
-      late = late;
-      cause = elim cause [
-        | inl memory ↦ inl memory
-        | inr is ↦ inr (record {
-          before = so_far.more;
-          rest = rest;
-          splits = so_far.splits;
-          offset_is = here.offset_is;
-          some = some_left rest fault is late;
-          fault_is = is;
-        })
-      ];
-    }
+late_fault_at b old new rest fault so_far late is =
+    inl (
+      record {
+        before = so_far.more;
+        rest = rest;
+        splits = so_far.splits;
+        offset_is = (boundary b old new rest so_far).offset_is;
+        some = some_left rest fault is late;
+        fault_is = is;
+      },
+      late,
+    )
+
+memory_at : (b : List ℕ) (old new : List Content) (rest : List ℕ) → SplitsMore b old new rest → first_fault rest ≡ None
+    → IsRefused b (length b - length rest) faults.NoMemory
+unfolding boundary
+memory_at b old new rest so_far none =
+    inr (
+      refl,
+      record {
+        before = so_far.more;
+        rest = rest;
+        splits = so_far.splits;
+        offset_is = (boundary b old new rest so_far).offset_is;
+        no_fault = none;
+      },
+    )
+
+-- what `decode` tells of the bytes left
+pub refused : (b : List ℕ) (old new : List Content) (rest : List ℕ) (fault : Fault) (first : Option Fault) → SplitsMore b old new rest
+    → is_early_end fault ≡ false
+    → first_fault rest ≡ first → MatchOption first (fault ≡ faults.NoMemory) (λ other. fault ≡ other)
+    → IsRefused b (length b - length rest) fault
+refused b old new rest fault None so_far late first told = rw told (memory_at b old new rest so_far first)
+refused b old new rest fault (Some other) so_far late first told = late_fault_at b old new rest fault so_far late (first
+    ∙ ap Some (sym told))
+
+pub refused_boundary : (b : List ℕ) (offset : ℕ) (fault : Fault) → IsRefused b offset fault → IsBoundary b offset
+refused_boundary b offset fault refused =
+    elim refused [
+      | inl found ↦ record { before = found.0.before; rest = found.0.rest; splits = found.0.splits; offset_is = found.0.offset_is }
+      | inr asked ↦ record { before = asked.1.before; rest = asked.1.rest; splits = asked.1.splits; offset_is = asked.1.offset_is }
+    ]
+
+pub boundary_inside : (b : List ℕ) (offset : ℕ) → IsBoundary b offset → offset ≤ length b
+boundary_inside b offset here = omega (arith, here.offset_is, ap length here.splits.parts, length-append (bundle here.before) here.rest)
+
+-- the fault of a whole bundle, where it has one that more bytes can't mend
+pub refused_bundle : (b : List ℕ) (offset : ℕ) (fault : Fault) → IsRefused b offset fault
+    → BundleFault b offset fault ⊎ ((fault ≡ faults.NoMemory) × SegmentAt b offset)
+refused_bundle b offset fault refused =
+    elim refused [
+      | inl found ↦ inl (found.0)
+      | inr asked ↦ inr asked
+    ]
 
 -- ---- what `decode` tells
 
-pub told : (first : Option Fault) (fault : Fault) → MatchOption first (fault ≡ faults.NoMemory) (λ other. fault ≡ other) → (fault ≡ faults.NoMemory) ⊎ (first ≡ Some fault)
-told None fault memory = inl memory
-told (Some other) fault same = inr (ap Some (sym same))
-
-pub told_early : (first : Option Fault) (fault : Fault) → MatchOption first (fault ≡ faults.NoMemory) (λ other. fault ≡ other) → is_early_end fault ≡ true → first ≡ Some fault
+pub told_early : (first : Option Fault) (fault : Fault) → MatchOption first (fault ≡ faults.NoMemory) (λ other. fault ≡ other)
+    → is_early_end fault ≡ true → first ≡ Some fault
 told_early None fault memory early = absurd (cc (sym early ∙ ap is_early_end memory))
 told_early (Some other) fault same early = ap Some (sym same)
 
 -- ---- a whole bundle
 
-pub bundle_cut : (b : List ℕ) (old new : List Content) (rest : List ℕ) → SplitsMore b old new rest → IsRest rest → 0 < length rest → BundleFault b (length b - length rest) (cut_off rest)
+pub bundle_cut : (b : List ℕ) (old new : List Content) (rest : List ℕ) → SplitsMore b old new rest → IsRest rest → 0 < length rest
+    → BundleFault b (length b - length rest) (cut_off rest)
 bundle_cut b old new rest split is_rest some = record {
   before = split.more;
   rest = rest;
@@ -192,32 +244,11 @@ whole_late : (first : Option Fault) (fault : Fault) → IsLate first → first �
 whole_late None fault late is = absurd cc
 whole_late (Some other) fault late is = sym (ap is_early_end (some_is other fault is)) ∙ late
 
--- what `decode` tells of a header and all that it tells
-pub late_fault : (b : List ℕ) (fault : Fault) → IsWhole b → MatchOption (first_fault b) (fault ≡ faults.NoMemory) (λ other. fault ≡ other) → IsLateFault b fault
-late_fault b fault whole is =
-    elim (told (first_fault b) fault is) [
-      | inl memory ↦ record { late = rw memory refl; cause = inl memory }
-      | inr first ↦
-          let records_first = first_fault-records b whole.no_fault (omega (arith, whole.len)) in
-          let late = whole_late _ fault (late_records (version_in b) (number 24 4 b) 0 0 (body_in b)) (sym records_first ∙ first) in
-          record { late = late; cause = inr first }
-    ]
-
-pub late_header_fault : (b more : List ℕ) (fault : Fault) → 32 ≤ length b → header_fault b ≡ Some fault → IsLateFault (b ++ more) fault
-late_header_fault b more fault long is = record {
-  late = whole_late (header_fault b) fault (late_header b long) is;
-  cause = inr (first_fault-header (b ++ more) fault (header_fault-append b more long ∙ is));
-}
-
-pub single_split : (b : List ℕ) (n : ℕ) (s : Content) → IsWhole b → BeginsWith b n s → Splits b (s ∷ []) []
-single_split b n s whole front =
-    let again = begins b n s front in
-    let len : n ≡ length b = omega (arith, again.len, ap length front.spells.bytes, length-take n b, front.inside, whole.len) in
-    let all : b ≡ spelling s = sym (take_all n b (omega (arith, len))) ∙ front.spells.bytes in
-    record {
-      parts = all ∙ sym (append-nil (spelling s)) ∙ sym (append-nil (spelling s ++ []));
-      fits = All-cons Fits s [] front.spells.fits (All-nil Fits);
-    }
+-- a header and all that it tells have no fault that more bytes may mend
+pub whole_fault : (b : List ℕ) (fault : Fault) → 32 ≤ length b → header_fault b ≡ None → length_in b ≤ length b
+    → first_fault b ≡ Some fault → is_early_end fault ≡ false
+whole_fault b fault long none whole is =
+    whole_late _ fault (late_records (version_in b) (number 24 4 b) 0 0 (body_in b)) (sym (first_fault-records b none whole) ∙ is)
 
 -- ---- what stays when more bytes follow
 
@@ -226,7 +257,8 @@ not_early early fault is same late =
     let e : early ≡ fault = some_is early fault same in
     cc (sym is ∙ ap is_early_end e ∙ late)
 
-late_stays_long : (b more : List ℕ) (fault : Fault) (head : Option Fault) → 32 ≤ length b → header_fault b ≡ head → is_early_end fault ≡ false → first_fault b ≡ Some fault → first_fault (b ++ more) ≡ Some fault
+late_stays_long : (b more : List ℕ) (fault : Fault) (head : Option Fault) → 32 ≤ length b → header_fault b ≡ head
+    → is_early_end fault ≡ false → first_fault b ≡ Some fault → first_fault (b ++ more) ≡ Some fault
 late_stays_long b more fault (Some first) long head late is =
     first_fault-header (b ++ more) first (header_fault-append b more long ∙ head) ∙ sym (first_fault-header b first head) ∙ is
 late_stays_long b more fault None long head late is =
@@ -236,7 +268,8 @@ late_stays_long b more fault None long head late is =
     ]
 
 -- a fault that more bytes can't mend
-pub late_stays : (b more : List ℕ) (fault : Fault) → is_early_end fault ≡ false → first_fault b ≡ Some fault → first_fault (b ++ more) ≡ Some fault
+pub late_stays : (b more : List ℕ) (fault : Fault) → is_early_end fault ≡ false → first_fault b ≡ Some fault
+    → first_fault (b ++ more) ≡ Some fault
 late_stays b more fault late is =
     elim (cases_lt (length b) 32) [
       | inl short ↦
@@ -252,21 +285,29 @@ late_stays b more fault late is =
 spelled_first : (s : Content) (more : List ℕ) (fault : Fault) → Fits s → first_fault (spelling s ++ more) ≡ Some fault → ⊥
 spelled_first s more fault fits is = cc (sym (segment_again s more fits).no_fault ∙ is)
 
-split_one_way : (ss ts : List Content) (rest left : List ℕ) (f g : Fault) → All Fits ss → All Fits ts → first_fault rest ≡ Some f → first_fault left ≡ Some g → bundle ss ++ rest ≡ bundle ts ++ left
+split_one_way : (ss ts : List Content) (rest left : List ℕ) (f g : Fault) → All Fits ss → All Fits ts → first_fault rest ≡ Some f
+    → first_fault left ≡ Some g → bundle ss ++ rest ≡ bundle ts ++ left
     → (ss ≡ ts) × (rest ≡ left)
 split_one_way [] [] rest left f g fits fit is isn't same = (refl, same)
 split_one_way [] (t ∷ ts) rest left f g fits fit is isn't same =
-    absurd (spelled_first t (bundle ts ++ left) f (All-head Fits t ts fit) (sym (ap first_fault (same ∙ append_assoc (spelling t) (bundle ts) left)) ∙ is))
+    absurd (spelled_first t (bundle ts ++ left) f (All-head Fits t ts fit)
+    (sym (ap first_fault (same ∙ append_assoc (spelling t) (bundle ts) left)) ∙ is))
 split_one_way (s ∷ ss) [] rest left f g fits fit is isn't same =
-    absurd (spelled_first s (bundle ss ++ rest) g (All-head Fits s ss fits) (sym (ap first_fault (sym same ∙ append_assoc (spelling s) (bundle ss) rest)) ∙ isn't))
+    absurd (spelled_first s (bundle ss ++ rest) g (All-head Fits s ss fits)
+    (sym (ap first_fault (sym same ∙ append_assoc (spelling s) (bundle ss) rest)) ∙ isn't))
 split_one_way (s ∷ ss) (t ∷ ts) rest left f g fits fit is isn't same =
-    let regrouped : spelling s ++ (bundle ss ++ rest) ≡ spelling t ++ (bundle ts ++ left) = sym (append_assoc (spelling s) (bundle ss) rest) ∙ same ∙ append_assoc (spelling t) (bundle ts) left in
-    let first = one_spelling (spelling s) (spelling t) (bundle ss ++ rest) (bundle ts ++ left) s t (record { bytes = refl; fits = All-head Fits s ss fits }) (record { bytes = refl; fits = All-head Fits t ts fit }) regrouped in
-    let next : bundle ss ++ rest ≡ bundle ts ++ left = append_cancel_left (spelling t) (bundle ss ++ rest) (bundle ts ++ left) (ap (λ (x : List ℕ). x ++ (bundle ss ++ rest)) (sym first.0) ∙ regrouped) in
+    let regrouped : spelling s ++ (bundle ss ++ rest) ≡ spelling t ++ (bundle ts ++ left) =
+    sym (append_assoc (spelling s) (bundle ss) rest) ∙ same ∙ append_assoc (spelling t) (bundle ts) left in
+    let first = one_spelling (spelling s) (spelling t) (bundle ss ++ rest) (bundle ts ++ left) s t
+    (record { bytes = refl; fits = All-head Fits s ss fits }) (record { bytes = refl; fits = All-head Fits t ts fit }) regrouped in
+    let next : bundle ss ++ rest ≡ bundle ts ++ left =
+    append_cancel_left (spelling t) (bundle ss ++ rest) (bundle ts ++ left)
+    (ap (λ (x : List ℕ). x ++ (bundle ss ++ rest)) (sym first.0) ∙ regrouped) in
     let others = split_one_way ss ts rest left f g (All-tail Fits s ss fits) (All-tail Fits t ts fit) is isn't next in
     (ap (λ (x : Content). x ∷ ss) first.1 ∙ ap (λ (xs : List Content). t ∷ xs) others.0, others.1)
 
-pub split_in_one_way : (b rest left : List ℕ) (ss ts : List Content) (f g : Fault) → Splits b ss rest → Splits b ts left → first_fault rest ≡ Some f → first_fault left ≡ Some g → (ss ≡ ts) × (rest ≡ left)
+pub split_in_one_way : (b rest left : List ℕ) (ss ts : List Content) (f g : Fault) → Splits b ss rest → Splits b ts left
+    → first_fault rest ≡ Some f → first_fault left ≡ Some g → (ss ≡ ts) × (rest ≡ left)
 split_in_one_way b rest left ss ts f g split other is isn't =
     split_one_way ss ts rest left f g split.fits other.fits is isn't (sym split.parts ∙ other.parts)
 

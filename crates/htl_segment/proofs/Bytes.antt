@@ -1,10 +1,12 @@
 -- Numbers and their bytes, the lowest first: each gives the other back.
-use Rattle.std.proofs.Common.{◌≡◌, ℕ, zero, suc, ◌+◌, ◌*◌, ◌/◌, ◌%◌, ◌^◌, ◌<◌, ◌≤◌, List, [], ◌∷◌, ◌++◌, length, get_or, slice_index, take, drop, refl, sym, ap, ◌∙◌, append_assoc, arith, inl, inr}
+use Rattle.std.proofs.Common.{◌≡◌, ℕ, zero, suc, ◌+◌, ◌-◌, ◌*◌, ◌/◌, ◌%◌, ◌^◌, ◌<◌, ◌≤◌, List, [], ◌∷◌, ◌++◌, length, get_or, slice_index}
+use Rattle.std.proofs.Common.{take, drop, refl, sym, ap, ◌∙◌, append_assoc, arith, inl, inr}
 use Rattle.std.specs.Int.{byte_at, bytes_low_first}
 use Rattle.std.proofs.Math.Nat.{div-div-eq-div-mul, pow-succ'}
 use Rattle.std.proofs.Math.Seq.{drop-append_seam}
 use Rattle.std.proofs.lemmas.Bool.{cases_lt}
-use Rattle.std.proofs.lemmas.List.{take-append-drop, length-append, length-take, length-drop, drop-drop, take_all, get_or-drop, get_or-take, get_or_past}
+use Rattle.std.proofs.lemmas.List.{take-append-drop, length-append, length-take, length-drop, drop-drop, take_all, get_or-drop}
+use Rattle.std.proofs.lemmas.List.{get_or-take, get_or_past, get_or_append_left, get_or-append_right}
 use Rattle.std.specs.List.{flat_map, AllByRecursion}
 use Rattle.byteorder.specs.Endian.{little_from}
 use Rattle.byteorder.specs.Numbers.{little_from-cons, little_from-lt, little_number-reads_back, length-bytes_low_first}
@@ -20,10 +22,18 @@ IsBytes-take n bytes h i =
       | inr le ↦ rw (get_or_past (take n bytes) i 0 (omega (arith, length-take n bytes))) (omega arith)
     ]
 
+pub IsBytes-append : (a b : List ℕ) → IsBytes a → IsBytes b → IsBytes (a ++ b)
+IsBytes-append a b first second i =
+    elim (cases_lt i (length a)) [
+      | inl lt ↦ rw (get_or_append_left a b 0 i lt) (first i)
+      | inr le ↦ rw (get_or-append_right a b (length a) i 0 refl le) (second (i - length a))
+    ]
+
 byte_at-suc : (j x : ℕ) → byte_at (suc j) x ≡ byte_at j (x / 256)
 byte_at-suc zero x = refl
 byte_at-suc (suc j) x =
-    let e : x / 256 ^ suc (suc j) ≡ x / 256 / 256 ^ suc j = ap (λ (p : ℕ). x / p) (pow-succ' 256 (suc j)) ∙ sym (div-div-eq-div-mul x 256 (256 ^ suc j)) in
+    let e : x / 256 ^ suc (suc j) ≡ x / 256 / 256 ^ suc j = ap (λ (p : ℕ). x / p) (pow-succ' 256 (suc j))
+    ∙ sym (div-div-eq-div-mul x 256 (256 ^ suc j)) in
     ap (λ (y : ℕ). y % 256) e
 
 low_first-suc : (j k x : ℕ) → bytes_low_first (suc j) k x ≡ bytes_low_first j k (x / 256)
@@ -42,13 +52,15 @@ low_first-number (suc n) (b ∷ bytes) small long =
     let rest = low_first-number n bytes (λ i. small (suc i)) (omega arith) in
     rw (little_from-cons 0 n b bytes, low_first-suc 0 n (b + 256 * y), low, high, rest) refl
 
-pub bytes_of-number : (place n : ℕ) (bytes : List ℕ) → IsBytes bytes → place + n ≤ length bytes → bytes_of n (number place n bytes) ≡ take n (drop place bytes)
+pub bytes_of-number : (place n : ℕ) (bytes : List ℕ) → IsBytes bytes → place + n ≤ length bytes
+    → bytes_of n (number place n bytes) ≡ take n (drop place bytes)
 unfolding number bytes_of
 bytes_of-number place n bytes small long =
     low_first-number n (drop place bytes) (IsBytes-drop place bytes small) (omega (arith, length-drop place bytes))
 
 -- the bytes of the number at a place, and what follows
-pub field : (place n next : ℕ) (bytes : List ℕ) → IsBytes bytes → place + n ≤ length bytes → next ≡ place + n → drop place bytes ≡ bytes_of n (number place n bytes) ++ drop next bytes
+pub field : (place n next : ℕ) (bytes : List ℕ) → IsBytes bytes → place + n ≤ length bytes → next ≡ place + n
+    → drop place bytes ≡ bytes_of n (number place n bytes) ++ drop next bytes
 field place n next bytes small long at =
     rw (bytes_of-number place n bytes small long, at, ← drop-drop n place bytes) (sym (take-append-drop n (drop place bytes)))
 
@@ -64,10 +76,13 @@ unfolding bytes_of
 length-bytes_of n x = length-bytes_low_first 0 n x
 
 -- two lists of bytes of one length and one number are equal
-pub bytes_from_number : (a b : List ℕ) → IsBytes a → IsBytes b → length a ≡ length b → number 0 (length a) a ≡ number 0 (length a) b → a ≡ b
+pub bytes_from_number : (a b : List ℕ) → IsBytes a → IsBytes b → length a ≡ length b
+    → number 0 (length a) a ≡ number 0 (length a) b → a ≡ b
 bytes_from_number a b sa sb len same =
-    let x : bytes_of (length a) (number 0 (length a) a) ≡ a = bytes_of-number 0 (length a) a sa (omega arith) ∙ take_all (length a) a (omega arith) in
-    let y : bytes_of (length a) (number 0 (length a) b) ≡ b = bytes_of-number 0 (length a) b sb (omega arith) ∙ take_all (length a) b (omega arith) in
+    let x : bytes_of (length a) (number 0 (length a) a) ≡ a = bytes_of-number 0 (length a) a sa (omega arith)
+    ∙ take_all (length a) a (omega arith) in
+    let y : bytes_of (length a) (number 0 (length a) b) ≡ b = bytes_of-number 0 (length a) b sb (omega arith)
+    ∙ take_all (length a) b (omega arith) in
     sym x ∙ ap (bytes_of (length a)) same ∙ y
 
 -- ---- lists of numbers
@@ -89,11 +104,13 @@ numbers_take place zero next bytes small long at = let e : place ≡ next = omeg
 numbers_take place (suc n) next bytes small long at =
     let first = field place 8 (8 + place) bytes small (omega arith) (omega arith) in
     let others = numbers_take (8 + place) n next bytes small (omega arith) (omega arith) in
-    first ∙ ap (λ (r : List ℕ). bytes_of 8 (number place 8 bytes) ++ r) others ∙ sym (append_assoc (bytes_of 8 (number place 8 bytes)) (flat_map (bytes_of 8) (numbers (8 + place) n bytes)) (drop next bytes))
+    first ∙ ap (λ (r : List ℕ). bytes_of 8 (number place 8 bytes) ++ r) others
+    ∙ sym (append_assoc (bytes_of 8 (number place 8 bytes)) (flat_map (bytes_of 8) (numbers (8 + place) n bytes)) (drop next bytes))
 
 -- ---- reading what is written, from one place to the next
 
-pub after : (place n next : ℕ) (all piece rest : List ℕ) → drop place all ≡ piece ++ rest → length piece ≡ n → next ≡ place + n → drop next all ≡ rest
+pub after : (place n next : ℕ) (all piece rest : List ℕ) → drop place all ≡ piece ++ rest → length piece ≡ n → next ≡ place + n
+    → drop next all ≡ rest
 after place n next all piece rest here len at =
     rw (at, ← drop-drop n place all, here, ← len) (drop-append_seam piece rest)
 
@@ -101,7 +118,8 @@ pub number_here : (place n x : ℕ) (bytes rest : List ℕ) → drop place bytes
 unfolding number bytes_of
 number_here place n x bytes rest here lt = ap (little_from 0 n) here ∙ little_number-reads_back n x rest lt
 
-pub after_number : (place n next x : ℕ) (bytes rest : List ℕ) → drop place bytes ≡ bytes_of n x ++ rest → next ≡ place + n → drop next bytes ≡ rest
+pub after_number : (place n next x : ℕ) (bytes rest : List ℕ) → drop place bytes ≡ bytes_of n x ++ rest → next ≡ place + n
+    → drop next bytes ≡ rest
 after_number place n next x bytes rest here at = after place n next bytes (bytes_of n x) rest here (length-bytes_of n x) at
 
 pub byte_here : (place x : ℕ) (bytes rest : List ℕ) → drop place bytes ≡ x ∷ rest → slice_index bytes place ≡ x
@@ -110,14 +128,16 @@ byte_here place x bytes rest here =
     let z : place + 0 ≡ place = omega arith in
     ap (λ (k : ℕ). get_or bytes k 0) (sym z) ∙ sym e ∙ ap (λ (xs : List ℕ). get_or xs 0 0) here
 
-pub numbers_here : (xs rest : List ℕ) (place : ℕ) (bytes : List ℕ) → drop place bytes ≡ flat_map (bytes_of 8) xs ++ rest → AllByRecursion (λ a. a < 2 ^ 64) xs → numbers place (length xs) bytes ≡ xs
+pub numbers_here : (xs rest : List ℕ) (place : ℕ) (bytes : List ℕ) → drop place bytes ≡ flat_map (bytes_of 8) xs ++ rest
+    → AllByRecursion (λ a. a < 2 ^ 64) xs → numbers place (length xs) bytes ≡ xs
 unfolding numbers
 numbers_here [] rest place bytes here fits = refl
 numbers_here (x ∷ xs) rest place bytes here fits =
     let more = flat_map (bytes_of 8) xs ++ rest in
     let first : drop place bytes ≡ bytes_of 8 x ++ more = here ∙ append_assoc (bytes_of 8 x) (flat_map (bytes_of 8) xs) rest in
     let others = numbers_here xs rest (8 + place) bytes (after_number place 8 (8 + place) x bytes more first (omega arith)) fits.1 in
-    ap (λ (y : ℕ). y ∷ numbers (8 + place) (length xs) bytes) (number_here place 8 x bytes more first fits.0) ∙ ap (λ (ys : List ℕ). x ∷ ys) others
+    ap (λ (y : ℕ). y ∷ numbers (8 + place) (length xs) bytes) (number_here place 8 x bytes more first fits.0)
+    ∙ ap (λ (ys : List ℕ). x ∷ ys) others
 
 pub length-frames : (xs : List ℕ) → length (flat_map (bytes_of 8) xs) ≡ 8 * length xs
 length-frames [] = refl

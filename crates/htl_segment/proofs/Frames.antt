@@ -1,20 +1,24 @@
 -- The addresses of a stack, eight bytes each.
-use Rattle.std.proofs.Common.{◌≡◌, ℕ, zero, suc, ◌+◌, ◌-◌, ◌*◌, ◌<◌, ◌≤◌, List, [], ◌∷◌, ◌++◌, take, drop, refl, sym, ap, ◌∙◌, append_assoc, arith}
+use Rattle.std.proofs.Common.{◌≡◌, ℕ, zero, suc, ◌+◌, ◌-◌, ◌*◌, ◌<◌, ◌≤◌, List, [], ◌∷◌, ◌++◌, take, drop, refl, sym, ap, ◌∙◌}
+use Rattle.std.proofs.Common.{append_assoc, arith}
 use Rattle.std.proofs.lemmas.List.{append-nil, drop-drop, drop-take}
 use Rattle.byteorder.specs.Endian.{little_from}
 use Rattle.byteorder.specs.Numbers.{little_from-take}
 use Rattle.htl_segment.specs.Numbers.{number, numbers}
 
 -- a number inside a part of the bytes
-pub number-part : (at n size place : ℕ) (bytes : List ℕ) → at + n ≤ size → number at n (take size (drop place bytes)) ≡ number (place + at) n bytes
+pub number-part : (at n size place : ℕ) (bytes : List ℕ) → at + n ≤ size
+    → number at n (take size (drop place bytes)) ≡ number (place + at) n bytes
 unfolding number
 number-part at n size place bytes inside =
     let room : size ≡ at + (size - at) = omega arith in
     let cut : drop at (take size (drop place bytes)) ≡ take (size - at) (drop (place + at) bytes) =
-    ap (λ (k : ℕ). drop at (take k (drop place bytes))) room ∙ drop-take at (size - at) (drop place bytes) ∙ ap (take (size - at)) (drop-drop at place bytes) in
+    ap (λ (k : ℕ). drop at (take k (drop place bytes))) room ∙ drop-take at (size - at) (drop place bytes)
+    ∙ ap (take (size - at)) (drop-drop at place bytes) in
     ap (little_from 0 n) cut ∙ little_from-take 0 n (size - at) (drop (place + at) bytes) (omega arith)
 
-numbers-within : (at n size place : ℕ) (bytes : List ℕ) → at + 8 * n ≤ size → numbers at n (take size (drop place bytes)) ≡ numbers (place + at) n bytes
+numbers-within : (at n size place : ℕ) (bytes : List ℕ) → at + 8 * n ≤ size
+    → numbers at n (take size (drop place bytes)) ≡ numbers (place + at) n bytes
 unfolding numbers
 numbers-within at zero size place bytes inside = refl
 numbers-within at (suc n) size place bytes inside =
@@ -35,10 +39,12 @@ unfolding numbers
 numbers-more front i n bytes total lt so_far =
     let left : n - i ≡ suc (n - (i + 1)) = omega arith in
     let next : 8 * (i + 1) ≡ 8 + 8 * i = omega arith in
-    let one : front ++ numbers (8 * i) (n - i) bytes ≡ front ++ (number (8 * i) 8 bytes ∷ numbers (8 + 8 * i) (n - (i + 1)) bytes) = rw left refl in
+    let one : front ++ numbers (8 * i) (n - i) bytes ≡ front ++ (number (8 * i) 8 bytes ∷ numbers (8 + 8 * i) (n - (i + 1)) bytes) =
+    rw left refl in
     rw (append_assoc, next) (sym one ∙ so_far)
 
-pub numbers-all : (front : List ℕ) (i n : ℕ) (bytes total : List ℕ) → n ≤ i → front ++ numbers (8 * i) (n - i) bytes ≡ total → front ≡ total
+pub numbers-all : (front : List ℕ) (i n : ℕ) (bytes total : List ℕ) → n ≤ i → front ++ numbers (8 * i) (n - i) bytes ≡ total
+    → front ≡ total
 unfolding numbers
 numbers-all front i n bytes total le so_far =
     let left : n - i ≡ 0 = omega arith in

@@ -1,5 +1,6 @@
 -- A header without a fault is spelled as what it says, and a spelled header has no fault.
-use Rattle.std.proofs.Common.{◌≡◌, ℕ, zero, suc, ◌+◌, ◌^◌, ◌<◌, ◌≤◌, false, not, ◌||◌, eqb, nat_eq, nat_lt, nat_le, List, ◌++◌, length, take, drop, Option, Some, None, is_none, unwrap_or, refl, sym, ap, ◌∙◌, append_assoc, arith}
+use Rattle.std.proofs.Common.{◌≡◌, ℕ, zero, suc, ◌+◌, ◌^◌, ◌<◌, ◌≤◌, false, not, ◌||◌, eqb, nat_eq, nat_lt, nat_le, List, ◌++◌, length}
+use Rattle.std.proofs.Common.{take, drop, Option, Some, None, is_none, unwrap_or, refl, sym, ap, ◌∙◌, append_assoc, arith}
 use Rattle.std.specs.Prelude.{codes}
 use Rattle.std.specs.List.{starts_with}
 use Rattle.std.proofs.lemmas.Bool.{ltb-false, leb-false, le-ltb, lt-leb, eq-eqb, eqb-true, eqb-false, ne_eqb}
@@ -14,7 +15,7 @@ use Rattle.htl_segment.specs.Spelling.{header_bytes}
 use Rattle.htl_segment.specs.Reading.{version_of, version_in, length_in}
 use Rattle.htl_segment.specs.Faults.{header_fault}
 use Rattle.htl_segment.proofs.Bytes.{field, after, number_here, after_number, length-bytes_of}
-use Rattle.htl_segment.proofs.Passed.{passed, or_false, not_false, no_or, no_not, same_list}
+use Rattle.htl_segment.proofs.PassedTests.{passed, or_false, not_false, no_or, no_not, same_list}
 
 -- ---- versions and their numbers
 
@@ -115,13 +116,20 @@ pub header_from_holds : (b : List ℕ) (s : Content) (size : ℕ) → IsBytes b 
 unfolding header_bytes
 header_from_holds b s size small h =
     let s28 = field 28 4 32 b small (omega (arith, h.long)) refl ∙ ap (λ (x : ℕ). bytes_of 4 x ++ drop 32 b) h.len in
-    let s24 = field 24 4 28 b small (omega (arith, h.long)) refl ∙ ap (λ (x : ℕ). bytes_of 4 x ++ drop 28 b) h.count ∙ ap (λ (r : List ℕ). bytes_of 4 (length s.events) ++ r) s28 in
-    let s16 = field 16 8 24 b small (omega (arith, h.long)) refl ∙ ap (λ (x : ℕ). bytes_of 8 x ++ drop 24 b) h.trace_id ∙ ap (λ (r : List ℕ). bytes_of 8 s.trace_id ++ r) s24 in
-    let s12 = field 12 4 16 b small (omega (arith, h.long)) refl ∙ ap (λ (x : ℕ). bytes_of 4 x ++ drop 16 b) h.number_is ∙ ap (λ (r : List ℕ). bytes_of 4 s.number ++ r) s16 in
-    let s10 = field 10 2 12 b small (omega (arith, h.long)) refl ∙ ap (λ (x : ℕ). bytes_of 2 x ++ drop 12 b) h.reserved ∙ ap (λ (r : List ℕ). bytes_of 2 0 ++ r) s12 in
-    let s8 = field 8 2 10 b small (omega (arith, h.long)) refl ∙ ap (λ (x : ℕ). bytes_of 2 x ++ drop 10 b) h.processor ∙ ap (λ (r : List ℕ). bytes_of 2 s.processor ++ r) s10 in
-    let s6 = field 6 2 8 b small (omega (arith, h.long)) refl ∙ ap (λ (x : ℕ). bytes_of 2 x ++ drop 8 b) h.processors ∙ ap (λ (r : List ℕ). bytes_of 2 s.processors ++ r) s8 in
-    let s4 = field 4 2 6 b small (omega (arith, h.long)) refl ∙ ap (λ (x : ℕ). bytes_of 2 x ++ drop 6 b) h.version ∙ ap (λ (r : List ℕ). bytes_of 2 (version_number s.version) ++ r) s6 in
+    let s24 = field 24 4 28 b small (omega (arith, h.long)) refl ∙ ap (λ (x : ℕ). bytes_of 4 x ++ drop 28 b) h.count
+    ∙ ap (λ (r : List ℕ). bytes_of 4 (length s.events) ++ r) s28 in
+    let s16 = field 16 8 24 b small (omega (arith, h.long)) refl ∙ ap (λ (x : ℕ). bytes_of 8 x ++ drop 24 b) h.trace_id
+    ∙ ap (λ (r : List ℕ). bytes_of 8 s.trace_id ++ r) s24 in
+    let s12 = field 12 4 16 b small (omega (arith, h.long)) refl ∙ ap (λ (x : ℕ). bytes_of 4 x ++ drop 16 b) h.number_is
+    ∙ ap (λ (r : List ℕ). bytes_of 4 s.number ++ r) s16 in
+    let s10 = field 10 2 12 b small (omega (arith, h.long)) refl ∙ ap (λ (x : ℕ). bytes_of 2 x ++ drop 12 b) h.reserved
+    ∙ ap (λ (r : List ℕ). bytes_of 2 0 ++ r) s12 in
+    let s8 = field 8 2 10 b small (omega (arith, h.long)) refl ∙ ap (λ (x : ℕ). bytes_of 2 x ++ drop 10 b) h.processor
+    ∙ ap (λ (r : List ℕ). bytes_of 2 s.processor ++ r) s10 in
+    let s6 = field 6 2 8 b small (omega (arith, h.long)) refl ∙ ap (λ (x : ℕ). bytes_of 2 x ++ drop 8 b) h.processors
+    ∙ ap (λ (r : List ℕ). bytes_of 2 s.processors ++ r) s8 in
+    let s4 = field 4 2 6 b small (omega (arith, h.long)) refl ∙ ap (λ (x : ℕ). bytes_of 2 x ++ drop 6 b) h.version
+    ∙ ap (λ (r : List ℕ). bytes_of 2 (version_number s.version) ++ r) s6 in
     let s0 : b ≡ codes "HLS1" ++ drop 4 b = sym (take-append-drop 4 b) ∙ ap (λ (m : List ℕ). m ++ drop 4 b) (sym h.magic) in
     let all = s0 ∙ ap (λ (r : List ℕ). codes "HLS1" ++ r) s4 in
     simp append_assoc all
@@ -177,7 +185,8 @@ holds s size rest fits =
 
 pub version_in-holds : (b : List ℕ) (s : Content) (size : ℕ) → Holds b s size → version_in b ≡ s.version
 version_in-holds b s size h =
-    ap (λ (n : ℕ). unwrap_or (version_of n) V1) h.version ∙ ap (λ (o : Option Version). unwrap_or o V1) (version_of-version_number s.version)
+    ap (λ (n : ℕ). unwrap_or (version_of n) V1) h.version
+    ∙ ap (λ (o : Option Version). unwrap_or o V1) (version_of-version_number s.version)
 
 pub none_from_holds : (b : List ℕ) (s : Content) (size : ℕ) → Holds b s size → HeaderFits s size → header_fault b ≡ None
 none_from_holds b s size h fits =

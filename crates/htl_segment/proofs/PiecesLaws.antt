@@ -1,19 +1,25 @@
 -- Bundles put together from their parts.
-use Rattle.std.proofs.Common.{◌≡◌, ℕ, ◌+◌, ◌-◌, ◌<◌, ◌≤◌, Bool, true, false, List, [], ◌∷◌, ◌++◌, length, get_or, take, drop, Option, Some, None, Result, Ok, Err, cond, eqb, Bor, refl, sym, ap, ◌∙◌, append_assoc, arith, inl, inr, ◌⊎◌}
-use Rattle.std.proofs.lemmas.List.{append-nil, length-append, take-append-drop, take_more}
+use Rattle.std.proofs.Common.{◌≡◌, ℕ, ◌+◌, ◌-◌, ◌<◌, ◌≤◌, Bool, true, false, List, [], ◌∷◌, ◌++◌, length, get_or, take, drop, Option}
+use Rattle.std.proofs.Common.{Some, None, Result, Ok, Err, cond, eqb, Bor, refl, sym, ap, ◌∙◌, append_assoc, arith, inl, inr, ◌⊎◌}
+use Rattle.std.specs.Prelude.{MatchOption}
+use Rattle.std.proofs.lemmas.List.{append-nil, length-append, length-take, take_all, take-append-drop, take_more, drop_at, drop-drop}
 use Rattle.std.proofs.lemmas.Bool.{eqb-false}
 use Rattle.std.proofs.lemmas.Grind.{flat_map-append}
-use Rattle.std.proofs.lemmas.List.Elements.{All-nil, All-append}
+use Rattle.std.proofs.lemmas.List.Elements.{All-nil, All-cons, All-append, All-head}
 use Rattle.htl_segment.specs.declared.fault.Fault.{Fault}
 use Rattle.htl_segment.specs.declared.fault.Fault.TheVariants as faults
 use Rattle.htl_segment.specs.Content.{Content, Fits}
-use Rattle.htl_segment.specs.Spelling.{spelling}
+use Rattle.htl_segment.specs.Spelling.{spelling, BeginsWith}
 use Rattle.htl_segment.specs.Reading.{length_in}
-use Rattle.htl_segment.specs.Faults.{header_fault}
-use Rattle.htl_segment.specs.Bundles.{bundle, Splits, SplitsMore, IsBoundary, BundleFault, IsRest, IsWhole, IsLateFault, IsRefused, is_early_end, cut_off}
-use Rattle.htl_segment.specs.Pieces.{Pieces, Refuses, joined, Extends, Fills, ended, start_of}
-use Rattle.htl_segment.proofs.Extended.{number-append, header_fault-append, first_fault-append}
-use Rattle.htl_segment.proofs.BundleLaws.{refused, late_stays, first_fault-rest}
+use Rattle.htl_segment.specs.Faults.{header_fault, first_fault}
+use Rattle.htl_segment.specs.Bundles.{bundle, Splits, IsBoundary, BundleFault, SegmentAt, RestAt, IsRest, IsRefused, IsPieceRefused}
+use Rattle.htl_segment.specs.Bundles.{is_early_end, cut_off}
+use Rattle.htl_segment.specs.Feeding.{SplitsMore}
+use Rattle.htl_segment.specs.Pieces.{SplitterState, Refuses, AsksMemory, joined, ended, start_of}
+use Rattle.htl_segment.specs.Feeding.{Extends, HasRoom}
+use Rattle.htl_segment.proofs.SegmentLaws.{segment_again, begins}
+use Rattle.htl_segment.proofs.MoreBytes.{number-append, header_fault-append, first_fault-append}
+use Rattle.htl_segment.proofs.BundleLaws.{refused_boundary, late_stays, whole_fault, first_fault-rest}
 
 bundle-append : (ss ts : List Content) → bundle (ss ++ ts) ≡ bundle ss ++ bundle ts
 bundle-append ss ts = flat_map-append spelling ss ts
@@ -32,11 +38,20 @@ splits_more a b rest ss new first second = rw second.pushed (splits_after a b re
 abbrev failed : ℕ × Fault → Result (Unit {0}) (ℕ × Fault)
 failed refused = Err refused
 
-offset_after : (a b rest : List ℕ) (ss ts : List Content) (offset : ℕ) → Splits a ss [] → Splits b ts rest → offset ≡ length (bundle ts) → length a + offset ≡ length (bundle (ss ++ ts))
+offset_after : (a b rest : List ℕ) (ss ts : List Content) (offset : ℕ) → Splits a ss [] → Splits b ts rest → offset ≡ length (bundle ts)
+    → length a + offset ≡ length (bundle (ss ++ ts))
 offset_after a b rest ss ts offset first second is =
-    omega (arith, ap length first.parts, length-append (bundle ss) [], ap length (bundle-append ss ts), length-append (bundle ss) (bundle ts), is)
+    omega (
+      arith,
+      ap length first.parts,
+      length-append (bundle ss) [],
+      ap length (bundle-append ss ts),
+      length-append (bundle ss) (bundle ts),
+      is,
+    )
 
-boundary_after : (a b : List ℕ) (ss : List Content) (offset : ℕ) → Splits a ss [] → IsBoundary b offset → IsBoundary (a ++ b) (length a + offset)
+boundary_after : (a b : List ℕ) (ss : List Content) (offset : ℕ) → Splits a ss [] → IsBoundary b offset
+    → IsBoundary (a ++ b) (length a + offset)
 boundary_after a b ss offset first here = record {
   before = ss ++ here.before;
   rest = here.rest;
@@ -44,7 +59,8 @@ boundary_after a b ss offset first here = record {
   offset_is = offset_after a b here.rest ss here.before offset first here.splits here.offset_is;
 }
 
-fault_after : (a b : List ℕ) (ss : List Content) (offset : ℕ) (fault : Fault) → Splits a ss [] → BundleFault b offset fault → BundleFault (a ++ b) (length a + offset) fault
+fault_after : (a b : List ℕ) (ss : List Content) (offset : ℕ) (fault : Fault) → Splits a ss [] → BundleFault b offset fault
+    → BundleFault (a ++ b) (length a + offset) fault
 fault_after a b ss offset fault first found = record {
   before = ss ++ found.before;
   rest = found.rest;
@@ -54,21 +70,152 @@ fault_after a b ss offset fault first found = record {
   fault_is = found.fault_is;
 }
 
-pub refused_after : (a b : List ℕ) (ss : List Content) (offset : ℕ) (fault : Fault) → Splits a ss [] → IsRefused b offset fault → IsRefused (a ++ b) (length a + offset) fault
-refused_after a b ss offset fault first second = record {
-  inside = omega (arith, length-append a b, second.inside);
-  boundary = boundary_after a b ss offset first second.boundary;
-  late = second.late;
-  cause = elim (second.cause) [
-    | inl memory ↦ inl memory
-    | inr found ↦ inr (fault_after a b ss offset fault first found)
-  ];
+segment_after : (a b : List ℕ) (ss : List Content) (offset : ℕ) → Splits a ss [] → SegmentAt b offset
+    → SegmentAt (a ++ b) (length a + offset)
+segment_after a b ss offset first at = record {
+  before = ss ++ at.before;
+  rest = at.rest;
+  splits = splits_after a b at.rest ss at.before first at.splits;
+  offset_is = offset_after a b at.rest ss at.before offset first at.splits at.offset_is;
+  no_fault = at.no_fault;
 }
 
--- memory was refused where the rest was to be kept
-pub tail_refused : (a b rest : List ℕ) (ss new : List Content) → Splits a ss [] → SplitsMore b ss new rest → IsRefused (a ++ b) (length a + (length b - length rest)) faults.NoMemory
-tail_refused a b rest ss new first second =
-    refused_after a b ss (length b - length rest) faults.NoMemory first (refused b ss new rest faults.NoMemory second refl (inl refl))
+rest_after : (a b : List ℕ) (ss : List Content) (offset : ℕ) → Splits a ss [] → RestAt b offset → RestAt (a ++ b) (length a + offset)
+rest_after a b ss offset first at = record {
+  before = ss ++ at.before;
+  rest = at.rest;
+  splits = splits_after a b at.rest ss at.before first at.splits;
+  offset_is = offset_after a b at.rest ss at.before offset first at.splits at.offset_is;
+  some = at.some;
+  is_rest = at.is_rest;
+}
+
+refused_after : (a b : List ℕ) (ss : List Content) (offset : ℕ) (fault : Fault) → Splits a ss [] → IsRefused b offset fault
+    → IsRefused (a ++ b) (length a + offset) fault
+refused_after a b ss offset fault first refused =
+    elim refused [
+      | inl found ↦ inl (fault_after a b ss offset fault first found.0, found.1)
+      | inr asked ↦ inr (asked.0, segment_after a b ss offset first asked.1)
+    ]
+
+piece_refused_after : (a b : List ℕ) (ss : List Content) (offset : ℕ) (fault : Fault) → Splits a ss [] → IsPieceRefused b offset fault
+    → IsPieceRefused (a ++ b) (length a + offset) fault
+piece_refused_after a b ss offset fault first refused =
+    elim refused [
+      | inl here ↦ inl (refused_after a b ss offset fault first here)
+      | inr asked ↦ inr (asked.0, rest_after a b ss offset first asked.1)
+    ]
+
+pub piece_boundary : (b : List ℕ) (offset : ℕ) (fault : Fault) → IsPieceRefused b offset fault → IsBoundary b offset
+piece_boundary b offset fault refused =
+    elim refused [
+      | inl here ↦ refused_boundary b offset fault here
+      | inr asked ↦ record { before = asked.1.before; rest = asked.1.rest; splits = asked.1.splits; offset_is = asked.1.offset_is }
+    ]
+
+-- memory was refused where the last bytes were to be kept
+pub tail_refused : (b : List ℕ) (old new : List Content) (rest : List ℕ) → SplitsMore b old new rest → IsRest rest → 0 < length rest
+    → IsPieceRefused b (length b - length rest) faults.NoMemory
+tail_refused b old new rest split is_rest some =
+    inr (
+      refl,
+      record {
+        before = split.more;
+        rest = rest;
+        splits = split.splits;
+        offset_is = omega (arith, ap length split.splits.parts, length-append (bundle split.more) rest);
+        some = some;
+        is_rest = is_rest;
+      },
+    )
+
+-- ---- what follows a first segment
+
+spells_itself : (s : Content) → Fits s → Splits (spelling s) (s ∷ []) []
+spells_itself s fits = record {
+  parts = sym (append-nil (spelling s)) ∙ sym (append-nil (spelling s ++ []));
+  fits = All-cons Fits s [] fits (All-nil Fits);
+}
+
+pub taken_after : (s : Content) (b rest : List ℕ) (new : List Content) → Fits s → SplitsMore b (s ∷ []) new rest
+    → Splits (spelling s ++ b) new rest
+taken_after s b rest new fits split = splits_more (spelling s) b rest (s ∷ []) new (spells_itself s fits) split
+
+pub refused_behind : (s : Content) (b : List ℕ) (offset : ℕ) (fault : Fault) → Fits s → IsPieceRefused b offset fault
+    → IsPieceRefused (spelling s ++ b) (length (spelling s) + offset) fault
+refused_behind s b offset fault fits refused = piece_refused_after (spelling s) b (s ∷ []) offset fault (spells_itself s fits) refused
+
+-- memory was refused for the segment at the front
+pub first_refused : (b : List ℕ) → first_fault b ≡ None → IsPieceRefused b 0 faults.NoMemory
+first_refused b none =
+    inl (inr (
+      refl,
+      record {
+        before = [];
+        rest = b;
+        splits = record { parts = refl; fits = All-nil Fits };
+        offset_is = refl;
+        no_fault =
+            none;
+      },
+    ))
+
+pub spelled_refused : (s : Content) (b : List ℕ) → Fits s → IsPieceRefused (spelling s ++ b) 0 faults.NoMemory
+spelled_refused s b fits = first_refused (spelling s ++ b) (segment_again s b fits).no_fault
+
+pub late_refused : (b : List ℕ) (fault : Fault) → 0 < length b → first_fault b ≡ Some fault → is_early_end fault ≡ false
+    → IsPieceRefused b 0 fault
+late_refused b fault some is late =
+    inl (inl (
+      record {
+        before = [];
+        rest = b;
+        splits = record { parts = refl; fits = All-nil Fits };
+        offset_is = refl;
+        some = some;
+        fault_is = is;
+      },
+      late,
+    ))
+
+pub rest_refused : (b : List ℕ) → 0 < length b → IsRest b → IsPieceRefused b 0 faults.NoMemory
+rest_refused b some is_rest =
+    inr (
+      refl,
+      record {
+        before = [];
+        rest = b;
+        splits = record { parts = refl; fits = All-nil Fits };
+        offset_is = refl;
+        some = some;
+        is_rest = is_rest;
+      },
+    )
+
+-- what `decode` tells of a whole segment, whatever follows it
+pub whole_refused : (w left : List ℕ) (fault : Fault) (first : Option Fault) → 32 ≤ length w → header_fault w ≡ None
+    → length_in w ≡ length w
+    → first_fault w ≡ first → MatchOption first (fault ≡ faults.NoMemory) (λ other. fault ≡ other) → IsPieceRefused (w ++ left) 0 fault
+whole_refused w left fault None long none len is told =
+    rw told (first_refused (w ++ left) (first_fault-append w left long (omega arith) ∙ is))
+whole_refused w left fault (Some other) long none len is told =
+    let same : first_fault w ≡ Some fault = is ∙ ap Some (sym told) in
+    late_refused (w ++ left) fault (omega (arith, length-append w left)) (first_fault-append w left long (omega arith)
+    ∙ same) (whole_fault w fault long none (omega arith) same)
+
+pub whole_spelled : (w : List ℕ) (n : ℕ) (s : Content) → length_in w ≡ length w → BeginsWith w n s → w ≡ spelling s
+whole_spelled w n s len front =
+    let again = begins w n s front in
+    sym (take_all n w (omega (arith, again.len, len, ap length front.spells.bytes, length-take n w, front.inside))) ∙ front.spells.bytes
+
+pub parts_spelled : (head left : List ℕ) (n : ℕ) (s : Content) → length head ≡ 32 → 32 ≤ n → BeginsWith (head ++ left) n s
+    → head ++ left ≡ spelling s ++ drop (n - 32) left
+parts_spelled head left n s len long front =
+    let total : n ≡ length head + (n - 32) = omega arith in
+    let tail : drop n (head ++ left) ≡ drop (n - 32) left = ap (λ (k : ℕ). drop k (head ++ left)) total
+    ∙ sym (drop-drop (n - 32) (length head) (head ++ left)) ∙ ap (drop (n - 32)) (drop_at head left (length head) refl) in
+    sym (take-append-drop n (head ++ left)) ∙ ap (λ (x : List ℕ). x ++ drop n (head ++ left)) front.spells.bytes
+    ∙ ap (λ (x : List ℕ). spelling s ++ x) tail
 
 -- ---- bytes put behind others
 
@@ -81,64 +228,49 @@ extends_twice old mid new first second = record {
   is = second.is ∙ ap (λ (x : List ℕ). x ++ second.more) first.is ∙ append_assoc old first.more second.more;
 }
 
-pub fills_twice : (old piece mid next new : List ℕ) (left : Option (Bor (List ℕ))) → old ++ piece ≡ mid ++ next → Fills mid next new left → Fills old piece new left
-fills_twice old piece mid next new None same fills = (fills.0 ∙ sym same, fills.1)
-fills_twice old piece mid next new (Some left) same fills = (same ∙ fills.0, fills.1)
+pub extends_same : (old new : List ℕ) → new ≡ old → Extends old new
+extends_same old new same = record { more = []; is = same ∙ sym (append-nil old) }
 
--- as many bytes as the header tells
-pub is_whole : (old new : List ℕ) → 32 ≤ length old → header_fault old ≡ None → Extends old new → length new ≡ length_in old → IsWhole new
-is_whole old new long none extends len =
-    let same : length_in (old ++ extends.more) ≡ length_in old = number-append 28 4 old extends.more (omega arith) in
-    let made : IsWhole (old ++ extends.more) = record {
-      long = omega (arith, length-append old extends.more);
-      no_fault = header_fault-append old extends.more long ∙ none;
-      len = ap length (sym extends.is) ∙ len ∙ sym same;
-    } in
-    rw extends.is made
+-- ---- parts of a header and what follows it
 
--- fewer bytes than the header tells
-pub is_rest : (old new : List ℕ) → 32 ≤ length old → header_fault old ≡ None → Extends old new → length new < length_in old → IsRest new
-is_rest old new long none extends fewer =
-    let same : length_in (old ++ extends.more) ≡ length_in old = number-append 28 4 old extends.more (omega arith) in
-    let less : length (old ++ extends.more) < length_in (old ++ extends.more) = omega (arith, same, fewer, ap length extends.is) in
-    let made : IsRest (old ++ extends.more) = record { cut_off = inr (header_fault-append old extends.more long ∙ none, less) } in
-    rw extends.is made
+pub parts_joined : (rest piece taken left head : List ℕ) → head ≡ rest ++ taken → piece ≡ taken ++ left → head ++ left ≡ rest ++ piece
+parts_joined rest piece taken left head first second = rw (first, second) (append_assoc rest taken left)
 
-pub used_up : (old piece new left : List ℕ) → old ++ piece ≡ new ++ left → left ≡ [] → new ≡ old ++ piece
-used_up old piece new left same nothing = sym (append-nil new) ∙ ap (λ (x : List ℕ). new ++ x) (sym nothing) ∙ sym same
+-- ---- what is kept
 
--- a fault of the segment that the bytes begin with
--- a fault of the segment that the bytes begin with
-pub refused_first : (b : List ℕ) (fault : Fault) → 0 < length b → IsLateFault b fault → IsRefused b 0 fault
-refused_first b fault some is = record {
-  inside = omega arith;
-  boundary = record { before = []; rest = b; splits = record { parts = refl; fits = All-nil Fits }; offset_is = refl };
-  late = is.late;
-  cause = elim (is.cause) [
-    | inl memory ↦ inl memory
-    | inr first ↦ inr (record {
-      before = [];
-      rest = b;
-      splits = record { parts = refl; fits = All-nil Fits };
-      offset_is = refl;
-      some = some;
-      fault_is = first;
-    })
-  ];
-}
+-- a part of a header
+pub part_is_rest : (b : List ℕ) → length b < 32 → IsRest b
+part_is_rest b short = record { cut_off = inl short }
 
-pub refused_whole : (b more : List ℕ) (fault : Fault) → IsWhole b → IsLateFault b fault → IsRefused (b ++ more) 0 fault
-refused_whole b more fault whole is =
-    refused_first (b ++ more) fault (omega (arith, length-append b more, whole.long)) (record {
-      late = is.late;
-      cause = elim (is.cause) [
-        | inl memory ↦ inl memory
-        | inr first ↦ inr (first_fault-append b more whole.long (omega (arith, whole.len)) ∙ first)
-      ];
-    })
+pub part_has_room : (b : List ℕ) (c : ℕ) → length b < 32 → 32 ≤ c → HasRoom b c
+part_has_room b c short room = record { header = λ _. room; records = λ long. absurd (omega arith) }
+
+-- a header that more bytes follow, and all the bytes that it tells aren't there
+pub cut_is_rest : (old more : List ℕ) → 32 ≤ length old → header_fault old ≡ None → length old + length more < length_in old
+    → IsRest (old ++ more)
+cut_is_rest old more long none fewer =
+    let same : length_in (old ++ more) ≡ length_in old = number-append 28 4 old more (omega arith) in
+    record { cut_off = inr (header_fault-append old more long ∙ none, omega (arith, same, length-append old more)) }
+
+pub cut_has_room : (old more : List ℕ) (c : ℕ) → 32 ≤ length old → 32 ≤ length_in old → length_in old ≤ c → HasRoom (old ++ more) c
+cut_has_room old more c long low room =
+    let same : length_in (old ++ more) ≡ length_in old = number-append 28 4 old more (omega arith) in
+    record { header = λ _. omega (arith, low, room); records = λ _. omega (arith, same, room) }
+
+-- a header that more bytes follow tells the same length
+pub length_in-append : (old more : List ℕ) → 32 ≤ length old → length_in (old ++ more) ≡ length_in old
+length_in-append old more long = number-append 28 4 old more (omega arith)
+
+pub rest_cut : (b : List ℕ) → IsRest b → 32 ≤ length b → (header_fault b ≡ None) × (length b < length_in b)
+rest_cut b rest long =
+    elim (rest.cut_off) [
+      | inl short ↦ absurd (omega arith)
+      | inr cut ↦ cut
+    ]
 
 -- the rest is no longer than what was fed
-pub rest_inside : (held piece rest : List ℕ) (segments : List Content) (fed : ℕ) → Splits (held ++ piece) segments rest → length held ≤ fed → length rest ≤ fed + length piece
+pub rest_inside : (held piece rest : List ℕ) (segments : List Content) (fed : ℕ) → Splits (held ++ piece) segments rest
+    → length held ≤ fed → length rest ≤ fed + length piece
 rest_inside held piece rest segments fed splits inside =
     omega (arith, ap length splits.parts, length-append held piece, length-append (bundle segments) rest)
 
@@ -150,11 +282,13 @@ front_split a rest ss split = record { parts = sym (append-nil (bundle ss)); fit
 regroup : (a rest piece : List ℕ) (ss : List Content) → Splits a ss rest → a ++ piece ≡ bundle ss ++ (rest ++ piece)
 regroup a rest piece ss split = ap (λ (x : List ℕ). x ++ piece) split.parts ∙ append_assoc (bundle ss) rest piece
 
-pub splits_next : (a piece rest new : List ℕ) (ss ts : List Content) → Splits a ss rest → Splits (rest ++ piece) ts new → Splits (a ++ piece) (ss ++ ts) new
+pub splits_next : (a piece rest new : List ℕ) (ss ts : List Content) → Splits a ss rest → Splits (rest ++ piece) ts new
+    → Splits (a ++ piece) (ss ++ ts) new
 splits_next a piece rest new ss ts split next =
     rw (regroup a rest piece ss split) (splits_after (bundle ss) (rest ++ piece) new ss ts (front_split a rest ss split) next)
 
-fault_more : (b more : List ℕ) (offset : ℕ) (fault : Fault) → is_early_end fault ≡ false → BundleFault b offset fault → BundleFault (b ++ more) offset fault
+fault_more : (b more : List ℕ) (offset : ℕ) (fault : Fault) → is_early_end fault ≡ false → BundleFault b offset fault
+    → BundleFault (b ++ more) offset fault
 fault_more b more offset fault late found = record {
   before = found.before;
   rest = found.rest ++ more;
@@ -167,7 +301,8 @@ fault_more b more offset fault late found = record {
   fault_is = late_stays found.rest more fault late found.fault_is;
 }
 
-fault_here : (s : Pieces) (a piece more : List ℕ) (ss : List Content) (offset inside : ℕ) (fault : Fault) → Splits a ss s.rest → s.fed ≡ length a → offset ≡ start_of s + inside → is_early_end fault ≡ false → BundleFault (s.rest ++ piece) inside fault
+fault_here : (s : SplitterState) (a piece more : List ℕ) (ss : List Content) (offset inside : ℕ) (fault : Fault) → Splits a ss s.rest
+    → s.fed ≡ length a → offset ≡ start_of s + inside → is_early_end fault ≡ false → BundleFault (s.rest ++ piece) inside fault
     → BundleFault ((a ++ piece) ++ more) offset fault
 fault_here s a piece more ss offset inside fault split fed is late fault_inside =
     let start : offset ≡ length (bundle ss) + inside = omega (arith, is, fed, ap length split.parts, length-append (bundle ss) s.rest) in
@@ -175,35 +310,110 @@ fault_here s a piece more ss offset inside fault split fed is late fault_inside 
     let here : BundleFault (a ++ piece) offset fault = rw (regroup a s.rest piece ss split, start) found in
     fault_more (a ++ piece) more offset fault late here
 
-pub brought : (s : Pieces) (a piece more : List ℕ) (ss : List Content) (refusal : ℕ × Fault) → Splits a ss s.rest → s.fed ≡ length a → Refuses s piece refusal
-    → (refusal.1 ≡ faults.NoMemory) ⊎ BundleFault ((a ++ piece) ++ more) refusal.0 refusal.1
+asked_here : (s : SplitterState) (a piece : List ℕ) (ss : List Content) (offset inside : ℕ) → Splits a ss s.rest → s.fed ≡ length a
+    → offset ≡ start_of s + inside → SegmentAt (s.rest ++ piece) inside → SegmentAt (a ++ piece) offset
+asked_here s a piece ss offset inside split fed is asked =
+    let start : offset ≡ length (bundle ss) + inside = omega (arith, is, fed, ap length split.parts, length-append (bundle ss) s.rest) in
+    rw (
+      regroup a s.rest piece ss split,
+      start,
+    ) (segment_after (bundle ss) (s.rest ++ piece) ss inside (front_split a s.rest ss split) asked)
+
+rest_here : (s : SplitterState) (a piece : List ℕ) (ss : List Content) (offset inside : ℕ) → Splits a ss s.rest → s.fed ≡ length a
+    → offset ≡ start_of s + inside → RestAt (s.rest ++ piece) inside → RestAt (a ++ piece) offset
+rest_here s a piece ss offset inside split fed is asked =
+    let start : offset ≡ length (bundle ss) + inside = omega (arith, is, fed, ap length split.parts, length-append (bundle ss) s.rest) in
+    rw (regroup a s.rest piece ss split, start) (rest_after (bundle ss) (s.rest ++ piece) ss inside (front_split a s.rest ss split) asked)
+
+-- What a refused piece tells of all bytes: their first fault, or where memory was refused in those fed.
+pub record Brought (a more : List ℕ) (offset : ℕ) (fault : Fault) : Type 0 where
+  pub boundary : IsBoundary (a ++ more) offset
+  pub cause : BundleFault (a ++ more) offset fault ⊎ ((fault ≡ faults.NoMemory) × (SegmentAt a offset ⊎ RestAt a offset))
+
+boundary_more : (a more : List ℕ) (offset : ℕ) → IsBoundary a offset → IsBoundary (a ++ more) offset
+boundary_more a more offset here = record {
+  before = here.before;
+  rest = here.rest ++ more;
+  splits = record { parts = regroup a here.rest more here.before here.splits; fits = here.splits.fits };
+  offset_is = here.offset_is;
+}
+
+pub brought : (s : SplitterState) (a piece more : List ℕ) (ss : List Content) (refusal : ℕ × Fault) → Splits a ss s.rest
+    → s.fed ≡ length a → Refuses s piece refusal
+    → Brought (a ++ piece) more refusal.0 refusal.1
 brought s a piece more ss refusal split fed refuses =
-    elim (refuses.refused.cause) [
-      | inl memory ↦ inl memory
-      | inr found ↦ inr (fault_here s a piece more ss refusal.0 refuses.inside refusal.1 split fed refuses.offset_is refuses.refused.late found)
-    ]
+    let start : refusal.0 ≡ length (bundle ss) + refuses.inside =
+    omega (arith, refuses.offset_is, fed, ap length split.parts, length-append (bundle ss) s.rest) in
+    let there = boundary_after (bundle ss) (s.rest ++ piece) ss refuses.inside (front_split a s.rest ss split)
+    (piece_boundary (s.rest ++ piece) refuses.inside refusal.1 refuses.refused) in
+    let here : IsBoundary (a ++ piece) refusal.0 = rw (regroup a s.rest piece ss split, start) there in
+    record {
+      boundary = boundary_more (a ++ piece) more refusal.0 here;
+      cause = elim (refuses.refused) [
+        | inl refused ↦ elim refused [
+          | inl found ↦ inl (fault_here s a piece more ss refusal.0 refuses.inside refusal.1 split fed refuses.offset_is found.1 found.0)
+          | inr asked ↦ inr (asked.0, inl (asked_here s a piece ss refusal.0 refuses.inside split fed refuses.offset_is asked.1))
+        ]
+        | inr asked ↦ inr (asked.0, inr (rest_here s a piece ss refusal.0 refuses.inside split fed refuses.offset_is asked.1))
+      ];
+    }
+
+-- memory was refused for the list of the segments that a piece completed
+pub list_refused : (s : SplitterState) (a piece more rest : List ℕ) (ss new : List Content) → Splits a ss s.rest → s.fed ≡ length a
+    → Splits (s.rest ++ piece) new rest → 0 < length new
+    → Brought (a ++ piece) more (start_of s) faults.NoMemory
+list_refused s a piece more rest ss [] split fed taken some = absurd (omega arith)
+list_refused s a piece more rest ss (t ∷ ts) split fed taken some =
+    let parts : s.rest ++ piece ≡ spelling t ++ (bundle ts ++ rest) = taken.parts ∙ append_assoc (spelling t) (bundle ts) rest in
+    let none : first_fault (s.rest ++ piece) ≡ None = ap first_fault parts
+    ∙ (segment_again t (bundle ts ++ rest) (All-head Fits t ts taken.fits)).no_fault in
+    brought s a piece more ss (
+      start_of s,
+      faults.NoMemory,
+    ) split fed (record { inside = 0; offset_is = omega arith; refused = first_refused (s.rest ++ piece) none })
 
 abbrev pub no_piece : Bor (List ℕ)
 no_piece = record { ref_ptr = (0, 0); now = [] }
 
-pub joined-more : (pieces : List (Bor (List ℕ))) (i : ℕ) → i < length pieces → joined (take (i + 1) pieces) ≡ joined (take i pieces) ++ (get_or pieces i no_piece).now
+pub joined-more : (pieces : List (Bor (List ℕ))) (i : ℕ) → i < length pieces
+    → joined (take (i + 1) pieces) ≡ joined (take i pieces) ++ (get_or pieces i no_piece).now
 joined-more pieces i lt =
-    ap joined (take_more pieces i no_piece lt) ∙ flat_map-append (λ (piece : Bor (List ℕ)). piece.now) (take i pieces) (get_or pieces i no_piece ∷ []) ∙ ap (λ (x : List ℕ). joined (take i pieces) ++ x) (append-nil (get_or pieces i no_piece).now)
+    ap joined (take_more pieces i no_piece lt)
+    ∙ flat_map-append (λ (piece : Bor (List ℕ)). piece.now) (take i pieces) (get_or pieces i no_piece ∷ [])
+    ∙ ap (λ (x : List ℕ). joined (take i pieces) ++ x) (append-nil (get_or pieces i no_piece).now)
 
 -- what is joined before a piece, the piece, and what is joined after it
-pub joined-around : (pieces : List (Bor (List ℕ))) (i : ℕ) → i < length pieces → joined pieces ≡ (joined (take i pieces) ++ (get_or pieces i no_piece).now) ++ joined (drop (i + 1) pieces)
+pub joined-around : (pieces : List (Bor (List ℕ))) (i : ℕ) → i < length pieces
+    → joined pieces ≡ (joined (take i pieces) ++ (get_or pieces i no_piece).now) ++ joined (drop (i + 1) pieces)
 joined-around pieces i lt =
-    ap joined (sym (take-append-drop (i + 1) pieces)) ∙ flat_map-append (λ (piece : Bor (List ℕ)). piece.now) (take (i + 1) pieces) (drop (i + 1) pieces)
+    ap joined (sym (take-append-drop (i + 1) pieces))
+    ∙ flat_map-append (λ (piece : Bor (List ℕ)). piece.now) (take (i + 1) pieces) (drop (i + 1) pieces)
     ∙ ap (λ (x : List ℕ). x ++ joined (drop (i + 1) pieces)) (joined-more pieces i lt)
+
+-- what a refused piece tells of all pieces
+pub told_of_pieces : (pieces : List (Bor (List ℕ))) (i offset : ℕ) (fault : Fault) → i < length pieces
+    → Brought (joined (take i pieces) ++ (get_or pieces i no_piece).now) (joined (drop (i + 1) pieces)) offset fault
+    → BundleFault (joined pieces) offset fault ⊎ ((fault ≡ faults.NoMemory) × AsksMemory pieces offset)
+told_of_pieces pieces i offset fault lt found =
+    elim (found.cause) [
+      | inl first ↦ inl (rw (joined-around pieces i lt) first)
+      | inr asked ↦ inr (asked.0, record { taken = i + 1; asked = rw (joined-more pieces i lt) (asked.1) })
+    ]
+
+pub fault_boundary : (b : List ℕ) (offset : ℕ) (fault : Fault) → BundleFault b offset fault → IsBoundary b offset
+fault_boundary b offset fault found =
+    record { before = found.before; rest = found.rest; splits = found.splits; offset_is = found.offset_is }
 
 ended_with : (t : Bool) (refused other : ℕ × Fault) → failed refused ≡ cond t (Ok tt) (failed other) → (t ≡ false) × (refused ≡ other)
 ended_with true refused other is = absurd cc
 ended_with false refused other is = (refl, cc)
 
 -- the end of the bytes inside a segment
-pub ended_inside : (s : Pieces) (a : List ℕ) (ss : List Content) (refused : ℕ × Fault) → Splits a ss s.rest → s.fed ≡ length a → s.fault ≡ None → IsRest s.rest → failed refused ≡ ended s.fault (start_of s) s.rest → BundleFault a refused.0 refused.1
+pub ended_inside : (s : SplitterState) (a : List ℕ) (ss : List Content) (refused : ℕ × Fault) → Splits a ss s.rest → s.fed ≡ length a
+    → s.fault ≡ None → IsRest s.rest → failed refused ≡ ended s.fault (start_of s) s.rest → BundleFault a refused.0 refused.1
 ended_inside s a ss refused split fed none rest is =
-    let end = ended_with (eqb (length s.rest) 0) refused (start_of s, cut_off s.rest) (is ∙ ap (λ (fault : Option (ℕ × Fault)). ended fault (start_of s) s.rest) none) in
+    let end = ended_with (eqb (length s.rest) 0) refused (start_of s, cut_off s.rest) (is
+    ∙ ap (λ (fault : Option (ℕ × Fault)). ended fault (start_of s) s.rest) none) in
     let some : length s.rest ≡ 0 → ⊥ = eqb-false _ _ end.0 in
     let found : BundleFault a (start_of s) (cut_off s.rest) = record {
       before = ss;

@@ -1,9 +1,10 @@
 -- A record without a fault is spelled as its event, and an event's spelling is a record without a fault.
-use Rattle.std.proofs.Common.{◌≡◌, ℕ, zero, suc, ◌+◌, ◌-◌, ◌*◌, ◌<◌, ◌≤◌, true, false, not, ◌||◌, eqb, nat_lt, nat_le, List, [], ◌∷◌, ◌++◌, length, slice_index, take, drop, None, refl, sym, ap, ◌∙◌, append_assoc, arith, drop-cons}
+use Rattle.std.proofs.Common.{◌≡◌, ℕ, zero, suc, ◌+◌, ◌-◌, ◌*◌, ◌<◌, ◌≤◌, true, false, not, ◌||◌, eqb, nat_lt, nat_le, List, [], ◌∷◌}
+use Rattle.std.proofs.Common.{◌++◌, length, slice_index, take, drop, None, refl, sym, ap, ◌∙◌, append_assoc, arith, drop-cons}
 use Rattle.std.proofs.lemmas.Bool.{ltb-false, leb-false, le-ltb, lt-leb, eqb-true, eqb-false, eq-eqb, ne_eqb}
 use Rattle.std.proofs.lemmas.List.{length-append, length-take, length-drop, take_at}
 use Rattle.std.specs.List.{flat_map, AllByRecursion}
-use Rattle.htl_event.specs.declared.event.Event.{Event}
+use Rattle.htl_event.specs.Events.{Event}
 use Rattle.htl_event.specs.declared.kind.Kind.{Kind}
 use Rattle.htl_event.specs.declared.kind.Kind.TheVariants as kinds
 use Rattle.htl_event.specs.Ranges.{InRange}
@@ -16,9 +17,10 @@ use Rattle.htl_segment.specs.Content.{kind_code, fields_fit, EventFits}
 use Rattle.htl_segment.specs.Spelling.{event_bytes}
 use Rattle.htl_segment.specs.Reading.{kind_of, frames_in, event_in, after_record}
 use Rattle.htl_segment.specs.Faults.{record_fault}
-use Rattle.htl_segment.specs.Records.{HasRecord}
-use Rattle.htl_segment.proofs.Bytes.{IsBytes-drop, field, part, number-lt, numbers_take, numbers-fit, length-numbers, after, number_here, after_number, byte_here, numbers_here, length-frames, length-bytes_of}
-use Rattle.htl_segment.proofs.Passed.{passed, or_false, not_false, no_or, no_not}
+use Rattle.htl_segment.specs.InPlace.{HasRecord}
+use Rattle.htl_segment.proofs.Bytes.{IsBytes-drop, field, part, number-lt, numbers_take, numbers-fit, length-numbers, after, number_here}
+use Rattle.htl_segment.proofs.Bytes.{after_number, byte_here, numbers_here, length-frames, length-bytes_of}
+use Rattle.htl_segment.proofs.PassedTests.{passed, or_false, not_false, no_or, no_not}
 
 -- ---- kinds and their codes
 
@@ -78,7 +80,8 @@ keeps_from_none v i last b none =
     let t2 = passed (nat_le (number 0 8 b) last) (faults.Sequence i) _ t1.1 in
     let t3 = passed (eqb (slice_index b 8) 0 || nat_lt (limits_of v).kinds (slice_index b 8)) (faults.Kind i) _ t2.1 in
     let t4 = passed (nat_lt (limits_of v).frames (frames_in b) || nat_lt (length b - 36) (8 * frames_in b)) (faults.Frames i) _ t3.1 in
-    let t5 = passed (not (eqb (number 10 2 b) 0) || not (fields_fit (kind_of (slice_index b 8)) (number 20 4 b) (number 24 8 b) (take 4 (drop 32 b)))) (faults.Field i) None t4.1 in
+    let t5 = passed (not (eqb (number 10 2 b) 0) || not
+    (fields_fit (kind_of (slice_index b 8)) (number 20 4 b) (number 24 8 b) (take 4 (drop 32 b)))) (faults.Field i) None t4.1 in
     let some : slice_index b 8 ≡ 0 → ⊥ = eqb-false _ _ (or_false _ _ t3.0).0 in
     record {
       long = ltb-false _ _ t1.0;
@@ -100,19 +103,24 @@ none_from_keeps v i last b k =
     no_or _ _ (ne_eqb (slice_index b 8) 0 some) (le-ltb (limits_of v).kinds (slice_index b 8) k.known.1) in
     let t4 : (nat_lt (limits_of v).frames (frames_in b) || nat_lt (length b - 36) (8 * frames_in b)) ≡ false =
     no_or _ _ (le-ltb (limits_of v).frames (frames_in b) k.few) (le-ltb (length b - 36) (8 * frames_in b) k.held) in
-    let t5 : (not (eqb (number 10 2 b) 0) || not (fields_fit (kind_of (slice_index b 8)) (number 20 4 b) (number 24 8 b) (take 4 (drop 32 b)))) ≡ false =
+    let t5 : (not (eqb (number 10 2 b) 0) || not
+    (fields_fit (kind_of (slice_index b 8)) (number 20 4 b) (number 24 8 b) (take 4 (drop 32 b)))) ≡ false =
     no_or _ _ (no_not _ (eq-eqb _ _ k.reserved)) (no_not _ k.fields) in
     rw (t1, t2, t3, t4, t5) refl
 
-pub has_record : (v : Version) (i last : ℕ) (b : List ℕ) → record_fault v i last b ≡ None → HasRecord b
+pub has_record : (v : Version) (i last : ℕ) (b : List ℕ) → record_fault v i last b ≡ None → HasRecord v b
 has_record v i last b none =
     let k = keeps_from_none v i last b none in
-    record { whole = omega (arith, k.long, k.held); few = omega (arith, k.few, frames≤64 v) }
+    let some : slice_index b 8 ≡ 0 → ⊥ = λ z. omega (arith, k.known.0) in
+    let known : (eqb (slice_index b 8) 0 || nat_lt (limits_of v).kinds (slice_index b 8)) ≡ false =
+    no_or _ _ (ne_eqb (slice_index b 8) 0 some) (le-ltb (limits_of v).kinds (slice_index b 8) k.known.1) in
+    record { whole = omega (arith, k.long, k.held); few = omega (arith, k.few, frames≤64 v); kind = rw known refl }
 
 -- ---- from bytes to their event
 
 -- the bytes of a record that keeps the rules
-record_parts : (b : List ℕ) → IsBytes b → 36 + 8 * frames_in b ≤ length b → kind_code (kind_of (slice_index b 8)) ≡ slice_index b 8 → number 10 2 b ≡ 0
+record_parts : (b : List ℕ) → IsBytes b → 36 + 8 * frames_in b ≤ length b → kind_code (kind_of (slice_index b 8)) ≡ slice_index b 8
+    → number 10 2 b ≡ 0
     → b ≡ event_bytes (event_in b) ++ after_record b
 unfolding event_bytes event_in
 record_parts b small long code reserved =
@@ -123,9 +131,12 @@ record_parts b small long code reserved =
     let s20 = field 20 4 24 b small (omega arith) refl ∙ ap (λ (r : List ℕ). bytes_of 4 (number 20 4 b) ++ r) s24 in
     let s16 = field 16 4 20 b small (omega arith) refl ∙ ap (λ (r : List ℕ). bytes_of 4 (number 16 4 b) ++ r) s20 in
     let s12 = field 12 4 16 b small (omega arith) refl ∙ ap (λ (r : List ℕ). bytes_of 4 (number 12 4 b) ++ r) s16 in
-    let s10 = field 10 2 12 b small (omega arith) refl ∙ ap (λ (x : ℕ). bytes_of 2 x ++ drop 12 b) reserved ∙ ap (λ (r : List ℕ). bytes_of 2 0 ++ r) s12 in
-    let s9 = drop-cons b 9 0 (omega arith) ∙ ap (λ (x : ℕ). x ∷ drop 10 b) (sym (length-numbers 36 n b)) ∙ ap (λ (r : List ℕ). length (numbers 36 n b) ∷ r) s10 in
-    let s8 = drop-cons b 8 0 (omega arith) ∙ ap (λ (x : ℕ). x ∷ drop 9 b) (sym code) ∙ ap (λ (r : List ℕ). kind_code (kind_of (slice_index b 8)) ∷ r) s9 in
+    let s10 = field 10 2 12 b small (omega arith) refl ∙ ap (λ (x : ℕ). bytes_of 2 x ++ drop 12 b) reserved
+    ∙ ap (λ (r : List ℕ). bytes_of 2 0 ++ r) s12 in
+    let s9 = drop-cons b 9 0 (omega arith) ∙ ap (λ (x : ℕ). x ∷ drop 10 b) (sym (length-numbers 36 n b))
+    ∙ ap (λ (r : List ℕ). length (numbers 36 n b) ∷ r) s10 in
+    let s8 = drop-cons b 8 0 (omega arith) ∙ ap (λ (x : ℕ). x ∷ drop 9 b) (sym code)
+    ∙ ap (λ (r : List ℕ). kind_code (kind_of (slice_index b 8)) ∷ r) s9 in
     let s0 = field 0 8 8 b small (omega arith) refl ∙ ap (λ (r : List ℕ). bytes_of 8 (number 0 8 b) ++ r) s8 in
     simp append_assoc s0
 
@@ -134,7 +145,8 @@ AllByRecursion-take zero b small = tt
 AllByRecursion-take (suc n) [] small = tt
 AllByRecursion-take (suc n) (x ∷ b) small = (small 0, AllByRecursion-take n b (λ i. small (suc i)))
 
-event_fits : (v : Version) (last : ℕ) (b : List ℕ) → IsBytes b → Keeps v last b → kind_code (kind_of (slice_index b 8)) ≡ slice_index b 8 → EventFits v (event_in b)
+event_fits : (v : Version) (last : ℕ) (b : List ℕ) → IsBytes b → Keeps v last b → kind_code (kind_of (slice_index b 8)) ≡ slice_index b 8
+    → EventFits v (event_in b)
 unfolding event_in
 event_fits v last b small k code = record {
   in_range = record {
@@ -158,7 +170,7 @@ pub record RecordRead (v : Version) (last : ℕ) (b : List ℕ) : Type 0 where
   pub parts : b ≡ event_bytes (event_in b) ++ after_record b
   pub fits : EventFits v (event_in b)
   pub above : last < number 0 8 b
-  pub whole : HasRecord b
+  pub whole : HasRecord v b
 
 pub record_read : (v : Version) (i last : ℕ) (b : List ℕ) → IsBytes b → record_fault v i last b ≡ None → RecordRead v last b
 record_read v i last b small none =
@@ -213,7 +225,25 @@ holds e rest fits =
     let d36 : drop 36 b ≡ r36 = after 32 4 36 b e.tag r36 d32 fits.tag_len refl in
     let frames = length-frames e.stack in
     let len : length b ≡ 36 + (8 * length e.stack + length rest) =
-    omega (arith, ap length d0, length-append (bytes_of 8 e.sequence) r8, length-bytes_of 8 e.sequence, length-append (bytes_of 2 0) r12, length-bytes_of 2 0, length-append (bytes_of 4 e.process) r16, length-bytes_of 4 e.process, length-append (bytes_of 4 e.thread) r20, length-bytes_of 4 e.thread, length-append (bytes_of 4 e.handle) r24, length-bytes_of 4 e.handle, length-append (bytes_of 8 e.object) r32, length-bytes_of 8 e.object, length-append e.tag r36, fits.tag_len, length-append (flat_map (bytes_of 8) e.stack) rest) in
+    omega (
+      arith,
+      ap length d0,
+      length-append (bytes_of 8 e.sequence) r8,
+      length-bytes_of 8 e.sequence,
+      length-append (bytes_of 2 0) r12,
+      length-bytes_of 2 0,
+      length-append (bytes_of 4 e.process) r16,
+      length-bytes_of 4 e.process,
+      length-append (bytes_of 4 e.thread) r20,
+      length-bytes_of 4 e.thread,
+      length-append (bytes_of 4 e.handle) r24,
+      length-bytes_of 4 e.handle,
+      length-append (bytes_of 8 e.object) r32,
+      length-bytes_of 8 e.object,
+      length-append e.tag r36,
+      fits.tag_len,
+      length-append (flat_map (bytes_of 8) e.stack) rest,
+    ) in
     record {
       sequence = number_here 0 8 e.sequence b r8 d0 fits.sequence;
       code = byte_here 8 (kind_code e.kind) b (length e.stack ∷ r10) d8;
@@ -236,7 +266,8 @@ pub record RecordAgain (v : Version) (i last : ℕ) (b : List ℕ) (e : Event) (
   pub others : after_record b ≡ rest
   pub sequence : number 0 8 b ≡ e.sequence
 
-again : (v : Version) (i last : ℕ) (b : List ℕ) (e : Event) (rest : List ℕ) → Holds b e rest → EventFits v e → last < e.sequence → RecordAgain v i last b e rest
+again : (v : Version) (i last : ℕ) (b : List ℕ) (e : Event) (rest : List ℕ) → Holds b e rest → EventFits v e → last < e.sequence
+    → RecordAgain v i last b e rest
 unfolding event_in
 again v i last b e rest h fits above =
     let kind : kind_of (slice_index b 8) ≡ e.kind = ap kind_of h.code ∙ kind_of-kind_code e.kind in
@@ -256,6 +287,7 @@ again v i last b e rest h fits above =
       sequence = h.sequence;
     }
 
-pub record_again : (v : Version) (i last : ℕ) (e : Event) (rest : List ℕ) → EventFits v e → last < e.sequence → RecordAgain v i last (event_bytes e ++ rest) e rest
+pub record_again : (v : Version) (i last : ℕ) (e : Event) (rest : List ℕ) → EventFits v e → last < e.sequence
+    → RecordAgain v i last (event_bytes e ++ rest) e rest
 record_again v i last e rest fits above =
     again v i last (event_bytes e ++ rest) e rest (holds e rest fits.in_range) fits above

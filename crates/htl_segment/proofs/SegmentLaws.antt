@@ -1,12 +1,14 @@
 -- Bytes without a fault begin with the spelling of what they say, and a spelling is read as its segment.
-use Rattle.std.proofs.Common.{◌≡◌, ℕ, zero, suc, ◌+◌, ◌-◌, ◌*◌, ◌<◌, ◌≤◌, true, false, cond, eqb, nat_lt, List, [], ◌∷◌, ◌++◌, length, take, drop, Some, None, refl, sym, ap, ◌∙◌, append_assoc, arith}
+use Rattle.std.proofs.Common.{◌≡◌, ℕ, zero, suc, ◌+◌, ◌-◌, ◌*◌, ◌<◌, ◌≤◌, true, false, cond, eqb, nat_lt, List, [], ◌∷◌, ◌++◌, length}
+use Rattle.std.proofs.Common.{take, drop, Some, None, unwrap_or, refl, sym, ap, ◌∙◌, append_assoc, arith}
 use Rattle.std.proofs.Math.Nat.{mul-le-mul_left}
 use Rattle.std.proofs.Math.Seq.{take-add}
 use Rattle.std.specs.Prelude.{sum_by}
 use Rattle.std.proofs.lemmas.List.Sums.{sum_by-cons}
 use Rattle.std.proofs.lemmas.Bool.{ltb-false, le-ltb, lt-ltb, eqb-true}
-use Rattle.std.proofs.lemmas.List.{length-append, length-take, length-drop, take_all, take_at, drop_at, append-nil, nil_from_length, take-append-drop}
-use Rattle.htl_event.specs.declared.event.Event.{Event}
+use Rattle.std.proofs.lemmas.List.{length-append, length-take, length-drop, take_all, take_at, drop_at, append-nil, nil_from_length}
+use Rattle.std.proofs.lemmas.List.{take-append-drop}
+use Rattle.htl_event.specs.Events.{Event}
 use Rattle.htl_segment.specs.declared.version.Version.{Version}
 use Rattle.htl_segment.specs.declared.version.Version.TheVariants.{V1, V2}
 use Rattle.htl_segment.specs.declared.fault.Fault.{Fault}
@@ -15,12 +17,15 @@ use Rattle.htl_segment.specs.Versions.{limits_of}
 use Rattle.htl_segment.specs.Numbers.{IsBytes, number}
 use Rattle.htl_segment.specs.Content.{Content, EventFits, EventsFit, Fits}
 use Rattle.htl_segment.specs.Spelling.{event_bytes, records, header_bytes, spelling, Spells, BeginsWith}
-use Rattle.htl_segment.specs.Reading.{event_in, after_record, events_in, version_in, length_in, body_in, content_in}
+use Rattle.htl_segment.specs.declared.header.Header.{Header}
+use Rattle.htl_segment.specs.Reading.{event_in, after_record, events_in, version_of, version_in, length_in, body_in, content_in}
+use Rattle.htl_segment.specs.InPlace.{header_in, content_of}
 use Rattle.htl_segment.specs.Faults.{header_fault, record_fault, records_fault, first_fault}
-use Rattle.htl_segment.specs.Records.{HasRecords, IsSegment}
+use Rattle.htl_segment.specs.InPlace.{HasRecords, IsSegment}
 use Rattle.htl_segment.proofs.Bytes.{IsBytes-drop, IsBytes-take, number-lt, length-bytes_of, length-frames}
-use Rattle.htl_segment.proofs.Passed.{passed, ended, both_passed}
+use Rattle.htl_segment.proofs.PassedTests.{passed, ended, both_passed}
 use Rattle.htl_segment.proofs.RecordLaws.{record_read, record_again}
+use Rattle.htl_segment.proofs.MoreBytes.{number-append, header_fault-append}
 use Rattle.htl_segment.proofs.HeaderLaws as header
 
 -- ---- records
@@ -30,7 +35,7 @@ pub record RecordsRead (v : Version) (last n : ℕ) (b : List ℕ) : Type 0 wher
   pub parts : b ≡ records (events_in n b)
   pub count : length (events_in n b) ≡ n
   pub fits : EventsFit v last (events_in n b)
-  pub whole : HasRecords n b
+  pub whole : HasRecords v n b
 
 sequence-event_in : (b : List ℕ) → (event_in b).sequence ≡ number 0 8 b
 unfolding event_in
@@ -78,7 +83,8 @@ length-event_bytes_exact e tag = simp (length-append, length-bytes_of) (omega (a
 length-event_bytes : (v : Version) (e : Event) → EventFits v e → length (event_bytes e) ≤ 36 + 8 * (limits_of v).frames
 length-event_bytes v e fits = omega (arith, length-event_bytes_exact e fits.in_range.tag_len, fits.depth)
 
-length-records : (v : Version) (es : List Event) (last : ℕ) → EventsFit v last es → length (records es) ≤ (36 + 8 * (limits_of v).frames) * length es
+length-records : (v : Version) (es : List Event) (last : ℕ) → EventsFit v last es
+    → length (records es) ≤ (36 + 8 * (limits_of v).frames) * length es
 length-records v [] last fits = omega arith
 length-records v (e ∷ es) last fits =
     let first = length-event_bytes v e fits.0 in
@@ -86,7 +92,8 @@ length-records v (e ∷ es) last fits =
     grind (arith, length-append (event_bytes e) (records es))
 
 -- each record has 36 bytes, and eight for each frame
-pub length-records_exact : (v : Version) (es : List Event) (last : ℕ) → EventsFit v last es → length (records es) ≡ 36 * length es + 8 * sum_by (λ e. length e.stack) es
+pub length-records_exact : (v : Version) (es : List Event) (last : ℕ) → EventsFit v last es
+    → length (records es) ≡ 36 * length es + 8 * sum_by (λ e. length e.stack) es
 length-records_exact v [] last fits = refl
 length-records_exact v (e ∷ es) last fits =
     let others = length-records_exact v es e.sequence fits.2 in
@@ -119,26 +126,31 @@ pub record SegmentRead (b : List ℕ) : Type 0 where
   pub long : 32 ≤ length b
   pub whole : (32 ≤ length_in b) × (length_in b ≤ length b)
   pub spells : Spells (take (length_in b) b) (content_in b)
-  pub has_records : HasRecords (number 24 4 b) (body_in b)
+  pub has_records : HasRecords (version_in b) (number 24 4 b) (body_in b)
 
 -- the front of the bytes is the header and the records
-front : (b head : List ℕ) (len : ℕ) → 32 ≤ len → length head ≡ 32 → b ≡ head ++ drop 32 b → take len b ≡ head ++ take (len - 32) (drop 32 b)
+front : (b head : List ℕ) (len : ℕ) → 32 ≤ len → length head ≡ 32 → b ≡ head ++ drop 32 b
+    → take len b ≡ head ++ take (len - 32) (drop 32 b)
 front b head len low size parts =
-    let split : take len b ≡ take 32 b ++ take (len - 32) (drop 32 b) = (let k : len ≡ 32 + (len - 32) = omega arith in ap (λ (m : ℕ). take m b) k ∙ take-add 32 (len - 32) b) in
+    let split : take len b ≡ take 32 b ++ take (len - 32) (drop 32 b) =
+    (let k : len ≡ 32 + (len - 32) = omega arith in ap (λ (m : ℕ). take m b) k ∙ take-add 32 (len - 32) b) in
     let first : take 32 b ≡ head = ap (take 32) parts ∙ take_at head (drop 32 b) 32 size in
     split ∙ ap (λ (x : List ℕ). x ++ take (len - 32) (drop 32 b)) first
 
 pub segment_read : (b : List ℕ) → IsBytes b → first_fault b ≡ None → SegmentRead b
 unfolding first_fault content_in
 segment_read b small none =
-    let t = both_passed (header_fault b) (cond (nat_lt (length b) (length_in b)) (Some faults.Cut) (records_fault (version_in b) (number 24 4 b) 0 0 (body_in b))) none in
+    let t = both_passed (header_fault b)
+    (cond (nat_lt (length b) (length_in b)) (Some faults.Cut) (records_fault (version_in b) (number 24 4 b) 0 0 (body_in b))) none in
     let k = header.keeps_from_none b t.0 in
     let cut = passed (nat_lt (length b) (length_in b)) faults.Cut (records_fault (version_in b) (number 24 4 b) 0 0 (body_in b)) t.1 in
     let whole : length_in b ≤ length b = ltb-false _ _ cut.0 in
     let body = body_in b in
-    let read = records_read (version_in b) (number 24 4 b) 0 0 body (IsBytes-take (length_in b - 32) (drop 32 b) (IsBytes-drop 32 b small)) cut.1 in
+    let read = records_read (version_in b) (number 24 4 b) 0 0 body
+    (IsBytes-take (length_in b - 32) (drop 32 b) (IsBytes-drop 32 b small)) cut.1 in
     let s = content_in b in
-    let size : length_in b ≡ 32 + length (records s.events) = omega (arith, ap length read.parts, length-take (length_in b - 32) (drop 32 b), length-drop 32 b, k.len, whole) in
+    let size : length_in b ≡ 32 + length (records s.events) =
+    omega (arith, ap length read.parts, length-take (length_in b - 32) (drop 32 b), length-drop 32 b, k.len, whole) in
     let held : header.Holds b s (length (records s.events)) = record {
       long = k.long;
       magic = k.magic;
@@ -156,7 +168,8 @@ segment_read b small none =
       long = k.long;
       whole = (k.len.0, whole);
       spells = record {
-        bytes = front b (header_bytes s (length (records s.events))) (length_in b) k.len.0 (header.length-header_bytes s (length (records s.events))) parts
+        bytes = front b (header_bytes s (length (records s.events))) (length_in b) k.len.0
+            (header.length-header_bytes s (length (records s.events))) parts
             ∙ ap (λ (x : List ℕ). header_bytes s (length (records s.events)) ++ x) read.parts;
         fits = record {
           trace_id = number-lt 16 8 b small;
@@ -189,7 +202,8 @@ segment_again s more fits =
     let held : header.Holds b s size = rw regrouped there in
     let head_len = header.length-header_bytes s size in
     let total : length (spelling s) ≡ 32 + size = omega (arith, length-append head body, head_len) in
-    let whole : nat_lt (length b) (length_in b) ≡ false = le-ltb (length b) (length_in b) (omega (arith, total, length-append (spelling s) more, held.len)) in
+    let whole : nat_lt (length b) (length_in b) ≡ false =
+    le-ltb (length b) (length_in b) (omega (arith, total, length-append (spelling s) more, held.len)) in
     let rest_is : drop 32 b ≡ body ++ more = ap (drop 32) regrouped ∙ drop_at head (body ++ more) 32 head_len in
     let body_len : length_in b - 32 ≡ size = omega (arith, held.len) in
     let body_is : body_in b ≡ body = rw (body_len, rest_is) (take_at body more size refl) in
@@ -223,31 +237,101 @@ first_fault-records b none whole =
 pub spelled_again : (b more : List ℕ) (s : Content) → Spells b s → SegmentAgain (b ++ more) s
 spelled_again b more s spells = rw spells.bytes (segment_again s more spells.fits)
 
-pub is_segment : (b : List ℕ) (s : Content) → IsBytes b → Spells b s → IsSegment b
-is_segment b s small spells =
-    let again : SegmentAgain b s = rw append-nil at (spelled_again b [] s spells) in
-    let read = segment_read b small again.no_fault in
-    let len : length_in b ≡ length b = again.len ∙ sym (ap length spells.bytes) in
-    let body : body_in b ≡ drop 32 b = take_all (length_in b - 32) (drop 32 b) (omega (arith, length-drop 32 b)) in
+-- the segment that bytes without a fault begin with, by its header and the bytes of its records
+record Found (b : List ℕ) (h : Header) (body : List ℕ) : Type 0 where
+  is_segment : IsSegment h body
+  begins : BeginsWith b (length (spelling (content_of h body))) (content_of h body)
+
+found_whole : (b : List ℕ) → IsBytes b → first_fault b ≡ None → Found b (header_in b) (body_in b)
+unfolding header_in content_in
+found_whole b small none =
+    let read = segment_read b small none in
+    let size : length (body_in b) ≡ length_in b - 32 =
+    omega (arith, length-take (length_in b - 32) (drop 32 b), length-drop 32 b, read.whole) in
+    let len : length (spelling (content_in b)) ≡ length_in b =
+    omega (arith, ap length read.spells.bytes, length-take (length_in b) b, read.whole) in
     record {
-      long = read.long;
-      spells = rw again.content spells;
-      body = body;
-      has_records = rw (← body) read.has_records;
+      is_segment = record {
+        fits = read.spells.fits;
+        len = omega (arith, size, len, read.whole);
+        has_records = read.has_records;
+      };
+      begins = rw len (record { inside = read.whole.1; spells = read.spells });
     }
 
--- the bytes of the segment at the front, cut off where they end
-pub found_cut : (b : List ℕ) (n : ℕ) → IsBytes b → n ≡ length_in b → first_fault b ≡ None → BeginsWith b (length (spelling (content_in (take n b)))) (content_in (take n b))
-found_cut b n small at none =
-    let read = segment_read b small none in
-    let spells : Spells (take n b) (content_in b) = rw at read.spells in
-    let again : SegmentAgain (take n b) (content_in b) = rw append-nil at (spelled_again (take n b) [] (content_in b) spells) in
-    let len : length (spelling (content_in b)) ≡ n = omega (arith, ap length spells.bytes, length-take n b, at, read.whole) in
-    rw (again.content, len) (record { inside = omega (arith, at, read.whole); spells = spells })
+header_in-append : (head rest : List ℕ) → 32 ≤ length head → header_in (head ++ rest) ≡ header_in head
+unfolding header_in
+header_in-append head rest long =
+    rw (
+      number-append 4 2 head rest (omega arith),
+      number-append 6 2 head rest (omega arith),
+      number-append 8 2 head rest (omega arith),
+      number-append 12 4 head rest (omega arith),
+      number-append 16 8 head rest (omega arith),
+      number-append 24 4 head rest (omega arith),
+      number-append 28 4 head rest (omega arith),
+    )
+    refl
 
-pub is_segment_cut : (b : List ℕ) (n : ℕ) → IsBytes b → n ≡ length_in b → first_fault b ≡ None → IsSegment (take n b)
-is_segment_cut b n small at none =
-    is_segment (take n b) (content_in b) (IsBytes-take n b small) (rw at (segment_read b small none).spells)
+length-header_in : (b : List ℕ) (h : Header) → h ≡ header_in b → h.len ≡ length_in b
+unfolding header_in
+length-header_in b h is = ap (λ (x : Header). x.len) is
+
+-- the same where the header lies apart from what follows it
+found_parts : (head rest : List ℕ) (h : Header) → IsBytes (head ++ rest) → length head ≡ 32 → h ≡ header_in head
+    → first_fault (head ++ rest) ≡ None → Found (head ++ rest) h (take (h.len - 32) rest)
+found_parts head rest h small long is none =
+    let b = head ++ rest in
+    let same : header_in b ≡ h = header_in-append head rest (omega arith) ∙ sym is in
+    let len : h.len ≡ length_in b = length-header_in b h (sym same) in
+    let body : body_in b ≡ take (h.len - 32) rest = ap (λ (n : ℕ). take (n - 32) (drop 32 b)) (sym len)
+    ∙ ap (take (h.len - 32)) (drop_at head rest 32 long) in
+    rw body at (rw same at (found_whole b small none))
+
+pub is_segment : (head rest : List ℕ) (h : Header) → IsBytes (head ++ rest) → length head ≡ 32 → h ≡ header_in head
+    → first_fault (head ++ rest) ≡ None → IsSegment h (take (h.len - 32) rest)
+is_segment head rest h small long is none = (found_parts head rest h small long is none).is_segment
+
+pub begins_here : (head rest : List ℕ) (h : Header) → IsBytes (head ++ rest) → length head ≡ 32 → h ≡ header_in head
+    → first_fault (head ++ rest) ≡ None
+    → BeginsWith (head ++ rest) (length (spelling (content_of h (take (h.len - 32) rest)))) (content_of h (take (h.len - 32) rest))
+begins_here head rest h small long is none = (found_parts head rest h small long is none).begins
+
+-- ---- the steps of reading a header and what follows it
+
+pub first_fault-short : (b : List ℕ) → length b < 32 → first_fault b ≡ Some faults.Short
+unfolding header_fault
+first_fault-short b short =
+    let t : nat_lt (length b) 32 ≡ true = lt-ltb _ _ short in
+    first_fault-header b faults.Short (rw t refl)
+
+pub parts_fault-header : (head rest : List ℕ) (fault : Fault) → length head ≡ 32 → header_fault head ≡ Some fault
+    → first_fault (head ++ rest) ≡ Some fault
+parts_fault-header head rest fault long some =
+    first_fault-header (head ++ rest) fault (header_fault-append head rest (omega arith) ∙ some)
+
+pub parts_fault-cut : (head rest : List ℕ) (h : Header) → length head ≡ 32 → header_fault head ≡ None → h ≡ header_in head
+    → length rest < h.len - 32 → first_fault (head ++ rest) ≡ Some faults.Cut
+parts_fault-cut head rest h long none is cut =
+    let len : h.len ≡ length_in head = length-header_in head h is in
+    let same : length_in (head ++ rest) ≡ length_in head = number-append 28 4 head rest (omega arith) in
+    first_fault-cut (head ++ rest) (header_fault-append head rest (omega arith) ∙ none) (omega (arith, len, same, length-append head rest))
+
+pub parts_fault-records : (head rest : List ℕ) (h : Header) → length head ≡ 32 → header_fault head ≡ None → h ≡ header_in head
+    → 32 ≤ h.len → h.len - 32 ≤ length rest
+    → first_fault (head ++ rest) ≡ records_fault h.version h.count 0 0 (take (h.len - 32) rest)
+unfolding header_in
+parts_fault-records head rest h long none is low whole =
+    let b = head ++ rest in
+    let len : h.len ≡ length_in head = length-header_in head h is in
+    let same : length_in b ≡ length_in head = number-append 28 4 head rest (omega arith) in
+    let version : version_in b ≡ h.version = ap (λ (n : ℕ). unwrap_or (version_of n) V1) (number-append 4 2 head rest (omega arith))
+    ∙ sym (ap (λ (x : Header). x.version) is) in
+    let count : number 24 4 b ≡ h.count = number-append 24 4 head rest (omega arith) ∙ sym (ap (λ (x : Header). x.count) is) in
+    let body : body_in b ≡ take (h.len - 32) rest = ap (λ (n : ℕ). take (n - 32) (drop 32 b)) (same ∙ sym len)
+    ∙ ap (take (h.len - 32)) (drop_at head rest 32 long) in
+    first_fault-records b (header_fault-append head rest (omega arith) ∙ none) (omega (arith, same, len, length-append head rest))
+    ∙ rw (version, count, body) refl
 
 -- ---- one spelling
 
@@ -264,7 +348,8 @@ begins b n s front = rw (take-append-drop n b) at (spelled_again (take n b) (dro
 -- two spellings at the front of the same bytes are one
 pub same_front : (b : List ℕ) (m n : ℕ) (s t : Content) → BeginsWith b m s → BeginsWith b n t → (m ≡ n) × (s ≡ t)
 same_front b m n s t p q =
-    let both = one_spelling (take m b) (take n b) (drop m b) (drop n b) s t p.spells q.spells (take-append-drop m b ∙ sym (take-append-drop n b)) in
+    let both = one_spelling (take m b) (take n b) (drop m b) (drop n b) s t p.spells q.spells (take-append-drop m b
+    ∙ sym (take-append-drop n b)) in
     (omega (arith, length-take m b, length-take n b, p.inside, q.inside, ap length both.0), both.1)
 
 pub begins_with : (a rest : List ℕ) (s : Content) → Spells a s → BeginsWith (a ++ rest) (length a) s

@@ -1,12 +1,13 @@
 -- The first rule of the format HLS1 that the parts of a segment break: those of the header first, then
 -- those of one event after the other.
+use Rattle.std.specs.Prelude.{◌≡◌, MatchOption, MatchResult, Result}
 use Rattle.std.specs.Prelude.{ℕ, ◌+◌, List, [], ◌∷◌, length, not, ◌||◌, ◌==◌, nat_lt, nat_le, if◌then◌else◌, Option, Some, None}
-use Rattle.htl_event.specs.declared.event.Event.{Event}
+use Rattle.htl_event.specs.Events.{Event}
 use Rattle.htl_segment.specs.declared.version.Version.{Version}
 use Rattle.htl_segment.specs.declared.fault.Fault.{Fault}
 use Rattle.htl_segment.specs.declared.fault.Fault.TheVariants as faults
 use Rattle.htl_segment.specs.Versions.{limits_of}
-use Rattle.htl_segment.specs.Content.{Content, kind_code, fields_fit}
+use Rattle.htl_segment.specs.Content.{Content, kind_code, fields_fit, Fits}
 use Rattle.htl_segment.specs.Faults.{or_else}
 
 -- of the event at place i, after one with the last sequence
@@ -30,3 +31,10 @@ build_fault s =
     else if nat_lt 0xFFFFFFFE s.number then Some faults.Number
     else if nat_lt 4096 (length s.events) then Some faults.Count
     else events_fault s.version 0 0 s.events
+
+-- What is answered where a segment is to be built of these parts: the segment, whose parts fit, or their
+-- first fault, or want of memory where they have none; the events come back with each refusal.
+abbrev pub Builds : {E : Type 0} → Content → E → Result Content (Fault × E) → Type 0
+Builds parts events result = MatchResult result
+    (λ segment. Fits parts × (segment ≡ parts))
+    (λ refused. MatchOption (build_fault parts) (refused.0 ≡ faults.NoMemory) (λ fault. refused.0 ≡ fault) × (refused.1 ≡ events))

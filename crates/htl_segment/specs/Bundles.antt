@@ -33,6 +33,14 @@ pub record BundleFault (bytes : List ℕ) (offset : ℕ) (fault : Fault) : Type 
   pub some : 0 < length rest
   pub fault_is : first_fault rest ≡ Some fault
 
+-- some segments, and then at this offset bytes that begin with one more
+pub record SegmentAt (bytes : List ℕ) (offset : ℕ) : Type 0 where
+  pub before : List Content
+  pub rest : List ℕ
+  pub splits : Splits bytes before rest
+  pub offset_is : offset ≡ length (bundle before)
+  pub no_fault : first_fault rest ≡ None
+
 -- the fault of bytes that end too early
 abbrev pub cut_off : List ℕ → Fault
 cut_off rest = if nat_lt (length rest) 32 then faults.Short else faults.Cut
@@ -41,11 +49,14 @@ cut_off rest = if nat_lt (length rest) 32 then faults.Short else faults.Cut
 pub record IsRest (rest : List ℕ) : Type 0 where
   pub cut_off : (length rest < 32) ⊎ ((header_fault rest ≡ None) × (length rest < length_in rest))
 
--- some more segments than before were split off the bytes
-pub record SplitsMore (bytes : List ℕ) (old new : List Content) (rest : List ℕ) : Type 0 where
-  pub more : List Content
-  pub pushed : new ≡ old ++ more
-  pub splits : Splits bytes more rest
+-- some segments, and then at this offset the last bytes, which more bytes may make a segment of
+pub record RestAt (bytes : List ℕ) (offset : ℕ) : Type 0 where
+  pub before : List Content
+  pub rest : List ℕ
+  pub splits : Splits bytes before rest
+  pub offset_is : offset ≡ length (bundle before)
+  pub some : 0 < length rest
+  pub is_rest : IsRest rest
 
 -- more bytes may make a segment of those that have this fault
 abbrev pub is_early_end : Fault → Bool
@@ -53,20 +64,12 @@ is_early_end faults.Short = true
 is_early_end faults.Cut = true
 is_early_end fault = false
 
--- no more bytes make a segment of these, or memory was refused while they were read
-pub record IsLateFault (bytes : List ℕ) (fault : Fault) : Type 0 where
-  pub late : is_early_end fault ≡ false
-  pub cause : (fault ≡ faults.NoMemory) ⊎ (first_fault bytes ≡ Some fault)
+-- Why nothing is split off at the offset: no more bytes make a segment of those that begin there, or a
+-- segment begins there, for which memory was refused.
+abbrev pub IsRefused : List ℕ → ℕ → Fault → Type 0
+IsRefused bytes offset fault =
+    (BundleFault bytes offset fault × (is_early_end fault ≡ false)) ⊎ ((fault ≡ faults.NoMemory) × SegmentAt bytes offset)
 
--- What begins at the offset is a segment by no more bytes, or memory was refused while it was read.
-pub record IsRefused (bytes : List ℕ) (offset : ℕ) (fault : Fault) : Type 0 where
-  pub inside : offset ≤ length bytes
-  pub boundary : IsBoundary bytes offset
-  pub late : is_early_end fault ≡ false
-  pub cause : (fault ≡ faults.NoMemory) ⊎ BundleFault bytes offset fault
-
--- a header without a fault, and all the bytes that it tells
-pub record IsWhole (bytes : List ℕ) : Type 0 where
-  pub long : 32 ≤ length bytes
-  pub no_fault : header_fault bytes ≡ None
-  pub len : length bytes ≡ length_in bytes
+-- the same of a piece, of which the last bytes are kept
+abbrev pub IsPieceRefused : List ℕ → ℕ → Fault → Type 0
+IsPieceRefused bytes offset fault = IsRefused bytes offset fault ⊎ ((fault ≡ faults.NoMemory) × RestAt bytes offset)

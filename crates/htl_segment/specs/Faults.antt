@@ -1,6 +1,7 @@
 -- The first rule of the format HLS1 that bytes break: the header's rules from left to right, then those of
 -- one record after the other.
-use Rattle.std.specs.Prelude.{ℕ, zero, suc, ◌+◌, ◌*◌, ◌-◌, List, length, take, drop, slice_index, not, ◌||◌, ◌==◌, nat_eq, nat_lt, nat_le, is_none, if◌then◌else◌, Option, Some, None, codes}
+use Rattle.std.specs.Prelude.{ℕ, zero, suc, ◌+◌, ◌*◌, ◌-◌, List, length, take, drop, slice_index, not, ◌||◌, ◌==◌, nat_eq, nat_lt, nat_le}
+use Rattle.std.specs.Prelude.{is_none, if◌then◌else◌, Option, Some, None, codes}
 use Rattle.std.specs.List.{starts_with}
 use Rattle.htl_segment.specs.declared.version.Version.{Version}
 use Rattle.htl_segment.specs.declared.fault.Fault.{Fault}
@@ -35,7 +36,8 @@ record_fault v i last b =
     else if nat_le (number 0 8 b) last then Some (faults.Sequence i)
     else if slice_index b 8 == 0 || nat_lt (limits_of v).kinds (slice_index b 8) then Some (faults.Kind i)
     else if nat_lt (limits_of v).frames (frames_in b) || nat_lt (length b - 36) (8 * frames_in b) then Some (faults.Frames i)
-    else if not (number 10 2 b == 0) || not (fields_fit (kind_of (slice_index b 8)) (number 20 4 b) (number 24 8 b) (take 4 (drop 32 b))) then Some (faults.Field i)
+    else if not (number 10 2 b == 0) || not (fields_fit (kind_of (slice_index b 8)) (number 20 4 b) (number 24 8 b) (take 4 (drop 32 b)))
+    then Some (faults.Field i)
     else None
 
 -- of this many records from place i on, which have to fill the bytes

@@ -1,3 +1,7 @@
+-- What public contracts cite, in the order in which a reader wants it: the limits of the versions, what a
+-- segment says and when it fits, its bytes, what bytes say and the first rule that they break, records in
+-- place, bundles, pieces, a segment from its parts, hexadecimal; then keys, traces and the laws of their events,
+-- and sequences that rise.
 pub mod Versions
 pub mod Content
 pub mod Numbers
@@ -12,3 +16,7 @@ pub mod Hexadecimal
 pub mod Keys
 pub mod Traces
 pub mod TraceLaws
+pub mod Rising
+-- What only private contracts and invariants cite: a segment in place, and the steps of splitting.
+pub mod InPlace
+pub mod Feeding

@@ -1,10 +1,12 @@
 -- What bytes say at the places of the format HLS1, whether or not they keep its rules.
-use Rattle.std.specs.Prelude.{ℕ, zero, suc, ◌+◌, ◌*◌, ◌-◌, List, [], ◌∷◌, take, drop, slice_index, Option, Some, None, unwrap_or}
-use Rattle.htl_event.specs.declared.event.Event.{Event}
+use Rattle.std.specs.Prelude.{ℕ, zero, suc, ◌+◌, ◌*◌, ◌-◌, ◌||◌, ◌==◌, List, [], ◌∷◌, take, drop, slice_index, nat_lt, if◌then◌else◌}
+use Rattle.std.specs.Prelude.{Option, Some, None, unwrap_or}
+use Rattle.htl_event.specs.Events.{Event}
 use Rattle.htl_event.specs.declared.kind.Kind.{Kind}
 use Rattle.htl_event.specs.declared.kind.Kind.TheVariants.{Opened, Closed, BadRef, Snapshot, Ref, Deref, Exited}
 use Rattle.htl_segment.specs.declared.version.Version.{Version}
 use Rattle.htl_segment.specs.declared.version.Version.TheVariants.{V1, V2}
+use Rattle.htl_segment.specs.Versions.{limits_of}
 use Rattle.htl_segment.specs.Numbers.{number, numbers}
 use Rattle.htl_segment.specs.Content.{Content}
 
@@ -23,6 +25,10 @@ kind_of (suc (suc (suc (suc zero)))) = Snapshot
 kind_of (suc (suc (suc (suc (suc zero))))) = Ref
 kind_of (suc (suc (suc (suc (suc (suc zero)))))) = Deref
 kind_of code = Exited
+
+-- the kind of this code, if the version has one
+abbrev pub kind_in : Version → ℕ → Option Kind
+kind_in v code = if code == 0 || nat_lt (limits_of v).kinds code then None else Some (kind_of code)
 
 -- how many frames the record at the front has
 abbrev pub frames_in : List ℕ → ℕ

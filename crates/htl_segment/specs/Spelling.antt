@@ -1,7 +1,7 @@
 -- The bytes of a segment in the format HLS1 (this project's own).
 use Rattle.std.specs.Prelude.{◌≡◌, ℕ, ◌+◌, ◌≤◌, List, [], ◌∷◌, ◌++◌, length, take, codes}
 use Rattle.std.specs.List.{flat_map}
-use Rattle.htl_event.specs.declared.event.Event.{Event}
+use Rattle.htl_event.specs.Events.{Event}
 use Rattle.htl_segment.specs.Numbers.{bytes_of}
 use Rattle.htl_segment.specs.Versions.{version_number}
 use Rattle.htl_segment.specs.Content.{Content, kind_code, Fits}

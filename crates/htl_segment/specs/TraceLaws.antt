@@ -1,6 +1,6 @@
 -- Laws of the events of key sets.
 use Rattle.std.specs.Prelude.{◌≡◌, ℕ, ◌+◌, Bool, List, ◌++◌, Option, Contains, ◌↔◌, max}
-use Rattle.htl_event.specs.declared.event.Event.{Event}
+use Rattle.htl_event.specs.Events.{Event}
 use Rattle.htl_event.specs.declared.slot.Slot.{Slot}
 use Rattle.htl_event.specs.Handles.{LatestIs, later, IsGreatestSequence, IsMark, IsLastExit, HaveOwnSequences}
 use Rattle.htl_event.specs.Tallies.{plus_count, count_where}
@@ -20,16 +20,21 @@ MembersAgree = (S : ℕ → ℕ → Bool) (segments : List Content) (e : Event) 
 -- counts over two sets that have no key in common add up
 abbrev pub ApartCountsAddUp : Type 0
 ApartCountsAddUp = (S R : ℕ → ℕ → Bool) (segments : List Content) → AreApart S R → (passes : Event → Bool) (slot : Slot)
-    → count_where passes (events_of (united S R) segments) slot ≡ plus_count (count_where passes (events_of S segments) slot) (count_where passes (events_of R segments) slot)
+    → count_where passes (events_of (united S R) segments) slot ≡ plus_count (count_where passes (events_of S segments) slot)
+    (count_where passes (events_of R segments) slot)
 
 -- the latest event and the greatest sequence over two sets are the later and the greater of both, also where
 -- the sets have keys in common
 pub record LaterOfBothSets (S R : ℕ → ℕ → Bool) (segments : List Content) : Type 0 where
-  pub latest : (process handle : ℕ) (a b : Option Event) → LatestIs (IsEventOf S segments) process handle a → LatestIs (IsEventOf R segments) process handle b
+  pub latest : (process handle : ℕ) (a b : Option Event) → LatestIs (IsEventOf S segments) process handle a
+      → LatestIs (IsEventOf R segments) process handle b
       → LatestIs (IsEventOf (united S R) segments) process handle (later a b)
-  pub greatest : (a b : ℕ) → IsGreatestSequence (IsEventOf S segments) a → IsGreatestSequence (IsEventOf R segments) b → IsGreatestSequence (IsEventOf (united S R) segments) (max a b)
-  pub mark : (process a b : ℕ) → IsMark (IsEventOf S segments) process a → IsMark (IsEventOf R segments) process b → IsMark (IsEventOf (united S R) segments) process (max a b)
-  pub last_exit : (process a b : ℕ) → IsLastExit (IsEventOf S segments) process a → IsLastExit (IsEventOf R segments) process b → IsLastExit (IsEventOf (united S R) segments) process (max a b)
+  pub greatest : (a b : ℕ) → IsGreatestSequence (IsEventOf S segments) a → IsGreatestSequence (IsEventOf R segments) b
+      → IsGreatestSequence (IsEventOf (united S R) segments) (max a b)
+  pub mark : (process a b : ℕ) → IsMark (IsEventOf S segments) process a → IsMark (IsEventOf R segments) process b
+      → IsMark (IsEventOf (united S R) segments) process (max a b)
+  pub last_exit : (process a b : ℕ) → IsLastExit (IsEventOf S segments) process a → IsLastExit (IsEventOf R segments) process b
+      → IsLastExit (IsEventOf (united S R) segments) process (max a b)
 
 -- the events of each set of a trace's keys have sequences of their own
 abbrev pub SequencesStayApart : Type 0

@@ -2,7 +2,7 @@
 -- of a set of their keys.
 use Rattle.std.specs.Prelude.{◌≡◌, ℕ, ◌<◌, Bool, true, ◌⊎◌, List, [], ◌∷◌, Contains, filter}
 use Rattle.std.specs.List.{AllByRecursion, flat_map}
-use Rattle.htl_event.specs.declared.event.Event.{Event}
+use Rattle.htl_event.specs.Events.{Event}
 use Rattle.htl_event.specs.Handles.{HaveOwnSequences}
 use Rattle.htl_segment.specs.Content.{Content, Fits}
 

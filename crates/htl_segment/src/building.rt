@@ -1,61 +1,78 @@
 //! A segment from its parts.
-ghost use Rattle.std.specs.Prelude.{◌≡◌, ℕ, ◌↔◌, All, IsOk, None, Some, OnOk, MatchResult};
+ghost use Rattle.std.specs.Prelude.{◌≡◌, ℕ, All, None, Some, IfOk, OnOk, MatchOption, MatchResult};
+ghost use Rattle.std.specs.Arc.{arc_value};
 ghost use Rattle.htl_event.specs.Ranges.{InRange};
 ghost use Rattle.htl_segment.specs.Content.{content, Fits};
-ghost use Rattle.htl_segment.specs.Building.{event_fault, events_fault, build_fault};
+ghost use Rattle.htl_segment.specs.Building.{event_fault, events_fault, build_fault, Builds};
 
-use crate::encoding::code_of;
 use crate::fault::Fault;
 use crate::header::{MAX_EVENTS, MAX_NUMBER};
+use crate::kinds::code_of;
 use crate::record::fields_fit;
 use crate::segment::Segment;
+use crate::stack_cache::StackCache;
 use crate::version::Version;
-use htl_event::Event;
+use htl_event::{Event, NoMemory, SharedEvent};
+use std::alloc::Global;
+use std::sync::Arc;
 
 impl Segment {
-    ghost use Rattle.std.specs.Prelude.{◌≡◌, ◌↔◌, IsOk, None, Some, MatchResult};
     ghost use Rattle.htl_segment.specs.declared.version.Version.TheVariants.{V1, V2};
-    ghost use Rattle.htl_segment.specs.Content.{content, Fits};
-    ghost use Rattle.htl_segment.specs.Building.{build_fault};
+    ghost use Rattle.htl_segment.specs.Content.{content};
+    ghost use Rattle.htl_segment.specs.Building.{Builds};
 
-    /// A version 1 segment of these parts. A refusal hands the events back.
+    /// A version 1 segment of these parts, or their first fault: of the processors, the processor, the
+    /// number, more than 4,096 events; then event by event of its sequence, its kind, its frames and its
+    /// other fields; and last `NoMemory`. Every refusal hands the events back.
     pub fn build(
+        alloc: Global,
         trace_id: u64,
         processors: u16,
         processor: u16,
         number: u32,
         events: Vec<Event>,
     ) -> Result<Segment, (Fault, Vec<Event>)>
-        ensures exact { let parts = content V1 trace_id processors processor number events.items in
-            MatchResult result
-            (λ segment. (build_fault parts ≡ None) × (segment ≡ parts))
-            (λ refused. (build_fault parts ≡ Some refused.0) × (refused.1 ≡ events)) }
-        // It is made exactly where the format can spell it.
-        ensures fits { IsOk result ↔ Fits (content V1 trace_id processors processor number events.items) }
+        ensures { Builds (content V1 trace_id processors processor number events.items)
+            events result }
     {
-        build_as(Version::V1, trace_id, processors, processor, number, events)
+        build_as(
+            alloc,
+            Version::V1,
+            trace_id,
+            processors,
+            processor,
+            number,
+            events,
+        )
     }
 
-    /// A version 2 segment of these parts. A refusal hands the events back.
+    /// A version 2 segment of these parts, or their first fault by that version's limits, in the same
+    /// order. Every refusal hands the events back.
     pub fn build2(
+        alloc: Global,
         trace_id: u64,
         processors: u16,
         processor: u16,
         number: u32,
         events: Vec<Event>,
     ) -> Result<Segment, (Fault, Vec<Event>)>
-        ensures exact { let parts = content V2 trace_id processors processor number events.items in
-            MatchResult result
-            (λ segment. (build_fault parts ≡ None) × (segment ≡ parts))
-            (λ refused. (build_fault parts ≡ Some refused.0) × (refused.1 ≡ events)) }
-        // It is made exactly where the format can spell it.
-        ensures fits { IsOk result ↔ Fits (content V2 trace_id processors processor number events.items) }
+        ensures { Builds (content V2 trace_id processors processor number events.items)
+            events result }
     {
-        build_as(Version::V2, trace_id, processors, processor, number, events)
+        build_as(
+            alloc,
+            Version::V2,
+            trace_id,
+            processors,
+            processor,
+            number,
+            events,
+        )
     }
 }
 
 fn build_as(
+    alloc: Global,
     version: Version,
     trace_id: u64,
     processors: u16,
@@ -63,16 +80,39 @@ fn build_as(
     number: u32,
     events: Vec<Event>,
 ) -> Result<Segment, (Fault, Vec<Event>)>
-    ensures exact { let parts = content version trace_id processors processor number events.items in
-        MatchResult result
-        (λ segment. (build_fault parts ≡ None) × (segment ≡ parts))
-        (λ refused. (build_fault parts ≡ Some refused.0) × (refused.1 ≡ events)) }
-    ensures fits { IsOk result ↔ Fits (content version trace_id processors processor number events.items) }
+    ensures { Builds (content version trace_id processors processor number events.items)
+        events result }
 {
     match check_parts(version, processors, processor, number, &events) {
-        Ok(()) => Ok(Segment::new(version, trace_id, processors, processor, number, events)),
+        Ok(()) => match share(alloc, &events) {
+            Ok(shared) => Ok(Segment::new(
+                version, trace_id, processors, processor, number, shared,
+            )),
+            Err(NoMemory) => Err((Fault::NoMemory, events)),
+        },
         Err(fault) => Err((fault, events)),
     }
+}
+
+/// The events with shared stacks.
+fn share(alloc: Global, events: &[Event]) -> Result<Arc<Vec<SharedEvent>>, NoMemory>
+    ensures { IfOk result (λ shared. (arc_value shared).items ≡ events.now) }
+{
+    let mut cache = StackCache::new(alloc);
+    let mut shared = Vec::with_capacity(alloc, events.len())?;
+    for event in events {
+        shared.push(Event {
+            sequence: event.sequence,
+            kind: event.kind,
+            process: event.process,
+            thread: event.thread,
+            handle: event.handle,
+            object: event.object,
+            tag: event.tag,
+            stack: cache.of_addresses(alloc, event.stack.frames())?,
+        })?;
+    }
+    Ok(Arc::new(alloc, shared)?)
 }
 
 /// Tests the parts of a segment, in the order of the faults.
@@ -84,7 +124,8 @@ fn check_parts(
     number: u32,
     events: &[Event],
 ) -> Result<(), Fault>
-    ensures fault { (trace_id : ℕ) → let parts = content version trace_id processors processor number events.now in
+    ensures fault { (trace_id : ℕ) →
+        let parts = content version trace_id processors processor number events.now in
         MatchResult result
         (λ _. build_fault parts ≡ None)
         (λ fault. build_fault parts ≡ Some fault) }

@@ -1,11 +1,14 @@
 //! Segments one after another.
 ghost use Rattle.std.specs.Prelude.{◌≡◌, ◌⊎◌, [], IfOk, IfErr, MatchResult};
-ghost use Rattle.htl_segment.specs.Bundles.{Splits, SplitsMore, IsBoundary, IsRest, IsRefused, BundleFault, cut_off};
+ghost use Rattle.htl_segment.specs.Bundles.{Splits, IsBoundary, IsRest, IsRefused};
+ghost use Rattle.htl_segment.specs.Feeding.{SplitsMore};
+ghost use Rattle.htl_segment.specs.Bundles.{BundleFault, SegmentAt, cut_off};
 
-use crate::decoding::decode;
+use crate::decoding::decode_with;
 use crate::fault::Fault;
 use crate::header::HEADER_LEN;
 use crate::segment::Segment;
+use crate::stack_cache::StackCache;
 use std::alloc::Global;
 
 /// The segments whose bytes, one after another, are `bytes`. A refusal tells the offset at which the
@@ -13,10 +16,13 @@ use std::alloc::Global;
 pub fn decode_bundle(alloc: Global, bytes: &[u8]) -> Result<Vec<Segment>, (u64, Fault)>
     ensures found { IfOk result (λ segments. Splits bytes.now segments.items []) }
     ensures boundary { IfErr result (λ refused. IsBoundary bytes.now refused.0) }
-    ensures fault { IfErr result (λ refused. (refused.1 ≡ Fault.NoMemory) ⊎ BundleFault bytes.now refused.0 refused.1) }
+    // The first fault is told. Memory is asked for only where a segment begins.
+    ensures fault { IfErr result (λ refused.
+        BundleFault bytes.now refused.0 refused.1
+        ⊎ ((refused.1 ≡ Fault.NoMemory) × SegmentAt bytes.now refused.0)) }
 {
     let mut segments = Vec::new(alloc);
-    let rest = split(alloc, &mut segments, bytes)?;
+    let rest = split(alloc, &mut StackCache::new(alloc), &mut segments, bytes)?;
     if rest.is_empty() {
         return Ok(segments);
     }
@@ -39,17 +45,19 @@ pub fn cut_off(rest: &[u8]) -> Fault
 /// bytes may make a segment of. Those are left. A refusal tells the offset of the refused segment.
 pub fn split<'a>(
     alloc: Global,
+    cache: &mut StackCache,
     segments: &mut Vec<Segment>,
     bytes: &'a [u8],
 ) -> Result<&'a [u8], (u64, Fault)>
     ensures { MatchResult result
-        (λ rest. SplitsMore bytes.now segments.old.items segments.new.items rest.now × IsRest rest.now)
+        (λ rest. SplitsMore bytes.now segments.old.items segments.new.items rest.now
+        × IsRest rest.now)
         (λ refused. IsRefused bytes.now refused.0 refused.1) }
 {
     let mut rest = bytes;
     loop {
         let offset = (bytes.len() - rest.len()) as u64;
-        match decode(alloc, rest) {
+        match decode_with(alloc, cache, rest) {
             Ok((segment, len)) => {
                 segments
                     .push(segment)

@@ -1,3 +1,4 @@
+//! A segment from bytes.
 ghost use Rattle.std.specs.Prelude.{◌≡◌, ℕ, None, IfOk, MatchOption, MatchResult};
 ghost use Rattle.htl_segment.specs.Content.{Content};
 ghost use Rattle.htl_segment.specs.Spelling.{BeginsWith};
@@ -6,9 +7,14 @@ ghost use Rattle.htl_segment.specs.Faults.{first_fault};
 use crate::fault::Fault;
 use crate::segment::Segment;
 use crate::segment_bytes::SegmentBytes;
+use crate::stack_cache::StackCache;
 use std::alloc::Global;
 
 /// The segment that `bytes` begin with, and how many bytes it has.
+///
+/// Of bytes that begin with none it tells the first rule that they break, before it asks for memory.
+/// Faults come in this order: those of the header from left to right, `Cut`, then those of one record
+/// after the other, each in the order of their codes, `Excess`, and last `NoMemory`.
 pub fn decode(alloc: Global, bytes: &[u8]) -> Result<(Segment, usize), Fault>
     // What is read is spelled by the first bytes.
     ensures found { IfOk result (λ x. BeginsWith bytes.now x.1 x.0) }
@@ -18,9 +24,29 @@ pub fn decode(alloc: Global, bytes: &[u8]) -> Result<(Segment, usize), Fault>
     // The first fault is told, and memory is asked for only where there is none.
     ensures fault { MatchResult result
         (λ _. first_fault bytes.now ≡ None)
-        (λ fault. MatchOption (first_fault bytes.now) (fault ≡ Fault.NoMemory) (λ first. fault ≡ first)) }
+        (λ fault. MatchOption (first_fault bytes.now)
+        (fault ≡ Fault.NoMemory)
+        (λ first. fault ≡ first)) }
+{
+    decode_with(alloc, &mut StackCache::new(alloc), bytes)
+}
+
+/// The same, its stacks shared through a cache.
+pub fn decode_with(
+    alloc: Global,
+    cache: &mut StackCache,
+    bytes: &[u8],
+) -> Result<(Segment, usize), Fault>
+    ensures found { IfOk result (λ x. BeginsWith bytes.now x.1 x.0) }
+    ensures only { (s : Content) (n : ℕ) → BeginsWith bytes.now n s
+        → MatchResult result (λ x. x ≡ (s, n)) (λ fault. fault ≡ Fault.NoMemory) }
+    ensures fault { MatchResult result
+        (λ _. first_fault bytes.now ≡ None)
+        (λ fault. MatchOption (first_fault bytes.now)
+        (fault ≡ Fault.NoMemory)
+        (λ first. fault ≡ first)) }
 {
     let found = SegmentBytes::check(bytes)?;
-    let segment = found.to_segment(alloc)?;
+    let segment = found.to_segment_with(alloc, cache)?;
     Ok((segment, found.byte_len()))
 }

@@ -1,13 +1,14 @@
+//! A segment as bytes.
 ghost use Rattle.std.specs.Prelude.{◌≡◌, ◌≤◌, ◌+◌, ◌*◌, ◌++◌, length, sum_by, IfOk, OnOk};
 ghost use Rattle.std.specs.List.{flat_map};
 ghost use Rattle.htl_segment.specs.Numbers.{bytes_of};
-ghost use Rattle.htl_segment.specs.Content.{kind_code};
 ghost use Rattle.htl_segment.specs.Spelling.{event_bytes, records, header_bytes, Spells};
 
 use crate::header::HEADER_LEN;
+use crate::kinds::code_of;
 use crate::record::RECORD_LEN;
 use crate::segment::Segment;
-use htl_event::{Event, Kind, NoMemory};
+use htl_event::{NoMemory, SharedEvent};
 use std::alloc::{AllocError, Global};
 
 /// The bytes of a segment.
@@ -23,7 +24,7 @@ pub fn encode(alloc: Global, segment: &Segment) -> Result<Vec<u8>, NoMemory>
 }
 
 /// How many frames all the stacks have.
-fn frame_count(events: &[Event]) -> usize
+fn frame_count(events: &[SharedEvent]) -> usize
     requires { length events.now ≤ 4096 }
     ensures value { result ≡ sum_by (λ event. length event.stack) events.now }
     ensures few { result ≤ 64 * 4096 }
@@ -54,7 +55,7 @@ fn push_header(out: &mut Vec<u8>, segment: &Segment, size: usize) -> Result<(), 
     Ok(())
 }
 
-fn push_records(out: &mut Vec<u8>, events: &[Event]) -> Result<(), AllocError>
+fn push_records(out: &mut Vec<u8>, events: &[SharedEvent]) -> Result<(), AllocError>
     ensures { OnOk result (out.new.items ≡ out.old.items ++ records events.now) }
 {
     for event in events {
@@ -63,7 +64,7 @@ fn push_records(out: &mut Vec<u8>, events: &[Event]) -> Result<(), AllocError>
     Ok(())
 }
 
-fn push_record(out: &mut Vec<u8>, event: &Event) -> Result<(), AllocError>
+fn push_record(out: &mut Vec<u8>, event: &SharedEvent) -> Result<(), AllocError>
     ensures { OnOk result (out.new.items ≡ out.old.items ++ event_bytes event.now) }
 {
     let frames = event.stack.frames();
@@ -80,28 +81,14 @@ fn push_record(out: &mut Vec<u8>, event: &Event) -> Result<(), AllocError>
     Ok(())
 }
 
-fn push_frames(out: &mut Vec<u8>, frames: &[u64]) -> Result<(), AllocError>
+/// Writes the addresses of a stack, eight bytes each.
+pub fn push_frames(out: &mut Vec<u8>, frames: &[u64]) -> Result<(), AllocError>
     ensures { OnOk result (out.new.items ≡ out.old.items ++ flat_map (bytes_of 8) frames.now) }
 {
     for frame in frames {
         push_u64(out, *frame)?;
     }
     Ok(())
-}
-
-/// The code of a kind in a record.
-pub fn code_of(kind: Kind) -> u8
-    ensures { result ≡ kind_code kind }
-{
-    match kind {
-        Kind::Opened => 1,
-        Kind::Closed => 2,
-        Kind::BadRef => 3,
-        Kind::Snapshot => 4,
-        Kind::Ref => 5,
-        Kind::Deref => 6,
-        Kind::Exited => 7,
-    }
 }
 
 #[tactic(auto, unfolding(crate::specs::Numbers::bytes_of))]

@@ -1,3 +1,4 @@
+//! Why bytes are no segment.
 ghost use Rattle.std.specs.Prelude.{◌≡◌};
 ghost use Rattle.htl_segment.specs.declared.fault.Fault.TheVariants as faults;
 

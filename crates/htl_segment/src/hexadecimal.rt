@@ -1,3 +1,4 @@
+//! Bytes from a text of hexadecimal digits.
 ghost use Rattle.std.specs.Prelude.{◌≡◌, ◌%◌, length, position, Ok, Err, Some, None, MatchResult};
 ghost use Rattle.std.specs.List.{AllPass};
 ghost use Rattle.hex.specs.Hex.{decode_of, is_hex_digit};
@@ -39,7 +40,8 @@ impl<T: Drop> From<AllocFailed<T>> for HexFault {
 }
 
 /// The bytes that a text's hexadecimal digits write, two digits of either case for each. Spaces,
-/// carriage returns and line feeds are ignored wherever they stand.
+/// carriage returns and line feeds are ignored wherever they stand. The first foreign byte is told before
+/// an odd number of digits, and both before memory is asked for.
 pub fn from_hex(alloc: Global, text: &[u8]) -> Result<Vec<u8>, HexFault>
     ensures refused { (fault : HexFault) → hex_fault text.now ≡ Some fault → result ≡ Err fault }
     ensures read { hex_fault text.now ≡ None → MatchResult result
@@ -80,7 +82,9 @@ fn digit_count(text: &[u8]) -> usize
 
 /// The digits without the blanks, of which there are `count`.
 fn gather_digits(alloc: Global, text: &[u8], count: usize) -> Result<Vec<u8>, HexFault>
-    ensures { MatchResult result (λ digits. digits.items ≡ digits_of text.now) (λ fault. fault ≡ HexFault.NoMemory) }
+    ensures { MatchResult result
+        (λ digits. digits.items ≡ digits_of text.now)
+        (λ fault. fault ≡ HexFault.NoMemory) }
 {
     let mut digits = Vec::with_capacity(alloc, count)?;
     for byte in text {

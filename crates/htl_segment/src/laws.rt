@@ -1,26 +1,31 @@
-//! The laws of the format. Each is a statement about bytes and segments; its function does nothing when
-//! it runs.
-ghost use Rattle.std.specs.Prelude.{◌≡◌, ◌↔◌, ℕ, List, [], ◌++◌, length, None};
+//! The laws of the format, and of the events of key sets. Each function's contract is the law; none does
+//! anything when it runs.
+ghost use Rattle.std.specs.Prelude.{◌≡◌, ◌↔◌, ℕ, Bool, List, [], ◌++◌, length, None};
 ghost use Rattle.byteorder.specs.Endian.{little_number};
 ghost use Rattle.htl_segment.specs.Numbers.{IsBytes};
 ghost use Rattle.htl_segment.specs.Content.{Content, Fits};
 ghost use Rattle.htl_segment.specs.Spelling.{spelling, Spells, BeginsWith};
 ghost use Rattle.htl_segment.specs.Faults.{first_fault};
 ghost use Rattle.htl_segment.specs.Bundles.{Splits, BundleFault, IsRest};
+ghost use Rattle.htl_segment.specs.TraceLaws.{RunsGrow, MembersAgree, ApartCountsAddUp};
+ghost use Rattle.htl_segment.specs.TraceLaws.{LaterOfBothSets, SequencesStayApart};
 ghost use Rattle.htl_segment.specs.declared.fault.Fault.{Fault};
 
 /// What was written is read again, whatever follows it: `decode` answers a segment that the bytes begin
 /// with, and that is the one that was written.
 pub fn written_is_read_again()
-    ensures read { (bytes rest : List ℕ) (s : Content) → Spells bytes s → BeginsWith (bytes ++ rest) (length bytes) s }
+    ensures read { (bytes rest : List ℕ) (s : Content) → Spells bytes s
+        → BeginsWith (bytes ++ rest) (length bytes) s }
     ensures nothing_else { (bytes rest : List ℕ) (s t : Content) (n : ℕ) → Spells bytes s
         → BeginsWith (bytes ++ rest) n t → (n ≡ length bytes) × (t ≡ s) }
-    ensures no_fault { (bytes rest : List ℕ) (s : Content) → Spells bytes s → first_fault (bytes ++ rest) ≡ None }
+    ensures no_fault { (bytes rest : List ℕ) (s : Content) → Spells bytes s
+        → first_fault (bytes ++ rest) ≡ None }
 {}
 
 /// No spelling is a proper prefix of another.
 pub fn no_spelling_begins_another()
-    ensures { (a rest : List ℕ) (s t : Content) → Spells a s → Spells (a ++ rest) t → rest ≡ [] }
+    ensures { (a rest : List ℕ) (s t : Content) → Spells a s → Spells (a ++ rest) t
+        → rest ≡ [] }
 {}
 
 /// What the format can spell has one spelling, and no other segment has the same.
@@ -45,11 +50,39 @@ pub fn one_number_one_bytes()
 /// Bytes are the bundle of one list of segments or have one first fault, and never both. What a splitter
 /// hands out and what it keeps depend on the bytes alone, and not on how they were cut.
 pub fn a_bundle_is_read_in_one_way()
-    ensures segments { (bytes : List ℕ) (ss ts : List Content) → Splits bytes ss [] → Splits bytes ts [] → ss ≡ ts }
-    ensures fault { (bytes : List ℕ) (m n : ℕ) (f g : Fault) → BundleFault bytes m f → BundleFault bytes n g
-        → (m ≡ n) × (f ≡ g) }
+    ensures segments { (bytes : List ℕ) (ss ts : List Content) → Splits bytes ss []
+        → Splits bytes ts [] → ss ≡ ts }
+    ensures fault { (bytes : List ℕ) (m n : ℕ) (f g : Fault) → BundleFault bytes m f
+        → BundleFault bytes n g → (m ≡ n) × (f ≡ g) }
     ensures not_both { (bytes : List ℕ) (ss : List Content) (n : ℕ) (f : Fault) → Splits bytes ss []
         → BundleFault bytes n f → ⊥ }
-    ensures pieces { (bytes rest left : List ℕ) (ss ts : List Content) → Splits bytes ss rest → IsRest rest
-        → Splits bytes ts left → IsRest left → (ss ≡ ts) × (rest ≡ left) }
+    ensures pieces { (bytes rest left : List ℕ) (ss ts : List Content)
+        → Splits bytes ss rest → IsRest rest → Splits bytes ts left → IsRest left
+        → (ss ≡ ts) × (rest ≡ left) }
+{}
+
+/// The events of a processor's run up to a segment are those below it, and then the segment's.
+pub fn runs_grow()
+    ensures { RunsGrow }
+{}
+
+/// The events of a key set are the same as a list and as a set.
+pub fn members_agree()
+    ensures { MembersAgree }
+{}
+
+/// Counts over two key sets that have no key in common add up.
+pub fn apart_counts_add_up()
+    ensures { ApartCountsAddUp }
+{}
+
+/// The latest event, mark, last exit and greatest sequence over two key sets are the later and the greater
+/// of those over each, also where the sets have keys in common.
+pub fn later_of_both_sets()
+    ensures { (S R : ℕ → ℕ → Bool) (segments : List Content) → LaterOfBothSets S R segments }
+{}
+
+/// The events of each set of a trace's keys have sequences of their own.
+pub fn sequences_stay_apart()
+    ensures { SequencesStayApart }
 {}

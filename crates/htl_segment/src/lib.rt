@@ -4,13 +4,9 @@
 //! `decode` accepts exactly the spellings and gives the spelt segment; of other bytes it tells the first
 //! rule that they break. `laws` has what follows for readers and writers of the format.
 //!
-//! `specs/` is read in this order: `Versions` (limits), `Content` (what a segment says, and what fits),
-//! `Spelling` (its bytes), `Reading` (what bytes say), `Faults` (the first rule that they break),
-//! `Bundles` and `Pieces`; beside them `Numbers`, `Records` (events in place), `Building` (a segment from
-//! its parts) and `Hexadecimal`. In `proofs/`, `RecordLaws`, `HeaderLaws` and `SegmentLaws` show both
-//! directions between bytes and segments, and `BundleLaws` and `PiecesLaws` what follows for bundles.
-//!
-//! A trace is said by `Keys` and `Traces`, with the events of a set of its keys; `trace_laws` has their laws.
+//! `specs/Lib` names the definitions in the order in which they are read. In `proofs/`, `RecordLaws`,
+//! `HeaderLaws` and `SegmentLaws` show both directions between bytes and segments, and `BundleLaws` and
+//! `PiecesLaws` what follows for bundles; `Traces` has the events of key sets.
 #![tactic(auto)]
 
 mod building;
@@ -18,18 +14,23 @@ mod bundle;
 mod decoding;
 mod encoding;
 mod fault;
+mod feeding;
 mod fields;
+mod fingerprints;
 mod header;
 mod hexadecimal;
-mod laws;
+mod kinds;
+pub mod laws;
+#[cfg(test)]
+mod memory_tests;
 mod record;
 mod records;
 mod segment;
 mod segment_bytes;
 mod splitter;
+mod stack_cache;
 #[cfg(test)]
 mod tests;
-mod trace_laws;
 mod version;
 
 pub use bundle::decode_bundle;
@@ -37,16 +38,10 @@ pub use decoding::decode;
 pub use encoding::encode;
 pub use fault::Fault;
 pub use hexadecimal::{HexFault, from_hex};
-pub use laws::{
-    a_bundle_is_read_in_one_way, faults_where_nothing_is_spelled, no_spelling_begins_another,
-    one_number_one_bytes, one_spelling, written_is_read_again,
-};
 pub use record::Record;
 pub use records::Records;
 pub use segment::Segment;
 pub use segment_bytes::SegmentBytes;
 pub use splitter::{Splitter, decode_pieces};
-pub use trace_laws::{
-    apart_counts_add_up, later_of_both_sets, members_agree, runs_grow, sequences_stay_apart,
-};
+pub use stack_cache::StackCache;
 pub use version::{Limits, Version};

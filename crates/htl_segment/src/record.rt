@@ -2,13 +2,14 @@
 ghost use Rattle.std.specs.Prelude.{◌≡◌, ◌≤◌, ◌*◌, ◌/◌, [], length, None, Some, MatchResult};
 ghost use Rattle.htl_segment.specs.Numbers.{numbers};
 ghost use Rattle.htl_segment.specs.Content.{fields_fit};
-ghost use Rattle.htl_segment.specs.Reading.{kind_of};
 ghost use Rattle.htl_segment.specs.Faults.{record_fault};
 
 use crate::fault::Fault;
 use crate::fields::{u16_at, u32_at, u64_at};
+use crate::stack_cache::StackCache;
 use crate::version::Version;
-use htl_event::{Event, Kind, MAX_FRAMES, Stack, base};
+use htl_event::{Event, Kind, MAX_FRAMES, NoMemory, SharedEvent, Stack, base};
+use std::alloc::Global;
 
 /// The bytes of a record without its frames.
 pub const RECORD_LEN: usize = 36;
@@ -25,7 +26,7 @@ pub struct Record<'a> {
     pub object: u64,
     /// The tag in display order.
     pub tag: [u8; 4],
-    /// The addresses of the stack, eight bytes each, the innermost call first.
+    /// The addresses of the stack, eight bytes each, the lowest byte first, and the innermost call first.
     pub frames: &'a [u8],
     ghost few: { length frames.now ≤ 8 * 64 },
 }
@@ -33,21 +34,25 @@ pub struct Record<'a> {
 impl<'a> Record<'a> {
     ghost use Rattle.std.specs.Prelude.{◌≡◌};
     ghost use Rattle.htl_segment.specs.Reading.{event_in, after_record};
-    ghost use Rattle.htl_segment.specs.Records.{event_of, HasRecord};
+    ghost use Rattle.htl_segment.specs.Records.{event_of};
+    ghost use Rattle.htl_segment.specs.InPlace.{HasRecord};
 
     /// The record at the front of `bytes`, and what follows it.
     #[tactic(auto, unfolding(crate::specs::Reading::event_in))]
-    pub(crate) fn split(bytes: &'a [u8]) -> (Record<'a>, &'a [u8])
-        requires { HasRecord bytes.now }
+    pub(crate) fn split(version: Version, bytes: &'a [u8]) -> (Record<'a>, &'a [u8])
+        requires { HasRecord version bytes.now }
         ensures event { event_of result.0 ≡ event_in bytes.now }
         ensures rest { result.1.now ≡ after_record bytes.now }
     {
         let end = RECORD_LEN + 8 * bytes[9] as usize;
         let mut tag = [0; 4];
         tag.copy_from_slice(&bytes[32..36]);
+        let Some(kind) = version.kind(bytes[8]) else {
+            unreachable!()
+        };
         let record = Record {
             sequence: u64_at(bytes, 0),
-            kind: kind_of(bytes[8]),
+            kind,
             process: u32_at(bytes, 12),
             thread: u32_at(bytes, 16),
             handle: u32_at(bytes, 20),
@@ -78,6 +83,32 @@ impl<'a> Record<'a> {
     }
 }
 
+impl Record<'_> {
+    ghost use Rattle.std.specs.Prelude.{◌≡◌, IfOk};
+    ghost use Rattle.htl_segment.specs.Records.{event_of};
+
+    /// The event that this record tells, with a stack of the cache.
+    pub(crate) fn shared(
+        &self,
+        alloc: Global,
+        cache: &mut StackCache,
+        fingerprint: u64,
+    ) -> Result<SharedEvent, NoMemory>
+        ensures { IfOk result (λ event. event ≡ event_of self.now) }
+    {
+        Ok(Event {
+            sequence: self.sequence,
+            kind: self.kind,
+            process: self.process,
+            thread: self.thread,
+            handle: self.handle,
+            object: self.object,
+            tag: self.tag,
+            stack: cache.of_bytes(alloc, fingerprint, self.frames)?,
+        })
+    }
+}
+
 /// Tests the record at the front of `bytes`, which has this place in its segment and follows a record
 /// with the sequence `last`.
 #[tactic(auto, unfolding(crate::specs::Faults::record_fault))]
@@ -93,19 +124,16 @@ pub fn check_record(version: Version, place: u64, last: u64, bytes: &[u8]) -> Re
         return Err(Fault::Sequence(place));
     }
     let limits = version.limits();
-    let code = bytes[8];
-    if code == 0 || code > limits.kinds {
+    let Some(kind) = version.kind(bytes[8]) else {
         return Err(Fault::Kind(place));
-    }
+    };
     let frames = bytes[9];
     if frames > limits.frames || bytes.len() - RECORD_LEN < 8 * frames as usize {
         return Err(Fault::Frames(place));
     }
     let mut tag = [0; 4];
     tag.copy_from_slice(&bytes[32..36]);
-    if u16_at(bytes, 10) != 0
-        || !fields_fit(kind_of(code), u32_at(bytes, 20), u64_at(bytes, 24), tag)
-    {
+    if u16_at(bytes, 10) != 0 || !fields_fit(kind, u32_at(bytes, 20), u64_at(bytes, 24), tag) {
         return Err(Fault::Field(place));
     }
     Ok(())
@@ -120,21 +148,6 @@ pub fn fields_fit(kind: Kind, handle: u32, object: u64, tag: [u8; 4]) -> bool
         Kind::BadRef => object == 0 && tag == [0; 4],
         Kind::Snapshot | Kind::Exited => handle == 0 && object == 0 && tag == [0; 4],
         Kind::Ref | Kind::Deref => handle == 0 && object != 0,
-    }
-}
-
-/// The kind of a code that `check_record` let through.
-fn kind_of(code: u8) -> Kind
-    ensures { result ≡ kind_of code }
-{
-    match code {
-        1 => Kind::Opened,
-        2 => Kind::Closed,
-        3 => Kind::BadRef,
-        4 => Kind::Snapshot,
-        5 => Kind::Ref,
-        6 => Kind::Deref,
-        _ => Kind::Exited,
     }
 }
 

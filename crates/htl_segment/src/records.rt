@@ -1,37 +1,40 @@
 //! Records one after the other.
 use crate::record::Record;
+use crate::version::Version;
 use std::marker::Model;
 
 /// The records of a segment in place, from the first on: an iterator that takes no memory.
 #[derive(Debug, Drop)]
 pub struct Records<'a> {
+    version: Version,
     left: u32,
     rest: &'a [u8],
 }
 
 impl<'a> Model for Records<'a> {
     ghost use Rattle.std.specs.Prelude.{List};
-    ghost use Rattle.htl_event.specs.declared.event.Event.{Event};
+    ghost use Rattle.htl_event.specs.Events.{Event};
     ghost use Rattle.htl_segment.specs.Reading.{events_in};
-    ghost use Rattle.htl_segment.specs.Records.{HasRecords};
+    ghost use Rattle.htl_segment.specs.InPlace.{HasRecords};
 
     ghost Value = { List Event };
 
     ghost view = { λ r. events_in r.left r.rest.now };
 
-    ghost invariant = { λ r. HasRecords r.left r.rest.now };
+    ghost invariant = { λ r. HasRecords r.version r.left r.rest.now };
 }
 
 impl<'a> Records<'a> {
     ghost use Rattle.std.specs.Prelude.{◌≡◌};
     ghost use Rattle.htl_segment.specs.Reading.{events_in};
-    ghost use Rattle.htl_segment.specs.Records.{HasRecords};
+    ghost use Rattle.htl_segment.specs.InPlace.{HasRecords};
 
-    pub(crate) fn new(count: u32, body: &'a [u8]) -> Records<'a>
-        requires { HasRecords count body.now }
+    pub(crate) fn new(version: Version, count: u32, body: &'a [u8]) -> Records<'a>
+        requires { HasRecords version count body.now }
         ensures { result ≡ events_in count body.now }
     {
         Records {
+            version,
             left: count,
             rest: body,
         }
@@ -52,7 +55,7 @@ impl<'a> Iterator for Records<'a> {
         if self.left == 0 {
             return None;
         }
-        let (record, rest) = Record::split(self.rest);
+        let (record, rest) = Record::split(self.version, self.rest);
         self.left -= 1;
         self.rest = rest;
         Some(record)

@@ -1,9 +1,10 @@
+//! A segment in memory.
 ghost use Rattle.std.specs.Prelude.{◌≡◌, IfOk};
 
 use crate::version::Version;
-use htl_event::{Event, NoMemory};
-use std::alloc::Global;
+use htl_event::{NoMemory, Run, SharedEvent};
 use std::marker::Model;
+use std::sync::Arc;
 
 /// A run of events of one processor, in rising order of their sequences.
 #[derive(Debug, Drop)]
@@ -13,21 +14,25 @@ pub struct Segment {
     processors: u16,
     processor: u16,
     number: u32,
-    events: Vec<Event>,
+    events: Arc<Vec<SharedEvent>>,
 }
 
 impl Model for Segment {
+    ghost use Rattle.std.specs.Arc.{arc_value};
     ghost use Rattle.htl_segment.specs.Content.{Content, content, Fits};
 
     ghost Value = { Content };
 
-    ghost view = { λ s. content s.version s.trace_id s.processors s.processor s.number s.events.items };
+    ghost view = { λ s. content s.version s.trace_id
+        s.processors s.processor s.number (arc_value s.events).items };
 
-    ghost invariant = { λ s. Fits (content s.version s.trace_id s.processors s.processor s.number s.events.items) };
+    ghost invariant = { λ s. Fits (content s.version s.trace_id
+        s.processors s.processor s.number (arc_value s.events).items) };
 }
 
 impl Segment {
     ghost use Rattle.std.specs.Prelude.{◌≡◌, ◌<◌, ◌↔◌, IsTrue, IfOk};
+    ghost use Rattle.std.specs.Arc.{arc_value};
     ghost use Rattle.htl_segment.specs.Content.{content, Fits};
     ghost use Rattle.htl_segment.specs.Versions.{version_number};
 
@@ -37,10 +42,12 @@ impl Segment {
         processors: u16,
         processor: u16,
         number: u32,
-        events: Vec<Event>,
+        events: Arc<Vec<SharedEvent>>,
     ) -> Segment
-        requires { Fits (content version trace_id processors processor number events.items) }
-        ensures { result ≡ content version trace_id processors processor number events.items }
+        requires { Fits (content version trace_id
+            processors processor number (arc_value events).items) }
+        ensures { result ≡ content version trace_id
+            processors processor number (arc_value events).items }
     {
         Segment {
             version,
@@ -89,7 +96,7 @@ impl Segment {
     }
 
     /// The events, in strictly rising order of their sequences.
-    pub fn events(&self) -> &[Event]
+    pub fn events(&self) -> &[SharedEvent]
         ensures value { result.now ≡ self.now.events }
         // What every segment keeps, so that callers have it too.
         ensures fits { Fits self.now }
@@ -97,18 +104,17 @@ impl Segment {
         self.events.as_slice()
     }
 
-    /// An equal segment.
-    pub fn copy(&self, alloc: Global) -> Result<Segment, NoMemory>
+    /// An equal segment, in the same memory.
+    pub fn copy(&self) -> Result<Segment, NoMemory>
         ensures { IfOk result (λ copy. copy ≡ self.now) }
     {
-        let events = copy_events(alloc, self.events())?;
         Ok(Segment {
             version: self.version,
             trace_id: self.trace_id,
             processors: self.processors,
             processor: self.processor,
             number: self.number,
-            events,
+            events: Arc::try_clone(&self.events)?,
         })
     }
 
@@ -134,12 +140,10 @@ impl Segment {
     }
 }
 
-fn copy_events(alloc: Global, events: &[Event]) -> Result<Vec<Event>, NoMemory>
-    ensures { IfOk result (λ copy. copy.items ≡ events.now) }
-{
-    let mut copy = Vec::with_capacity(alloc, events.len())?;
-    for event in events {
-        copy.push(event.copy())?;
+impl Run for Segment {
+    ghost events_of = { λ s. s.events };
+
+    fn events(&self) -> &[SharedEvent] {
+        self.events()
     }
-    Ok(copy)
 }

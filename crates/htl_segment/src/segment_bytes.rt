@@ -3,36 +3,40 @@ ghost use Rattle.std.specs.Prelude.{◌≡◌, None, Some, IfOk, MatchResult};
 ghost use Rattle.htl_segment.specs.Faults.{records_fault};
 
 use crate::fault::Fault;
-use crate::fields::{u16_at, u32_at, u64_at};
-use crate::header::{HEADER_LEN, check_header};
+use crate::fingerprints::Fingerprints;
+use crate::header::{HEADER_LEN, Header, read_header};
 use crate::record::{Record, check_record};
 use crate::records::Records;
 use crate::segment::Segment;
+use crate::stack_cache::StackCache;
 use crate::version::Version;
-use htl_event::{Event, NoMemory};
+use htl_event::{NoMemory, SharedEvent};
 use std::alloc::Global;
 use std::marker::Model;
+use std::sync::Arc;
 
 /// The bytes of one segment, checked: what `decode` reads, without memory.
 #[derive(Debug, Drop)]
 pub struct SegmentBytes<'a> {
-    bytes: &'a [u8],
+    header: Header,
+    /// The records.
+    body: &'a [u8],
 }
 
 impl<'a> Model for SegmentBytes<'a> {
     ghost use Rattle.htl_segment.specs.Content.{Content};
-    ghost use Rattle.htl_segment.specs.Reading.{content_in};
-    ghost use Rattle.htl_segment.specs.Records.{IsSegment};
+    ghost use Rattle.htl_segment.specs.InPlace.{content_of};
+    ghost use Rattle.htl_segment.specs.InPlace.{IsSegment};
 
     ghost Value = { Content };
 
-    ghost view = { λ s. content_in s.bytes.now };
+    ghost view = { λ s. content_of s.header s.body.now };
 
-    ghost invariant = { λ s. IsSegment s.bytes.now };
+    ghost invariant = { λ s. IsSegment s.header s.body.now };
 }
 
 impl<'a> SegmentBytes<'a> {
-    ghost use Rattle.std.specs.Prelude.{◌≡◌, length, None, Some, IfOk, MatchResult};
+    ghost use Rattle.std.specs.Prelude.{◌≡◌, ◌≤◌, ◌++◌, length, None, Some, IfOk, MatchResult};
     ghost use Rattle.htl_segment.specs.Content.{Fits};
     ghost use Rattle.htl_segment.specs.Spelling.{spelling, BeginsWith};
     ghost use Rattle.htl_segment.specs.Faults.{first_fault};
@@ -44,22 +48,38 @@ impl<'a> SegmentBytes<'a> {
             (λ _. first_fault bytes.now ≡ None)
             (λ fault. first_fault bytes.now ≡ Some fault) }
     {
-        let version = check_header(bytes)?;
-        let len = u32_at(bytes, 28) as usize;
-        if bytes.len() < len {
+        if bytes.len() < HEADER_LEN {
+            return Err(Fault::Short);
+        }
+        let (header, rest) = bytes.split_at(HEADER_LEN);
+        SegmentBytes::check_parts(header, rest)
+    }
+
+    /// The segment that a header and what follows it begin with.
+    pub(crate) fn check_parts(head: &[u8], rest: &'a [u8]) -> Result<SegmentBytes<'a>, Fault>
+        requires { length head.now ≡ HEADER_LEN }
+        ensures found { IfOk result (λ s.
+            BeginsWith (head.now ++ rest.now) (length (spelling s)) s) }
+        ensures fault { MatchResult result
+            (λ _. first_fault (head.now ++ rest.now) ≡ None)
+            (λ fault. first_fault (head.now ++ rest.now) ≡ Some fault) }
+    {
+        let header = read_header(head)?;
+        let len = header.len as usize - HEADER_LEN;
+        if rest.len() < len {
             return Err(Fault::Cut);
         }
-        check_records(version, u32_at(bytes, 24), &bytes[HEADER_LEN..len])?;
-        Ok(SegmentBytes {
-            bytes: &bytes[..len],
-        })
+        let body = &rest[..len];
+        check_records(header.version, header.count, body)?;
+        Ok(SegmentBytes { header, body })
     }
 
     /// How many bytes the segment has with its header.
     pub fn byte_len(&self) -> usize
-        ensures { result ≡ length (spelling self.now) }
+        ensures value { result ≡ length (spelling self.now) }
+        ensures long { HEADER_LEN ≤ result }
     {
-        self.bytes.len()
+        HEADER_LEN + self.body.len()
     }
 
     /// The records in order, each where it lies.
@@ -68,26 +88,38 @@ impl<'a> SegmentBytes<'a> {
         // What every segment keeps, so that callers have it too.
         ensures fits { Fits self.now }
     {
-        Records::new(u32_at(self.bytes, 24), &self.bytes[HEADER_LEN..])
+        Records::new(self.header.version, self.header.count, self.body)
     }
 
     /// The segment in memory of its own.
     pub fn to_segment(&self, alloc: Global) -> Result<Segment, NoMemory>
         ensures { IfOk result (λ segment. segment ≡ self.now) }
     {
-        let events = gather(alloc, u32_at(self.bytes, 24), self.records())?;
+        self.to_segment_with(alloc, &mut StackCache::new(alloc))
+    }
+
+    /// The same, its stacks shared through a cache.
+    pub(crate) fn to_segment_with(
+        &self,
+        alloc: Global,
+        cache: &mut StackCache,
+    ) -> Result<Segment, NoMemory>
+        ensures { IfOk result (λ segment. segment ≡ self.now) }
+    {
+        let fingerprints = Fingerprints::of(self.records());
+        let count = self.header.count as usize;
+        let events = gather(alloc, cache, fingerprints, count, self.records())?;
         Ok(Segment::new(
-            self.known_version(),
-            self.trace_id(),
-            self.processors(),
-            self.processor(),
-            self.number(),
-            events,
+            self.header.version,
+            self.header.trace_id,
+            self.header.processors,
+            self.header.processor,
+            self.header.number,
+            Arc::new(alloc, events)?,
         ))
     }
 }
 
-#[tactic(auto, unfolding(crate::specs::Reading::content_in))]
 impl SegmentBytes<'_> {
     ghost use Rattle.std.specs.Prelude.{◌≡◌, ◌<◌};
     ghost use Rattle.htl_segment.specs.Versions.{version_number};
@@ -96,27 +128,21 @@ impl SegmentBytes<'_> {
     pub fn version(&self) -> u16
         ensures { result ≡ version_number self.now.version }
     {
-        self.known_version().number()
-    }
-
-    fn known_version(&self) -> Version
-        ensures { result ≡ self.now.version }
-    {
-        Version::from_number(u16_at(self.bytes, 4)).unwrap_or(Version::V1)
+        self.header.version.number()
     }
 
     /// The number that all segments of one trace share.
     pub fn trace_id(&self) -> u64
         ensures { result ≡ self.now.trace_id }
     {
-        u64_at(self.bytes, 16)
+        self.header.trace_id
     }
 
     /// How many processors the trace has.
     pub fn processors(&self) -> u16
         ensures { result ≡ self.now.processors }
     {
-        u16_at(self.bytes, 6)
+        self.header.processors
     }
 
     /// The processor that wrote this segment.
@@ -124,24 +150,31 @@ impl SegmentBytes<'_> {
         ensures value { result ≡ self.now.processor }
         ensures below { result < self.now.processors }
     {
-        u16_at(self.bytes, 8)
+        self.header.processor
     }
 
     /// The place of this segment among those of its processor.
     pub fn number(&self) -> u32
         ensures { result ≡ self.now.number }
     {
-        u32_at(self.bytes, 12)
+        self.header.number
     }
 }
 
-/// The events of `count` records.
-fn gather(alloc: Global, count: u32, records: Records<'_>) -> Result<Vec<Event>, NoMemory>
+/// The events of `count` records, whose stacks have these fingerprints.
+fn gather(
+    alloc: Global,
+    cache: &mut StackCache,
+    mut fingerprints: Fingerprints<'_>,
+    count: usize,
+    records: Records<'_>,
+) -> Result<Vec<SharedEvent>, NoMemory>
     ensures { IfOk result (λ events. events.items ≡ records.entry) }
 {
-    let mut events = Vec::with_capacity(alloc, count as usize)?;
+    let mut events = Vec::with_capacity(alloc, count)?;
     for record in records {
-        events.push(record.event())?;
+        let fingerprint = fingerprints.next(cache);
+        events.push(record.shared(alloc, cache, fingerprint)?)?;
     }
     Ok(events)
 }
@@ -156,7 +189,7 @@ fn check_records(version: Version, count: u32, body: &[u8]) -> Result<(), Fault>
     let mut last = 0;
     for place in 0..count {
         check_record(version, place as u64, last, rest)?;
-        let (record, after) = Record::split(rest);
+        let (record, after) = Record::split(version, rest);
         last = record.sequence;
         rest = after;
     }

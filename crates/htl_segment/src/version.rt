@@ -1,3 +1,4 @@
+//! The two versions of the format, and what each allows.
 /// A version of the format.
 #[derive(Clone, Copy, Debug, PartialEq, Eq)]
 pub enum Version {

@@ -1,3 +1,4 @@
+pub mod Members
 pub mod Bools
 pub mod Places
 pub mod Finds

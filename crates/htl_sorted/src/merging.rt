@@ -1,3 +1,5 @@
+//! Two lists in order made one.
+
 ghost use Rattle.std.specs.Prelude.{◌≡◌, ◌+◌, ◌≤◌, ◌++◌, length, Some, IfOk, OnOk};
 ghost use Rattle.std.specs.FinMap.Entries.{find};
 ghost use Rattle.htl_sorted.specs.Entries.{IsSorted, entries, joined_at};
@@ -12,15 +14,16 @@ pub trait Joined: Keyed<Row: Drop> {
 
     ghost joined: { Self.Value → Self.Value → Self.Value };
 
-    fn copy(row: &Self::Row) -> Self::Row
-        ensures { result ≡ row.now };
+    fn copy(row: &Self::Row) -> Result<Self::Row, AllocError>
+        ensures { IfOk result (λ copy. copy ≡ row.now) };
 
     /// One row of two that have one key.
-    fn join(left: &Self::Row, right: &Self::Row) -> Self::Row
+    fn join(left: &Self::Row, right: &Self::Row) -> Result<Self::Row, AllocError>
         requires same_key { Self.key_of left.now ≡ Self.key_of right.now }
         requires fits { can_join (Self.value_of left.now) (Self.value_of right.now) }
-        ensures key { Self.key_of result ≡ Self.key_of left.now }
-        ensures value { Self.value_of result ≡ joined (Self.value_of left.now) (Self.value_of right.now) };
+        ensures key { IfOk result (λ row. Self.key_of row ≡ Self.key_of left.now) }
+        ensures value { IfOk result (λ row. Self.value_of row
+            ≡ joined (Self.value_of left.now) (Self.value_of right.now)) };
 }
 
 /// The rows of both lists in the order of their keys, one row for each key.
@@ -35,7 +38,8 @@ pub fn merge<L: Joined, A: Allocator>(
         → find L.Key.cmp k (entries L.key_of L.value_of left.now) ≡ Some x
         → find L.Key.cmp k (entries L.key_of L.value_of right.now) ≡ Some y
         → L.can_join x y }
-    ensures sorted { IfOk result (λ rows. IsSorted L.Key.cmp (entries L.key_of L.value_of rows.items)) }
+    ensures sorted { IfOk result (λ rows.
+        IsSorted L.Key.cmp (entries L.key_of L.value_of rows.items)) }
     ensures values { IfOk result (λ rows. (k : L.Key)
         → find L.Key.cmp k (entries L.key_of L.value_of rows.items)
         ≡ joined_at L.joined (find L.Key.cmp k (entries L.key_of L.value_of left.now))
@@ -48,15 +52,15 @@ pub fn merge<L: Joined, A: Allocator>(
         let (x, y) = (&left[i], &right[j]);
         match L::key(x).cmp(&L::key(y)) {
             Ordering::Less => {
-                rows.push(L::copy(x))?;
+                rows.push(L::copy(x)?)?;
                 i += 1;
             }
             Ordering::Greater => {
-                rows.push(L::copy(y))?;
+                rows.push(L::copy(y)?)?;
                 j += 1;
             }
             Ordering::Equal => {
-                rows.push(L::join(x, y))?;
+                rows.push(L::join(x, y)?)?;
                 i += 1;
                 j += 1;
             }
@@ -99,7 +103,7 @@ fn append<L: Joined, A: Allocator>(
     ensures { OnOk result (rows.new.items ≡ rows.old.items ++ more.now) }
 {
     for row in more {
-        rows.push(L::copy(row))?;
+        rows.push(L::copy(row)?)?;
     }
     Ok(())
 }

@@ -1,6 +1,10 @@
+//! Where a key is or would go in a list in order.
+
 ghost use Rattle.std.specs.Prelude.{◌≡◌, IfOk, IfErr};
 ghost use Rattle.std.specs.declared.cmp.Ordering.TheVariants.{Equal};
 ghost use Rattle.htl_sorted.specs.Entries.{IsSorted, IsPlace, IsGap, entries};
+
+use std::cmp::Ordering;
 
 /// How the rows of a list are keyed.
 pub trait Keyed {
@@ -21,8 +25,24 @@ pub trait Keyed {
     ghost proper: { (x y : Self.Key) → Self.Key.cmp x y ≡ Equal → x ≡ y };
 }
 
-/// The place of the key's row, or else the place where it would go.
+/// The place of the key's row, or else the place where it would go. A key at or above the last row's is placed
+/// without a search, as each key is where rows come in order.
 pub fn search<L: Keyed>(rows: &[L::Row], key: L::Key) -> Result<usize, usize>
+    requires { IsSorted L.Key.cmp (entries L.key_of L.value_of rows.now) }
+    ensures found { IfOk result (IsPlace L.Key.cmp (entries L.key_of L.value_of rows.now) key) }
+    ensures absent { IfErr result (IsGap L.Key.cmp (entries L.key_of L.value_of rows.now) key) }
+{
+    let Some(last) = rows.last() else {
+        return Err(0);
+    };
+    match L::key(last).cmp(&key) {
+        Ordering::Less => Err(rows.len()),
+        Ordering::Equal => Ok(rows.len() - 1),
+        Ordering::Greater => by_halves::<L>(rows, key),
+    }
+}
+
+fn by_halves<L: Keyed>(rows: &[L::Row], key: L::Key) -> Result<usize, usize>
     requires { IsSorted L.Key.cmp (entries L.key_of L.value_of rows.now) }
     ensures found { IfOk result (IsPlace L.Key.cmp (entries L.key_of L.value_of rows.now) key) }
     ensures absent { IfErr result (IsGap L.Key.cmp (entries L.key_of L.value_of rows.now) key) }

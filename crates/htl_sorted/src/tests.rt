@@ -1,4 +1,7 @@
+//! Counts of words merged and searched.
+
 use super::*;
+use std::alloc::AllocError;
 use std::test::Fail;
 
 // How often each word came, by its number.
@@ -31,12 +34,12 @@ impl Joined for Words {
 
     ghost joined = { λ x y. x + y };
 
-    fn copy(row: &(u32, u64)) -> (u32, u64) {
-        *row
+    fn copy(row: &(u32, u64)) -> Result<(u32, u64), AllocError> {
+        Ok(*row)
     }
 
-    fn join(left: &(u32, u64), right: &(u32, u64)) -> (u32, u64) {
-        (left.0, left.1 + right.1)
+    fn join(left: &(u32, u64), right: &(u32, u64)) -> Result<(u32, u64), AllocError> {
+        Ok((left.0, left.1 + right.1))
     }
 }
 

@@ -5,7 +5,7 @@ use Rattle.std.specs.Cmp.{IsTotalOrder, then_total, on_total, nat_cmp_total}
 use Rattle.std.proofs.lemmas.Bool.Decides.{nat_tests}
 use Rattle.htl_event.specs.Members.{IsStrictOrder}
 use Rattle.htl_event.proofs.Orders.{strict_from_total}
-use Rattle.htl_tables.specs.Keys.{key_cmp, key_of, IsBefore}
+use Rattle.htl_tables.specs.Keys.{key_cmp, key_of, ByKey}
 
 pub key_total : IsTotalOrder key_cmp
 key_total = then_total (on_total (λ (x : ℕ × ℕ). x.0) nat_cmp_total) (on_total (λ (x : ℕ × ℕ). x.1) nat_cmp_total)
@@ -14,7 +14,7 @@ key_total = then_total (on_total (λ (x : ℕ × ℕ). x.0) nat_cmp_total) (on_t
 pub key_test : (x y : ℕ × ℕ) → eq_by_cmp key_cmp x y ≡ ((y.0 == x.0) && (y.1 == x.1))
 key_test x y = grind (arith, nat_tests)
 
-pub IsBefore-strict : IsStrictOrder IsBefore
-IsBefore-strict =
+pub ByKey-strict : IsStrictOrder ByKey
+ByKey-strict =
     let keys = strict_from_total key_total in
     record { irreflexive = λ a. keys.irreflexive (key_of a); transitive = λ a b c. keys.transitive (key_of a) (key_of b) (key_of c) }

@@ -1,10 +1,13 @@
 pub mod KeyOrder
 pub mod Noting
 pub mod Tables
-pub mod TurnOrder
-pub mod Concerning
+pub mod ProcessRows
+pub mod SortKeyOrder
 pub mod FirstNoted
-pub mod Bulk
+pub mod Offering
+pub mod Gathering
+pub mod FlatPlaces
+pub mod FirstKeys
 pub mod Sequences
 pub mod Moments
-pub mod OneMore
+pub mod NotingLaws

@@ -1,17 +1,21 @@
 -- What a table has at its keys once an event was noted.
-use Rattle.std.proofs.Common.{◌≡◌, ℕ, ◌==◌, ◌&&◌, Bool, true, ◌<◌, ◌≤◌, List, [], ◌∷◌, Option, Some, None, refl, sym, ap, ◌∙◌, inl, inr, cond}
+use Rattle.std.proofs.Common.{◌≡◌, ℕ, ◌==◌, ◌&&◌, Bool, true, ◌<◌, ◌≤◌, List, [], ◌∷◌}
+use Rattle.std.proofs.Common.{Option, Some, None, refl, sym, ap, ◌∙◌, inl, inr, cond}
 use Rattle.std.specs.Ordering.{eq_by_cmp, is_eq}
 use Rattle.std.specs.declared.cmp.Ordering.{Ordering}
 use Rattle.std.specs.declared.cmp.Ordering.TheVariants.{Less, Equal, Greater}
 use Rattle.std.proofs.lemmas.Option.{same_Some}
 use Rattle.std.specs.FinMap.Entries.{find, put, find-put, is_sorted-put}
 use Rattle.std.proofs.lemmas.Bool.{cases_Bool, false≢true, lt-ltb, le-ltb, and_parts, eqb-true}
-use Rattle.htl_event.specs.declared.event.Event.{Event}
+use Rattle.htl_event.specs.Events.{Event}
 use Rattle.htl_event.specs.Slots.{base_of}
 use Rattle.htl_event.specs.Handles.{later}
 use Rattle.htl_sorted.specs.Entries.{IsSorted}
-use Rattle.htl_tables.specs.Keys.{key_cmp, key_of, keyed, key_cmp-equal}
-use Rattle.htl_tables.specs.Latest.{event_at, opens_or_closes, concerns, with_event}
+use Rattle.htl_tables.specs.Keys.{key_cmp, key_of, keyed}
+use Rattle.htl_tables.specs.KeyLaws.{key_cmp-equal}
+use Rattle.htl_tables.specs.Latest.{event_at, with_event}
+use Rattle.htl_event.specs.Handles.{opens_or_closes}
+use Rattle.htl_event.proofs.EventTests.{opens_or_closes_base}
 use Rattle.htl_tables.proofs.KeyOrder.{key_total, key_test}
 
 -- the event is later than what is there
@@ -35,10 +39,11 @@ module _ (rows : List Event) (e : Event) (opens : opens_or_closes e.kind ≡ tru
   here : Bool
   here = e.process == process && base_of e.handle == base
 
-  concerns_here : concerns process base e ≡ (e.process == process && base_of e.handle == base)
-  concerns_here = rw opens refl
+  tests_here : opens_or_closes_base process base e ≡ (e.process == process && base_of e.handle == base)
+  tests_here = rw opens refl
 
-  key_here : (e.process == process && base_of e.handle == base) ≡ true → event_at rows process base ≡ event_at rows e.process (base_of e.handle)
+  key_here : (e.process == process && base_of e.handle == base) ≡ true
+      → event_at rows process base ≡ event_at rows e.process (base_of e.handle)
   key_here t =
       let both = and_parts (e.process == process) (base_of e.handle == base) t in
       let p : process ≡ e.process = sym (eqb-true e.process process both.0) in
@@ -46,15 +51,18 @@ module _ (rows : List Event) (e : Event) (opens : opens_or_closes e.kind ≡ tru
       ap (λ (n : ℕ). event_at rows n base) p ∙ ap (λ (n : ℕ). event_at rows e.process n) b
 
   -- a later event was put at its key
-  pub put_noted : (new : List Event) → keyed new ≡ put key_cmp (key_of e) e (keyed rows) → IsLater e (event_at rows e.process (base_of e.handle))
+  pub put_noted : (new : List Event) → keyed new ≡ put key_cmp (key_of e) e (keyed rows)
+      → IsLater e (event_at rows e.process (base_of e.handle))
       → event_at new process base ≡ with_event process base (event_at rows process base) e
   put_noted new made newer =
       let found : event_at new process base ≡ cond (eq_by_cmp key_cmp (process, base) (key_of e)) (Some e) (event_at rows process base)
-      = ap (λ (es : List ((ℕ × ℕ) × Event)). find key_cmp (process, base) es) made ∙ find-put key_cmp key_total (process, base) (key_of e) e (keyed rows) in
-      let test : eq_by_cmp key_cmp (process, base) (key_of e) ≡ (e.process == process && base_of e.handle == base) = key_test (process, base) (key_of e) in
+      = ap (λ (es : List ((ℕ × ℕ) × Event)). find key_cmp (process, base) es) made
+      ∙ find-put key_cmp key_total (process, base) (key_of e) e (keyed rows) in
+      let test : eq_by_cmp key_cmp (process, base) (key_of e) ≡ (e.process == process && base_of e.handle == base) =
+      key_test (process, base) (key_of e) in
       elim (cases_Bool (e.process == process && base_of e.handle == base)) [
-        | inl t ↦ found ∙ rw (test, concerns_here, t, key_here t) (sym (later-newer (event_at rows e.process (base_of e.handle)) e newer))
-        | inr f ↦ found ∙ rw (test, concerns_here, f) refl
+        | inl t ↦ found ∙ rw (test, tests_here, t, key_here t) (sym (later-newer (event_at rows e.process (base_of e.handle)) e newer))
+        | inr f ↦ found ∙ rw (test, tests_here, f) refl
       ]
 
   -- an event that isn't later leaves all as it is
@@ -62,11 +70,12 @@ module _ (rows : List Event) (e : Event) (opens : opens_or_closes e.kind ≡ tru
       → event_at rows process base ≡ with_event process base (event_at rows process base) e
   kept_noted x found le =
       elim (cases_Bool (e.process == process && base_of e.handle == base)) [
-        | inl t ↦ rw (concerns_here, t, key_here t, found) (sym (later-older x e le))
-        | inr f ↦ rw (concerns_here, f) refl
+        | inl t ↦ rw (tests_here, t, key_here t, found) (sym (later-older x e le))
+        | inr f ↦ rw (tests_here, f) refl
       ]
 
-pub sorted_put : (rows new : List Event) (e : Event) → IsSorted key_cmp (keyed rows) → keyed new ≡ put key_cmp (key_of e) e (keyed rows) → IsSorted key_cmp (keyed new)
+pub sorted_put : (rows new : List Event) (e : Event) → IsSorted key_cmp (keyed rows) → keyed new ≡ put key_cmp (key_of e) e (keyed rows)
+    → IsSorted key_cmp (keyed new)
 sorted_put rows new e sorted made = rw made (is_sorted-put key_cmp key_total (key_of e) e (keyed rows) sorted)
 
 -- what is found at a key has that key
@@ -76,7 +85,8 @@ event_at-key (row ∷ rows) process base x found =
     elim (cases_Bool (eq_by_cmp key_cmp (process, base) (key_of row))) [
       | inl t ↦
           let same : row ≡ x = same_Some row x (rw t at found) in
-          let tied : (process, base) ≡ key_of row = key_cmp-equal (process, base) (key_of row) (is_equal (key_cmp (process, base) (key_of row)) t) in
+          let tied : (process, base) ≡ key_of row =
+          key_cmp-equal (process, base) (key_of row) (is_equal (key_cmp (process, base) (key_of row)) t) in
           sym (tied ∙ ap key_of same)
       | inr f ↦ event_at-key rows process base x (rw f at found)
     ]

@@ -1,5 +1,6 @@
 -- Tables of the greatest sequence of each process.
-use Rattle.std.proofs.Common.{◌≡◌, ◌≢◌, ℕ, suc, true, ◌<◌, max, List, [], ◌∷◌, length, get_or, set, insert, Option, Some, None, refl, sym, ap, ◌∙◌, inl, inr, arith, T}
+use Rattle.std.proofs.Common.{◌≡◌, ◌≢◌, ℕ, suc, true, ◌<◌, max, List, [], ◌∷◌, length, get_or, set}
+use Rattle.std.proofs.Common.{insert, Option, Some, None, refl, sym, ap, ◌∙◌, inl, inr, arith, T}
 use Rattle.std.specs.Prelude.{Contains}
 use Rattle.std.specs.Option.{unwrap_or}
 use Rattle.std.specs.List.{AllByRecursion}
@@ -17,7 +18,8 @@ use Rattle.htl_sorted.specs.Entries.{IsSorted, IsPlace, IsGap, Each, joined_at}
 use Rattle.htl_sorted.proofs.Bools.{both_left, both_right, less}
 use Rattle.htl_sorted.proofs.Finds.{find_put_same, find_put_other, each_put, each_found}
 use Rattle.htl_sorted.proofs.Rows.{placed_row, set_row, insert_row, row_found}
-use Rattle.htl_tables.specs.Greatest.{sequences, sequence_at, IsTable, HasLowerProcess, IsKept}
+use Rattle.htl_tables.specs.Greatest.{sequences, sequence_at, HasLowerProcess, HasSequence}
+use Rattle.htl_tables.specs.Moments.{IsTable}
 
 is_equal : (o : Ordering) → is_eq o ≡ true → o ≡ Equal
 is_equal Less t = absurd (false≢true t)
@@ -28,10 +30,12 @@ is_equal Greater t = absurd (false≢true t)
 
 module _ (rows new : List (ℕ × ℕ)) (process sequence : ℕ) (made : sequences new ≡ put nat_cmp process sequence (sequences rows)) where
   pub put_here : sequence_at new process ≡ sequence
-  put_here = ap (λ (es : List (ℕ × ℕ)). unwrap_or (find nat_cmp process es) 0) made ∙ ap (λ (o : Option ℕ). unwrap_or o 0) (find_put_same nat_cmp nat_cmp_total process sequence (sequences rows))
+  put_here = ap (λ (es : List (ℕ × ℕ)). unwrap_or (find nat_cmp process es) 0) made
+      ∙ ap (λ (o : Option ℕ). unwrap_or o 0) (find_put_same nat_cmp nat_cmp_total process sequence (sequences rows))
 
   pub put_others : (other : ℕ) → other ≢ process → sequence_at new other ≡ sequence_at rows other
-  put_others other ne = ap (λ (es : List (ℕ × ℕ)). unwrap_or (find nat_cmp other es) 0) made ∙ ap (λ (o : Option ℕ). unwrap_or o 0) (find_put_other nat_cmp nat_cmp_total nat_cmp-IsAntisymmetric other process sequence (sequences rows) ne)
+  put_others other ne = ap (λ (es : List (ℕ × ℕ)). unwrap_or (find nat_cmp other es) 0) made ∙ ap (λ (o : Option ℕ). unwrap_or o 0)
+      (find_put_other nat_cmp nat_cmp_total nat_cmp-IsAntisymmetric other process sequence (sequences rows) ne)
 
   pub IsTable-put : IsTable rows → 0 < sequence → IsTable new
   IsTable-put table above = record {
@@ -41,13 +45,16 @@ module _ (rows new : List (ℕ × ℕ)) (process sequence : ℕ) (made : sequenc
 
 -- ---- at the place of a process
 
-pub at_place : (rows : List (ℕ × ℕ)) (process i : ℕ) (row : ℕ × ℕ) → IsPlace nat_cmp (sequences rows) process i → row ≡ get_or rows i row → sequence_at rows process ≡ row.1
-at_place rows process i row place is = ap (λ (o : Option ℕ). unwrap_or o 0) (placed_row (λ r. r.0) (λ r. r.1) nat_cmp rows process i place row is)
+pub at_place : (rows : List (ℕ × ℕ)) (process i : ℕ) (row : ℕ × ℕ) → IsPlace nat_cmp (sequences rows) process i
+    → row ≡ get_or rows i row → sequence_at rows process ≡ row.1
+at_place rows process i row place is =
+    ap (λ (o : Option ℕ). unwrap_or o 0) (placed_row (λ r. r.0) (λ r. r.1) nat_cmp rows process i place row is)
 
 pub at_gap : (rows : List (ℕ × ℕ)) (process i : ℕ) → IsGap nat_cmp (sequences rows) process i → sequence_at rows process ≡ 0
 at_gap rows process i gap = ap (λ (o : Option ℕ). unwrap_or o 0) gap.value
 
-pub raised_made : (rows : List (ℕ × ℕ)) (process sequence i : ℕ) (row : ℕ × ℕ) → IsPlace nat_cmp (sequences rows) process i → row ≡ get_or rows i row
+pub raised_made : (rows : List (ℕ × ℕ)) (process sequence i : ℕ) (row : ℕ × ℕ) → IsPlace nat_cmp (sequences rows) process i
+    → row ≡ get_or rows i row
     → sequences (set rows i (row.0, sequence)) ≡ put nat_cmp process sequence (sequences rows)
 raised_made rows process sequence i row place is = set_row (λ r. r.0) (λ r. r.1) nat_cmp rows process i place row (row.0, sequence) is refl
 
@@ -67,11 +74,13 @@ joined-max None (Some y) = omega arith
 joined-max (Some x) None = omega arith
 joined-max (Some x) (Some y) = refl
 
-each_row : (P : ℕ → Type 0) (rows : List (ℕ × ℕ)) → ((i : ℕ) (row : ℕ × ℕ) → i < length rows → row ≡ get_or rows i row → P row.1) → Each P (sequences rows)
+each_row : (P : ℕ → Type 0) (rows : List (ℕ × ℕ)) → ((i : ℕ) (row : ℕ × ℕ) → i < length rows → row ≡ get_or rows i row → P row.1)
+    → Each P (sequences rows)
 each_row P [] f = tt
 each_row P (row ∷ rows) f = (f 0 row (omega arith) refl, each_row P rows (λ i r lt is. f (suc i) r (omega arith) is))
 
-joined_above : (a b : Option ℕ) (v : ℕ) → ((x : ℕ) → a ≡ Some x → 0 < x) → ((y : ℕ) → b ≡ Some y → 0 < y) → joined_at max a b ≡ Some v → 0 < v
+joined_above : (a b : Option ℕ) (v : ℕ) → ((x : ℕ) → a ≡ Some x → 0 < x) → ((y : ℕ) → b ≡ Some y → 0 < y)
+    → joined_at max a b ≡ Some v → 0 < v
 joined_above None b v pa pb e = pb v e
 joined_above (Some x) None v pa pb e = pa v e
 joined_above (Some x) (Some y) v pa pb e =
@@ -80,11 +89,13 @@ joined_above (Some x) (Some y) v pa pb e =
     omega (arith, above, is)
 
 pub IsTable-joined : (rows left right : List (ℕ × ℕ)) → IsSorted nat_cmp (sequences rows) → IsTable left → IsTable right
-    → ((process : ℕ) → find nat_cmp process (sequences rows) ≡ joined_at max (find nat_cmp process (sequences left)) (find nat_cmp process (sequences right))) → IsTable rows
+    → ((process : ℕ) → find nat_cmp process (sequences rows)
+    ≡ joined_at max (find nat_cmp process (sequences left)) (find nat_cmp process (sequences right))) → IsTable rows
 IsTable-joined rows left right sorted tl tr values = record {
   sorted = sorted;
   positive = each_row (λ n. 0 < n) rows (λ i row lt is.
-      joined_above (find nat_cmp row.0 (sequences left)) (find nat_cmp row.0 (sequences right)) row.1 (is_positive left tl row.0) (is_positive right tr row.0)
+      joined_above (find nat_cmp row.0 (sequences left)) (find nat_cmp row.0 (sequences right)) row.1 (is_positive left tl row.0)
+      (is_positive right tr row.0)
       (sym (values row.0) ∙ row_found (λ r. r.0) (λ r. r.1) nat_cmp_total rows sorted i row lt is));
 }
 
@@ -96,20 +107,23 @@ HasLowerProcess-strict = record { irreflexive = λ a lt. omega (arith, lt); tran
 below : (x y : ℕ) → nat_cmp x y ≡ Less → x < y
 below x y e = grind (arith, nat_tests)
 
-below_rising : (row : ℕ × ℕ) (rows : List (ℕ × ℕ)) → T (below_all nat_cmp row.0 (sequences rows)) → AllByRecursion (HasLowerProcess row) rows
+below_rising : (row : ℕ × ℕ) (rows : List (ℕ × ℕ)) → T (below_all nat_cmp row.0 (sequences rows))
+    → AllByRecursion (HasLowerProcess row) rows
 below_rising row [] h = tt
-below_rising row (next ∷ rows) h = (below row.0 next.0 (less (nat_cmp row.0 next.0) (both_left _ _ h)), below_rising row rows (both_right _ _ h))
+below_rising row (next ∷ rows) h =
+    (below row.0 next.0 (less (nat_cmp row.0 next.0) (both_left _ _ h)), below_rising row rows (both_right _ _ h))
 
 rows_rising : (rows : List (ℕ × ℕ)) → IsSorted nat_cmp (sequences rows) → IsRising HasLowerProcess rows
 rows_rising [] sorted = tt
 rows_rising (row ∷ rows) sorted = (below_rising row rows (both_left _ _ sorted), rows_rising rows (both_right _ _ sorted))
 
-kept_row : (rows : List (ℕ × ℕ)) → IsTable rows → (row : ℕ × ℕ) → Contains rows row → IsKept rows row
-kept_row rows table row (i, lt, is) =
+row_there : (rows : List (ℕ × ℕ)) → IsTable rows → (row : ℕ × ℕ) → Contains rows row → HasSequence rows row
+row_there rows table row (i, lt, is) =
     let found = row_found (λ (r : ℕ × ℕ). r.0) (λ (r : ℕ × ℕ). r.1) nat_cmp_total rows table.sorted i row lt (sym is) in
     record { positive = is_positive rows table row.0 row.1 found; is = ap (λ (o : Option ℕ). unwrap_or o 0) found }
 
-found_row : (rows : List (ℕ × ℕ)) (process sequence : ℕ) → find nat_cmp process (sequences rows) ≡ Some sequence → Contains rows (process, sequence)
+found_row : (rows : List (ℕ × ℕ)) (process sequence : ℕ) → find nat_cmp process (sequences rows) ≡ Some sequence
+    → Contains rows (process, sequence)
 found_row [] process sequence found = absurd (none-some sequence found)
 found_row (row ∷ rows) process sequence found =
     elim (cases_Bool (eq_by_cmp nat_cmp process row.0)) [
@@ -124,8 +138,12 @@ some_from : (o : Option ℕ) (v : ℕ) → 0 < v → unwrap_or o 0 ≡ v → o �
 some_from None v above e = absurd (omega (arith, above, e))
 some_from (Some x) v above e = ap (λ (w : ℕ). Some w) e
 
-pub rows_listed : (rows : List (ℕ × ℕ)) → IsTable rows → Lists HasLowerProcess (IsKept rows) rows
+pub rows_listed : (rows : List (ℕ × ℕ)) → IsTable rows → Lists HasLowerProcess (HasSequence rows) rows
 rows_listed rows table = record {
   rising = rows_rising rows table.sorted;
-  members = λ row. (kept_row rows table row, λ kept. found_row rows row.0 row.1 (some_from (find nat_cmp row.0 (sequences rows)) row.1 kept.positive kept.is));
+  members = λ row. (
+    row_there rows table row,
+    λ kept.
+        found_row rows row.0 row.1 (some_from (find nat_cmp row.0 (sequences rows)) row.1 kept.positive kept.is),
+  );
 }

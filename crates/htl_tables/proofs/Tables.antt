@@ -6,15 +6,15 @@ use Rattle.std.specs.Ordering.{eq_by_cmp}
 use Rattle.std.specs.FinMap.Entries.{below_all}
 use Rattle.std.proofs.lemmas.Bool.{cases_Bool}
 use Rattle.std.proofs.lemmas.Option.{same_Some, none-some}
-use Rattle.htl_event.specs.declared.event.Event.{Event}
+use Rattle.htl_event.specs.Events.{Event}
 use Rattle.htl_event.specs.Slots.{base_of}
 use Rattle.htl_event.specs.Handles.{later}
 use Rattle.htl_event.specs.Members.{Lists, IsRising}
 use Rattle.htl_sorted.specs.Entries.{IsSorted, joined_at}
 use Rattle.htl_sorted.proofs.Bools.{both_left, both_right, less}
 use Rattle.htl_sorted.proofs.Rows.{row_found}
-use Rattle.htl_tables.specs.Keys.{key_cmp, key_of, keyed, IsBefore}
-use Rattle.htl_tables.specs.Latest.{event_at, later_of, IsKept}
+use Rattle.htl_tables.specs.Keys.{key_cmp, key_of, keyed, ByKey}
+use Rattle.htl_tables.specs.Latest.{event_at, later_of, HasEvent}
 use Rattle.htl_tables.proofs.KeyOrder.{key_total}
 
 -- the later of both tables' events, as a merge makes it
@@ -29,17 +29,17 @@ joined-later (Some x) (Some y) =
 
 -- ---- the rows show the map
 
-below_rising : (e : Event) (rows : List Event) → T (below_all key_cmp (key_of e) (keyed rows)) → AllByRecursion (IsBefore e) rows
+below_rising : (e : Event) (rows : List Event) → T (below_all key_cmp (key_of e) (keyed rows)) → AllByRecursion (ByKey e) rows
 below_rising e [] h = tt
 below_rising e (row ∷ rows) h = (less (key_cmp (key_of e) (key_of row)) (both_left _ _ h), below_rising e rows (both_right _ _ h))
 
-rows_rising : (rows : List Event) → IsSorted key_cmp (keyed rows) → IsRising IsBefore rows
+rows_rising : (rows : List Event) → IsSorted key_cmp (keyed rows) → IsRising ByKey rows
 rows_rising [] sorted = tt
 rows_rising (row ∷ rows) sorted = (below_rising row rows (both_left _ _ sorted), rows_rising rows (both_right _ _ sorted))
 
 -- a row is what its table has at its key
-kept_row : (rows : List Event) (e : Event) → IsSorted key_cmp (keyed rows) → Contains rows e → IsKept rows e
-kept_row rows e sorted (k, lt, is) = row_found key_of (λ (x : Event). x) key_total rows sorted k e lt (sym is)
+row_there : (rows : List Event) (e : Event) → IsSorted key_cmp (keyed rows) → Contains rows e → HasEvent rows e
+row_there rows e sorted (k, lt, is) = row_found key_of (λ (x : Event). x) key_total rows sorted k e lt (sym is)
 
 -- what is found in a table is one of its rows
 found_row : (rows : List Event) (process base : ℕ) (e : Event) → event_at rows process base ≡ Some e → Contains rows e
@@ -50,8 +50,8 @@ found_row (row ∷ rows) process base e found =
       | inr f ↦ let there = found_row rows process base e (rw f at found) in (suc there.0, omega (arith, there.1), there.2)
     ]
 
-pub rows_listed : (rows : List Event) → IsSorted key_cmp (keyed rows) → Lists IsBefore (IsKept rows) rows
+pub rows_listed : (rows : List Event) → IsSorted key_cmp (keyed rows) → Lists ByKey (HasEvent rows) rows
 rows_listed rows sorted = record {
   rising = rows_rising rows sorted;
-  members = λ e. (kept_row rows e sorted, found_row rows e.process (base_of e.handle) e);
+  members = λ e. (row_there rows e sorted, found_row rows e.process (base_of e.handle) e);
 }

@@ -1,33 +1,27 @@
 -- What a table of latest events has at a key.
-use Rattle.std.specs.Prelude.{◌≡◌, ℕ, ◌==◌, ◌&&◌, Bool, true, false, nat_lt, if◌then◌else◌, List, Option, Some, None, fold}
+use Rattle.std.specs.Prelude.{◌≡◌, ℕ, ◌==◌, ◌&&◌, nat_lt, if◌then◌else◌, List, Option, Some, None, fold}
 use Rattle.std.specs.FinMap.Entries.{find}
-use Rattle.htl_event.specs.declared.event.Event.{Event}
-use Rattle.htl_event.specs.declared.kind.Kind.{Kind}
-use Rattle.htl_event.specs.declared.kind.Kind.TheVariants.{Opened, Closed}
+use Rattle.htl_event.specs.Events.{Event}
 use Rattle.htl_event.specs.Slots.{base_of}
-use Rattle.htl_event.specs.Handles.{later}
+use Rattle.htl_event.specs.Handles.{opens_or_closes, later}
 use Rattle.htl_tables.specs.Keys.{key_cmp, keyed}
 
 -- the event that a table has for a base handle of a process
 abbrev pub event_at : List Event → ℕ → ℕ → Option Event
 event_at rows process base = find key_cmp (process, base) (keyed rows)
 
--- the event is that of its process and base handle
-abbrev pub IsKept : List Event → Event → Type 0
-IsKept rows e = event_at rows e.process (base_of e.handle) ≡ Some e
+-- the table has the event for its process and base handle
+abbrev pub HasEvent : List Event → Event → Type 0
+HasEvent rows e = event_at rows e.process (base_of e.handle) ≡ Some e
 
-abbrev pub opens_or_closes : Kind → Bool
-opens_or_closes Opened = true
-opens_or_closes Closed = true
-opens_or_closes other = false
+-- and the process is this one
+abbrev pub HasEventOf : List Event → ℕ → Event → Type 0
+HasEventOf rows process e = (e.process ≡ process) × HasEvent rows e
 
--- the event opens or closes the base handle of the process
-abbrev pub concerns : ℕ → ℕ → Event → Bool
-concerns process base e = opens_or_closes e.kind && (e.process == process && base_of e.handle == base)
-
--- the later of what was there and the event, where that concerns the base handle
+-- the later of what was there and the event, where that opens or closes the base handle of the process
 abbrev pub with_event : ℕ → ℕ → Option Event → Event → Option Event
-with_event process base old e = if concerns process base e then later old (Some e) else old
+with_event process base old e =
+    if opens_or_closes e.kind && (e.process == process && base_of e.handle == base) then later old (Some e) else old
 
 -- what is there once all the events were noted, one after the other
 abbrev pub noted : List Event → ℕ → ℕ → Option Event

@@ -1,10 +1,10 @@
 -- Laws of tables: noting one more event keeps what a table says of the events noted before.
 use Rattle.std.specs.Prelude.{ℕ, List, [], ◌∷◌, ◌++◌, Option, Contains, max}
-use Rattle.htl_event.specs.declared.event.Event.{Event}
+use Rattle.htl_event.specs.Events.{Event}
 use Rattle.htl_event.specs.declared.kind.Kind.{Kind}
 use Rattle.htl_event.specs.Handles.{LatestIs, IsGreatestSequence}
 use Rattle.htl_tables.specs.Latest.{with_event}
-use Rattle.htl_tables.specs.Greatest.{IsOf}
+use Rattle.htl_event.specs.Handles.{IsOf}
 
 -- the latest event of a handle, with one more event, is that of the list with this event
 abbrev pub KeepsLatest : List Event → Event → Type 0

@@ -1,5 +1,10 @@
+-- cited by public contracts
 pub mod Keys
 pub mod Latest
 pub mod Greatest
-pub mod Turns
 pub mod Laws
+-- cited by private contracts alone
+pub mod KeyLaws
+pub mod RowOrder
+pub mod Moments
+pub mod SortKeys

@@ -1,20 +1,23 @@
+//! Rows of latest events, by process and base handle.
+
 ghost use Rattle.std.specs.Prelude.{◌≡◌};
 ghost use Rattle.htl_tables.specs.Keys.{key_of};
 ghost use Rattle.htl_tables.specs.Latest.{later_of};
-ghost use Rattle.htl_tables.specs.Keys.{key_cmp-equal};
+ghost use Rattle.htl_tables.specs.KeyLaws.{key_cmp-equal};
 
-use htl_event::{Event, base};
+use htl_event::{SharedEvent, base};
 use htl_sorted::{Joined, Keyed};
+use std::alloc::AllocError;
 
 /// Events by process and base handle, of which the later stays.
 pub(crate) struct ByHandle;
 
 impl Keyed for ByHandle {
-    type Row = Event;
+    type Row = SharedEvent;
 
     type Key = (u32, u32);
 
-    type Value = Event;
+    type Value = SharedEvent;
 
     ghost key_of = { key_of };
 
@@ -22,7 +25,7 @@ impl Keyed for ByHandle {
 
     ghost proper = { key_cmp-equal };
 
-    fn key(event: &Event) -> (u32, u32) {
+    fn key(event: &SharedEvent) -> (u32, u32) {
         (event.process, base(event.handle))
     }
 }
@@ -32,11 +35,11 @@ impl Joined for ByHandle {
 
     ghost joined = { later_of };
 
-    fn copy(event: &Event) -> Event {
+    fn copy(event: &SharedEvent) -> Result<SharedEvent, AllocError> {
         event.copy()
     }
 
-    fn join(left: &Event, right: &Event) -> Event {
+    fn join(left: &SharedEvent, right: &SharedEvent) -> Result<SharedEvent, AllocError> {
         if left.sequence < right.sequence {
             right.copy()
         } else {

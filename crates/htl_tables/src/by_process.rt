@@ -1,4 +1,7 @@
+//! Rows of greatest sequences, by process.
+
 use htl_sorted::{Joined, Keyed};
+use std::alloc::AllocError;
 
 /// Sequences by process, of which the greater stays.
 pub(crate) struct ByProcess;
@@ -30,11 +33,11 @@ impl Joined for ByProcess {
 
     ghost joined = { max };
 
-    fn copy(row: &(u32, u64)) -> (u32, u64) {
-        *row
+    fn copy(row: &(u32, u64)) -> Result<(u32, u64), AllocError> {
+        Ok(*row)
     }
 
-    fn join(left: &(u32, u64), right: &(u32, u64)) -> (u32, u64) {
-        (left.0, left.1.max(right.1))
+    fn join(left: &(u32, u64), right: &(u32, u64)) -> Result<(u32, u64), AllocError> {
+        Ok((left.0, left.1.max(right.1)))
     }
 }

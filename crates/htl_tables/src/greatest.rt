@@ -1,15 +1,16 @@
-ghost use Rattle.std.specs.Prelude.{◌≡◌, ◌↔◌, ◌<◌, ℕ, IsTrue, IfOk, Contains};
-ghost use Rattle.htl_tables.specs.Greatest.{IsMoment};
+//! The greatest sequence of one kind of event for each process: snapshot marks and last exits.
+
+ghost use Rattle.std.specs.Prelude.{◌≡◌, ◌↔◌, ◌<◌, ◌⊎◌, ℕ, IsTrue, IfOk, OnOk, Contains, flat_map};
+ghost use Rattle.htl_tables.specs.Moments.{IsMoment};
 
 use crate::by_process::ByProcess;
-use crate::places::place_of;
-use htl_event::{Event, Kind, NoMemory};
-use htl_sorted::merge;
+use htl_event::{Kind, NoMemory, Run, SharedEvent};
+use htl_sorted::{merge, search};
 use std::alloc::Allocator;
 use std::marker::{Model, PhantomData};
 
 /// The kind of event whose greatest sequences a table keeps.
-pub trait Moment {
+pub trait EventKind {
     ghost use Rattle.std.specs.Prelude.{◌≡◌};
     ghost use Rattle.htl_event.specs.declared.kind.Kind.{Kind};
 
@@ -22,7 +23,7 @@ pub trait Moment {
 /// Snapshots, which mark a starting state.
 pub struct Snapshots;
 
-impl Moment for Snapshots {
+impl EventKind for Snapshots {
     ghost use Rattle.htl_event.specs.declared.kind.Kind.TheVariants.{Snapshot};
 
     ghost kind = { Snapshot };
@@ -35,7 +36,7 @@ impl Moment for Snapshots {
 /// Process exits, which close all handles of their process.
 pub struct ProcessExits;
 
-impl Moment for ProcessExits {
+impl EventKind for ProcessExits {
     ghost use Rattle.htl_event.specs.declared.kind.Kind.TheVariants.{Exited};
 
     ghost kind = { Exited };
@@ -53,14 +54,14 @@ pub type Exits<A> = Greatest<ProcessExits, A>;
 
 /// The greatest sequence of one kind of event for each process.
 #[derive(Drop)]
-pub struct Greatest<M, A: Allocator> {
+pub struct Greatest<K, A: Allocator> {
     rows: Vec<(u32, u64), A>,
-    moment: PhantomData<M>,
+    kind: PhantomData<K>,
 }
 
-impl<M, A: Allocator> Model for Greatest<M, A> {
+impl<K, A: Allocator> Model for Greatest<K, A> {
     ghost use Rattle.std.specs.Prelude.{ℕ, List};
-    ghost use Rattle.htl_tables.specs.Greatest.{IsTable};
+    ghost use Rattle.htl_tables.specs.Moments.{IsTable};
 
     ghost Value = { List (ℕ × ℕ) };
 
@@ -69,18 +70,19 @@ impl<M, A: Allocator> Model for Greatest<M, A> {
     ghost invariant = { λ t. IsTable t.rows.items };
 }
 
-impl<M: Moment, A: Allocator> Greatest<M, A> {
+impl<K: EventKind, A: Allocator> Greatest<K, A> {
     ghost use Rattle.std.specs.Prelude.{◌≡◌, ◌≢◌, ◌↔◌, ◌<◌, ℕ, [], max, OnOk, OnErr, IsTrue};
     ghost use Rattle.htl_event.specs.Members.{Lists};
-    ghost use Rattle.htl_tables.specs.Greatest.{sequence_at, HasLowerProcess, IsKept, IsOf};
+    ghost use Rattle.htl_event.specs.Handles.{IsOf};
+    ghost use Rattle.htl_tables.specs.Greatest.{sequence_at, HasLowerProcess, HasSequence};
 
     /// A table of nothing. It takes no memory.
-    pub fn new(alloc: A) -> Greatest<M, A>
+    pub fn new(alloc: A) -> Greatest<K, A>
         ensures { result ≡ [] }
     {
         Greatest {
             rows: Vec::new(alloc),
-            moment: PhantomData,
+            kind: PhantomData,
         }
     }
 
@@ -88,22 +90,23 @@ impl<M: Moment, A: Allocator> Greatest<M, A> {
     pub fn get(&self, process: u32) -> u64
         ensures { result ≡ sequence_at self.now process }
     {
-        match place_of::<ByProcess>(&self.rows, process) {
+        match search::<ByProcess>(&self.rows, process) {
             Ok(place) => self.rows[place].1,
             Err(_) => 0,
         }
     }
 
-    /// Keeps the event's sequence where it is of the table's kind and none as great is there.
-    pub fn note(&mut self, event: &Event) -> Result<(), NoMemory>
-        ensures noted { OnOk result (event.now.kind ≡ M.kind
+    /// Raises the process's sequence to the event's, where that is of the table's kind. A sequence of 0, which
+    /// no event of a segment has, makes no row, so that "no row" and 0 are one answer.
+    pub fn note(&mut self, event: &SharedEvent) -> Result<(), NoMemory>
+        ensures noted { OnOk result (event.now.kind ≡ K.kind
             → sequence_at self.new event.now.process
             ≡ max (sequence_at self.old event.now.process) event.now.sequence) }
-        ensures others { OnOk result ((process : ℕ) → (IsOf M.kind process event.now → ⊥)
+        ensures others { OnOk result ((process : ℕ) → (IsOf K.kind process event.now → ⊥)
             → sequence_at self.new process ≡ sequence_at self.old process) }
         ensures err { OnErr result (self.new ≡ self.old) }
     {
-        if !is_moment::<M>(event) {
+        if !has_row::<K>(event) {
             return Ok(());
         }
         self.raise(event.process, event.sequence)
@@ -117,7 +120,7 @@ impl<M: Moment, A: Allocator> Greatest<M, A> {
             → sequence_at self.new other ≡ sequence_at self.old other) }
         ensures err { OnErr result (self.new ≡ self.old) }
     {
-        match place_of::<ByProcess>(&self.rows, process) {
+        match search::<ByProcess>(&self.rows, process) {
             Ok(place) => {
                 let row = &mut self.rows[place];
                 row.1 = row.1.max(sequence);
@@ -132,54 +135,56 @@ impl<M: Moment, A: Allocator> Greatest<M, A> {
     /// Each process of which something was noted, in order, with its greatest sequence.
     pub fn rows(&self) -> &[(u32, u64)]
         ensures value { result.now ≡ self.now }
-        ensures listed { Lists HasLowerProcess (IsKept self.now) result.now }
+        ensures listed { Lists HasLowerProcess (HasSequence self.now) result.now }
     {
         self.rows.as_slice()
     }
 
-    /// Whether both tables have the same sequence for each process.
-    pub fn same(&self, other: &Greatest<M, A>) -> bool
-        ensures { IsTrue result ↔ ((process : ℕ)
+    /// Whether both tables have the same sequence for each process. Then they are one value.
+    pub fn same(&self, other: &Greatest<K, A>) -> bool
+        ensures sequences { IsTrue result ↔ ((process : ℕ)
             → sequence_at self.now process ≡ sequence_at other.now process) }
+        ensures equal { IsTrue result ↔ (self.now ≡ other.now) }
     {
         self.rows() == other.rows()
     }
 }
 
-impl<M: Moment, A: Allocator + Clone> Greatest<M, A> {
-    ghost use Rattle.std.specs.Prelude.{◌≡◌, ℕ, max, IfOk, Contains};
-    ghost use Rattle.htl_event.specs.Handles.{IsGreatestSequence};
-    ghost use Rattle.htl_tables.specs.Greatest.{sequence_at, IsOf};
+impl<K: EventKind, A: Allocator + Clone> Greatest<K, A> {
+    ghost use Rattle.std.specs.Prelude.{◌≡◌, ℕ, max, IfOk, Contains, flat_map};
+    ghost use Rattle.htl_event.specs.Handles.{IsGreatestSequence, IsOf};
+    ghost use Rattle.htl_tables.specs.Greatest.{sequence_at};
 
-    /// The greater sequence of both tables for each process.
-    pub fn join(&self, other: &Greatest<M, A>) -> Result<Greatest<M, A>, NoMemory>
+    /// The greater sequence of both tables for each process, under a clone of this table's allocator.
+    pub fn join(&self, other: &Greatest<K, A>) -> Result<Greatest<K, A>, NoMemory>
         ensures { IfOk result (λ t. (process : ℕ) → sequence_at t process
             ≡ max (sequence_at self.now process) (sequence_at other.now process)) }
     {
         let alloc = self.rows.allocator().clone()?;
         Ok(Greatest {
             rows: merge::<ByProcess, A>(alloc, &self.rows, &other.rows)?,
-            moment: PhantomData,
+            kind: PhantomData,
         })
     }
 
-    /// An equal table, under a clone of the allocator.
-    pub fn copy(&self) -> Result<Greatest<M, A>, NoMemory>
+    /// An equal table, under a clone of this one's allocator.
+    pub fn copy(&self) -> Result<Greatest<K, A>, NoMemory>
         ensures { IfOk result (λ t. t ≡ self.now) }
     {
         let alloc = self.rows.allocator().clone()?;
         Ok(Greatest {
             rows: Vec::from_slice(alloc, &self.rows)?,
-            moment: PhantomData,
+            kind: PhantomData,
         })
     }
 
-    /// The greatest sequence of each process among these events, in n log n steps.
-    pub fn of(alloc: A, events: &[Event]) -> Result<Greatest<M, A>, NoMemory>
+    /// The greatest sequence of each process among the events of the runs, in any order.
+    pub fn of<R: Run>(alloc: A, runs: &[R]) -> Result<Greatest<K, A>, NoMemory>
         ensures { IfOk result (λ t. (process : ℕ) → IsGreatestSequence
-            (λ e. Contains events.now e × IsOf M.kind process e) (sequence_at t process)) }
+            (λ e. Contains (flat_map R.events_of runs.now) e × IsOf K.kind process e)
+            (sequence_at t process)) }
     {
-        let moments = moments_of::<M, A>(alloc.clone()?, events)?;
+        let moments = moments_in::<K, R, A>(alloc.clone()?, runs)?;
         let mut greatest = Greatest::new(alloc);
         for (process, sequence) in &moments {
             greatest.raise(*process, *sequence)?;
@@ -190,26 +195,40 @@ impl<M: Moment, A: Allocator + Clone> Greatest<M, A> {
 
 /// Whether a table of this kind has a row for the event's process once the event was noted. No event of
 /// a segment has the sequence 0.
-fn is_moment<M: Moment>(event: &Event) -> bool
-    ensures { IsTrue result ↔ ((event.now.kind ≡ M.kind) × (0 < event.now.sequence)) }
+fn has_row<K: EventKind>(event: &SharedEvent) -> bool
+    ensures { IsTrue result ↔ ((event.now.kind ≡ K.kind) × (0 < event.now.sequence)) }
 {
-    event.kind == M::kind() && event.sequence > 0
+    event.kind == K::kind() && event.sequence > 0
 }
 
 /// The process and the sequence of each event of the kind, by process and then by sequence.
-fn moments_of<M: Moment, A: Allocator>(
+fn moments_in<K: EventKind, R: Run, A: Allocator>(
     alloc: A,
-    events: &[Event],
+    runs: &[R],
 ) -> Result<Vec<(u32, u64), A>, NoMemory>
-    ensures { IfOk result (λ moments. (row : ℕ × ℕ)
-        → Contains moments.items row ↔ IsMoment (Contains events.now) M.kind row) }
+    ensures { IfOk result (λ moments. (row : ℕ × ℕ) → Contains moments.items row
+        ↔ IsMoment (Contains (flat_map R.events_of runs.now)) K.kind row) }
 {
     let mut moments = Vec::new(alloc);
-    for event in events {
-        if is_moment::<M>(event) {
-            moments.push((event.process, event.sequence))?;
-        }
+    for run in runs {
+        gather::<K, A>(&mut moments, run.events())?;
     }
     moments.sort_unstable();
     Ok(moments)
+}
+
+/// Adds the process and the sequence of each event of the kind.
+fn gather<K: EventKind, A: Allocator>(
+    moments: &mut Vec<(u32, u64), A>,
+    events: &[SharedEvent],
+) -> Result<(), NoMemory>
+    ensures { OnOk result ((row : ℕ × ℕ) → Contains moments.new.items row
+        ↔ (Contains moments.old.items row ⊎ IsMoment (Contains events.now) K.kind row)) }
+{
+    for event in events {
+        if has_row::<K>(event) {
+            moments.push((event.process, event.sequence))?;
+        }
+    }
+    Ok(())
 }

@@ -1,29 +1,23 @@
-ghost use Rattle.std.specs.Prelude.{◌≡◌};
-ghost use Rattle.htl_tables.specs.Latest.{opens_or_closes};
+//! The latest open or close of each handle.
 
 use crate::by_handle::ByHandle;
-use crate::places::place_of;
-use crate::turns::{keys_in, turns_of};
-use htl_event::{Event, Kind, NoMemory, base};
-use htl_sorted::merge;
+use crate::candidates::candidates_in;
+use crate::of_process::of_process;
+use crate::sort_key::handles_in;
+use htl_event::{NoMemory, Run, SharedEvent, base};
+use htl_sorted::{merge, search};
 use std::alloc::Allocator;
 use std::marker::Model;
 
 /// The latest open or close of each base handle of each process.
 #[derive(Drop)]
 pub struct Latest<A: Allocator> {
-    rows: Vec<Event, A>,
-}
-
-pub(crate) fn opens_or_closes(kind: Kind) -> bool
-    ensures { result ≡ opens_or_closes kind }
-{
-    matches!(kind, Kind::Opened | Kind::Closed)
+    rows: Vec<SharedEvent, A>,
 }
 
 impl<A: Allocator> Model for Latest<A> {
     ghost use Rattle.std.specs.Prelude.{List};
-    ghost use Rattle.htl_event.specs.declared.event.Event.{Event};
+    ghost use Rattle.htl_event.specs.Events.{Event};
     ghost use Rattle.htl_sorted.specs.Entries.{IsSorted};
     ghost use Rattle.htl_tables.specs.Keys.{key_cmp, keyed};
 
@@ -35,12 +29,13 @@ impl<A: Allocator> Model for Latest<A> {
 }
 
 impl<A: Allocator> Latest<A> {
-    ghost use Rattle.std.specs.Prelude.{◌≡◌, ℕ, [], OnOk, OnErr, IsTrue, ◌↔◌};
+    ghost use Rattle.std.specs.Prelude.{◌≡◌, ◌≢◌, ◌==◌, ◌↔◌, ℕ, [], filter, IsNone, OnOk, OnErr, IsTrue};
+    ghost use Rattle.htl_event.specs.Handles.{ByBase};
     ghost use Rattle.std.specs.Option.{option_copied};
     ghost use Rattle.htl_event.specs.Slots.{base_of};
     ghost use Rattle.htl_event.specs.Members.{Lists};
-    ghost use Rattle.htl_tables.specs.Keys.{IsBefore};
-    ghost use Rattle.htl_tables.specs.Latest.{event_at, with_event, IsKept};
+    ghost use Rattle.htl_tables.specs.Keys.{ByKey};
+    ghost use Rattle.htl_tables.specs.Latest.{event_at, with_event, HasEvent, HasEventOf};
 
     /// A table of nothing. It takes no memory.
     pub fn new(alloc: A) -> Latest<A>
@@ -51,63 +46,79 @@ impl<A: Allocator> Latest<A> {
         }
     }
 
-    /// Keeps the event where it opens or closes a handle and none with its sequence or a greater one is
-    /// there.
-    pub fn note(&mut self, event: &Event) -> Result<(), NoMemory>
+    /// Puts the event in its handle's row, where it opens or closes a handle and none with its sequence or a
+    /// greater one is there. An event of base handle 0, which no segment has, gets a row like any other.
+    pub fn note(&mut self, event: &SharedEvent) -> Result<(), NoMemory>
         ensures ok { OnOk result ((process base : ℕ) → event_at self.new process base
             ≡ with_event process base (event_at self.old process base) event.now) }
         ensures err { OnErr result (self.new ≡ self.old) }
     {
-        if !opens_or_closes(event.kind) {
+        if !event.kind.opens_or_closes() {
             return Ok(());
         }
-        match place_of::<ByHandle>(&self.rows, (event.process, base(event.handle))) {
+        match search::<ByHandle>(&self.rows, (event.process, base(event.handle))) {
             Ok(place) => {
                 if self.rows[place].sequence < event.sequence {
-                    self.rows[place] = event.copy();
+                    self.rows[place] = event.copy()?;
                 }
             }
             Err(gap) => {
-                self.rows.insert(gap, event.copy())?;
+                self.rows.insert(gap, event.copy()?)?;
             }
         }
         Ok(())
     }
 
-    /// The event that is kept for the handle's base in the process. Nothing is kept for base 0, which
-    /// no event of a segment opens or closes.
-    pub fn get(&self, process: u32, handle: u32) -> Option<&Event>
-        ensures { option_copied result ≡ event_at self.now process (base_of handle) }
+    /// The event at the handle's base in the process. Base 0 names no entry of a handle table, so there
+    /// is none for it, whatever was noted.
+    pub fn get(&self, process: u32, handle: u32) -> Option<&SharedEvent>
+        ensures value { base_of handle ≢ 0
+            → option_copied result ≡ event_at self.now process (base_of handle) }
+        ensures zero { base_of handle ≡ 0 → IsNone result }
     {
-        match place_of::<ByHandle>(&self.rows, (process, base(handle))) {
+        let base = base(handle);
+        if base == 0 {
+            return None;
+        }
+        match search::<ByHandle>(&self.rows, (process, base)) {
             Ok(place) => Some(&self.rows[place]),
             Err(_) => None,
         }
     }
 
-    /// The events by process and base handle.
-    pub fn rows(&self) -> &[Event]
+    /// All events by process and base handle.
+    pub fn rows(&self) -> &[SharedEvent]
         ensures value { result.now ≡ self.now }
-        ensures listed { Lists IsBefore (IsKept self.now) result.now }
+        ensures listed { Lists ByKey (HasEvent self.now) result.now }
     {
         self.rows.as_slice()
     }
 
-    /// Whether both tables keep the same event of each handle.
+    /// The events of one process by base handle.
+    pub fn rows_of(&self, process: u32) -> &[SharedEvent]
+        ensures value { result.now ≡ filter (λ e. e.process == process) self.now }
+        ensures listed { Lists ByBase (HasEventOf self.now process) result.now }
+    {
+        of_process(&self.rows, process)
+    }
+
+    /// Whether both tables have the same event of each handle. Then they are one value.
     pub fn same(&self, other: &Latest<A>) -> bool
-        ensures { IsTrue result ↔ ((process base : ℕ)
+        ensures events { IsTrue result ↔ ((process base : ℕ)
             → event_at self.now process base ≡ event_at other.now process base) }
+        ensures equal { IsTrue result ↔ (self.now ≡ other.now) }
     {
         self.rows() == other.rows()
     }
 }
 
 impl<A: Allocator + Clone> Latest<A> {
-    ghost use Rattle.std.specs.Prelude.{◌≡◌, ℕ, IfOk, Contains};
+    ghost use Rattle.std.specs.Prelude.{◌≡◌, ℕ, IfOk, Contains, flat_map};
     ghost use Rattle.htl_event.specs.Handles.{LatestIs, later};
     ghost use Rattle.htl_tables.specs.Latest.{event_at, noted};
 
-    /// The later event of both tables for each handle, this table's where they came at once.
+    /// The later event of both tables for each handle, this table's where their sequences are equal, under a
+    /// clone of this table's allocator.
     pub fn join(&self, other: &Latest<A>) -> Result<Latest<A>, NoMemory>
         ensures { IfOk result (λ t. (process base : ℕ) → event_at t process base
             ≡ later (event_at self.now process base) (event_at other.now process base)) }
@@ -118,32 +129,33 @@ impl<A: Allocator + Clone> Latest<A> {
         })
     }
 
-    /// An equal table, under a clone of the allocator.
+    /// An equal table, under a clone of this one's allocator.
     pub fn copy(&self) -> Result<Latest<A>, NoMemory>
         ensures { IfOk result (λ t. t ≡ self.now) }
     {
         let alloc = self.rows.allocator().clone()?;
         let mut rows = Vec::with_capacity(alloc, self.rows.len())?;
         for row in &self.rows {
-            rows.push(row.copy())?;
+            rows.push(row.copy()?)?;
         }
         Ok(Latest { rows })
     }
 
-    /// The latest event of each handle among these, in n log n steps. Of events that came at once the first
-    /// of the list stays, as if the events were noted one after the other.
-    pub fn of(alloc: A, events: &[Event]) -> Result<Latest<A>, NoMemory>
+    /// The latest event of each handle among those of the runs, in any order. Of events with one sequence
+    /// the first stays, as if the events were noted one after the other, run by run.
+    pub fn of<R: Run>(alloc: A, runs: &[R]) -> Result<Latest<A>, NoMemory>
         ensures noted { IfOk result (λ t. (process base : ℕ)
-            → event_at t process base ≡ noted events.now process base) }
+            → event_at t process base ≡ noted (flat_map R.events_of runs.now) process base) }
         ensures latest { IfOk result (λ t. (process base : ℕ)
-            → LatestIs (Contains events.now) process base (event_at t process base)) }
+            → LatestIs (Contains (flat_map R.events_of runs.now)) process base
+            (event_at t process base)) }
     {
-        let turns = turns_of(alloc.clone()?, events)?;
+        let keys = candidates_in(alloc.clone()?, runs)?;
         let mut latest = Latest {
-            rows: Vec::with_capacity(alloc, keys_in(&turns))?,
+            rows: Vec::with_capacity(alloc, handles_in(&keys))?,
         };
-        for turn in &turns {
-            latest.note(turn.event(events))?;
+        for key in &keys {
+            latest.note(key.event(runs))?;
         }
         Ok(latest)
     }

@@ -1,8 +1,14 @@
-//! Laws of tables. Each function's contract is the law; none does anything when it runs.
+//! Laws of tables. Each function's contract is the law.
 
-ghost use Rattle.std.specs.Prelude.{List};
-ghost use Rattle.htl_event.specs.declared.event.Event.{Event};
+ghost use Rattle.std.specs.Prelude.{ℕ, List, IfOk, Contains, flat_map};
+ghost use Rattle.htl_event.specs.Events.{Event};
+ghost use Rattle.htl_event.specs.Handles.{IsMark, IsLastExit};
+ghost use Rattle.htl_tables.specs.Greatest.{sequence_at};
 ghost use Rattle.htl_tables.specs.Laws.{KeepsLatest, KeepsGreatest};
+
+use crate::greatest::{Exits, Marks};
+use htl_event::{NoMemory, Run};
+use std::alloc::Allocator;
 
 /// What `Latest::note` makes of the latest events of a list are those of the list with the noted event.
 pub fn noting_keeps_the_latest()
@@ -14,3 +20,26 @@ pub fn noting_keeps_the_latest()
 pub fn noting_keeps_the_greatest()
     ensures { (events : List Event) (e : Event) → KeepsGreatest events e }
 {}
+
+/// What `Marks::of` gives are the snapshot marks of the runs' events.
+pub fn marks_are_snapshot_marks<A: Allocator + Clone, R: Run>(
+    alloc: A,
+    runs: &[R],
+) -> Result<Marks<A>, NoMemory>
+    ensures { IfOk result (λ marks. (process : ℕ)
+        → IsMark (Contains (flat_map R.events_of runs.now)) process (sequence_at marks process)) }
+{
+    Marks::of(alloc, runs)
+}
+
+/// What `Exits::of` gives are the last exits among the runs' events.
+pub fn exits_are_last_exits<A: Allocator + Clone, R: Run>(
+    alloc: A,
+    runs: &[R],
+) -> Result<Exits<A>, NoMemory>
+    ensures { IfOk result (λ exits. (process : ℕ)
+        → IsLastExit (Contains (flat_map R.events_of runs.now)) process
+        (sequence_at exits process)) }
+{
+    Exits::of(alloc, runs)
+}

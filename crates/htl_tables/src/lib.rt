@@ -1,21 +1,22 @@
 //! Tables that keep the greatest sequence of each key: the latest open or close of a handle, the latest
 //! snapshot of a process and its last exit.
 //!
-//! `specs/` says what a table has at a key (`Latest`, `Greatest`) and in which order its rows stand
-//! (`Keys`). What the latest event, the mark and the last exit of a set of events are is said in
-//! htl_event's `Handles`.
+//! `specs/` says what a table has at a key (`Latest`, `Greatest`), in which order its rows stand
+//! (`Keys`) and what noting one more event keeps (`Laws`). What the latest event, the mark and the last
+//! exit of a set of events are is said in htl_event's `Handles`.
 #![tactic(auto)]
 
 mod by_handle;
 mod by_process;
+mod candidates;
 mod greatest;
+mod hints;
 mod latest;
-mod laws;
-mod places;
+pub mod laws;
+mod of_process;
+mod sort_key;
 #[cfg(test)]
 mod tests;
-mod turns;
 
-pub use greatest::{Exits, Greatest, Marks, Moment, ProcessExits, Snapshots};
+pub use greatest::{EventKind, Exits, Greatest, Marks, ProcessExits, Snapshots};
 pub use latest::Latest;
-pub use laws::{noting_keeps_the_greatest, noting_keeps_the_latest};

@@ -3,6 +3,7 @@ pub mod Rising
 pub mod Merging
 pub mod Within
 pub mod Reaching
-pub mod Places
-pub mod RowsLemmas
+pub mod Numbers
+pub mod Keys
+pub mod NumberSets
 pub mod SetLaws

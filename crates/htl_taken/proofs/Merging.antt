@@ -2,7 +2,8 @@
 use Rattle.std.proofs.Common.{◌≡◌, ℕ, ◌+◌, ◌<◌, ◌≤◌, List, [], ◌∷◌, ◌++◌, refl, sym, ap, ◌∙◌, subst, append-nil, arith, inl, inr, ◌⊎◌}
 use Rattle.std.specs.Prelude.{Contains}
 use Rattle.std.proofs.lemmas.Bool.{cases_lt, lt-ltb, le-ltb}
-use Rattle.htl_taken.specs.Rising.{Rises, merged}
+use Rattle.htl_taken.specs.Rising.{Rises}
+use Rattle.htl_taken.specs.Merging.{merged}
 use Rattle.htl_event.proofs.Members.{Contains-there, Contains-cases, Contains-nil}
 use Rattle.htl_taken.proofs.Members.{Contains-head}
 

@@ -7,10 +7,10 @@ use Rattle.htl_event.proofs.Members.{Contains-there, Contains-cases, Contains-ni
 use Rattle.htl_taken.proofs.Members.{Contains-head}
 use Rattle.htl_taken.proofs.Rising.{Rises-member}
 
-reach-next : (n m : ℕ) (ms : List ℕ) → m ≡ n → reach_from n (m ∷ ms) ≡ reach_from (n + 1) ms
+pub reach-next : (n m : ℕ) (ms : List ℕ) → m ≡ n → reach_from n (m ∷ ms) ≡ reach_from (n + 1) ms
 reach-next n m ms e = rw (eq-eqb m n e) refl
 
-reach-stop : (n m : ℕ) (ms : List ℕ) → (m ≡ n → ⊥) → reach_from n (m ∷ ms) ≡ n
+pub reach-stop : (n m : ℕ) (ms : List ℕ) → (m ≡ n → ⊥) → reach_from n (m ∷ ms) ≡ n
 reach-stop n m ms ne = rw (ne_eqb m n ne) refl
 
 pub reach_from-ge : (n : ℕ) (ms : List ℕ) → n ≤ reach_from n ms
@@ -53,7 +53,8 @@ before_reach low (x ∷ xs) n le lt =
     elim (cases_eq x low) [
       | inl e ↦ elim (cases_eq n low) [
         | inl is ↦ Contains-head x xs n (e ∙ sym is)
-        | inr above ↦ Contains-there x xs n (before_reach (low + 1) xs n (omega (arith, above, le)) (let l = rw (reach-next low x xs e) at lt in l))
+        | inr above ↦ Contains-there x xs n
+            (before_reach (low + 1) xs n (omega (arith, above, le)) (let l = rw (reach-next low x xs e) at lt in l))
       ]
       | inr ne ↦ let l = rw (reach-stop low x xs ne) at lt in absurd (omega (arith, l, le))
     ]
@@ -67,22 +68,9 @@ Rises-from_reach low high (suc k) (x ∷ xs) r e =
     elim (cases_eq x low) [
       | inl same ↦
           let next : low + 1 ≡ x + 1 = omega arith in
-          let at : (x + 1) + k ≡ reach_from (x + 1) xs = (let h = e ∙ reach-next low x xs same ∙ ap (λ (n : ℕ). reach_from n xs) next in omega (arith, h, same)) in
+          let at : (x + 1) + k ≡ reach_from (x + 1) xs =
+          (let h = e ∙ reach-next low x xs same ∙ ap (λ (n : ℕ). reach_from n xs) next in omega (arith, h, same)) in
           let moved : (x + 1) + k ≡ low + suc k = omega (arith, same) in
           subst (λ (n : ℕ). Rises n high (drop k xs)) moved (Rises-from_reach (x + 1) high k xs r.1 at)
-      | inr other ↦ let at = e ∙ reach-stop low x xs other in absurd (omega (arith, at))
-    ]
-
-pub Contains-from_reach : (low k n : ℕ) (xs : List ℕ) → low + k ≡ reach_from low xs → low + k ≤ n → Contains xs n → Contains (drop k xs) n
-Contains-from_reach low zero n xs e le h = h
-Contains-from_reach low (suc k) n [] e le h = absurd (Contains-nil n h)
-Contains-from_reach low (suc k) n (x ∷ xs) e le h =
-    elim (cases_eq x low) [
-      | inl same ↦
-          let at : (low + 1) + k ≡ reach_from (low + 1) xs = (let g = e ∙ reach-next low x xs same in omega (arith, g)) in
-          elim (Contains-cases x xs n h) [
-            | inl is ↦ absurd (omega (arith, same, is, le))
-            | inr there ↦ Contains-from_reach (low + 1) k n xs at (omega (arith, le)) there
-          ]
       | inr other ↦ let at = e ∙ reach-stop low x xs other in absurd (omega (arith, at))
     ]

@@ -52,12 +52,14 @@ Rises-ordered low high xs r i j le in_range =
     ]
 
 -- a place with smaller numbers before it and no smaller one after it
-pub gap_at : (n : ℕ) (xs : List ℕ) (i : ℕ) → i ≤ length xs → ((k : ℕ) → k < i → get_or xs k 0 < n) → ((k : ℕ) → i ≤ k → k < length xs → n ≤ get_or xs k 0) → i ≡ gap_of n xs
+pub gap_at : (n : ℕ) (xs : List ℕ) (i : ℕ) → i ≤ length xs → ((k : ℕ) → k < i → get_or xs k 0 < n)
+    → ((k : ℕ) → i ≤ k → k < length xs → n ≤ get_or xs k 0) → i ≡ gap_of n xs
 gap_at n [] i le below above = omega (arith, le)
 gap_at n (x ∷ xs) zero le below above = let up : n ≤ x = above 0 (omega arith) (omega arith) in rw (le-ltb x n up) refl
 gap_at n (x ∷ xs) (suc i) le below above =
     let lt : x < n = below 0 (omega arith) in
-    rw (lt-ltb x n lt) (ap suc (gap_at n xs i (omega arith) (λ k h. below (suc k) (omega arith)) (λ k h g. above (suc k) (omega arith) (omega arith))))
+    rw (lt-ltb x n lt)
+    (ap suc (gap_at n xs i (omega arith) (λ k h. below (suc k) (omega arith)) (λ k h g. above (suc k) (omega arith) (omega arith))))
 
 gap-skip : (n x : ℕ) (xs : List ℕ) → x < n → gap_of n (x ∷ xs) ≡ suc (gap_of n xs)
 gap-skip n x xs lt = rw (lt-ltb x n lt) refl
@@ -74,12 +76,14 @@ gap_within n (x ∷ xs) =
     ]
 
 -- a number that is not there, put into its gap
-pub Rises-insert : (low high n : ℕ) (xs : List ℕ) → Rises low high xs → low ≤ n → n < high → (Contains xs n → ⊥) → Rises low high (insert xs (gap_of n xs) n)
+pub Rises-insert : (low high n : ℕ) (xs : List ℕ) → Rises low high xs → low ≤ n → n < high → (Contains xs n → ⊥)
+    → Rises low high (insert xs (gap_of n xs) n)
 Rises-insert low high n [] r le lt new = (le, omega arith)
 Rises-insert low high n (x ∷ xs) r le lt new =
     let up = r.0 in
     elim (cases_lt x n) [
-      | inl below ↦ rw (gap-skip n x xs below) (up, Rises-insert (x + 1) high n xs r.1 (omega arith) lt (λ h. new (Contains-there x xs n h)))
+      | inl below ↦ rw (gap-skip n x xs below)
+          (up, Rises-insert (x + 1) high n xs r.1 (omega arith) lt (λ h. new (Contains-there x xs n h)))
       | inr above ↦
           let ne : x ≡ n → ⊥ = λ e. new (Contains-head x xs n e) in
           rw (gap-stop n x xs above) (le, (omega (arith, above, ne), r.1))
@@ -94,7 +98,8 @@ Rises-from_gap low high n (x ∷ xs) r le =
       | inr above ↦ rw (gap-stop n x xs above) (above, r.1)
     ]
 
-pub Contains-from_gap : (low high n : ℕ) (xs : List ℕ) → Rises low high xs → (m : ℕ) → Contains xs m → n ≤ m → Contains (drop (gap_of n xs) xs) m
+pub Contains-from_gap : (low high n : ℕ) (xs : List ℕ) → Rises low high xs → (m : ℕ) → Contains xs m → n ≤ m
+    → Contains (drop (gap_of n xs) xs) m
 Contains-from_gap low high n [] r m h le = h
 Contains-from_gap low high n (x ∷ xs) r m h le =
     elim (cases_lt x n) [
@@ -117,5 +122,6 @@ in_order low high (x ∷ xs) r = (
   in_order (x + 1) high xs r.1,
 )
 
-pub Rises-same : (low lower high : ℕ) (xs ys : List ℕ) → Rises low high xs → Rises lower high ys → ((n : ℕ) → Contains xs n → Contains ys n) → ((n : ℕ) → Contains ys n → Contains xs n) → xs ≡ ys
+pub Rises-same : (low lower high : ℕ) (xs ys : List ℕ) → Rises low high xs → Rises lower high ys
+    → ((n : ℕ) → Contains xs n → Contains ys n) → ((n : ℕ) → Contains ys n → Contains xs n) → xs ≡ ys
 Rises-same low lower high xs ys rx ry f g = same_members ◌<◌ below_strict xs ys (in_order low high xs rx) (in_order lower high ys ry) f g

@@ -2,7 +2,8 @@
 use Rattle.std.proofs.Common.{◌≡◌, ℕ, ◌+◌, List, [], ◌∷◌, sym, ◌∙◌, subst, arith, inl, inr}
 use Rattle.std.specs.Prelude.{Contains, ◌↔◌}
 use Rattle.std.proofs.lemmas.Bool.{cases_eq, eq-eqb, ne_eqb}
-use Rattle.htl_taken.specs.Rising.{Rises, without_head}
+use Rattle.htl_taken.specs.Rising.{Rises}
+use Rattle.htl_taken.specs.Merging.{without_head}
 use Rattle.htl_event.proofs.Members.{Contains-here, Contains-there, Contains-cases, Contains-nil}
 use Rattle.htl_taken.proofs.Members.{Contains-head}
 use Rattle.htl_taken.proofs.Rising.{Rises-member, Rises-lower}
@@ -35,7 +36,8 @@ module _ (high : ℕ) (xs ys : List ℕ) where
   }
 
   -- a number of the second alone is passed
-  passed : (left : List ℕ) (y : ℕ) (rest : List ℕ) → (Contains left y → IsWithin left (y ∷ rest) → ⊥) → Decide high xs ys left (y ∷ rest) → Decide high xs ys left rest
+  passed : (left : List ℕ) (y : ℕ) (rest : List ℕ) → (Contains left y → IsWithin left (y ∷ rest) → ⊥)
+      → Decide high xs ys left (y ∷ rest) → Decide high xs ys left rest
   passed left y rest other d = record {
     left_rises = d.left_rises;
     rest_rises = Rises-lower (y + 1) 0 high rest (omega arith) d.rest_rises.1;
@@ -48,7 +50,8 @@ module _ (high : ℕ) (xs ys : List ℕ) where
     );
   }
 
-  other_head : (x : ℕ) (left : List ℕ) (y : ℕ) (rest : List ℕ) → (x ≡ y → ⊥) → Decide high xs ys (x ∷ left) (y ∷ rest) → Decide high xs ys (x ∷ left) rest
+  other_head : (x : ℕ) (left : List ℕ) (y : ℕ) (rest : List ℕ) → (x ≡ y → ⊥) → Decide high xs ys (x ∷ left) (y ∷ rest)
+      → Decide high xs ys (x ∷ left) rest
   other_head x left y rest ne d = passed (x ∷ left) y rest (λ here within.
       elim (Contains-cases x left y here) [
         | inl e ↦ ne e
@@ -60,7 +63,8 @@ module _ (high : ℕ) (xs ys : List ℕ) where
             ]
       ]) d
 
-  pub Decide-step : (left : List ℕ) (y : ℕ) (rest : List ℕ) → Decide high xs ys left (y ∷ rest) → Decide high xs ys (without_head y left) rest
+  pub Decide-step : (left : List ℕ) (y : ℕ) (rest : List ℕ) → Decide high xs ys left (y ∷ rest)
+      → Decide high xs ys (without_head y left) rest
   Decide-step [] y rest d = passed [] y rest (λ here within. Contains-nil y here) d
   Decide-step (x ∷ left) y rest d =
       elim (cases_eq x y) [

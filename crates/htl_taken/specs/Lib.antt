@@ -1,4 +1,8 @@
+-- cited by public contracts
 pub mod Rising
-pub mod Places
-pub mod Rows
+pub mod Numbers
 pub mod Laws
+-- cited by private contracts alone
+pub mod NumberSets
+pub mod Merging
+pub mod RisingProp

@@ -1,21 +1,23 @@
+//! Laws of sets of taken segments. Each function's contract is the law; none does anything when it runs.
+
 ghost use Rattle.htl_taken.specs.Laws.{UnitesKeys, IsCommutative, IsAssociative, IsIdempotent, SettlesOnce, IsDetermined, CountsNumbers};
 
-/// The segments of a union are those of both sets.
+/// `a.union(b)` has the segments of `a` and of `b`, and no other.
 pub fn union_unites_keys()
     ensures { UnitesKeys }
 {}
 
-/// It is all one which of two sets is united with the other.
+/// `a.union(b)` equals `b.union(a)`.
 pub fn union_is_commutative()
     ensures { IsCommutative }
 {}
 
-/// It is all one which two of three sets are united first.
+/// `a.union(b).union(c)` equals `a.union(b.union(c))`.
 pub fn union_is_associative()
     ensures { IsAssociative }
 {}
 
-/// A set united with itself stays as it is.
+/// `a.union(a)` equals `a`.
 pub fn union_is_idempotent()
     ensures { IsIdempotent }
 {}

@@ -1,4 +1,7 @@
-use super::*;
+//! Tests of what no clause says: worked rows, and refused growths, each call under heaps of its own.
+
+use crate::{MAX_FRONT, Taken};
+use htl_event::NoMemory;
 use linked_list_allocator::LocalHeap;
 use std::alloc::Allocator;
 use std::process::Abort;
@@ -8,7 +11,7 @@ fn filled<A: Allocator + Clone>(
     rt: &impl Abort,
     alloc: A,
     segments: &[(u16, u32)],
-) -> Result<Taken<A>, htl_event::NoMemory> {
+) -> Result<Taken<A>, NoMemory> {
     let mut taken = Taken::new(alloc, 2)?;
     for (processor, number) in segments {
         assert!(rt; *processor < taken.processors() && *number < MAX_FRONT);
@@ -58,54 +61,99 @@ fn nothing_is_taken_of_a_processor_that_is_not_there(rt: HostRuntime) -> Result<
     Ok(())
 }
 
-// Fills a set in the small heap, with a twin beside it in the roomy one, and then copies it.
-fn fill_and_copy(
+// ---- refused growths
+
+const SEGMENTS: [(u16, u32); 8] = [
+    (0, 0),
+    (0, 9),
+    (1, 5),
+    (0, 7),
+    (0, 5),
+    (0, 3),
+    (1, 1),
+    (0, 1),
+];
+
+// Heaps of so many bytes, from one that holds nothing to one that holds all.
+const STEP: usize = 8;
+
+const STEPS: usize = 128;
+
+/// The calls that take memory.
+#[derive(Clone, Copy, Debug, PartialEq, Eq)]
+enum Call {
+    New,
+    Insert,
+    Copy,
+    Union,
+}
+
+// Whether an insertion was refused. What was taken before it stands.
+fn insertion_is_refused(
     rt: &impl Abort,
     small: &LocalHeap,
     roomy: &LocalHeap,
-) -> Result<(), htl_event::NoMemory> {
+) -> Result<bool, NoMemory> {
     let mut taken = Taken::new(small, 2)?;
     let mut twin = Taken::new(roomy, 2)?;
-    for (processor, number) in [
-        (0, 0),
-        (0, 9),
-        (1, 5),
-        (0, 7),
-        (0, 5),
-        (0, 3),
-        (1, 1),
-        (0, 1),
-    ] {
-        assert!(rt; processor < taken.processors() && processor < twin.processors());
-        let inserted = taken.insert(processor, number);
+    for (processor, number) in &SEGMENTS {
+        assert!(rt; *processor < taken.processors() && *processor < twin.processors());
+        let inserted = taken.insert(*processor, *number);
         if inserted.is_err() {
             assert!(rt; taken.same(&twin), "{number} was refused");
+            return Ok(true);
         }
-        inserted?;
-        twin.insert(processor, number)?;
+        twin.insert(*processor, *number)?;
     }
-    let union = taken.union(&taken);
     assert!(rt; taken.same(&twin));
-    assert!(rt; union?.same(&twin));
-    let copy = taken.copy();
-    assert!(rt; taken.same(&twin));
-    assert!(rt; copy?.same(&twin));
-    Ok(())
+    Ok(false)
 }
 
-// Heaps of growing size refuse one growth after the other.
-#[test]
-fn a_refused_growth_changes_nothing(rt: HostRuntime) -> Result<(), Fail> {
-    let roomy = LocalHeap::new(rt.alloc(), 4096)?;
-    let mut refused = false;
-    let mut answered = false;
-    for blocks in 2..64 {
-        let small = LocalHeap::new(rt.alloc(), 16 * blocks)?;
-        match fill_and_copy(&rt, &small, &roomy) {
-            Ok(()) => answered = true,
-            Err(_) => refused = true,
+// Whether the call was refused. It takes its memory from the small heap alone, and where that doesn't hold the
+// set that is called, there is no answer.
+fn is_refused(
+    rt: &impl Abort,
+    call: Call,
+    small: &LocalHeap,
+    roomy: &LocalHeap,
+) -> Result<bool, NoMemory> {
+    let twin = filled(rt, roomy, &SEGMENTS)?;
+    let made = match call {
+        Call::New => return Ok(Taken::new(small, 8).is_err()),
+        Call::Insert => return insertion_is_refused(rt, small, roomy),
+        Call::Copy => filled(rt, small, &SEGMENTS)?.copy(),
+        Call::Union => {
+            let taken = filled(rt, small, &SEGMENTS)?;
+            assert_eq!(rt; (taken.processors(), twin.processors()), (2, 2));
+            // The left set's heap is asked, however full the right one's is.
+            assert!(rt; twin.union(&taken)?.same(&twin));
+            taken.union(&twin)
         }
+    };
+    match made {
+        Ok(taken) => {
+            assert!(rt; taken.same(&twin));
+            Ok(false)
+        }
+        Err(NoMemory) => Ok(true),
     }
-    assert!(rt; refused && answered);
+}
+
+#[test]
+fn each_call_is_refused_until_its_heap_is_large_enough(rt: HostRuntime) -> Result<(), Fail> {
+    let roomy = LocalHeap::new(rt.alloc(), 4096)?;
+    for call in [Call::New, Call::Insert, Call::Copy, Call::Union] {
+        let mut refused = false;
+        let mut answered = false;
+        for step in 1..STEPS {
+            let small = LocalHeap::new(rt.alloc(), step * STEP)?;
+            match is_refused(&rt, call, &small, &roomy) {
+                Ok(true) => refused = true,
+                Ok(false) => answered = true,
+                Err(NoMemory) => {}
+            }
+        }
+        assert!(rt; refused && answered, "{call:?}");
+    }
     Ok(())
 }

@@ -1,5 +1,6 @@
 -- Equal tallies have one tree.
-use Rattle.std.proofs.Common.{◌≡◌, ℕ, zero, suc, ◌<◌, List, [], ◌∷◌, length, map, get_or, Option, Some, None, cond, true, false, unwrap_or, refl, inl, inr, sym, ◌∙◌, ap, subst, arith}
+use Rattle.std.proofs.Common.{◌≡◌, ℕ, zero, suc, ◌<◌, List, [], ◌∷◌, length, map, get_or, Option, Some}
+use Rattle.std.proofs.Common.{None, cond, true, false, unwrap_or, refl, inl, inr, sym, ◌∙◌, ap, subst, arith}
 use Rattle.std.proofs.lemmas.Bool.{cases_eq}
 use Rattle.std.specs.Cmp.{nat_cmp_total}
 use Rattle.std.specs.Ordering.{nat_cmp, eq_by_cmp, ordering_reverse}
@@ -17,9 +18,10 @@ use Rattle.htl_tree.specs.declared.node.Node.{Node}
 use Rattle.htl_tree.specs.declared.node.Node.TheOpen.{Node-F}
 use Rattle.htl_tree.specs.declared.node.Node.TheViews.{roll-Node}
 use Rattle.htl_tree.specs.declared.node.Node.TheFolds.{ind-Node}
-use Rattle.htl_tree.specs.Slots.{slot_cmp, slot_total, slot_same}
+use Rattle.htl_event.specs.SlotOrder.{slot_cmp}
+use Rattle.htl_event.specs.OrderLaws.{slot_total, slot_same}
 use Rattle.htl_tree.specs.Nodes.{tally, tally_of, own, kids, at_child, IsNonEmpty, IsNormal, IsSameTally}
-use Rattle.htl_tree.proofs.NodeFacts.{normal_here, normal_child, own_of, kids_of}
+use Rattle.htl_tree.proofs.CountAdded.{normal_here, normal_child, own_of, kids_of}
 
 abbrev or_zero : Option Count → Count
 or_zero o = unwrap_or o zero_count
@@ -37,22 +39,32 @@ abbrev HasWitness : {A : Type 0} → Node A → Type 0
 HasWitness n = IsNormal n → IsNonEmpty n → Witness n
 
 module _ {A : Type 0} (n : Node A) (h : IsNormal n) (some : IsNonEmpty n) where
-  start : (os : List (Slot × Count)) → own n ≡ os → (ks : List (ℕ × ((c : Node A) × HasWitness c))) → kids n ≡ map (λ e. (e.0, e.1.0)) ks → Witness n
+  start : (os : List (Slot × Count)) → own n ≡ os → (ks : List (ℕ × ((c : Node A) × HasWitness c)))
+      → kids n ≡ map (λ e. (e.0, e.1.0)) ks → Witness n
   start (o ∷ os) e ks k = record {
     path = [];
     slot = o.0;
-    counts = subst IsPositive (sym (ap or_zero (ap (find slot_cmp o.0) e ∙ find_first slot_cmp slot_total o os))) (subst (λ l. Each IsPositive l) e (normal_here n h).positive).0;
+    counts = subst IsPositive (sym (ap or_zero (ap (find slot_cmp o.0) e ∙ find_first slot_cmp slot_total o os)))
+        (subst (λ l. Each IsPositive l) e (normal_here n h).positive).0;
   }
   start [] e [] k = absurd (some e k)
   start [] e (c ∷ ks) k =
-      let found : find nat_cmp c.0 (kids n) ≡ Some c.1.0 = ap (find nat_cmp c.0) k ∙ find_first nat_cmp nat_cmp_total (c.0, c.1.0) (map (λ e. (e.0, e.1.0)) ks) in
-      let inner : Witness c.1.0 = c.1.1 (normal_child n h c.0 c.1.0 found) (subst (λ l. Each (λ c. IsNonEmpty c) l) k (normal_here n h).nonempty).0 in
-      record { path = c.0 ∷ inner.path; slot = inner.slot; counts = subst IsPositive (sym (ap (at_child (λ c. tally inner.path inner.slot c)) found)) inner.counts }
+      let found : find nat_cmp c.0 (kids n) ≡ Some c.1.0 = ap (find nat_cmp c.0) k
+      ∙ find_first nat_cmp nat_cmp_total (c.0, c.1.0) (map (λ e. (e.0, e.1.0)) ks) in
+      let inner : Witness c.1.0 = c.1.1 (normal_child n h c.0 c.1.0 found)
+      (subst (λ l. Each (λ c. IsNonEmpty c) l) k (normal_here n h).nonempty).0 in
+      record {
+        path = c.0 ∷ inner.path;
+        slot = inner.slot;
+        counts =
+            subst IsPositive (sym (ap (at_child (λ c. tally inner.path inner.slot c)) found)) inner.counts;
+      }
 
 -- a node that is not empty has a count somewhere
 pub inhabited : {A : Type 0} (n : Node A) → HasWitness n
 inhabited {A} = ind-Node A (λ n. HasWitness n) (λ x y is h some.
-    start (roll-Node A x) h some x.counts.items (own_of x) y.children.items (kids_of x ∙ sym (ap (λ (z : Node-F A (Node A)). z.children.items) is)))
+    start (roll-Node A x) h some x.counts.items (own_of x) y.children.items
+    (kids_of x ∙ sym (ap (λ (z : Node-F A (Node A)). z.children.items) is)))
 
 abbrev pub SameKids : {A : Type 0} → List (ℕ × Node A) → List (ℕ × Node A) → Type 0
 SameKids [] [] = Unit {0}
@@ -61,30 +73,46 @@ SameKids (e ∷ es) [] = ⊥
 SameKids (e ∷ es) (f ∷ fs) = (e.0 ≡ f.0) × IsSameTally (tally_of e.1) (tally_of f.1) × SameKids es fs
 
 abbrev SameBelow : {A : Type 0} → List (ℕ × Node A) → List (ℕ × Node A) → Type 0
-SameBelow es fs = (g : ℕ) (p : List ℕ) (s : Slot) → at_child (λ c. tally p s c) (find nat_cmp g fs) ≡ at_child (λ c. tally p s c) (find nat_cmp g es)
+SameBelow es fs = (g : ℕ) (p : List ℕ) (s : Slot)
+    → at_child (λ c. tally p s c) (find nat_cmp g fs) ≡ at_child (λ c. tally p s c) (find nat_cmp g es)
 
 -- a child that only one side has
-missing : {A : Type 0} (e : ℕ × Node A) (es fs : List (ℕ × Node A)) → Witness e.1 → find nat_cmp e.0 fs ≡ None → ((p : List ℕ) (s : Slot) → at_child (λ c. tally p s c) (find nat_cmp e.0 fs) ≡ at_child (λ c. tally p s c) (find nat_cmp e.0 (e ∷ es))) → ⊥
-missing e es fs w none same = no_zero (subst IsPositive (sym (ap (at_child (λ c. tally w.path w.slot c)) (find_first nat_cmp nat_cmp_total e es)) ∙ sym (same w.path w.slot) ∙ ap (at_child (λ c. tally w.path w.slot c)) none) w.counts)
+missing : {A : Type 0} (e : ℕ × Node A) (es fs : List (ℕ × Node A)) → Witness e.1 → find nat_cmp e.0 fs ≡ None
+    → ((p : List ℕ) (s : Slot) → at_child (λ c. tally p s c) (find nat_cmp e.0 fs)
+    ≡ at_child (λ c. tally p s c) (find nat_cmp e.0 (e ∷ es))) → ⊥
+missing e es fs w none same =
+    no_zero (subst IsPositive (sym (ap (at_child (λ c. tally w.path w.slot c)) (find_first nat_cmp nat_cmp_total e es))
+    ∙ sym (same w.path w.slot) ∙ ap (at_child (λ c. tally w.path w.slot c)) none) w.counts)
 
 abbrev Witnesses : {A : Type 0} → List (ℕ × Node A) → Type 0
 Witnesses es = Each (λ c. Witness c) es
 
-pub same_kids : {A : Type 0} (es fs : List (ℕ × Node A)) → IsSorted nat_cmp es → IsSorted nat_cmp fs → Witnesses es → Witnesses fs → SameBelow es fs → SameKids es fs
+pub same_kids : {A : Type 0} (es fs : List (ℕ × Node A)) → IsSorted nat_cmp es → IsSorted nat_cmp fs → Witnesses es → Witnesses fs
+    → SameBelow es fs → SameKids es fs
 same_kids [] [] s t v w same = tt
 same_kids [] (f ∷ fs) s t v w same = missing f fs [] w.0 refl (λ p q. sym (same f.0 p q))
 same_kids (e ∷ es) [] s t v w same = missing e es [] v.0 refl (λ p q. same e.0 p q)
 same_kids {A} (e ∷ es) (f ∷ fs) s t v w same =
     elim (nat_cmp e.0 f.0) as (λ r. nat_cmp e.0 f.0 ≡ r → SameKids (e ∷ es) (f ∷ fs)) [
-      | Less ↦ λ c. absurd (missing e es (f ∷ fs) v.0 (find_below_all nat_cmp nat_cmp_total e.0 f fs c (both_left _ _ t)) (λ p q. same e.0 p q))
-      | Greater ↦ λ c. absurd (missing f fs (e ∷ es) w.0 (find_below_all nat_cmp nat_cmp_total f.0 e es (nat_cmp_total.antisymm f.0 e.0 ∙ ap ordering_reverse c) (both_left _ _ s)) (λ p q. sym (same f.0 p q)))
+      | Less ↦ λ c. absurd (missing e es (f ∷ fs) v.0 (find_below_all nat_cmp nat_cmp_total e.0 f fs c (both_left _ _ t))
+          (λ p q. same e.0 p q))
+      | Greater ↦ λ c. absurd (missing f fs (e ∷ es) w.0
+          (find_below_all nat_cmp nat_cmp_total f.0 e es (nat_cmp_total.antisymm f.0 e.0 ∙ ap ordering_reverse c) (both_left _ _ s))
+          (λ p q. sym (same f.0 p q)))
       | Equal ↦ λ c.
           let key : e.0 ≡ f.0 = nat_cmp-IsAntisymmetric e.0 f.0 c in
           let heads : IsSameTally (tally_of e.1) (tally_of f.1) = λ p q.
-          sym (ap (at_child (λ c. tally p q c)) (find_first nat_cmp nat_cmp_total f fs)) ∙ ap (λ k. at_child (λ c. tally p q c) (find nat_cmp k (f ∷ fs))) (sym key) ∙ same e.0 p q ∙ ap (at_child (λ c. tally p q c)) (find_first nat_cmp nat_cmp_total e es) in
+          sym (ap (at_child (λ c. tally p q c)) (find_first nat_cmp nat_cmp_total f fs))
+          ∙ ap (λ k. at_child (λ c. tally p q c) (find nat_cmp k (f ∷ fs))) (sym key) ∙ same e.0 p q
+          ∙ ap (at_child (λ c. tally p q c)) (find_first nat_cmp nat_cmp_total e es) in
           let tails : SameBelow es fs = λ g p q. elim (cases_eq g e.0) [
-            | inl is ↦ ap (at_child (λ c. tally p q c)) (ap (λ k. find nat_cmp k fs) (is ∙ key) ∙ find_below nat_cmp nat_cmp_total f.0 fs (both_left _ _ t)) ∙ sym (ap (at_child (λ c. tally p q c)) (ap (λ k. find nat_cmp k es) is ∙ find_below nat_cmp nat_cmp_total e.0 es (both_left _ _ s)))
-            | inr other ↦ ap (at_child (λ c. tally p q c)) (sym (find_skip nat_cmp nat_cmp_total nat_cmp-IsAntisymmetric g f fs (λ is. other (is ∙ sym key)))) ∙ same g p q ∙ ap (at_child (λ c. tally p q c)) (find_skip nat_cmp nat_cmp_total nat_cmp-IsAntisymmetric g e es other)
+            | inl is ↦ ap (at_child (λ c. tally p q c))
+                (ap (λ k. find nat_cmp k fs) (is ∙ key) ∙ find_below nat_cmp nat_cmp_total f.0 fs (both_left _ _ t))
+                ∙ sym (ap (at_child (λ c. tally p q c))
+                (ap (λ k. find nat_cmp k es) is ∙ find_below nat_cmp nat_cmp_total e.0 es (both_left _ _ s)))
+            | inr other ↦ ap (at_child (λ c. tally p q c))
+                (sym (find_skip nat_cmp nat_cmp_total nat_cmp-IsAntisymmetric g f fs (λ is. other (is ∙ sym key)))) ∙ same g p q
+                ∙ ap (at_child (λ c. tally p q c)) (find_skip nat_cmp nat_cmp_total nat_cmp-IsAntisymmetric g e es other)
           ] in
           (key, heads, same_kids es fs (both_right _ _ s) (both_right _ _ t) v.1 w.1 tails)
     ] refl
@@ -96,7 +124,8 @@ same_below [] (f ∷ fs) h g p s = absurd h
 same_below (e ∷ es) [] h g p s = absurd h
 same_below {A} (e ∷ es) (f ∷ fs) h g p s =
     let at : Option (Node A) → Count = at_child (λ c. tally p s c) in
-    rw h.0 (elim (eq_by_cmp nat_cmp g f.0) as (λ b. at (cond b (Some f.1) (find nat_cmp g fs)) ≡ at (cond b (Some e.1) (find nat_cmp g es))) [
+    rw h.0 (elim (eq_by_cmp nat_cmp g f.0)
+    as (λ b. at (cond b (Some f.1) (find nat_cmp g fs)) ≡ at (cond b (Some e.1) (find nat_cmp g es))) [
       | true ↦ h.1 p s
       | false ↦ same_below es fs h.2 g p s
     ])
@@ -109,9 +138,13 @@ abbrev PositiveIfSome : Option Count → Type 0
 PositiveIfSome None = Unit {0}
 PositiveIfSome (Some c) = IsPositive c
 
-pub found_positive : {K : Type 0} (R : K → K → Ordering) (k : K) (es : List (K × Count)) → Each IsPositive es → PositiveIfSome (find R k es)
+pub found_positive : {K : Type 0} (R : K → K → Ordering) (k : K) (es : List (K × Count)) → Each IsPositive es
+    → PositiveIfSome (find R k es)
 found_positive R k [] h = tt
-found_positive R k (e ∷ es) h = elim (eq_by_cmp R k e.0) as (λ b. PositiveIfSome (cond b (Some e.1) (find R k es))) [ true ↦ h.0 | false ↦ found_positive R k es h.1 ]
+found_positive R k (e ∷ es) h = elim (eq_by_cmp R k e.0) as (λ b. PositiveIfSome (cond b (Some e.1) (find R k es))) [
+  | true ↦ h.0
+  | false ↦ found_positive R k es h.1
+]
 
 -- counts that aren't zero are the same where they count the same
 pub same_option : (o p : Option Count) → PositiveIfSome o → PositiveIfSome p → unwrap_or p zero_count ≡ unwrap_or o zero_count → o ≡ p
@@ -125,20 +158,24 @@ pub canonical_own : {A : Type 0} (a b : Node A) → IsNormal a → IsNormal b �
 canonical_own a b h k same =
     let x = normal_here a h in
     let y = normal_here b k in
-    same_entries slot_cmp slot_total slot_same (own a) (own b) x.slots y.slots (λ s. same_option _ _ (found_positive slot_cmp s (own a) x.positive) (found_positive slot_cmp s (own b) y.positive) (same [] s))
+    same_entries slot_cmp slot_total slot_same (own a) (own b) x.slots y.slots
+    (λ s. same_option _ _ (found_positive slot_cmp s (own a) x.positive) (found_positive slot_cmp s (own b) y.positive) (same [] s))
 
-witnesses : {A : Type 0} (es : List (ℕ × Node A)) → IsSorted nat_cmp es → Each (λ c. IsNonEmpty c) es → ((f : ℕ) (c : Node A) → find nat_cmp f es ≡ Some c → IsNormal c) → Witnesses es
+witnesses : {A : Type 0} (es : List (ℕ × Node A)) → IsSorted nat_cmp es → Each (λ c. IsNonEmpty c) es
+    → ((f : ℕ) (c : Node A) → find nat_cmp f es ≡ Some c → IsNormal c) → Witnesses es
 witnesses [] s h n = tt
 witnesses (e ∷ es) s h n = (
   inhabited e.1 (n e.0 e.1 (find_first nat_cmp nat_cmp_total e es)) h.0,
   witnesses es (both_right _ _ s) h.1 (λ f c found. n f c (elim (cases_eq f e.0) [
-    | inl is ↦ absurd (let none : find nat_cmp f es ≡ None = ap (λ k. find nat_cmp k es) is ∙ find_below nat_cmp nat_cmp_total e.0 es (both_left _ _ s) in let no : Some c ≡ None = sym found ∙ none in cc)
+    | inl is ↦ absurd (let none : find nat_cmp f es ≡ None = ap (λ k. find nat_cmp k es) is
+        ∙ find_below nat_cmp nat_cmp_total e.0 es (both_left _ _ s) in let no : Some c ≡ None = sym found ∙ none in cc)
     | inr other ↦ find_skip nat_cmp nat_cmp_total nat_cmp-IsAntisymmetric f e es other ∙ found
   ])),
 )
 
 -- and children alike
-pub canonical_kids : {A : Type 0} (a b : Node A) → IsNormal a → IsNormal b → IsSameTally (tally_of a) (tally_of b) → SameKids (kids a) (kids b)
+pub canonical_kids : {A : Type 0} (a b : Node A) → IsNormal a → IsNormal b → IsSameTally (tally_of a) (tally_of b)
+    → SameKids (kids a) (kids b)
 canonical_kids a b h k same =
     let x = normal_here a h in
     let y = normal_here b k in
@@ -157,13 +194,15 @@ same_length (e ∷ es) (f ∷ fs) h = ap suc (same_length es fs h.2)
 abbrev pub SamePlace : {A : Type 0} → (ℕ × Node A) → (ℕ × Node A) → Type 0
 SamePlace e f = (e.0 ≡ f.0) × IsSameTally (tally_of e.1) (tally_of f.1)
 
-pub same_place : {A : Type 0} (es fs : List (ℕ × Node A)) → SameKids es fs → (i : ℕ) (d c : ℕ × Node A) → i < length es → SamePlace (get_or es i d) (get_or fs i c)
+pub same_place : {A : Type 0} (es fs : List (ℕ × Node A)) → SameKids es fs → (i : ℕ) (d c : ℕ × Node A) → i < length es
+    → SamePlace (get_or es i d) (get_or fs i c)
 same_place [] fs h i d c lt = absurd (omega arith)
 same_place (e ∷ es) [] h i d c lt = absurd h
 same_place (e ∷ es) (f ∷ fs) h zero d c lt = (h.0, h.1)
 same_place (e ∷ es) (f ∷ fs) h (suc i) d c lt = same_place es fs h.2 i d c (omega arith)
 
-pub same_places : {A : Type 0} (es fs : List (ℕ × Node A)) → length es ≡ length fs → ((i : ℕ) (d c : ℕ × Node A) → i < length es → SamePlace (get_or es i d) (get_or fs i c)) → SameKids es fs
+pub same_places : {A : Type 0} (es fs : List (ℕ × Node A)) → length es ≡ length fs
+    → ((i : ℕ) (d c : ℕ × Node A) → i < length es → SamePlace (get_or es i d) (get_or fs i c)) → SameKids es fs
 same_places [] [] l h = tt
 same_places [] (f ∷ fs) l h = absurd (omega arith)
 same_places (e ∷ es) [] l h = absurd (omega arith)

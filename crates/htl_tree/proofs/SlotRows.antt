@@ -1,5 +1,7 @@
 -- The rows of one slot.
-use Rattle.std.proofs.Common.{◌≡◌, ℕ, zero, suc, ◌+◌, ◌<◌, ◌≤◌, List, [], ◌∷◌, ◌++◌, length, map, reverse, drop, get_or, Option, Some, None, T, true, false, cond, unwrap_or, append_assoc, append-nil, refl, sym, ◌∙◌, ap, subst, arith, inl, inr}
+use Rattle.std.proofs.Common.{◌≡◌, ℕ, zero, suc, ◌+◌, ◌<◌, ◌≤◌, List, [], ◌∷◌, ◌++◌, length}
+use Rattle.std.proofs.Common.{map, reverse, drop, get_or, Option, Some, None, T, Bool, true, false, cond}
+use Rattle.std.proofs.Common.{unwrap_or, append_assoc, append-nil, refl, sym, ◌∙◌, ap, subst, arith, inl, inr}
 use Rattle.std.specs.Prelude.{Contains, ◌↔◌}
 use Rattle.std.specs.List.{AllByRecursion}
 use Rattle.std.specs.List.Sorted.{IsStrictlySortedBy}
@@ -19,53 +21,69 @@ use Rattle.htl_sorted.specs.Entries.{IsSorted}
 use Rattle.htl_sorted.proofs.Bools.{both_left, both_right, less}
 use Rattle.htl_sorted.proofs.Finds.{find_below, below_tied, find_first, each_found}
 use Rattle.htl_tree.specs.declared.node.Node.{Node}
-use Rattle.htl_tree.specs.Slots.{slot_cmp, slot_total}
+use Rattle.htl_event.specs.SlotOrder.{slot_cmp}
+use Rattle.htl_event.specs.OrderLaws.{slot_total}
 use Rattle.htl_tree.specs.Trees.{Tree, AllShort, place_cmp, count_at, IsTree, ListsRows, ListsSlots, BySlot}
-use Rattle.htl_tree.specs.Nodes.{own, kids, below, rows, tree_of, slot_rows, one_row, IsShortFrom, slots_of}
-use Rattle.htl_tree.proofs.Flat.{own_rows, kid_rows, rows_is}
-use Rattle.htl_tree.proofs.TreeFacts.{place_total, place_same, nothing_is_tree}
+use Rattle.htl_tree.specs.Nodes.{own, kids, below, rows, tree_of, rows_at, own_at, picked, IsShortFrom, slots_of}
+use Rattle.htl_tree.proofs.NodeRows.{own_rows, kid_rows, rows_is}
+use Rattle.htl_tree.proofs.TreesAsLists.{place_total, place_same, nothing_is_tree}
 use Rattle.htl_tree.proofs.Under.{same_slot_Decides, same_slot_tied}
 
 abbrev Row : Type 0
 Row = (List ℕ × Slot) × Count
 
-module _ (slot : Slot) where
-  pub slot_rows-append : (path : List ℕ) (xs ys : Tree) → slot_rows slot path (xs ++ ys) ≡ slot_rows slot path xs ++ slot_rows slot path ys
-  slot_rows-append path [] ys = refl
-  slot_rows-append path (x ∷ xs) ys = elim (same_slot slot x.0.1) as (λ b. cond b ((reverse (path ++ x.0.0), x.1) ∷ slot_rows slot path (xs ++ ys)) (slot_rows slot path (xs ++ ys)) ≡ cond b ((reverse (path ++ x.0.0), x.1) ∷ slot_rows slot path xs) (slot_rows slot path xs) ++ slot_rows slot path ys) [
-    | true ↦ ap (λ l. (reverse (path ++ x.0.0), x.1) ∷ l) (slot_rows-append path xs ys)
-    | false ↦ slot_rows-append path xs ys
-  ]
+module _ (p : Slot → Bool) where
+  pub rows_at-append : (path : List ℕ) (xs ys : Tree) → rows_at p path (xs ++ ys) ≡ rows_at p path xs ++ rows_at p path ys
+  rows_at-append path [] ys = refl
+  rows_at-append path (x ∷ xs) ys =
+      elim (p x.0.1) as (λ b. cond b (((x.0.1, reverse (path ++ x.0.0)), x.1) ∷ rows_at p path (xs ++ ys)) (rows_at p path (xs ++ ys))
+      ≡ cond b (((x.0.1, reverse (path ++ x.0.0)), x.1) ∷ rows_at p path xs) (rows_at p path xs) ++ rows_at p path ys) [
+        | true ↦ ap (λ l. ((x.0.1, reverse (path ++ x.0.0)), x.1) ∷ l) (rows_at-append path xs ys)
+        | false ↦ rows_at-append path xs ys
+      ]
 
-  slot_rows-below : (path : List ℕ) (f : ℕ) (t : Tree) → slot_rows slot path (map (λ row. below f row) t) ≡ slot_rows slot (path ++ f ∷ []) t
-  slot_rows-below path f [] = refl
-  slot_rows-below path f (row ∷ t) =
-      ap (λ k. cond (same_slot slot row.0.1) ((reverse k, row.1) ∷ slot_rows slot path (map (λ row. below f row) t)) (slot_rows slot path (map (λ row. below f row) t))) (sym (append_assoc path (f ∷ []) row.0.0))
-      ∙ ap (λ l. cond (same_slot slot row.0.1) ((reverse ((path ++ f ∷ []) ++ row.0.0), row.1) ∷ l) l) (slot_rows-below path f t)
+  rows_at-below : (path : List ℕ) (f : ℕ) (t : Tree) → rows_at p path (map (λ row. below f row) t) ≡ rows_at p (path ++ f ∷ []) t
+  rows_at-below path f [] = refl
+  rows_at-below path f (row ∷ t) =
+      ap (λ k. cond (p row.0.1) (((row.0.1, reverse k), row.1) ∷ rows_at p path (map (λ row. below f row) t))
+      (rows_at p path (map (λ row. below f row) t))) (sym (append_assoc path (f ∷ []) row.0.0))
+      ∙ ap (λ l. cond (p row.0.1) (((row.0.1, reverse ((path ++ f ∷ []) ++ row.0.0)), row.1) ∷ l) l) (rows_at-below path f t)
 
-  slot_rows-own : (path : List ℕ) (es : List (Slot × Count)) → IsSorted slot_cmp es → slot_rows slot path (own_rows es) ≡ one_row path (find slot_cmp slot es)
-  slot_rows-own path [] s = refl
-  slot_rows-own path (e ∷ es) s = rw (same_slot_tied slot e.0) (elim (slot_cmp slot e.0) as (λ r. slot_cmp slot e.0 ≡ r → cond (is_eq r) ((reverse (path ++ []), e.1) ∷ slot_rows slot path (own_rows es)) (slot_rows slot path (own_rows es)) ≡ one_row path (cond (is_eq r) (Some e.1) (find slot_cmp slot es))) [
-    | Less ↦ λ c. slot_rows-own path es (both_right _ _ s)
-    | Equal ↦ λ c.
-        let none : find slot_cmp slot es ≡ None = find_below slot_cmp slot_total slot es (below_tied slot_cmp slot_total slot e.0 es c (both_left _ _ s)) in
-        let rest : slot_rows slot path (own_rows es) ≡ [] = slot_rows-own path es (both_right _ _ s) ∙ ap (one_row path) none in
-        ap (λ l. (reverse (path ++ []), e.1) ∷ l) rest ∙ ap (λ k. (reverse k, e.1) ∷ []) (append-nil path)
-    | Greater ↦ λ c. slot_rows-own path es (both_right _ _ s)
-  ] refl)
+  rows_at-own : (path : List ℕ) (es : List (Slot × Count)) → rows_at p path (own_rows es) ≡ own_at p path es
+  rows_at-own path [] = refl
+  rows_at-own path (e ∷ es) =
+      ap (λ k. cond (p e.0) (((e.0, reverse k), e.1) ∷ rows_at p path (own_rows es)) (rows_at p path (own_rows es))) (append-nil path)
+      ∙ ap (λ l. cond (p e.0) (((e.0, reverse path), e.1) ∷ l) l) (rows_at-own path es)
 
   -- the rows of a node are its own and those of its children
-  pub slot_rows-node : {A : Type 0} (n : Node A) (path : List ℕ) → IsSorted slot_cmp (own n) → slot_rows slot path (rows n) ≡ one_row path (find slot_cmp slot (own n)) ++ slot_rows slot path (kid_rows (kids n))
-  slot_rows-node n path s = ap (slot_rows slot path) (rows_is n) ∙ slot_rows-append path (own_rows (own n)) (kid_rows (kids n)) ∙ ap (λ l. l ++ slot_rows slot path (kid_rows (kids n))) (slot_rows-own path (own n) s)
+  pub rows_at-node : {A : Type 0} (n : Node A) (path : List ℕ)
+      → rows_at p path (rows n) ≡ own_at p path (own n) ++ rows_at p path (kid_rows (kids n))
+  rows_at-node n path = ap (rows_at p path) (rows_is n) ∙ rows_at-append path (own_rows (own n)) (kid_rows (kids n))
+      ∙ ap (λ l. l ++ rows_at p path (kid_rows (kids n))) (rows_at-own path (own n))
 
-  pub kid_rows_drop : {A : Type 0} (path : List ℕ) (ks : List (ℕ × Node A)) (i : ℕ) (k : ℕ × Node A) → i < length ks → k ≡ get_or ks i k → slot_rows slot path (kid_rows (drop i ks)) ≡ slot_rows slot (path ++ k.0 ∷ []) (rows k.1) ++ slot_rows slot path (kid_rows (drop (i + 1) ks))
+  pub kid_rows_drop : {A : Type 0} (path : List ℕ) (ks : List (ℕ × Node A)) (i : ℕ) (k : ℕ × Node A) → i < length ks → k ≡ get_or ks i k
+      → rows_at p path (kid_rows (drop i ks)) ≡ rows_at p (path ++ k.0 ∷ []) (rows k.1) ++ rows_at p path (kid_rows (drop (i + 1) ks))
   kid_rows_drop {A} path ks i k lt is =
-      ap (λ l. slot_rows slot path (kid_rows l)) (drop_more ks i k lt ∙ ap (λ (j : ℕ × Node A). j ∷ drop (i + 1) ks) (sym is))
-      ∙ slot_rows-append path (map (λ row. below k.0 row) (rows k.1)) (kid_rows (drop (i + 1) ks))
-      ∙ ap (λ l. l ++ slot_rows slot path (kid_rows (drop (i + 1) ks))) (slot_rows-below path k.0 (rows k.1))
+      ap (λ l. rows_at p path (kid_rows l)) (drop_more ks i k lt ∙ ap (λ (j : ℕ × Node A). j ∷ drop (i + 1) ks) (sym is))
+      ∙ rows_at-append path (map (λ row. below k.0 row) (rows k.1)) (kid_rows (drop (i + 1) ks))
+      ∙ ap (λ l. l ++ rows_at p path (kid_rows (drop (i + 1) ks))) (rows_at-below path k.0 (rows k.1))
 
-  pub kid_rows_end : {A : Type 0} (path : List ℕ) (ks : List (ℕ × Node A)) (i : ℕ) → length ks ≤ i → slot_rows slot path (kid_rows (drop i ks)) ≡ []
-  kid_rows_end path ks i past = ap (λ l. slot_rows slot path (kid_rows l)) (drop_all i ks past)
+  pub kid_rows_end : {A : Type 0} (path : List ℕ) (ks : List (ℕ × Node A)) (i : ℕ) → length ks ≤ i
+      → rows_at p path (kid_rows (drop i ks)) ≡ []
+  kid_rows_end path ks i past = ap (λ l. rows_at p path (kid_rows l)) (drop_all i ks past)
+
+  pub picked_tree : {A : Type 0} (n : Node A) → picked p (tree_of (Some n)) ≡ rows_at p [] (rows n)
+  picked_tree n = of (rows n)
+    where
+      of : (t : Tree) → picked p (map (λ row. ((reverse row.0.0, row.0.1), row.1)) t) ≡ rows_at p [] t
+      of [] = refl
+      of (row ∷ t) = ap (λ l. cond (p row.0.1) (((row.0.1, reverse row.0.0), row.1) ∷ l) l) (of t)
+
+  -- a count of the node's own more
+  pub own_at-drop : (path : List ℕ) (es : List (Slot × Count)) (i : ℕ) (d : Slot × Count) → i < length es
+      → own_at p path (drop i es) ≡ cond (p (get_or es i d).0)
+      ((((get_or es i d).0, reverse path), (get_or es i d).1) ∷ own_at p path (drop (i + 1) es)) (own_at p path (drop (i + 1) es))
+  own_at-drop path es i d lt = ap (own_at p path) (drop_more es i d lt)
 
 -- ---- no stack too long
 
@@ -83,20 +101,29 @@ short_own depth (e ∷ es) i h lt = omega (arith, h.0)
 
 -- a node with a count of its own is no deeper than a stack is long
 pub short_here : {A : Type 0} (n : Node A) (depth : ℕ) → IsShortFrom depth (rows n) → 0 < length (own n) → depth ≤ 64
-short_here n depth h lt = short_own depth (own n) 0 (all_left (λ (row : Row). depth + length row.0.0 ≤ 64) (own_rows (own n)) (kid_rows (kids n)) (subst (λ t. IsShortFrom depth t) (rows_is n) h)) lt
+short_here n depth h lt = short_own depth (own n) 0
+    (all_left (λ (row : Row). depth + length row.0.0 ≤ 64) (own_rows (own n)) (kid_rows (kids n))
+    (subst (λ t. IsShortFrom depth t) (rows_is n) h)) lt
 
 pub short_below : (depth f : ℕ) (t : Tree) → IsShortFrom depth (map (λ row. below f row) t) → IsShortFrom (depth + 1) t
 short_below depth f [] h = tt
 short_below depth f (row ∷ t) h = (omega (arith, h.0), short_below depth f t h.1)
 
-short_kid : {A : Type 0} (depth : ℕ) (ks : List (ℕ × Node A)) (i : ℕ) (k : ℕ × Node A) → IsShortFrom depth (kid_rows ks) → i < length ks → k ≡ get_or ks i k → IsShortFrom (depth + 1) (rows k.1)
+short_kid : {A : Type 0} (depth : ℕ) (ks : List (ℕ × Node A)) (i : ℕ) (k : ℕ × Node A) → IsShortFrom depth (kid_rows ks) → i < length ks
+    → k ≡ get_or ks i k → IsShortFrom (depth + 1) (rows k.1)
 short_kid depth [] i k h lt is = absurd (omega arith)
 short_kid {A} depth (j ∷ ks) zero k h lt is =
-    subst (λ (e : ℕ × Node A). IsShortFrom (depth + 1) (rows e.1)) (sym is) (short_below depth j.0 (rows j.1) (all_left (λ (row : Row). depth + length row.0.0 ≤ 64) (map (λ row. below j.0 row) (rows j.1)) (kid_rows ks) h))
-short_kid depth (j ∷ ks) (suc i) k h lt is = short_kid depth ks i k (all_right (λ (row : Row). depth + length row.0.0 ≤ 64) (map (λ row. below j.0 row) (rows j.1)) (kid_rows ks) h) (omega arith) is
+    subst (λ (e : ℕ × Node A). IsShortFrom (depth + 1) (rows e.1)) (sym is)
+    (short_below depth j.0 (rows j.1)
+    (all_left (λ (row : Row). depth + length row.0.0 ≤ 64) (map (λ row. below j.0 row) (rows j.1)) (kid_rows ks) h))
+short_kid depth (j ∷ ks) (suc i) k h lt is = short_kid depth ks i k
+    (all_right (λ (row : Row). depth + length row.0.0 ≤ 64) (map (λ row. below j.0 row) (rows j.1)) (kid_rows ks) h) (omega arith) is
 
-pub short_child : {A : Type 0} (n : Node A) (depth i : ℕ) (k : ℕ × Node A) → IsShortFrom depth (rows n) → i < length (kids n) → k ≡ get_or (kids n) i k → IsShortFrom (depth + 1) (rows k.1)
-short_child n depth i k h lt is = short_kid depth (kids n) i k (all_right (λ (row : Row). depth + length row.0.0 ≤ 64) (own_rows (own n)) (kid_rows (kids n)) (subst (λ t. IsShortFrom depth t) (rows_is n) h)) lt is
+pub short_child : {A : Type 0} (n : Node A) (depth i : ℕ) (k : ℕ × Node A) → IsShortFrom depth (rows n) → i < length (kids n)
+    → k ≡ get_or (kids n) i k → IsShortFrom (depth + 1) (rows k.1)
+short_child n depth i k h lt is =
+    short_kid depth (kids n) i k (all_right (λ (row : Row). depth + length row.0.0 ≤ 64) (own_rows (own n)) (kid_rows (kids n))
+    (subst (λ t. IsShortFrom depth t) (rows_is n) h)) lt is
 
 pub short_root : (t : Tree) → AllShort t → IsShortFrom 0 t
 short_root [] h = tt
@@ -109,20 +136,16 @@ abbrev pub listed : Slot → Tree → List (List ℕ × Count)
 listed slot [] = []
 listed slot (row ∷ rows) = cond (same_slot slot row.0.1) ((row.0.0, row.1) ∷ listed slot rows) (listed slot rows)
 
-pub listed_tree : {A : Type 0} (slot : Slot) (n : Node A) → listed slot (tree_of (Some n)) ≡ slot_rows slot [] (rows n)
-listed_tree slot n = of (rows n)
-  where
-    of : (t : Tree) → listed slot (map (λ row. ((reverse row.0.0, row.0.1), row.1)) t) ≡ slot_rows slot [] t
-    of [] = refl
-    of (row ∷ t) = ap (λ l. cond (same_slot slot row.0.1) ((reverse row.0.0, row.1) ∷ l) l) (of t)
-
 -- what is found behind the first row is found in the whole
-found_later : (row : Row) (t : Tree) → IsSorted place_cmp (row ∷ t) → (k : List ℕ × Slot) (c : Count) → find place_cmp k t ≡ Some c → find place_cmp k (row ∷ t) ≡ Some c
-found_later row t s k c found = (elim (place_cmp k row.0) as (λ r. place_cmp k row.0 ≡ r → cond (is_eq r) (Some row.1) (find place_cmp k t) ≡ Some c) [
-  | Less ↦ λ e. found
-  | Equal ↦ λ e. absurd (let none : find place_cmp k t ≡ None = find_below place_cmp place_total k t (below_tied place_cmp place_total k row.0 t e (both_left _ _ s)) in let never : None ≡ Some c = sym none ∙ found in cc)
-  | Greater ↦ λ e. found
-]) refl
+pub found_later : (row : Row) (t : Tree) → IsSorted place_cmp (row ∷ t) → (k : List ℕ × Slot) (c : Count) → find place_cmp k t ≡ Some c
+    → find place_cmp k (row ∷ t) ≡ Some c
+found_later row t s k c found =
+    (elim (place_cmp k row.0) as (λ r. place_cmp k row.0 ≡ r → cond (is_eq r) (Some row.1) (find place_cmp k t) ≡ Some c) [
+      | Less ↦ λ e. found
+      | Equal ↦ λ e. absurd (let none : find place_cmp k t ≡ None = find_below place_cmp place_total k t
+          (below_tied place_cmp place_total k row.0 t e (both_left _ _ s)) in let never : None ≡ Some c = sym none ∙ found in cc)
+      | Greater ↦ λ e. found
+    ]) refl
 
 module _ (slot : Slot) where
   -- rows of one slot are in stack order
@@ -133,67 +156,87 @@ module _ (slot : Slot) where
     | Greater ↦ λ e. e
   ]) lt
 
-  rising_after : (row : Row) → slot ≡ row.0.1 → (t : Tree) → T (below_all place_cmp row.0 t) → AllByRecursion (λ x. ByStack (row.0.0, row.1) x) (listed slot t)
+  rising_after : (row : Row) → slot ≡ row.0.1 → (t : Tree) → T (below_all place_cmp row.0 t)
+      → AllByRecursion (λ x. ByStack (row.0.0, row.1) x) (listed slot t)
   rising_after row mine [] h = tt
   rising_after row mine (x ∷ t) h =
       let rest = rising_after row mine t (both_right _ _ h) in
-      (elim (same_slot slot x.0.1) as (λ b. same_slot slot x.0.1 ≡ b → AllByRecursion (λ y. ByStack (row.0.0, row.1) y) (cond b ((x.0.0, x.1) ∷ listed slot t) (listed slot t))) [
+      (elim (same_slot slot x.0.1) as (λ b. same_slot slot x.0.1 ≡ b
+      → AllByRecursion (λ y. ByStack (row.0.0, row.1) y) (cond b ((x.0.0, x.1) ∷ listed slot t) (listed slot t))) [
         | true ↦ λ e.
             let its : slot ≡ x.0.1 = (same_slot_Decides slot x.0.1).0 e in
-            let lt : place_cmp (row.0.0, slot) (x.0.0, slot) ≡ Less = ap (λ s. place_cmp (row.0.0, s) (x.0.0, slot)) mine ∙ ap (λ s. place_cmp row.0 (x.0.0, s)) its ∙ less _ (both_left _ _ h) in
+            let lt : place_cmp (row.0.0, slot) (x.0.0, slot) ≡ Less = ap (λ s. place_cmp (row.0.0, s) (x.0.0, slot)) mine
+            ∙ ap (λ s. place_cmp row.0 (x.0.0, s)) its ∙ less _ (both_left _ _ h) in
             (stack_below row.0.0 x.0.0 lt, rest)
         | false ↦ λ e. rest
       ]) refl
 
   rising : (t : Tree) → IsSorted place_cmp t → IsRising ByStack (listed slot t)
   rising [] s = tt
-  rising (x ∷ t) s = (elim (same_slot slot x.0.1) as (λ b. same_slot slot x.0.1 ≡ b → IsRising ByStack (cond b ((x.0.0, x.1) ∷ listed slot t) (listed slot t))) [
-    | true ↦ λ e. (rising_after x ((same_slot_Decides slot x.0.1).0 e) t (both_left _ _ s), rising t (both_right _ _ s))
-    | false ↦ λ e. rising t (both_right _ _ s)
-  ]) refl
+  rising (x ∷ t) s = (elim (same_slot slot x.0.1)
+      as (λ b. same_slot slot x.0.1 ≡ b → IsRising ByStack (cond b ((x.0.0, x.1) ∷ listed slot t) (listed slot t))) [
+        | true ↦ λ e. (rising_after x ((same_slot_Decides slot x.0.1).0 e) t (both_left _ _ s), rising t (both_right _ _ s))
+        | false ↦ λ e. rising t (both_right _ _ s)
+      ]) refl
 
   -- what is listed is found, and what is found is listed
-  listed_found : (t : Tree) → IsSorted place_cmp t → (x : List ℕ × Count) → Contains (listed slot t) x → find place_cmp (x.0, slot) t ≡ Some x.1
+  listed_found : (t : Tree) → IsSorted place_cmp t → (x : List ℕ × Count) → Contains (listed slot t) x
+      → find place_cmp (x.0, slot) t ≡ Some x.1
   listed_found [] s x h = absurd (Contains-nil x h)
-  listed_found (row ∷ t) s x h = (elim (same_slot slot row.0.1) as (λ b. same_slot slot row.0.1 ≡ b → Contains (cond b ((row.0.0, row.1) ∷ listed slot t) (listed slot t)) x → find place_cmp (x.0, slot) (row ∷ t) ≡ Some x.1) [
-    | true ↦ λ e c. elim (Contains-cases (row.0.0, row.1) (listed slot t) x c) [
-      | inl is ↦
-          let mine : slot ≡ row.0.1 = (same_slot_Decides slot row.0.1).0 e in
-          ap (λ (y : List ℕ × Count). find place_cmp (y.0, slot) (row ∷ t)) (sym is) ∙ ap (λ s. find place_cmp (row.0.0, s) (row ∷ t)) mine ∙ find_first place_cmp place_total row t ∙ ap (λ (y : List ℕ × Count). Some y.1) is
-      | inr there ↦ found_later row t s (x.0, slot) x.1 (listed_found t (both_right _ _ s) x there)
-    ]
-    | false ↦ λ e c. found_later row t s (x.0, slot) x.1 (listed_found t (both_right _ _ s) x c)
-  ]) refl h
+  listed_found (row ∷ t) s x h =
+      (elim (same_slot slot row.0.1) as (λ b. same_slot slot row.0.1 ≡ b
+      → Contains (cond b ((row.0.0, row.1) ∷ listed slot t) (listed slot t)) x → find place_cmp (x.0, slot) (row ∷ t) ≡ Some x.1) [
+        | true ↦ λ e c. elim (Contains-cases (row.0.0, row.1) (listed slot t) x c) [
+          | inl is ↦
+              let mine : slot ≡ row.0.1 = (same_slot_Decides slot row.0.1).0 e in
+              ap (λ (y : List ℕ × Count). find place_cmp (y.0, slot) (row ∷ t)) (sym is)
+              ∙ ap (λ s. find place_cmp (row.0.0, s) (row ∷ t)) mine ∙ find_first place_cmp place_total row t
+              ∙ ap (λ (y : List ℕ × Count). Some y.1) is
+          | inr there ↦ found_later row t s (x.0, slot) x.1 (listed_found t (both_right _ _ s) x there)
+        ]
+        | false ↦ λ e c. found_later row t s (x.0, slot) x.1 (listed_found t (both_right _ _ s) x c)
+      ]) refl h
 
   found_listed : (t : Tree) (stack : List ℕ) (c : Count) → find place_cmp (stack, slot) t ≡ Some c → Contains (listed slot t) (stack, c)
   found_listed [] stack c found = cc
-  found_listed (row ∷ t) stack c found = (elim (place_cmp (stack, slot) row.0) as (λ r. place_cmp (stack, slot) row.0 ≡ r → cond (is_eq r) (Some row.1) (find place_cmp (stack, slot) t) ≡ Some c → Contains (listed slot (row ∷ t)) (stack, c)) [
-    | Less ↦ λ e is. further (found_listed t stack c is)
-    | Equal ↦ λ e is.
-        let same = place_same (stack, slot) row.0 e in
-        let mine : same_slot slot row.0.1 ≡ true = (same_slot_Decides slot row.0.1).1 (ap (λ (k : List ℕ × Slot). k.1) same) in
-        let value : row.1 ≡ c = ap (λ (o : Option Count). unwrap_or o c) is in
-        let x : ◌≡◌ {A = List ℕ × Count} (row.0.0, row.1) (stack, c) = λ i. (sym (ap (λ (k : List ℕ × Slot). k.0) same) i, value i) in
-        rw mine (subst (λ (y : List ℕ × Count). Contains ((row.0.0, row.1) ∷ listed slot t) y) x (Contains-here (row.0.0, row.1) (listed slot t)))
-    | Greater ↦ λ e is. further (found_listed t stack c is)
-  ]) refl found
+  found_listed (row ∷ t) stack c found =
+      (elim (place_cmp (stack, slot) row.0) as (λ r. place_cmp (stack, slot) row.0 ≡ r
+      → cond (is_eq r) (Some row.1) (find place_cmp (stack, slot) t) ≡ Some c → Contains (listed slot (row ∷ t)) (stack, c)) [
+        | Less ↦ λ e is. further (found_listed t stack c is)
+        | Equal ↦ λ e is.
+            let same = place_same (stack, slot) row.0 e in
+            let mine : same_slot slot row.0.1 ≡ true = (same_slot_Decides slot row.0.1).1 (ap (λ (k : List ℕ × Slot). k.1) same) in
+            let value : row.1 ≡ c = ap (λ (o : Option Count). unwrap_or o c) is in
+            let x : ◌≡◌ {A = List ℕ × Count} (row.0.0, row.1) (stack, c) = λ i. (sym (ap (λ (k : List ℕ × Slot). k.0) same) i, value i) in
+            rw mine (subst (λ (y : List ℕ × Count). Contains ((row.0.0, row.1) ∷ listed slot t) y) x
+            (Contains-here (row.0.0, row.1) (listed slot t)))
+        | Greater ↦ λ e is. further (found_listed t stack c is)
+      ]) refl found
     where
       further : Contains (listed slot t) (stack, c) → Contains (listed slot (row ∷ t)) (stack, c)
-      further h = elim (same_slot slot row.0.1) as (λ b. Contains (cond b ((row.0.0, row.1) ∷ listed slot t) (listed slot t)) (stack, c)) [ true ↦ Contains-there (row.0.0, row.1) (listed slot t) (stack, c) h | false ↦ h ]
+      further h = elim (same_slot slot row.0.1) as (λ b. Contains (cond b ((row.0.0, row.1) ∷ listed slot t) (listed slot t)) (stack, c)) [
+        | true ↦ Contains-there (row.0.0, row.1) (listed slot t) (stack, c) h
+        | false ↦ h
+      ]
 
   -- the rows of a slot are its counts that aren't zero, in stack order
   pub lists_rows : (t : Tree) → IsTree t → ListsRows t slot (listed slot t)
   lists_rows t h = record { rising = rising t h.ordered; members = λ x. (into x, out x) }
     where
       into : (x : List ℕ × Count) → Contains (listed slot t) x → (x.1 ≡ count_at t slot x.0) × IsPositive x.1
-      into x c = let found = listed_found t h.ordered x c in (sym (ap (λ (o : Option Count). unwrap_or o zero_count) found), each_found place_cmp IsPositive (x.0, slot) x.1 t h.positive found)
+      into x c = let found = listed_found t h.ordered x c in (
+        sym (ap (λ (o : Option Count). unwrap_or o zero_count) found),
+        each_found place_cmp IsPositive (x.0, slot) x.1 t h.positive found,
+      )
 
       out : (x : List ℕ × Count) → (x.1 ≡ count_at t slot x.0) × IsPositive x.1 → Contains (listed slot t) x
       out x (is, some) = of (find place_cmp (x.0, slot) t) refl
         where
           of : (o : Option Count) → find place_cmp (x.0, slot) t ≡ o → Contains (listed slot t) x
-          of None none = let zero : x.1 ≡ zero_count = is ∙ ap (λ (o : Option Count). unwrap_or o zero_count) none in let never : IsPositive zero_count = subst IsPositive zero some in absurd (omega (arith, never))
-          of (Some c) found = let value : c ≡ x.1 = sym (is ∙ ap (λ (o : Option Count). unwrap_or o zero_count) found) in found_listed t x.0 x.1 (found ∙ ap (λ (d : Count). Some d) value)
+          of None none = let zero : x.1 ≡ zero_count = is ∙ ap (λ (o : Option Count). unwrap_or o zero_count) none in
+              let never : IsPositive zero_count = subst IsPositive zero some in absurd (omega (arith, never))
+          of (Some c) found = let value : c ≡ x.1 = sym (is ∙ ap (λ (o : Option Count). unwrap_or o zero_count) found) in
+              found_listed t x.0 x.1 (found ∙ ap (λ (d : Count). Some d) value)
 
 -- ---- the slots of a whole tree
 
@@ -217,9 +260,11 @@ slots_of-own (e ∷ es) = ap (λ l. e.0 ∷ l) (slots_of-own es)
 
 -- the slots of a node are its own and those of its children
 pub slots_of-node : {A : Type 0} (n : Node A) → slots_of (rows n) ≡ map (λ (e : Slot × Count). e.0) (own n) ++ slots_of (kid_rows (kids n))
-slots_of-node n = ap slots_of (rows_is n) ∙ slots_of-append (own_rows (own n)) (kid_rows (kids n)) ∙ ap (λ l. l ++ slots_of (kid_rows (kids n))) (slots_of-own (own n))
+slots_of-node n = ap slots_of (rows_is n) ∙ slots_of-append (own_rows (own n)) (kid_rows (kids n))
+    ∙ ap (λ l. l ++ slots_of (kid_rows (kids n))) (slots_of-own (own n))
 
-pub kid_slots_drop : {A : Type 0} (ks : List (ℕ × Node A)) (i : ℕ) (k : ℕ × Node A) → i < length ks → k ≡ get_or ks i k → slots_of (kid_rows (drop i ks)) ≡ slots_of (rows k.1) ++ slots_of (kid_rows (drop (i + 1) ks))
+pub kid_slots_drop : {A : Type 0} (ks : List (ℕ × Node A)) (i : ℕ) (k : ℕ × Node A) → i < length ks → k ≡ get_or ks i k
+    → slots_of (kid_rows (drop i ks)) ≡ slots_of (rows k.1) ++ slots_of (kid_rows (drop (i + 1) ks))
 kid_slots_drop {A} ks i k lt is =
     ap (λ l. slots_of (kid_rows l)) (drop_more ks i k lt ∙ ap (λ (j : ℕ × Node A). j ∷ drop (i + 1) ks) (sym is))
     ∙ slots_of-append (map (λ row. below k.0 row) (rows k.1)) (kid_rows (drop (i + 1) ks))
@@ -228,7 +273,8 @@ kid_slots_drop {A} ks i k lt is =
 pub kid_slots_end : {A : Type 0} (ks : List (ℕ × Node A)) (i : ℕ) → length ks ≤ i → slots_of (kid_rows (drop i ks)) ≡ []
 kid_slots_end ks i past = ap (λ l. slots_of (kid_rows l)) (drop_all i ks past)
 
-slot_found : (t : Tree) → IsSorted place_cmp t → (slot : Slot) → Contains (slots_of t) slot → (stack : List ℕ) × (c : Count) × (find place_cmp (stack, slot) t ≡ Some c)
+slot_found : (t : Tree) → IsSorted place_cmp t → (slot : Slot) → Contains (slots_of t) slot
+    → (stack : List ℕ) × (c : Count) × (find place_cmp (stack, slot) t ≡ Some c)
 slot_found [] s slot h = absurd (Contains-nil slot h)
 slot_found (row ∷ t) s slot h = elim (Contains-cases row.0.1 (slots_of t) slot h) [
   | inl is ↦ (row.0.0, row.1, ap (λ u. find place_cmp (row.0.0, u) (row ∷ t)) (sym is) ∙ find_first place_cmp place_total row t)
@@ -237,26 +283,35 @@ slot_found (row ∷ t) s slot h = elim (Contains-cases row.0.1 (slots_of t) slot
 
 found_slot : (t : Tree) (slot : Slot) (stack : List ℕ) (c : Count) → find place_cmp (stack, slot) t ≡ Some c → Contains (slots_of t) slot
 found_slot [] slot stack c found = cc
-found_slot (row ∷ t) slot stack c found = (elim (place_cmp (stack, slot) row.0) as (λ r. place_cmp (stack, slot) row.0 ≡ r → cond (is_eq r) (Some row.1) (find place_cmp (stack, slot) t) ≡ Some c → Contains (row.0.1 ∷ slots_of t) slot) [
-  | Less ↦ λ e is. Contains-there row.0.1 (slots_of t) slot (found_slot t slot stack c is)
-  | Equal ↦ λ e is. let same = place_same (stack, slot) row.0 e in subst (λ u. Contains (row.0.1 ∷ slots_of t) u) (sym (ap (λ (k : List ℕ × Slot). k.1) same)) (Contains-here row.0.1 (slots_of t))
-  | Greater ↦ λ e is. Contains-there row.0.1 (slots_of t) slot (found_slot t slot stack c is)
-]) refl found
+found_slot (row ∷ t) slot stack c found =
+    (elim (place_cmp (stack, slot) row.0) as (λ r. place_cmp (stack, slot) row.0 ≡ r
+    → cond (is_eq r) (Some row.1) (find place_cmp (stack, slot) t) ≡ Some c → Contains (row.0.1 ∷ slots_of t) slot) [
+      | Less ↦ λ e is. Contains-there row.0.1 (slots_of t) slot (found_slot t slot stack c is)
+      | Equal ↦ λ e is. let same = place_same (stack, slot) row.0 e in
+          subst (λ u. Contains (row.0.1 ∷ slots_of t) u) (sym (ap (λ (k : List ℕ × Slot). k.1) same)) (Contains-here row.0.1 (slots_of t))
+      | Greater ↦ λ e is. Contains-there row.0.1 (slots_of t) slot (found_slot t slot stack c is)
+    ]) refl found
 
 -- the slots of the rows, put in order, are those that are counted somewhere
-pub lists_slots : (t : Tree) → IsTree t → (slots : List Slot) → IsRising BySlot slots → ((slot : Slot) → Contains slots slot ↔ Contains (slots_of t) slot) → ListsSlots t slots
-lists_slots t h slots rising members = record { rising = rising; members = λ slot. (λ c. into slot ((members slot).0 c), λ p. (members slot).1 (out slot p)) }
+pub lists_slots : (t : Tree) → IsTree t → (slots : List Slot) → IsRising BySlot slots
+    → ((slot : Slot) → Contains slots slot ↔ Contains (slots_of t) slot) → ListsSlots t slots
+lists_slots t h slots rising members =
+    record { rising = rising; members = λ slot. (λ c. into slot ((members slot).0 c), λ p. (members slot).1 (out slot p)) }
   where
     into : (slot : Slot) → Contains (slots_of t) slot → (stack : List ℕ) × IsPositive (count_at t slot stack)
     into slot c =
-        let r = slot_found t h.ordered slot c in
-        (r.0, subst IsPositive (sym (ap (λ (o : Option Count). unwrap_or o zero_count) r.2)) (each_found place_cmp IsPositive (r.0, slot) r.1 t h.positive r.2))
+        let r = slot_found t h.ordered slot c in (
+          r.0,
+          subst IsPositive (sym (ap (λ (o : Option Count). unwrap_or o zero_count) r.2))
+              (each_found place_cmp IsPositive (r.0, slot) r.1 t h.positive r.2),
+        )
 
     out : (slot : Slot) → (stack : List ℕ) × IsPositive (count_at t slot stack) → Contains (slots_of t) slot
     out slot (stack, some) = of (find place_cmp (stack, slot) t) refl
       where
         of : (o : Option Count) → find place_cmp (stack, slot) t ≡ o → Contains (slots_of t) slot
-        of None none = let never : IsPositive zero_count = subst IsPositive (ap (λ (o : Option Count). unwrap_or o zero_count) none) some in absurd (omega (arith, never))
+        of None none = let never : IsPositive zero_count =
+            subst IsPositive (ap (λ (o : Option Count). unwrap_or o zero_count) none) some in absurd (omega (arith, never))
         of (Some c) found = found_slot t slot stack c found
 
 -- a list in strict order rises

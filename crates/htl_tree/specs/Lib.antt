@@ -1,4 +1,7 @@
-pub mod Slots
+-- what public contracts cite
+pub mod Asked
 pub mod Trees
-pub mod Nodes
 pub use Rattle.htl_sorted.specs.Entries
+-- what private ones cite
+pub mod Nodes
+pub mod Rows

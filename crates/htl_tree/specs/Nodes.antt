@@ -1,12 +1,11 @@
 -- What a node counts, and which nodes are in normal form.
-use Rattle.std.specs.Prelude.{◌≡◌, ℕ, ◌+◌, ◌<◌, ◌≤◌, max, ◌^◌, ◌≢◌, List, [], ◌∷◌, ◌++◌, map, reverse, length, Option, Some, None, unwrap_or, nat_eq, if◌then◌else◌}
+use Rattle.std.specs.Prelude.{◌≡◌, ℕ, ◌+◌, ◌<◌, ◌≤◌, max, ◌^◌, ◌≢◌, List, [], ◌∷◌, ◌++◌, map, reverse, length, Option, Some, None, unwrap_or, nat_eq, Bool, true, if◌then◌else◌}
 use Rattle.std.specs.List.{flat_map, starts_with, AllByRecursion}
 use Rattle.std.specs.Ordering.{nat_cmp}
 use Rattle.std.specs.FinMap.Entries.{find, put}
 use Rattle.htl_event.specs.declared.slot.Slot.{Slot}
 use Rattle.htl_event.specs.declared.slot.Sign.{Sign}
 use Rattle.htl_event.specs.declared.slot.Count.{Count}
-use Rattle.htl_event.specs.Slots.{same_slot}
 use Rattle.htl_event.specs.Tallies.{zero_count, plus_count, total_of, IsPositive}
 use Rattle.htl_sorted.specs.Entries.{IsSorted, Each}
 use Rattle.htl_sorted.specs.Made.{Made}
@@ -14,7 +13,7 @@ use Rattle.htl_tree.specs.declared.node.Node.{Node}
 use Rattle.htl_tree.specs.declared.node.Node.TheOpen.{Node-F}
 use Rattle.htl_tree.specs.declared.node.Node.TheViews.{out-Node}
 use Rattle.htl_tree.specs.declared.node.Node.TheFolds.{fold-Node}
-use Rattle.htl_tree.specs.Slots.{slot_cmp}
+use Rattle.htl_event.specs.SlotOrder.{slot_cmp}
 use Rattle.htl_tree.specs.Trees.{Tree, AllShort, bump, total_count, sum_where}
 
 abbrev pub own : {A : Type 0} → Node A → List (Slot × Count)
@@ -171,16 +170,35 @@ sum_under path slot n = sum_where (λ p. starts_with nat_eq p path) slot (rows n
 
 -- ---- lists of what a node counts
 
--- the slot's rows with their stacks, at and below a node that the path leads to
-abbrev pub slot_rows : Slot → List ℕ → Tree → List (List ℕ × Count)
-slot_rows slot path [] = []
-slot_rows slot path (row ∷ rows) =
-    if same_slot slot row.0.1 then (reverse (path ++ row.0.0), row.1) ∷ slot_rows slot path rows else slot_rows slot path rows
+-- the rows of the slots that pass with their stacks, at and below a node that the path leads to
+abbrev pub rows_at : (Slot → Bool) → List ℕ → Tree → List ((Slot × List ℕ) × Count)
+rows_at passes path [] = []
+rows_at passes path (row ∷ rows) =
+    if passes row.0.1 then ((row.0.1, reverse (path ++ row.0.0)), row.1) ∷ rows_at passes path rows else rows_at passes path rows
 
--- a node's own row, if it has one
-abbrev pub one_row : List ℕ → Option Count → List (List ℕ × Count)
-one_row path None = []
-one_row path (Some count) = (reverse path, count) ∷ []
+-- those of the node itself
+abbrev pub own_at : (Slot → Bool) → List ℕ → List (Slot × Count) → List ((Slot × List ℕ) × Count)
+own_at passes path [] = []
+own_at passes path (e ∷ es) = if passes e.0 then ((e.0, reverse path), e.1) ∷ own_at passes path es else own_at passes path es
+
+-- those of a tree
+abbrev pub picked : (Slot → Bool) → Tree → List ((Slot × List ℕ) × Count)
+picked passes [] = []
+picked passes (row ∷ rows) = if passes row.0.1 then ((row.0.1, row.0.0), row.1) ∷ picked passes rows else picked passes rows
+
+-- such rows as entries of a tree
+abbrev pub entries_at : List ((Slot × List ℕ) × Count) → Tree
+entries_at rows = map (λ row. ((row.0.1, row.0.0), row.1)) rows
+
+-- how often the slot came in these rows
+abbrev pub sum_of_slot : Slot → List ((Slot × List ℕ) × Count) → Count
+sum_of_slot slot rows = sum_where (λ stack. true) slot (entries_at rows)
+
+-- these are the sums of the rows by slot
+pub record AreSums (rows : List ((Slot × List ℕ) × Count)) (sums : List (Slot × Count)) : Type 0 where
+  pub sorted : IsSorted slot_cmp sums
+  pub positive : Each IsPositive sums
+  pub counts : (slot : Slot) → count_in sums slot ≡ sum_of_slot slot rows
 
 -- below so many frames no stack is longer than a stack may be
 abbrev pub IsShortFrom : ℕ → Tree → Type 0

@@ -1,21 +1,23 @@
 -- A tree as its tally: the counts that aren't zero, by stack and then by slot.
-use Rattle.std.specs.Prelude.{◌≡◌, ℕ, ◌+◌, ◌≤◌, List, [], ◌∷◌, Bool, ◌&&◌, if◌then◌else◌, nat_eq, unwrap_or, length}
+use Rattle.std.specs.Prelude.{◌≡◌, ℕ, ◌+◌, ◌≤◌, List, [], ◌∷◌, Bool, true, ◌&&◌, if◌then◌else◌, nat_eq, Option, Some, None, unwrap_or, length}
 use Rattle.std.specs.List.{sum_by, starts_with, AllByRecursion}
 use Rattle.std.specs.Ordering.{on, then_cmp}
 use Rattle.std.specs.FinMap.Entries.{find, put}
 use Rattle.std.specs.declared.cmp.Ordering.{Ordering}
 use Rattle.std.specs.declared.cmp.Ordering.TheVariants.{Less}
-use Rattle.htl_event.specs.declared.event.Event.{Event}
+use Rattle.htl_event.specs.Events.{Event}
 use Rattle.htl_event.specs.declared.slot.Slot.{Slot}
 use Rattle.htl_event.specs.declared.slot.Sign.{Sign}
 use Rattle.htl_event.specs.declared.slot.Sign.TheVariants.{Plus, Minus}
 use Rattle.htl_event.specs.declared.slot.Count.{Count}
-use Rattle.htl_event.specs.Slots.{same_slot}
+use Rattle.htl_event.specs.Slots.{slot_of, same_slot}
 use Rattle.htl_event.specs.Members.{Lists}
 use Rattle.htl_event.specs.Stacks.{outer, stack_cmp}
 use Rattle.htl_event.specs.Tallies.{zero_count, plus_count, total_of, IsPositive, tally, ByStack}
 use Rattle.htl_sorted.specs.Entries.{IsSorted, Each}
-use Rattle.htl_tree.specs.Slots.{slot_cmp}
+use Rattle.htl_event.specs.SlotOrder.{slot_cmp}
+use Rattle.htl_tree.specs.declared.slots.Slots.{Slots}
+use Rattle.htl_tree.specs.Asked.{has_slot}
 
 abbrev pub Tree : Type 0
 Tree = List ((List ℕ × Slot) × Count)
@@ -35,6 +37,15 @@ bump Minus count = record { plus = count.plus; minus = count.minus + 1 }
 -- one more of the slot with the stack
 abbrev pub with_one : Tree → Slot → Sign → List ℕ → Tree
 with_one tree slot sign stack = put place_cmp (stack, slot) (bump sign (count_at tree slot stack)) tree
+
+-- one more where an event with this slot and stack is counted
+abbrev pub with_slot : Tree → Option (Slot × Sign) → List ℕ → Tree
+with_slot tree None stack = tree
+with_slot tree (Some x) stack = with_one tree x.0 x.1 stack
+
+-- the event counted too
+abbrev pub with_event : Tree → Event → Tree
+with_event tree event = with_slot tree (slot_of event) event.stack
 
 -- the sum of the slot's counts at the stacks that pass
 abbrev pub sum_where : (List ℕ → Bool) → Slot → Tree → Count
@@ -71,14 +82,31 @@ IsSumTally sum tree other = (slot : Slot) (stack : List ℕ) → count_at sum sl
 abbrev pub HasTally : Tree → List Event → Type 0
 HasTally tree events = (slot : Slot) (stack : List ℕ) → count_at tree slot stack ≡ tally events slot stack
 
+-- what the tree counts of these slots, and nothing else
+abbrev pub IsTallyOf : Slots → Tree → Tree → Type 0
+IsTallyOf slots tree part = (slot : Slot) (stack : List ℕ) → count_at part slot stack ≡ (if has_slot slots slot then count_at tree slot stack else zero_count)
+
 -- ---- lists of what a tree counts
 
 -- the slot's counts that aren't zero, in stack order
 abbrev pub ListsRows : Tree → Slot → List (List ℕ × Count) → Type 0
 ListsRows tree slot rows = Lists ByStack (λ row. (row.1 ≡ count_at tree slot row.0) × IsPositive row.1) rows
 
+abbrev pub ByStackAndSlot : {X : Type 0} → (Slot × List ℕ) × X → (Slot × List ℕ) × X → Type 0
+ByStackAndSlot a b = place_cmp (a.0.1, a.0.0) (b.0.1, b.0.0) ≡ Less
+
+-- the counts of these slots that aren't zero, by stack and then by slot
+abbrev pub ListsRowsOf : Tree → Slots → List ((Slot × List ℕ) × Count) → Type 0
+ListsRowsOf tree slots rows =
+    Lists ByStackAndSlot (λ row. (row.1 ≡ count_at tree row.0.0 row.0.1) × IsPositive row.1 × (has_slot slots row.0.0 ≡ true)) rows
+
 abbrev pub BySlot : Slot → Slot → Type 0
 BySlot s t = slot_cmp s t ≡ Less
+
+-- how often each of these slots came with whatever stack, where that isn't zero, in slot order
+abbrev pub ListsSums : Tree → Slots → List (Slot × Count) → Type 0
+ListsSums tree slots sums =
+    Lists (λ a b. BySlot a.0 b.0) (λ sum. (sum.1 ≡ count_under tree [] sum.0) × IsPositive sum.1 × (has_slot slots sum.0 ≡ true)) sums
 
 -- the slots that are counted at some stack, in slot order
 abbrev pub ListsSlots : Tree → List Slot → Type 0

@@ -4,17 +4,23 @@
 //! slots. Equal tallies have one tree, so `StackTree::same` walks two trees side by side.
 #![tactic(auto)]
 
+mod building;
 mod compare;
+mod counting;
+mod filling;
+mod hints;
 pub mod laws;
 mod listing;
 mod node;
 mod order;
 mod prefix;
 mod root;
-mod sorting;
+mod row;
+mod slots;
 mod sums;
 #[cfg(test)]
 mod tests;
 mod tree;
 
-pub use tree::StackTree;
+pub use slots::Slots;
+pub use tree::{StackTree, fits_events};

@@ -1,36 +1,41 @@
 //! Lists of what a node counts.
 
-ghost use Rattle.std.specs.Prelude.{◌≡◌, ◌<◌, ◌≤◌, ◌++◌, ◌↔◌, length, map, reverse, Contains, OnOk};
+ghost use Rattle.std.specs.Prelude.{◌≡◌, ℕ, ◌<◌, ◌≤◌, ◌^◌, List, [], ◌++◌, ◌↔◌, length, map, reverse, false, Contains, IfOk, OnOk};
 ghost use Rattle.htl_event.specs.declared.slot.Slot.{Slot};
+ghost use Rattle.htl_event.specs.declared.slot.Count.{Count};
 ghost use Rattle.htl_event.specs.Members.{IsRising};
-ghost use Rattle.htl_tree.specs.Trees.{BySlot};
-ghost use Rattle.std.specs.FinMap.Entries.{find};
-ghost use Rattle.htl_sorted.specs.Entries.{IsSorted};
-ghost use Rattle.htl_tree.specs.Slots.{slot_cmp};
-ghost use Rattle.htl_tree.specs.Nodes.{IsNormal, rows, slot_rows, one_row, IsShortFrom, slots_of};
+ghost use Rattle.htl_event.specs.Tallies.{IsPositive};
+ghost use Rattle.htl_sorted.specs.Entries.{Each};
+ghost use Rattle.htl_tree.specs.Trees.{BySlot, total_count};
+ghost use Rattle.htl_tree.specs.Asked.{has_slot};
+ghost use Rattle.htl_tree.specs.Nodes.{rows, rows_at, own_at, entries_at, AreSums, IsShortFrom, slots_of};
 
-use crate::node::{Node, find_slot};
-use htl_event::{Count, MAX_FRAMES, NoMemory, Slot, Stack};
-use std::alloc::Allocator;
+use crate::filling::add_count;
+use crate::node::Node;
+use crate::slots::Slots;
+use htl_event::{Count, MAX_FRAMES, NoMemory, SharedStack, Slot};
+use std::alloc::{Allocator, Global};
+use std::cmp::Ordering;
 
 impl<A: Allocator> Node<A> {
-    /// Adds the slot's rows at this node and below, in stack order. The path leads to this node from the
-    /// outermost frame, and is there again at the return.
+    /// Adds the counts of these slots, at this node and below, by stack and then by
+    /// slot. The path leads to this node from the outermost frame, and is there again at the return.
     pub fn list_rows(
         &self,
-        slot: Slot,
+        alloc: Global,
+        slots: Slots,
         path: &mut Vec<u64>,
-        into: &mut Vec<(Stack, Count)>,
+        into: &mut Vec<((Slot, SharedStack), Count)>,
     ) -> Result<(), NoMemory>
-        requires normal { IsNormal self.now }
-        requires short { IsShortFrom (length path.old.items) (rows self.now) }
+        requires { IsShortFrom (length path.old.items) (rows self.now) }
         ensures path { OnOk result (path.new.items ≡ path.old.items) }
-        ensures listed { OnOk result (into.new.items ≡ into.old.items ++ slot_rows slot path.old.items (rows self.now)) }
+        ensures listed { OnOk result (into.new.items
+            ≡ into.old.items ++ rows_at (has_slot slots) path.old.items (rows self.now)) }
     {
-        list_own(&self.counts, slot, path, into)?;
+        list_own(alloc, &self.counts, slots, path, into)?;
         for (frame, child) in &self.children {
             path.push(*frame)?;
-            child.list_rows(slot, path, into)?;
+            child.list_rows(alloc, slots, path, into)?;
             let _ = path.pop();
         }
         Ok(())
@@ -60,36 +65,92 @@ fn list_own_slots(counts: &[(Slot, Count)], into: &mut Vec<Slot>) -> Result<(), 
 /// Puts slots in order, each once.
 pub fn order_slots(slots: &mut Vec<Slot>)
     ensures rising { IsRising BySlot slots.new.items }
-    ensures members { (slot : Slot) → Contains slots.new.items slot ↔ Contains slots.old.items slot }
+    ensures members { (slot : Slot)
+        → Contains slots.new.items slot ↔ Contains slots.old.items slot }
 {
     slots.sort_unstable();
     slots.dedup();
 }
 
 fn list_own(
+    alloc: Global,
     counts: &[(Slot, Count)],
-    slot: Slot,
+    slots: Slots,
     path: &[u64],
-    into: &mut Vec<(Stack, Count)>,
+    into: &mut Vec<((Slot, SharedStack), Count)>,
 ) -> Result<(), NoMemory>
-    requires sorted { IsSorted slot_cmp counts.now }
-    requires short { 0 < length counts.now → length path.now ≤ MAX_FRAMES }
-    ensures { OnOk result (into.new.items ≡ into.old.items ++ one_row path.now (find slot_cmp slot counts.now)) }
+    requires { 0 < length counts.now → length path.now ≤ MAX_FRAMES }
+    ensures { OnOk result (into.new.items
+        ≡ into.old.items ++ own_at (has_slot slots) path.now counts.now) }
 {
-    if let Ok(i) = find_slot(counts, slot) {
-        into.push((stack_at(path), counts[i].1))?;
+    if counts.is_empty() || !has_any(counts, slots) {
+        return Ok(());
+    }
+    let stack = stack_at(alloc, path)?;
+    for (slot, count) in counts {
+        if slots.contains(*slot) {
+            into.push(((*slot, stack.copy()?), *count))?;
+        }
     }
     Ok(())
 }
 
-/// The stack that a path from the outermost frame leads to.
-fn stack_at(path: &[u64]) -> Stack
-    requires { length path.now ≤ MAX_FRAMES }
-    ensures { result ≡ reverse path.now }
+/// Whether any of the counts is of one of these slots.
+fn has_any(counts: &[(Slot, Count)], slots: Slots) -> bool
+    ensures { result ≡ false → (path : List ℕ) → own_at (has_slot slots) path counts.now ≡ [] }
 {
-    let mut stack = Stack::new();
-    for frame in path.iter().rev() {
-        stack.push(*frame);
+    for (slot, _) in counts {
+        if slots.contains(*slot) {
+            return true;
+        }
     }
-    stack
+    false
+}
+
+/// The stack that a path from the outermost frame leads to.
+fn stack_at(alloc: Global, path: &[u64]) -> Result<SharedStack, NoMemory>
+    requires { length path.now ≤ MAX_FRAMES }
+    ensures { IfOk result (λ stack. stack ≡ reverse path.now) }
+{
+    let mut addresses = Vec::from_slice(alloc, path)?;
+    addresses.reverse();
+    SharedStack::of(alloc, addresses, 0)
+}
+
+/// The rows of one slot without it.
+pub fn without_slot(
+    alloc: Global,
+    rows: &[((Slot, SharedStack), Count)],
+) -> Result<Vec<(SharedStack, Count)>, NoMemory>
+    ensures { IfOk result (λ stacks. stacks.items
+        ≡ map (λ (row : (Slot × List ℕ) × Count). (row.0.1, row.1)) rows.now) }
+{
+    let mut stacks = Vec::with_capacity(alloc, rows.len())?;
+    for ((_, stack), count) in rows {
+        stacks.push((stack.copy()?, *count))?;
+    }
+    Ok(stacks)
+}
+
+/// How often each slot came in the rows, in slot order.
+pub fn sums_of(
+    alloc: Global,
+    rows: &mut Vec<((Slot, SharedStack), Count)>,
+) -> Result<Vec<(Slot, Count)>, NoMemory>
+    requires fits { total_count (entries_at rows.old.items) < 2 ^ 64 }
+    requires positive { Each IsPositive (entries_at rows.old.items) }
+    ensures { IfOk result (λ sums. AreSums rows.old.items sums.items) }
+{
+    rows.sort_unstable_by(|a, b| by_slot(a, b));
+    let mut sums = Vec::new(alloc);
+    for ((slot, _), count) in rows.as_slice() {
+        add_count(&mut sums, *slot, *count)?;
+    }
+    Ok(sums)
+}
+
+fn by_slot(a: &((Slot, SharedStack), Count), b: &((Slot, SharedStack), Count)) -> Ordering {
+    let ((slot, _), _) = a;
+    let ((other, _), _) = b;
+    slot.cmp(other)
 }

@@ -4,7 +4,7 @@ ghost use Rattle.std.specs.Prelude.{◌≡◌, ◌+◌, ◌<◌, ◌^◌, revers
 ghost use Rattle.std.specs.Ordering.{nat_cmp};
 ghost use Rattle.htl_event.specs.Tallies.{total_of, plus_count};
 ghost use Rattle.htl_sorted.specs.Entries.{IsSorted, IsPlace, IsGap};
-ghost use Rattle.htl_tree.specs.Slots.{slot_cmp};
+ghost use Rattle.htl_event.specs.SlotOrder.{slot_cmp};
 ghost use Rattle.htl_tree.specs.Trees.{bump};
 ghost use Rattle.htl_tree.specs.Nodes.{tally, count_in, IsNormal, counted, IsBranch, IsAdded, IsKept};
 
@@ -118,7 +118,7 @@ pub fn sum_of(left: Count, right: Count) -> Count
     }
 }
 
-fn bumped(count: Count, sign: Sign) -> Count
+pub fn bumped(count: Count, sign: Sign) -> Count
     requires { total_of count + 1 < 2 ^ 64 }
     ensures { result ≡ bump sign count }
 {

@@ -3,14 +3,14 @@
 use crate::node::{Node, sum_of};
 use htl_event::{Count, Slot};
 use htl_sorted::{Joined, Keyed};
-use std::alloc::Allocator;
+use std::alloc::{AllocError, Allocator};
 use std::marker::PhantomData;
 
 /// A node's counts, by slot.
 pub struct BySlot;
 
 impl Keyed for BySlot {
-    ghost use Rattle.htl_tree.specs.Slots.{slot_same};
+    ghost use Rattle.htl_event.specs.OrderLaws.{slot_same};
 
     type Row = (Slot, Count);
 
@@ -38,12 +38,12 @@ impl Joined for BySlot {
 
     ghost joined = { plus_count };
 
-    fn copy(row: &(Slot, Count)) -> (Slot, Count) {
-        *row
+    fn copy(row: &(Slot, Count)) -> Result<(Slot, Count), AllocError> {
+        Ok(*row)
     }
 
-    fn join(left: &(Slot, Count), right: &(Slot, Count)) -> (Slot, Count) {
-        (left.0, sum_of(left.1, right.1))
+    fn join(left: &(Slot, Count), right: &(Slot, Count)) -> Result<(Slot, Count), AllocError> {
+        Ok((left.0, sum_of(left.1, right.1)))
     }
 }
 

@@ -2,12 +2,14 @@
 
 ghost use Rattle.std.specs.Prelude.{◌≡◌, ◌+◌, ◌<◌, ◌≤◌, ◌^◌, ◌↔◌, length, IsTrue, IfOk, MatchResult};
 ghost use Rattle.htl_event.specs.Tallies.{total_of};
-ghost use Rattle.htl_tree.specs.Trees.{count_at, count_under, total_count, with_one, IsSameTally, IsSumTally, ListsRows, ListsSlots};
-ghost use Rattle.htl_tree.specs.Nodes.{tree_of, IsNormalRoot};
+ghost use Rattle.htl_tree.specs.Trees.{count_at, count_under, total_count, with_one, IsSameTally, IsSumTally, ListsSlots};
+ghost use Rattle.htl_tree.specs.Asked.{has_slot};
+ghost use Rattle.htl_tree.specs.Nodes.{tree_of, picked, IsNormalRoot};
 
 use crate::listing::order_slots;
 use crate::node::{Node, ZERO};
-use htl_event::{Count, MAX_FRAMES, NoMemory, Sign, Slot, Stack};
+use crate::slots::Slots;
+use htl_event::{Count, MAX_FRAMES, NoMemory, SharedStack, Sign, Slot};
 use std::alloc::{Allocator, Global};
 
 pub fn add_to_root<A: Allocator + Clone>(
@@ -21,7 +23,8 @@ pub fn add_to_root<A: Allocator + Clone>(
     requires short { length stack.now ≤ MAX_FRAMES }
     requires fits { total_of (count_at (tree_of root.old) slot stack.now) + 1 < 2 ^ 64 }
     ensures { MatchResult result
-        (λ _. IsNormalRoot root.new × (tree_of root.new ≡ with_one (tree_of root.old) slot sign stack.now))
+        (λ _. IsNormalRoot root.new
+        × (tree_of root.new ≡ with_one (tree_of root.old) slot sign stack.now))
         (λ _. IsNormalRoot root.new × (tree_of root.new ≡ tree_of root.old)) }
 {
     if let Some(root) = root {
@@ -77,7 +80,8 @@ pub fn plus_roots<A: Allocator + Clone>(
     requires left { IsNormalRoot left.now }
     requires right { IsNormalRoot right.now }
     requires fits { total_count (tree_of left.now) + total_count (tree_of right.now) < 2 ^ 64 }
-    ensures { IfOk result (λ sum. IsNormalRoot sum × IsSumTally (tree_of sum) (tree_of left.now) (tree_of right.now)) }
+    ensures { IfOk result (λ sum. IsNormalRoot sum
+        × IsSumTally (tree_of sum) (tree_of left.now) (tree_of right.now)) }
 {
     match (left, right) {
         (None, right) => copy_root(right, alloc),
@@ -89,17 +93,17 @@ pub fn plus_roots<A: Allocator + Clone>(
 pub fn list_root_rows<A: Allocator>(
     root: &Option<Node<A>>,
     alloc: Global,
-    slot: Slot,
-) -> Result<Vec<(Stack, Count)>, NoMemory>
+    slots: Slots,
+) -> Result<Vec<((Slot, SharedStack), Count)>, NoMemory>
     requires { IsNormalRoot root.now }
-    ensures { IfOk result (λ rows. ListsRows (tree_of root.now) slot rows.items) }
+    ensures { IfOk result (λ rows. rows.items ≡ picked (has_slot slots) (tree_of root.now)) }
 {
     let mut rows = Vec::new(alloc);
     match root {
         None => Ok(rows),
         Some(root) => {
             let mut path = Vec::with_capacity(alloc, MAX_FRAMES)?;
-            root.list_rows(slot, &mut path, &mut rows)?;
+            root.list_rows(alloc, slots, &mut path, &mut rows)?;
             Ok(rows)
         }
     }

@@ -5,7 +5,7 @@ ghost use Rattle.std.specs.FinMap.Entries.{find};
 ghost use Rattle.htl_event.specs.declared.slot.Slot.{Slot};
 ghost use Rattle.htl_event.specs.Tallies.{plus_count, total_of};
 ghost use Rattle.htl_sorted.specs.Entries.{IsSorted, joined_at};
-ghost use Rattle.htl_tree.specs.Slots.{slot_cmp};
+ghost use Rattle.htl_event.specs.SlotOrder.{slot_cmp};
 ghost use Rattle.htl_tree.specs.Nodes.{IsNormal, IsCopy, EachNormal, AppendsCopies, IsSum, FitsSum, count_in};
 
 use crate::node::Node;
@@ -73,7 +73,8 @@ fn plus_counts<A: Allocator>(
 ) -> Result<Vec<(Slot, Count), A>, NoMemory>
     requires left { IsSorted slot_cmp left.now }
     requires right { IsSorted slot_cmp right.now }
-    requires fits { (slot : Slot) → total_of (count_in left.now slot) + total_of (count_in right.now slot) < 2 ^ 64 }
+    requires fits { (slot : Slot)
+        → total_of (count_in left.now slot) + total_of (count_in right.now slot) < 2 ^ 64 }
     ensures sorted { IfOk result (λ sums. IsSorted slot_cmp sums.items) }
     ensures values { IfOk result (λ sums. (slot : Slot)
         → find slot_cmp slot sums.items

@@ -1,5 +1,7 @@
+//! Worked trees, trees of random events, and growths that are refused.
+
 use super::*;
-use htl_event::{Count, Event, Kind, NoMemory, Sign, Slot, Stack};
+use htl_event::{Count, Event, Kind, NoMemory, SharedEvent, SharedStack, Sign, Slot, Stack};
 use linked_list_allocator::LocalHeap;
 use std::alloc::{Allocator, Global};
 use std::process::Abort;
@@ -9,6 +11,8 @@ const SLOT: Slot = Slot::Tagged {
     object: 0x1000,
     tag: *b"Lky8",
 };
+
+const OTHER: Slot = Slot::Handles { process: 4 };
 
 const X: [u64; 3] = [0x30, 0x20, 0x10];
 
@@ -22,12 +26,19 @@ fn stack(frames: &[u64]) -> Stack {
     stack
 }
 
+fn shared(alloc: Global, frames: &[u64], fingerprint: u64) -> Result<SharedStack, NoMemory> {
+    if frames.len() > 64 {
+        return Err(NoMemory);
+    }
+    SharedStack::of(alloc, Vec::from_slice(alloc, frames)?, fingerprint)
+}
+
 fn count(plus: u64, minus: u64) -> Count {
     Count { plus, minus }
 }
 
 // References at X and at Y and a dereference at the empty stack, in this order of places.
-fn shared<A: Allocator + Clone>(
+fn three<A: Allocator + Clone>(
     rt: &impl Abort,
     alloc: A,
     order: &[u8],
@@ -45,7 +56,7 @@ fn shared<A: Allocator + Clone>(
 }
 
 fn shared_outer_frames<A: Allocator + Clone>(rt: &impl Abort, alloc: A) -> Result<(), NoMemory> {
-    let tree = shared(rt, alloc.clone()?, &[0, 1, 2])?;
+    let tree = three(rt, alloc.clone()?, &[0, 1, 2])?;
     assert_eq!(rt; tree.under(&[], SLOT), count(2, 1));
     assert_eq!(rt; tree.under(&[0x10, 0x20], SLOT), count(2, 0));
     assert_eq!(rt; tree.under(&[0x10, 0x20, 0x40], SLOT), count(1, 0));
@@ -60,9 +71,9 @@ fn shared_outer_frames<A: Allocator + Clone>(rt: &impl Abort, alloc: A) -> Resul
     assert_eq!(rt; sum.total(), 6);
     assert_eq!(rt; sum.at(SLOT, &stack(&X)), count(2, 0));
     for order in [[2, 1, 0], [1, 0, 2], [0, 2, 1]] {
-        assert!(rt; shared(rt, alloc.clone()?, &order)?.same(&tree));
+        assert!(rt; three(rt, alloc.clone()?, &order)?.same(&tree));
     }
-    assert!(rt; !shared(rt, alloc, &[0, 1])?.same(&tree));
+    assert!(rt; !three(rt, alloc, &[0, 1])?.same(&tree));
     Ok(())
 }
 
@@ -75,77 +86,181 @@ fn shared_outer_frames_under_two_allocators(rt: HostRuntime) -> Result<(), Fail>
 }
 
 #[test]
-fn shared_outer_frames_are_listed(rt: HostRuntime) -> Result<(), Fail> {
-    let tree = shared(&rt, rt.alloc(), &[1, 2, 0])?;
+fn lists_rows_and_sums(rt: HostRuntime) -> Result<(), Fail> {
+    let mut tree = three(&rt, rt.alloc(), &[1, 2, 0])?;
+    assert!(rt; tree.fits(1));
+    tree.add(OTHER, Sign::Plus, &stack(&X))?;
+    let empty = shared(rt.alloc(), &[], 1)?;
+    let x = shared(rt.alloc(), &X, 2)?;
+    let y = shared(rt.alloc(), &Y, 3)?;
     let rows = tree.rows(rt.alloc(), SLOT)?;
     let expected = [
-        (stack(&[]), count(0, 1)),
-        (stack(&X), count(1, 0)),
-        (stack(&Y), count(1, 0)),
+        (empty.copy()?, count(0, 1)),
+        (x.copy()?, count(1, 0)),
+        (y.copy()?, count(1, 0)),
     ];
     assert!(rt; rows.as_slice() == expected.as_slice());
-    assert_eq!(rt; tree.slots(rt.alloc())?.as_slice(), [SLOT].as_slice());
+    let rows = tree.rows_of(rt.alloc(), Slots::OfObject(0x1000))?;
+    let expected = [
+        ((SLOT, empty), count(0, 1)),
+        ((SLOT, x), count(1, 0)),
+        ((SLOT, y), count(1, 0)),
+    ];
+    assert!(rt; rows.as_slice() == expected.as_slice());
+    let sums = tree.sums_of(rt.alloc(), Slots::OfObject(0x1000))?;
+    assert_eq!(rt; sums.as_slice(), [(SLOT, count(2, 1))].as_slice());
+    let others = tree.of_slots(rt.alloc(), Slots::One(OTHER))?;
+    assert_eq!(rt; others.total(), 1);
+    assert_eq!(rt; others.at(OTHER, &stack(&X)), count(1, 0));
+    assert_eq!(rt;
+        tree.slots(rt.alloc())?.as_slice(),
+        [SLOT, OTHER].as_slice()
+    );
     Ok(())
 }
 
-fn event(kind: Kind, stack: Stack) -> Event {
-    Event {
-        sequence: 1,
-        kind,
-        process: 4,
-        thread: 12,
-        handle: 0,
-        object: 0x1000,
-        tag: *b"Lky8",
-        stack,
+const KINDS: [Kind; 7] = [
+    Kind::Opened,
+    Kind::Closed,
+    Kind::BadRef,
+    Kind::Snapshot,
+    Kind::Ref,
+    Kind::Deref,
+    Kind::Exited,
+];
+
+// By the last two bits of the number. The first two have one fingerprint.
+fn stack_of(alloc: Global, number: u64) -> Result<SharedStack, NoMemory> {
+    match number % 4 {
+        0 => shared(alloc, &X, 1),
+        1 => shared(alloc, &Y, 1),
+        2 => shared(alloc, &[0x20, 0x10], 2),
+        _ => shared(alloc, &[], 3),
     }
 }
 
-#[test]
-fn events_make_the_tree_of_their_tally(rt: HostRuntime) -> Result<(), Fail> {
-    let events = [
-        event(Kind::Ref, stack(&Y)),
-        event(Kind::Snapshot, stack(&X)),
-        event(Kind::Deref, stack(&[])),
-        event(Kind::Ref, stack(&X)),
-    ];
-    let tree = StackTree::of(rt.alloc(), &events)?;
-    assert!(rt; tree.same(&shared(&rt, rt.alloc(), &[0, 1, 2])?));
-    Ok(())
+// An event that follows from the number, of few slots and stacks (Steele, Lea, Flood: SplitMix64).
+fn event(alloc: Global, number: u64) -> Result<SharedEvent, NoMemory> {
+    let mixed = (number ^ number >> 30).wrapping_mul(0xbf58_476d_1ce4_e5b9);
+    let mixed = (mixed ^ mixed >> 27).wrapping_mul(0x94d0_49bb_1331_11eb) >> 20;
+    Ok(Event {
+        sequence: number,
+        kind: KINDS[(mixed % 7) as usize],
+        process: (4 * (mixed >> 4 & 1)) as u32,
+        thread: 12,
+        handle: (mixed >> 8 & 7) as u32,
+        object: mixed >> 12 & 3,
+        tag: *b"Lky8",
+        stack: stack_of(alloc, mixed >> 16)?,
+    })
 }
 
-// A tree of the three counts, and the same once more by each call, in a heap of this size. After a refusal
-// the tree is as it was.
-fn refused_at(rt: &impl Abort, heap: &LocalHeap) -> Result<(), NoMemory> {
-    let tree = shared(rt, heap, &[0, 1, 2])?;
-    assert!(rt; tree.fits(tree.total()));
-    let sum = tree.plus(&tree);
-    assert_eq!(rt; tree.total(), 3);
-    sum?;
-    let mut copy = tree.copy()?;
-    assert!(rt; copy.same(&tree));
-    assert!(rt; copy.fits(1));
-    let added = copy.add(SLOT, Sign::Plus, &stack(&[0x50, 0x10]));
-    assert!(rt; added.is_ok() || copy.same(&tree));
-    added?;
-    let events = [
-        event(Kind::Deref, stack(&[])),
-        event(Kind::Ref, stack(&Y)),
-        event(Kind::Ref, stack(&X)),
-    ];
-    assert!(rt; StackTree::of(heap, &events)?.same(&tree));
-    Ok(())
+fn run(alloc: Global, first: u64, len: u64) -> Result<Vec<SharedEvent>, NoMemory> {
+    let mut events = Vec::new(alloc);
+    for number in 0..len {
+        events.push(event(alloc, first.wrapping_add(number.wrapping_mul(0x9e37_79b9)))?)?;
+    }
+    Ok(events)
 }
 
-#[test]
-fn heaps_of_growing_size_refuse_until_one_holds_all(rt: HostRuntime) -> Result<(), Fail> {
-    for step in 1..128usize {
-        let heap = LocalHeap::new(rt.alloc(), 64 * step)?;
-        if refused_at(&rt, &heap).is_ok() {
-            assert!(rt; step > 8, "refused below {step}");
-            return Ok(());
+fn runs(alloc: Global, first: u64) -> Result<Vec<Vec<SharedEvent>>, NoMemory> {
+    let mut runs = Vec::new(alloc);
+    for len in [17, 0, 1, 64] {
+        runs.push(run(alloc, first.wrapping_add(len), len)?)?;
+    }
+    Ok(runs)
+}
+
+// The tree of the events, one by one.
+fn noted<A: Allocator + Clone>(
+    rt: &impl Abort,
+    alloc: A,
+    runs: &[Vec<SharedEvent>],
+) -> Result<StackTree<A>, NoMemory> {
+    let mut tree = StackTree::new(alloc);
+    for run in runs {
+        for event in run {
+            assert!(rt; tree.fits(1));
+            tree.note(event)?;
         }
     }
-    assert!(rt; false, "no heap was large enough");
+    Ok(tree)
+}
+
+#[test]
+fn events_together_make_the_tree_of_events_one_by_one(rt: HostRuntime) -> Result<(), Fail> {
+    for first in 0..8 {
+        let runs = runs(rt.alloc(), first)?;
+        assert!(rt; fits_events(runs.as_slice()));
+        let tree = StackTree::of(rt.alloc(), runs.as_slice())?;
+        assert!(rt; tree.total() > 40, "{first}");
+        assert!(rt; tree.same(&noted(&rt, rt.alloc(), &runs)?), "{first}");
+        let heap = LocalHeap::new(rt.alloc(), 65536)?;
+        let tree = StackTree::of(&heap, runs.as_slice())?;
+        assert!(rt;
+            tree.same(&noted(&rt, &heap, &runs)?),
+            "{first} in a small heap"
+        );
+    }
+    Ok(())
+}
+
+#[derive(Clone, Copy, Debug, PartialEq, Eq)]
+enum Call {
+    Add,
+    Note,
+    Plus,
+    Copy,
+    Of,
+}
+
+// Whether the call is done in this heap. A refused one leaves its tree as it was; a heap that doesn't hold
+// that is an error.
+fn is_done(
+    rt: &impl Abort,
+    call: Call,
+    heap: &LocalHeap,
+    runs: &[Vec<SharedEvent>],
+    event: &SharedEvent,
+) -> Result<bool, NoMemory> {
+    if call == Call::Of {
+        assert!(rt; fits_events(runs));
+        return Ok(StackTree::of(heap, runs).is_ok());
+    }
+    let mut tree = three(rt, heap, &[0, 1, 2])?;
+    assert!(rt; tree.fits(tree.total()));
+    let done = match call {
+        Call::Plus => tree.plus(&tree).is_ok(),
+        Call::Copy => tree.copy().is_ok(),
+        Call::Add => tree.add(SLOT, Sign::Plus, &stack(&[0x50, 0x10])).is_ok(),
+        Call::Note | Call::Of => tree.note(event).is_ok(),
+    };
+    let changes = done && (call == Call::Add || call == Call::Note);
+    assert_eq!(rt; tree.total(), if changes { 4 } else { 3 });
+    Ok(done)
+}
+
+#[test]
+fn each_call_is_refused_until_its_heap_is_large_enough(rt: HostRuntime) -> Result<(), Fail> {
+    let runs = runs(rt.alloc(), 1)?;
+    let mut event = event(rt.alloc(), 1)?;
+    event.kind = Kind::Ref;
+    event.stack = shared(rt.alloc(), &[0x60, 0x50], 4)?;
+    for call in [Call::Add, Call::Note, Call::Plus, Call::Copy, Call::Of] {
+        let mut refused = 0u32;
+        let mut done = false;
+        for step in 4..1024usize {
+            let heap = LocalHeap::new(rt.alloc(), 16 * step)?;
+            match is_done(&rt, call, &heap, &runs, &event) {
+                Ok(true) => {
+                    done = true;
+                    break;
+                }
+                Ok(false) => refused = refused.saturating_add(1),
+                Err(NoMemory) => {}
+            }
+        }
+        assert!(rt; done && refused > 0, "{call:?}");
+    }
     Ok(())
 }

@@ -1,11 +1,17 @@
 //! The tree as its callers see it.
 
+ghost use Rattle.std.specs.Prelude.{◌<◌, ◌^◌, ◌↔◌, length, IsTrue};
+ghost use Rattle.std.specs.List.{flat_map};
+
+use crate::building::{root_of, rows_in};
+use crate::counting::{Counting, number_of_events};
+use crate::listing::{sums_of, without_slot};
 use crate::node::{Node, ZERO};
 use crate::root::{
     add_to_root, copy_root, list_root_rows, list_root_slots, plus_roots, same_roots, under_root,
 };
-use crate::sorting::by_place;
-use htl_event::{Count, Event, NoMemory, Sign, Slot, Stack};
+use crate::slots::Slots;
+use htl_event::{Count, NoMemory, Run, SharedEvent, SharedStack, Sign, Slot, Stack};
 use std::alloc::{Allocator, Global};
 use std::marker::Model;
 
@@ -28,10 +34,18 @@ impl<A: Allocator> Model for StackTree<A> {
     ghost invariant = { λ t. IsRoot t.root t.total };
 }
 
+/// Whether the number of all events of these runs is a `u64`, as it is wherever they came from bytes.
+pub fn fits_events<R: Run>(runs: &[R]) -> bool
+    ensures { IsTrue result ↔ (length (flat_map R.events_of runs.now) < 2 ^ 64) }
+{
+    number_of_events(runs).is_some()
+}
+
 impl<A: Allocator> StackTree<A> {
     ghost use Rattle.std.specs.Prelude.{◌≡◌, List, ◌+◌, ◌<◌, ◌≤◌, ◌^◌, [], ◌∷◌, ◌++◌, ◌↔◌, length, IsTrue, IfOk, OnOk, OnErr};
-    ghost use Rattle.htl_tree.specs.Trees.{count_at, count_under, total_count, with_one, IsTree, IsSameTally, IsSumTally, HasTally, ListsRows, ListsSlots};
-    ghost use Rattle.htl_event.specs.declared.event.Event.{Event};
+    ghost use Rattle.htl_tree.specs.Trees.{count_at, count_under, total_count, with_one, with_event, IsTree, IsSameTally, IsSumTally, HasTally, ListsRows, ListsRowsOf, ListsSums, IsTallyOf, ListsSlots};
+    ghost use Rattle.std.specs.List.{flat_map};
+    ghost use Rattle.htl_event.specs.Events.{Event};
     ghost use Rattle.htl_event.specs.Tallies.{under};
 
     /// The tree that counts nothing. It takes no memory before the first count.
@@ -45,20 +59,22 @@ impl<A: Allocator> StackTree<A> {
         }
     }
 
-    /// The tally of the events, whatever their order. The events are sorted by reference, and nothing is
-    /// moved or copied but addresses.
-    pub fn of(alloc: A, events: &[Event]) -> Result<Self, NoMemory>
+    /// The tally of the events of all runs, whatever their order.
+    pub fn of<R: Run>(alloc: A, runs: &[R]) -> Result<Self, NoMemory>
     where
         A: Clone,
-        ensures tally { IfOk result (λ tree. HasTally tree events.now) }
-        ensures total { IfOk result (λ tree. total_count tree ≤ length events.now) }
+        requires { length (flat_map R.events_of runs.now) < 2 ^ 64 }
+        ensures tally { IfOk result (λ tree. HasTally tree (flat_map R.events_of runs.now)) }
+        ensures total { IfOk result (λ tree.
+            total_count tree ≤ length (flat_map R.events_of runs.now)) }
     {
-        let places = by_place(alloc.clone()?, events)?;
-        let mut tree = StackTree::new(alloc);
-        for event in &places {
-            tree.add_event(event)?;
+        let mut counting = Counting::new(&alloc, number_of_events(runs).unwrap_or(0))?;
+        for run in runs {
+            counting.count_all(run.events())?;
         }
-        Ok(tree)
+        let (mut rows, total) = counting.into_rows();
+        let root = root_of(&alloc, &mut rows, total)?;
+        Ok(StackTree { alloc, total, root })
     }
 
     /// The sum of all counts.
@@ -90,7 +106,8 @@ impl<A: Allocator> StackTree<A> {
     pub fn under(&self, path: &[u64], slot: Slot) -> Count
         ensures value { result ≡ count_under self.now path.now slot }
         // It is the prefix tally of any events that the tree is the tally of.
-        ensures events { (events : List Event) → HasTally self.now events → result ≡ under events path.now slot }
+        ensures events { (events : List Event) → HasTally self.now events
+            → result ≡ under events path.now slot }
     {
         under_root(&self.root, path, slot)
     }
@@ -124,7 +141,8 @@ impl<A: Allocator> StackTree<A> {
         A: Clone,
         requires { total_count self.now + total_count other.now < 2 ^ 64 }
         ensures tally { IfOk result (λ sum. IsSumTally sum self.now other.now) }
-        ensures total { IfOk result (λ sum. total_count sum ≡ total_count self.now + total_count other.now) }
+        ensures total { IfOk result (λ sum.
+            total_count sum ≡ total_count self.now + total_count other.now) }
     {
         let root = plus_roots(&self.root, &other.root, &self.alloc)?;
         Ok(StackTree {
@@ -143,16 +161,86 @@ impl<A: Allocator> StackTree<A> {
         ensures err { OnErr result (self.new ≡ self.old) }
         ensures total { OnOk result (total_count self.new ≡ total_count self.old + 1) }
     {
-        add_to_root(&mut self.root, &self.alloc, slot, sign, stack.frames())?;
+        self.add_frames(slot, sign, stack.frames())
+    }
+
+    /// Counts the event. A snapshot and a process exit are counted nowhere.
+    pub fn note(&mut self, event: &SharedEvent) -> Result<(), NoMemory>
+    where
+        A: Clone,
+        requires { total_count self.old + 1 < 2 ^ 64 }
+        ensures ok { OnOk result (self.new ≡ with_event self.old event.now) }
+        ensures err { OnErr result (self.new ≡ self.old) }
+        ensures tally { OnOk result ((events : List Event) → HasTally self.old events
+            → HasTally self.new (events ++ event.now ∷ [])) }
+        ensures total { OnOk result (total_count self.new ≤ total_count self.old + 1) }
+    {
+        match event.slot() {
+            None => Ok(()),
+            Some((slot, sign)) => self.add_frames(slot, sign, event.stack.frames()),
+        }
+    }
+
+    fn add_frames(&mut self, slot: Slot, sign: Sign, frames: &[u64]) -> Result<(), NoMemory>
+    where
+        A: Clone,
+        requires room { total_count self.old + 1 < 2 ^ 64 }
+        requires few { length frames.now ≤ 64 }
+        ensures ok { OnOk result (self.new ≡ with_one self.old slot sign frames.now) }
+        ensures err { OnErr result (self.new ≡ self.old) }
+        ensures total { OnOk result (total_count self.new ≡ total_count self.old + 1) }
+    {
+        add_to_root(&mut self.root, &self.alloc, slot, sign, frames)?;
         self.total += 1;
         Ok(())
     }
 
     /// The slot's counts that aren't zero, in stack order.
-    pub fn rows(&self, alloc: Global, slot: Slot) -> Result<Vec<(Stack, Count)>, NoMemory>
+    pub fn rows(&self, alloc: Global, slot: Slot) -> Result<Vec<(SharedStack, Count)>, NoMemory>
         ensures { IfOk result (λ rows. ListsRows self.now slot rows.items) }
     {
-        list_root_rows(&self.root, alloc, slot)
+        let rows = list_root_rows(&self.root, alloc, Slots::One(slot))?;
+        without_slot(alloc, &rows)
+    }
+
+    /// The counts of these slots that aren't zero, by stack and then by slot. They are found by one walk over
+    /// the tree.
+    pub fn rows_of(
+        &self,
+        alloc: Global,
+        slots: Slots,
+    ) -> Result<Vec<((Slot, SharedStack), Count)>, NoMemory>
+        ensures { IfOk result (λ rows. ListsRowsOf self.now slots rows.items) }
+    {
+        list_root_rows(&self.root, alloc, slots)
+    }
+
+    /// How often each of these slots came, with whatever stack, in slot order. The sums are found by one walk
+    /// over the tree.
+    pub fn sums_of(&self, alloc: Global, slots: Slots) -> Result<Vec<(Slot, Count)>, NoMemory>
+        ensures sums { IfOk result (λ sums. ListsSums self.now slots sums.items) }
+        ensures tree { IsTree self.now }
+    {
+        let mut rows = list_root_rows(&self.root, alloc, slots)?;
+        sums_of(alloc, &mut rows)
+    }
+
+    /// The tree that counts what this one counts of these slots, and nothing else, under a clone of this one's
+    /// allocator. It is made of the rows of these slots.
+    pub fn of_slots(&self, alloc: Global, slots: Slots) -> Result<Self, NoMemory>
+    where
+        A: Clone,
+        ensures tally { IfOk result (λ part. IsTallyOf slots self.now part) }
+        ensures total { IfOk result (λ part. total_count part ≤ total_count self.now) }
+    {
+        let counts = list_root_rows(&self.root, alloc, slots)?;
+        let (mut rows, total) = rows_in(self.alloc.clone()?, &counts)?;
+        let root = root_of(&self.alloc, &mut rows, total)?;
+        Ok(StackTree {
+            alloc: self.alloc.clone()?,
+            total,
+            root,
+        })
     }
 
     /// Each slot with a count that isn't zero, once, in slot order.
@@ -160,18 +248,5 @@ impl<A: Allocator> StackTree<A> {
         ensures { IfOk result (λ slots. ListsSlots self.now slots.items) }
     {
         list_root_slots(&self.root, alloc)
-    }
-
-    fn add_event(&mut self, event: &Event) -> Result<(), NoMemory>
-    where
-        A: Clone,
-        requires { total_count self.old + 1 < 2 ^ 64 }
-        ensures tally { OnOk result ((events : List Event) → HasTally self.old events → HasTally self.new (events ++ event.now ∷ [])) }
-        ensures total { OnOk result (total_count self.new ≤ total_count self.old + 1) }
-    {
-        match event.slot() {
-            None => Ok(()),
-            Some((slot, sign)) => self.add(slot, sign, &event.stack),
-        }
     }
 }

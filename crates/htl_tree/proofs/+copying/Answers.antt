@@ -1,11 +1,12 @@
+-- A node whose counts and children are copied is a copy.
 use Rattle.std.proofs.Common.{rules, ◌≡◌, ◌+◌, ◌≤◌, ◌++◌, sym, ap, ◌∙◌, subst}
 use Rattle.htl_sorted.specs.Made.{Made}
 use Rattle.htl_tree.specs.declared.node.Node.TheViews.{roll-Node}
 use Rattle.htl_tree.specs.Nodes.{kids, height, heights, IsNormal, IsCopy, EachNormal}
-use Rattle.htl_tree.proofs.NodeFacts.{own_of, kids_of}
-use Rattle.htl_tree.proofs.Flat.{kids_normal}
-use Rattle.htl_tree.proofs.Kids.{height_at, height_is, each_at, appends_more}
-use Rattle.htl_tree.proofs.SumFacts.{copied}
+use Rattle.htl_tree.proofs.CountAdded.{own_of, kids_of}
+use Rattle.htl_tree.proofs.NodeRows.{kids_normal}
+use Rattle.htl_tree.proofs.Children.{height_at, height_is, each_at, appends_more}
+use Rattle.htl_tree.proofs.CopiesAndSums.{copied}
 use Rattle.htl_tree.proofs.+copying.Goals as goal
 
 pub node::Node::copy-copy_children-requires : goal.node::Node::copy-copy_children-requires
@@ -24,7 +25,8 @@ node::Node::copy-returns g t c =
     let made = c.in_ok-copy_children.ensures in
     let is : kids m ≡ made.0 = kids_of _ ∙ made.1 ∙ ap (λ l. l ++ made.0) c.in_ok-children.ensures.items in
     copied n m c.requires (own_of _ ∙ c.in_ok-counts.ensures.items ∙ c.deref.ensures.value)
-    (subst (λ l. Made (λ k c. IsCopy k c) (kids n) l) (sym is) (subst (λ l. Made (λ k c. IsCopy k c) l made.0) c.deref-2.ensures.value made.2))
+    (subst (λ l. Made (λ k c. IsCopy k c) (kids n) l) (sym is)
+    (subst (λ l. Made (λ k c. IsCopy k c) l made.0) c.deref-2.ensures.value made.2))
 
 pub sums::copy_children-copy-requires : goal.sums::copy_children-copy-requires
 sums::copy_children-copy-requires g t c κs within =
@@ -37,4 +39,5 @@ sums::copy_children-copy-requires g t c κs within =
 
 pub sums::copy_children-loop-frame-preserved : goal.sums::copy_children-loop-frame-preserved
 sums::copy_children-loop-frame-preserved g t c =
-    appends_more c.args.children.now _ c.loop-frame.into.items _ c.loop-frame.frame-index c.loop-frame-item.result c.in_ok-copy.field-0 c.loop-frame.invariant c.loop-frame-test.true c.loop-frame-item.is c.in_ok-copy.ensures c.in_ok-push.ensures.items
+    appends_more c.args.children.now _ c.loop-frame.into.items _ c.loop-frame.frame-index c.loop-frame-item.result c.in_ok-copy.field-0
+    c.loop-frame.invariant c.loop-frame-test.true c.loop-frame-item.is c.in_ok-copy.ensures c.in_ok-push.ensures.items

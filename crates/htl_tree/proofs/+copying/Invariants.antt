@@ -1,3 +1,4 @@
+-- Nodes get lower, and the children so far are copied.
 use Rattle.std.proofs.Common.{◌+◌, ◌*◌, take}
 use Rattle.htl_tree.specs.Nodes.{AppendsCopies, height, heights}
 use Rattle.htl_tree.proofs.+copying.Given as goal

@@ -1,3 +1,4 @@
+-- The set has one processor.
 use Rattle.std.proofs.Common.{◌≡◌, length}
 use Rattle.bench_tables.proofs.numbers.numbers_from.Given as goal
 

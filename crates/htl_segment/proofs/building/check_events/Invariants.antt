@@ -1,3 +1,4 @@
+-- The events tested so far have no fault, so the question is left to those after them.
 use Rattle.std.proofs.Common.{◌≡◌, take, drop, All}
 use Rattle.htl_event.specs.Ranges.{InRange}
 use Rattle.htl_segment.specs.Building.{events_fault}

@@ -1,5 +1,6 @@
+-- The frames of the events so far are counted.
 use Rattle.std.proofs.Common.{◌≡◌, ◌*◌, ◌≤◌, length, take, sum_by}
-use Rattle.htl_event.specs.declared.event.Event.{Event}
+use Rattle.htl_event.specs.Events.{Event}
 use Rattle.htl_segment.proofs.encoding.frame_count.Given as goal
 
 abbrev pub invariant-loop-event : goal.invariant-loop-event

@@ -1,3 +1,4 @@
+-- The addresses so far are written.
 use Rattle.std.proofs.Common.{◌≡◌, ◌++◌, take}
 use Rattle.std.specs.List.{flat_map}
 use Rattle.htl_segment.specs.Numbers.{bytes_of}

@@ -1,3 +1,4 @@
+-- The records so far are written.
 use Rattle.std.proofs.Common.{◌≡◌, ◌++◌, take}
 use Rattle.htl_segment.specs.Spelling.{records}
 use Rattle.htl_segment.proofs.encoding.push_records.Given as goal

@@ -1,3 +1,4 @@
+-- Nothing but memory is refused for an even number of digits.
 use Rattle.std.proofs.Common.{sym, ◌∙◌, inl, inr}
 use Rattle.hex.proofs.HexLemmas.{decode_of-digits}
 use Rattle.htl_segment.proofs.hexadecimal.decode_digits.Goals as goal

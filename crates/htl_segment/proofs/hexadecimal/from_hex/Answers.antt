@@ -1,3 +1,4 @@
+-- What was gathered are digits alone.
 use Rattle.std.proofs.lemmas.List.Elements.{filter_passes}
 use Rattle.hex.specs.Hex.{is_hex_digit}
 use Rattle.htl_segment.proofs.hexadecimal.from_hex.Goals as goal

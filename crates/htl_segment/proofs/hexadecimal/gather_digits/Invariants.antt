@@ -1,3 +1,4 @@
+-- The digits so far are gathered.
 use Rattle.std.proofs.Common.{◌≡◌, take}
 use Rattle.htl_segment.specs.Hexadecimal.{digits_of}
 use Rattle.htl_segment.proofs.hexadecimal.gather_digits.Given as goal

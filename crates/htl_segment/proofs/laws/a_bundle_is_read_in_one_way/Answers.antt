@@ -1,8 +1,9 @@
+-- Bytes split in one way, since no spelling begins another.
 use Rattle.std.proofs.Common.{List, [], length, ap, sym, ◌∙◌, arith}
 use Rattle.htl_segment.specs.Content.{Content}
 use Rattle.htl_segment.specs.Faults.{first_fault}
 use Rattle.htl_segment.specs.Bundles.{bundle}
-use Rattle.htl_segment.proofs.Passed.{some_is}
+use Rattle.htl_segment.proofs.PassedTests.{some_is}
 use Rattle.htl_segment.proofs.BundleLaws.{split_in_one_way, nothing_short, first_fault-rest}
 use Rattle.htl_segment.proofs.laws.a_bundle_is_read_in_one_way.Goals as goal
 
@@ -11,8 +12,11 @@ returns-clause-segments c = λ bytes ss ts p q. (split_in_one_way bytes [] [] ss
 
 pub returns-clause-fault : goal.returns-clause-fault
 returns-clause-fault c = λ bytes m n f g p q.
-    let both = split_in_one_way bytes p.rest q.rest p.before q.before f g p.splits q.splits p.fault_is q.fault_is in
-    (omega (arith, p.offset_is, q.offset_is, ap (λ (ss : List Content). length (bundle ss)) both.0), some_is f g (sym p.fault_is ∙ ap first_fault both.1 ∙ q.fault_is))
+    let both = split_in_one_way bytes p.rest q.rest p.before q.before f g p.splits q.splits p.fault_is q.fault_is in (
+      omega (arith, p.offset_is, q.offset_is, ap (λ (ss : List Content). length (bundle ss)) both.0),
+      some_is f g (sym p.fault_is
+          ∙ ap first_fault both.1 ∙ q.fault_is),
+    )
 
 pub returns-clause-not_both : goal.returns-clause-not_both
 returns-clause-not_both c = λ bytes ss n f p q.

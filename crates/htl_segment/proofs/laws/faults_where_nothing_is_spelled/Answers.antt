@@ -1,3 +1,4 @@
+-- Bytes without a first fault begin with a spelling, and the other way round.
 use Rattle.htl_segment.proofs.SegmentLaws.{begins, spelled_where_no_fault}
 use Rattle.htl_segment.proofs.laws.faults_where_nothing_is_spelled.Goals as goal
 

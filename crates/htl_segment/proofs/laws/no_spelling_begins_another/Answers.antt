@@ -1,3 +1,4 @@
+-- What follows a spelling in another is nothing.
 use Rattle.std.proofs.Common.{[], ◌++◌, length, sym, ap, arith}
 use Rattle.std.proofs.lemmas.List.{append-nil, length-append, nil_from_length}
 use Rattle.htl_segment.proofs.SegmentLaws.{one_spelling}

@@ -1,3 +1,4 @@
+-- The bytes follow from their number and how many they are.
 use Rattle.std.proofs.Common.{ℕ, sym, ap, ◌∙◌}
 use Rattle.htl_segment.specs.Numbers.{number}
 use Rattle.htl_segment.proofs.Bytes.{bytes_from_number}

@@ -1,3 +1,4 @@
+-- Two spellings of the same bytes are of one segment.
 use Rattle.std.proofs.Common.{[], refl}
 use Rattle.htl_segment.proofs.SegmentLaws.{one_spelling}
 use Rattle.htl_segment.proofs.laws.one_spelling.Goals as goal

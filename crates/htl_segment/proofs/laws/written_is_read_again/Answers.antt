@@ -1,3 +1,4 @@
+-- A spelling is read as its segment, whatever follows it.
 use Rattle.std.proofs.Common.{◌++◌, length}
 use Rattle.htl_segment.proofs.SegmentLaws.{begins_with, same_front, spelled_again}
 use Rattle.htl_segment.proofs.laws.written_is_read_again.Goals as goal

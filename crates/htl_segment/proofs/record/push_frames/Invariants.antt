@@ -1,3 +1,4 @@
+-- The addresses so far are pushed, and the others follow in the bytes.
 use Rattle.std.proofs.Common.{◌≡◌, ◌-◌, ◌*◌, ◌/◌, ◌≤◌, ◌++◌, length}
 use Rattle.htl_segment.specs.Numbers.{numbers}
 use Rattle.htl_segment.proofs.record.push_frames.Given as goal

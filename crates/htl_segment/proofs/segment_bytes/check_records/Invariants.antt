@@ -1,3 +1,4 @@
+-- The records tested so far have no fault, so the question is left to those after them.
 use Rattle.std.proofs.Common.{◌≡◌, ◌-◌}
 use Rattle.htl_segment.specs.Faults.{records_fault}
 use Rattle.htl_segment.proofs.segment_bytes.check_records.Given as goal

@@ -1,3 +1,4 @@
+-- The events so far and the records left are all records.
 use Rattle.std.proofs.Common.{◌≡◌, ◌++◌}
 use Rattle.htl_segment.proofs.segment_bytes.gather.Given as goal
 

@@ -1,3 +1,4 @@
+-- The segments so far and the rest are the bytes of the pieces taken in.
 use Rattle.std.proofs.Common.{◌≡◌, ◌<◌, ◌^◌, length, take, None}
 use Rattle.htl_segment.specs.Bundles.{Splits}
 use Rattle.htl_segment.specs.Pieces.{joined}

@@ -1,3 +1,4 @@
+-- A row more of the merged list is made of what is left on both sides.
 use Rattle.std.proofs.Common.{rules, ◌≡◌, ◌<◌, ◌≤◌, ◌++◌, length, drop, arith, ap, ◌∙◌}
 use Rattle.std.specs.FinMap.Entries.{find}
 use Rattle.std.specs.declared.cmp.Ordering.TheVariants.{Less, Equal, Greater}
@@ -11,16 +12,20 @@ loop-i-preserved-in-Less g c =
     let x = c.index-left-i.result in
     let y = c.index-right-j.result in
     let less : g.L.Key.Ord.cmp (g.L.Keyed.key_of x) (g.L.Keyed.key_of y) ≡ Less = search rules in
-    made_less g.L.Keyed.key_of g.L.Keyed.value_of g.L.Key.Ord.cmp g.L.Joined.joined c.args.left.now c.args.right.now c.loop-i.i c.loop-i.j c.loop-i.rows.items _ c.loop-i.invariant
-    x y c.copy.result c.loop-i-test.true c.if-j-right.true c.index-left-i.is c.index-right-j.is c.in_ok-push-in-Less.ensures.items less c.copy.ensures
+    made_less g.L.Keyed.key_of g.L.Keyed.value_of g.L.Key.Ord.cmp g.L.Joined.joined c.args.left.now c.args.right.now c.loop-i.i
+    c.loop-i.j c.loop-i.rows.items _ c.loop-i.invariant
+    x y c.in_ok-copy-in-Less.field-0 c.loop-i-test.true c.if-j-right.true c.index-left-i.is c.index-right-j.is
+    c.in_ok-push-in-Less.ensures.items less c.in_ok-copy-in-Less.ensures
 
 pub loop-i-preserved-in-Greater : goal.loop-i-preserved-in-Greater
 loop-i-preserved-in-Greater g c =
     let x = c.index-left-i.result in
     let y = c.index-right-j.result in
     let greater : g.L.Key.Ord.cmp (g.L.Keyed.key_of x) (g.L.Keyed.key_of y) ≡ Greater = search rules in
-    made_greater g.L.Keyed.key_of g.L.Keyed.value_of g.L.Key.Ord.cmp g.L.Joined.joined c.args.left.now c.args.right.now c.loop-i.i c.loop-i.j c.loop-i.rows.items _ c.loop-i.invariant
-    x y c.copy-in-Greater.result c.loop-i-test.true c.if-j-right.true c.index-left-i.is c.index-right-j.is c.in_ok-push-in-Greater.ensures.items greater c.copy-in-Greater.ensures
+    made_greater g.L.Keyed.key_of g.L.Keyed.value_of g.L.Key.Ord.cmp g.L.Joined.joined c.args.left.now c.args.right.now c.loop-i.i
+    c.loop-i.j c.loop-i.rows.items _ c.loop-i.invariant
+    x y c.in_ok-copy-in-Greater.field-0 c.loop-i-test.true c.if-j-right.true c.index-left-i.is c.index-right-j.is
+    c.in_ok-push-in-Greater.ensures.items greater c.in_ok-copy-in-Greater.ensures
 
 pub join-requires-clause-fits : goal.join-requires-clause-fits
 join-requires-clause-fits g c =
@@ -31,15 +36,19 @@ join-requires-clause-fits g c =
     let same : g.L.Keyed.key_of x ≡ g.L.Keyed.key_of y = g.met.L.Keyed.proper _ _ equal in
     c.requires.fits (g.L.Keyed.key_of x) _ _
     (row_found g.L.Keyed.key_of g.L.Keyed.value_of o c.args.left.now c.requires.left c.loop-i.i x c.loop-i-test.true c.index-left-i.is)
-    (ap (λ k. find g.L.Key.Ord.cmp k (entries g.L.Keyed.key_of g.L.Keyed.value_of c.args.right.now)) same ∙ row_found g.L.Keyed.key_of g.L.Keyed.value_of o c.args.right.now c.requires.right c.loop-i.j y c.if-j-right.true c.index-right-j.is)
+    (ap (λ k. find g.L.Key.Ord.cmp k (entries g.L.Keyed.key_of g.L.Keyed.value_of c.args.right.now)) same
+    ∙ row_found g.L.Keyed.key_of g.L.Keyed.value_of o c.args.right.now c.requires.right c.loop-i.j y c.if-j-right.true
+    c.index-right-j.is)
 
 pub loop-i-preserved : goal.loop-i-preserved
 loop-i-preserved g c =
     let x = c.index-left-i.result in
     let y = c.index-right-j.result in
     let equal : g.L.Key.Ord.cmp (g.L.Keyed.key_of x) (g.L.Keyed.key_of y) ≡ Equal = search rules in
-    made_equal g.L.Keyed.key_of g.L.Keyed.value_of g.L.Key.Ord.cmp g.L.Joined.joined c.args.left.now c.args.right.now c.loop-i.i c.loop-i.j c.loop-i.rows.items _ c.loop-i.invariant
-    x y c.join.result c.loop-i-test.true c.if-j-right.true c.index-left-i.is c.index-right-j.is c.in_ok-push-in-Equal.ensures.items equal c.join.ensures.key c.join.ensures.value
+    made_equal g.L.Keyed.key_of g.L.Keyed.value_of g.L.Key.Ord.cmp g.L.Joined.joined c.args.left.now c.args.right.now c.loop-i.i
+    c.loop-i.j c.loop-i.rows.items _ c.loop-i.invariant
+    x y c.in_ok-join-in-Equal.field-0 c.loop-i-test.true c.if-j-right.true c.index-left-i.is c.index-right-j.is
+    c.in_ok-push-in-Equal.ensures.items equal c.in_ok-join-in-Equal.ensures.key c.in_ok-join-in-Equal.ensures.value
 
 pub returns-clause-sorted : goal.returns-clause-sorted
 returns-clause-sorted g c =
@@ -48,8 +57,11 @@ returns-clause-sorted g c =
       | else-loop-i-test w ↦ omega arith
     ] in
     let rest : c.append-2.new.rows.items ≡ (c.loop-i.rows.items ++ drop c.loop-i.i c.args.left.now) ++ drop c.loop-i.j c.args.right.now =
-    c.in_ok-append-2.ensures ∙ ap (λ l. c.append.new.rows.items ++ l) (rest_is c.args.right.now c.loop-i.j) ∙ ap (λ l. l ++ drop c.loop-i.j c.args.right.now) (c.in_ok-append.ensures ∙ ap (λ l. c.loop-i.rows.items ++ l) (rest_is c.args.left.now c.loop-i.i)) in
-    merged_sorted g.L.Keyed.key_of g.L.Keyed.value_of g.L.Key.Ord.cmp g.L.Joined.joined c.args.left.now c.args.right.now g.met.L.Key.Ord.total c.requires.left c.requires.right c.loop-i.i c.loop-i.j _ _ c.loop-i.invariant one rest
+    c.in_ok-append-2.ensures ∙ ap (λ l. c.append.new.rows.items ++ l) (rest_is c.args.right.now c.loop-i.j)
+    ∙ ap (λ l. l ++ drop c.loop-i.j c.args.right.now)
+    (c.in_ok-append.ensures ∙ ap (λ l. c.loop-i.rows.items ++ l) (rest_is c.args.left.now c.loop-i.i)) in
+    merged_sorted g.L.Keyed.key_of g.L.Keyed.value_of g.L.Key.Ord.cmp g.L.Joined.joined c.args.left.now c.args.right.now
+    g.met.L.Key.Ord.total c.requires.left c.requires.right c.loop-i.i c.loop-i.j _ _ c.loop-i.invariant one rest
 
 pub returns-clause-values : goal.returns-clause-values
 returns-clause-values g c =
@@ -58,5 +70,8 @@ returns-clause-values g c =
       | else-loop-i-test w ↦ omega arith
     ] in
     let rest : c.append-2.new.rows.items ≡ (c.loop-i.rows.items ++ drop c.loop-i.i c.args.left.now) ++ drop c.loop-i.j c.args.right.now =
-    c.in_ok-append-2.ensures ∙ ap (λ l. c.append.new.rows.items ++ l) (rest_is c.args.right.now c.loop-i.j) ∙ ap (λ l. l ++ drop c.loop-i.j c.args.right.now) (c.in_ok-append.ensures ∙ ap (λ l. c.loop-i.rows.items ++ l) (rest_is c.args.left.now c.loop-i.i)) in
-    merged_value g.L.Keyed.key_of g.L.Keyed.value_of g.L.Key.Ord.cmp g.L.Joined.joined c.args.left.now c.args.right.now g.met.L.Key.Ord.total c.requires.left c.requires.right c.loop-i.i c.loop-i.j _ _ c.loop-i.invariant one rest
+    c.in_ok-append-2.ensures ∙ ap (λ l. c.append.new.rows.items ++ l) (rest_is c.args.right.now c.loop-i.j)
+    ∙ ap (λ l. l ++ drop c.loop-i.j c.args.right.now)
+    (c.in_ok-append.ensures ∙ ap (λ l. c.loop-i.rows.items ++ l) (rest_is c.args.left.now c.loop-i.i)) in
+    merged_value g.L.Keyed.key_of g.L.Keyed.value_of g.L.Key.Ord.cmp g.L.Joined.joined c.args.left.now c.args.right.now
+    g.met.L.Key.Ord.total c.requires.left c.requires.right c.loop-i.i c.loop-i.j _ _ c.loop-i.invariant one rest

@@ -1,3 +1,4 @@
+-- What is made so far, and what is left of both lists.
 use Rattle.std.proofs.Common.{◌+◌, ◌-◌, length}
 use Rattle.htl_sorted.proofs.Rows.{IsMadeOf}
 use Rattle.htl_sorted.proofs.merging.merge.Given as goal

@@ -1,5 +1,6 @@
+-- Counts compare as equal exactly where they are equal.
 use Rattle.std.proofs.lemmas.Slice.Eq.{slice_eq-Decides}
-use Rattle.htl_tree.proofs.Equal.{entry_Decides}
+use Rattle.htl_tree.proofs.EqualCounts.{entry_Decides}
 use Rattle.htl_tree.proofs.compare.same_counts.Goals as goal
 
 pub returns : goal.returns

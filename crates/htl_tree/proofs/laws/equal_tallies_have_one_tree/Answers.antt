@@ -1,4 +1,5 @@
-use Rattle.htl_tree.proofs.TreeFacts.{canonical_trees}
+-- Trees that count the same have the same rows in one order.
+use Rattle.htl_tree.proofs.TreesAsLists.{canonical_trees}
 use Rattle.htl_tree.proofs.laws.equal_tallies_have_one_tree.Goals as goal
 
 pub returns : goal.returns

@@ -1,3 +1,4 @@
+-- A sorted list without repeats rises and keeps its members.
 use Rattle.std.proofs.Common.{◌≡◌, sym, ap, ◌∙◌}
 use Rattle.std.specs.Ordering.{is_eq, eq_by_cmp}
 use Rattle.std.specs.Cmp.{tied_itself, Equal-is}
@@ -8,13 +9,18 @@ use Rattle.std.proofs.lemmas.List.Sorted.{Contains-permutation, IsPermutation-sy
 use Rattle.htl_event.specs.declared.slot.Slot.{Slot}
 use Rattle.htl_event.specs.contracts.slot.SlotPartialEq.TheImpl as slot
 use Rattle.htl_event.specs.contracts.slot.SlotEq.TheImpl.Laws.{laws-law}
-use Rattle.htl_tree.specs.Slots.{slot_cmp, slot_total, slot_same}
-use Rattle.htl_tree.proofs.Equal.{slot_Decides}
+use Rattle.htl_event.specs.SlotOrder.{slot_cmp}
+use Rattle.htl_event.specs.OrderLaws.{slot_total, slot_same}
+use Rattle.htl_tree.proofs.EqualCounts.{slot_Decides}
 use Rattle.htl_tree.proofs.SlotRows.{rising_strict}
 use Rattle.htl_tree.proofs.listing.order_slots.Goals as goal
 
 ties : (x y : Slot) → slot.ghosts.eq x y ≡ eq_by_cmp slot_cmp x y
-ties x y = same_from_decides {P = x ≡ y} _ _ (slot_Decides x y) (λ e. slot_same x y ((Equal-is (slot_cmp x y)).0 e), λ e. ap (λ z. eq_by_cmp slot_cmp x z) (sym e) ∙ ap is_eq (tied_itself slot_total x))
+ties x y = same_from_decides {P = x ≡ y} _ _ (slot_Decides x y) (
+  λ e. slot_same x y ((Equal-is (slot_cmp x y)).0 e),
+  λ e.
+      ap (λ z. eq_by_cmp slot_cmp x z) (sym e) ∙ ap is_eq (tied_itself slot_total x),
+)
 
 pub returns-clause-rising : goal.returns-clause-rising
 returns-clause-rising c =

@@ -1,3 +1,4 @@
+-- A copied root has the same tree.
 use Rattle.std.proofs.Common.{Some, sym, ap, ◌∙◌, subst}
 use Rattle.htl_tree.specs.Nodes.{tree_of, IsNormalRoot}
 use Rattle.htl_tree.proofs.Roots.{copied_tree}

@@ -1,3 +1,4 @@
+-- The slots of the root in order are those of the tree.
 use Rattle.std.proofs.Common.{◌≡◌, List, [], ◌++◌, sym, ap, ◌∙◌, subst}
 use Rattle.std.specs.Prelude.{Contains, ◌↔◌}
 use Rattle.htl_event.specs.declared.slot.Slot.{Slot}
@@ -17,6 +18,7 @@ returns-in_ok-list_slots-in-Some g c =
     let n = c.in-Some.root in
     let t : IsTree (tree_of c.args.root.now) = root_is_tree c.args.root.now c.requires in
     let items : c.list_slots.new.into.items ≡ slots_of (tree_of c.args.root.now) =
-    c.in_ok-list_slots-in-Some.ensures ∙ ap (λ l. l ++ slots_of (rows n)) c.new-slots.ensures.items ∙ sym (slots_tree n) ∙ ap (λ r. slots_of (tree_of r)) (sym c.in-Some.is) in
+    c.in_ok-list_slots-in-Some.ensures ∙ ap (λ l. l ++ slots_of (rows n)) c.new-slots.ensures.items ∙ sym (slots_tree n)
+    ∙ ap (λ r. slots_of (tree_of r)) (sym c.in-Some.is) in
     lists_slots (tree_of c.args.root.now) t c.order_slots.new.slots.items c.order_slots.ensures.rising
     (λ s. subst (λ (l : List Slot). Contains c.order_slots.new.slots.items s ↔ Contains l s) items (c.order_slots.ensures.members s))

@@ -1,3 +1,4 @@
+-- The sum of two roots, either of which may count nothing.
 use Rattle.std.proofs.Common.{◌+◌, ◌<◌, ◌^◌, Some, subst}
 use Rattle.htl_tree.specs.Trees.{total_count}
 use Rattle.htl_tree.specs.Nodes.{tree_of, IsNormalRoot}
@@ -11,7 +12,8 @@ plus-requires-clause-fits g c =
     let left : IsNormalRoot (Some n) = subst (λ r. IsNormalRoot r) c.in-Some-Some.is-0 c.requires.left in
     let right : IsNormalRoot (Some m) = subst (λ r. IsNormalRoot r) c.in-Some-Some.is-1 c.requires.right in
     fits_roots n m left.normal right.normal
-    (subst (λ r. total_count (tree_of (Some n)) + total_count (tree_of r) < 2 ^ 64) c.in-Some-Some.is-1 (subst (λ r. total_count (tree_of r) + total_count (tree_of c.args.right.now) < 2 ^ 64) c.in-Some-Some.is-0 c.requires.fits))
+    (subst (λ r. total_count (tree_of (Some n)) + total_count (tree_of r) < 2 ^ 64) c.in-Some-Some.is-1
+    (subst (λ r. total_count (tree_of r) + total_count (tree_of c.args.right.now) < 2 ^ 64) c.in-Some-Some.is-0 c.requires.fits))
 
 pub returns-in_ok-plus-in-Some-Some : goal.returns-in_ok-plus-in-Some-Some
 returns-in_ok-plus-in-Some-Some g c =

@@ -1,3 +1,4 @@
+-- Roots count the same where their trees do; a root with nodes counts something.
 use Rattle.std.proofs.Common.{Some, sym, subst}
 use Rattle.htl_tree.specs.Nodes.{IsNormalRoot}
 use Rattle.htl_tree.proofs.Roots.{same_trees, same_nodes, counts_something}

@@ -1,3 +1,4 @@
+-- The copy has the addresses that were passed so far.
 use Rattle.std.proofs.Common.{◌≡◌, ◌≤◌, length, take}
 use Rattle.htl_event.proofs.stack.Stack.copy.Given as goal
 

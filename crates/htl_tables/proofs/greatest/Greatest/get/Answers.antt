@@ -1,9 +1,10 @@
+-- The sequence in the row that was found is the table's.
 use Rattle.std.proofs.Common.{sym}
 use Rattle.htl_tables.proofs.Sequences.{at_place, at_gap}
 use Rattle.htl_tables.proofs.greatest.Greatest.get.Goals as goal
 
-pub place_of-requires : goal.place_of-requires
-place_of-requires g c = rw c.deref.ensures.value c.self.invariant.sorted
+pub search-requires : goal.search-requires
+search-requires g c = rw c.deref.ensures.value c.self.invariant.sorted
 
 pub returns-in-Ok : goal.returns-in-Ok
 returns-in-Ok g c =

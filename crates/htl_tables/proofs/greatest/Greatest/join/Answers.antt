@@ -1,3 +1,4 @@
+-- At each process the merged rows have the greater sequence, and none of 0.
 use Rattle.std.proofs.Common.{ℕ, ap, ◌∙◌, Option}
 use Rattle.std.specs.Option.{unwrap_or}
 use Rattle.std.specs.Ordering.{nat_cmp}
@@ -15,11 +16,13 @@ merge-requires-clause-right g c = rw c.deref-2.ensures.value c.other.invariant.s
 pub invariant_of-result : goal.invariant_of-result
 invariant_of-result g c =
     let values = rw (c.deref.ensures.value, c.deref-2.ensures.value) at c.in_ok-merge.ensures.values in
-    IsTable-joined c.in_ok-merge.field-0.items c.self.inside.rows.items c.other.inside.rows.items c.in_ok-merge.ensures.sorted c.self.invariant c.other.invariant values
+    IsTable-joined c.in_ok-merge.field-0.items c.self.inside.rows.items c.other.inside.rows.items c.in_ok-merge.ensures.sorted
+    c.self.invariant c.other.invariant values
 
 pub returns : goal.returns
 returns g c = λ process.
     let left = c.deref.ensures.value ∙ c.self.view_is in
     let right = c.deref-2.ensures.value ∙ c.other.view_is in
     let values = rw (left, right) at c.in_ok-merge.ensures.values process in
-    ap (λ (o : Option ℕ). unwrap_or o 0) values ∙ joined-max (find nat_cmp process (sequences c.args.self.now)) (find nat_cmp process (sequences c.args.other.now))
+    ap (λ (o : Option ℕ). unwrap_or o 0) values
+    ∙ joined-max (find nat_cmp process (sequences c.args.self.now)) (find nat_cmp process (sequences c.args.other.now))

@@ -1,3 +1,4 @@
+-- The table has the greatest sequence of each process among the moments so far.
 use Rattle.std.proofs.Common.{ℕ, take}
 use Rattle.htl_tables.specs.Greatest.{sequence_at}
 use Rattle.htl_tables.proofs.Moments.{IsGreatestIn}

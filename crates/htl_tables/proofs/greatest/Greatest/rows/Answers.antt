@@ -1,3 +1,4 @@
+-- The rows list what the table has, in order of the processes.
 use Rattle.htl_tables.proofs.Sequences.{rows_listed}
 use Rattle.htl_tables.proofs.greatest.Greatest.rows.Goals as goal
 

@@ -1,3 +1,4 @@
+-- The rows so far are copied.
 use Rattle.std.proofs.Common.{◌≡◌, take}
 use Rattle.htl_tables.proofs.latest.Latest.copy.Given as goal
 

@@ -1,3 +1,4 @@
+-- At each handle the merged rows have the later event.
 use Rattle.std.proofs.Common.{◌∙◌}
 use Rattle.htl_tables.specs.Latest.{event_at}
 use Rattle.htl_tables.proofs.Tables.{joined-later}

@@ -1,7 +1,9 @@
+-- Each handle has the event of its first key among those so far.
 use Rattle.std.proofs.Common.{ℕ}
 use Rattle.htl_tables.specs.Latest.{event_at}
-use Rattle.htl_tables.proofs.Bulk.{FirstTurnIs}
+use Rattle.htl_tables.proofs.FirstKeys.{FirstKeyIs}
 use Rattle.htl_tables.proofs.latest.Latest.of.Given as goal
 
-abbrev pub invariant-loop-turn : goal.invariant-loop-turn
-invariant-loop-turn g l = (process base : ℕ) → FirstTurnIs l.events l.turn-items l.turn-index process base (event_at l.latest process base)
+abbrev pub invariant-loop-key : goal.invariant-loop-key
+invariant-loop-key g l = (process base : ℕ)
+    → FirstKeyIs g.R.Run.events_of l.runs l.key-items process base l.key-index (event_at l.latest process base)

@@ -1,3 +1,4 @@
+-- The rows list what the table has, by process and base handle.
 use Rattle.htl_tables.proofs.Tables.{rows_listed}
 use Rattle.htl_tables.proofs.latest.Latest.rows.Goals as goal
 

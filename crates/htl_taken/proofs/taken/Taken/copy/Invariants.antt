@@ -1,6 +1,7 @@
+-- The processors so far are copied.
 use Rattle.std.proofs.Common.{◌≡◌, map, take}
-use Rattle.htl_taken.specs.Rows.{place_of_row}
+use Rattle.htl_taken.specs.NumberSets.{numbers_of}
 use Rattle.htl_taken.proofs.taken.Taken.copy.Given as goal
 
-abbrev pub invariant-loop-row : goal.invariant-loop-row
-invariant-loop-row g l = map place_of_row l.rows.items ≡ map place_of_row (take l.row-index l.row-items)
+abbrev pub invariant-loop-numbers : goal.invariant-loop-numbers
+invariant-loop-numbers g l = map numbers_of l.sets.items ≡ map numbers_of (take l.numbers-index l.numbers-items)

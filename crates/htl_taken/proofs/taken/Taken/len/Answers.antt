@@ -1,21 +1,25 @@
+-- One processor more adds its size, and all sizes fit into the sum.
 use Rattle.std.proofs.Common.{◌≡◌, ◌+◌, ◌<◌, ℕ, arith, length, map, take, get_or, sym, ap, ◌∙◌, List, sum_by}
 use Rattle.std.proofs.lemmas.List.{length-map, get_or-map}
 use Rattle.std.proofs.lemmas.List.Sums.{sum_by_more}
-use Rattle.htl_taken.specs.declared.row.Row.{Row}
-use Rattle.htl_taken.specs.Places.{Place, no_place, size_of}
-use Rattle.htl_taken.specs.Rows.{place_of_row}
+use Rattle.htl_taken.specs.declared.number_set.NumberSet.{NumberSet}
+use Rattle.htl_taken.specs.Numbers.{Numbers, no_numbers, size_of}
+use Rattle.htl_taken.specs.NumberSets.{numbers_of}
 use Rattle.htl_taken.proofs.taken.Taken.len.Goals as goal
 
-counted_more : {A : Type 0} (rows : List (Row A)) (i : ℕ) (r : Row A) → i < length rows → r ≡ get_or rows i r
-    → sum_by size_of (take i (map place_of_row rows)) + size_of (place_of_row r) ≡ sum_by size_of (take (i + 1) (map place_of_row rows))
-counted_more {A} rows i r lt is =
-    let f : Row A → Place = place_of_row in
-    let within : i < length (map f rows) = omega (arith, lt, length-map rows f) in
-    let at : get_or (map f rows) i no_place ≡ f r = get_or-map f rows i r no_place lt ∙ ap f (sym is) in
-    ap (λ (n : ℕ). sum_by size_of (take i (map f rows)) + n) (ap size_of (sym at)) ∙ sym (sum_by_more size_of (map f rows) i no_place within)
+counted_more : {A : Type 0} (sets : List (NumberSet A)) (i : ℕ) (r : NumberSet A) → i < length sets → r ≡ get_or sets i r
+    → sum_by size_of (take i (map numbers_of sets)) + size_of (numbers_of r) ≡ sum_by size_of (take (i + 1) (map numbers_of sets))
+counted_more {A} sets i r lt is =
+    let f : NumberSet A → Numbers = numbers_of in
+    let within : i < length (map f sets) = omega (arith, lt, length-map sets f) in
+    let at : get_or (map f sets) i no_numbers ≡ f r = get_or-map f sets i r no_numbers lt ∙ ap f (sym is) in
+    ap (λ (n : ℕ). sum_by size_of (take i (map f sets)) + n) (ap size_of (sym at))
+    ∙ sym (sum_by_more size_of (map f sets) i no_numbers within)
 
-pub loop-row-preserved : goal.loop-row-preserved
-loop-row-preserved g c = record {
-  counted = rw (c.loop-row.invariant.counted, c.len-len.ensures.size) (counted_more c.deref-row-items.result.now c.loop-row.row-index c.row-item.result c.loop-row-test.true c.row-item.is);
-  fits = omega (arith, c.loop-row.invariant.fits, c.len-len.ensures.fits);
+pub loop-numbers-preserved : goal.loop-numbers-preserved
+loop-numbers-preserved g c = record {
+  counted = rw (c.loop-numbers.invariant.counted, c.len-len.ensures.size)
+      (counted_more c.deref-numbers-items.result.now c.loop-numbers.numbers-index c.numbers-item.result c.loop-numbers-test.true
+      c.numbers-item.is);
+  fits = omega (arith, c.loop-numbers.invariant.fits, c.len-len.ensures.fits);
 }

@@ -1,3 +1,4 @@
+-- The stack gets shorter.
 use Rattle.std.proofs.Common.{length}
 use Rattle.htl_tree.proofs.node.Node.+at.Given as goal
 

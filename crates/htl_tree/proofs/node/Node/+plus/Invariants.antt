@@ -1,8 +1,9 @@
+-- The children so far are sums or copies of both sides.
 use Rattle.std.proofs.Common.{◌+◌, ◌-◌, length}
 use Rattle.std.specs.Ordering.{nat_cmp}
 use Rattle.htl_sorted.proofs.SideBySide.{Carries}
 use Rattle.htl_tree.specs.Nodes.{height}
-use Rattle.htl_tree.proofs.SumFacts.{SumOf}
+use Rattle.htl_tree.proofs.CopiesAndSums.{SumOf}
 use Rattle.htl_tree.proofs.node.Node.+plus.Given as goal
 
 abbrev pub decreases-plus : goal.decreases-plus

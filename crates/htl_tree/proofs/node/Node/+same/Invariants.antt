@@ -1,3 +1,4 @@
+-- The children so far count the same.
 use Rattle.std.proofs.Common.{ℕ, ◌<◌, get_or}
 use Rattle.htl_tree.specs.declared.node.Node.{Node}
 use Rattle.htl_tree.specs.Nodes.{kids, height}

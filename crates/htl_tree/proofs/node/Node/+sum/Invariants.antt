@@ -1,3 +1,4 @@
+-- The children so far and those that are left add up to the sum.
 use Rattle.std.proofs.Common.{◌≡◌, [], drop}
 use Rattle.htl_event.specs.Tallies.{plus_count}
 use Rattle.htl_tree.specs.Nodes.{kids, height, sum_under}

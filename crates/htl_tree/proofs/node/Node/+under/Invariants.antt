@@ -1,3 +1,4 @@
+-- The path gets shorter.
 use Rattle.std.proofs.Common.{length}
 use Rattle.htl_tree.proofs.node.Node.+under.Given as goal
 

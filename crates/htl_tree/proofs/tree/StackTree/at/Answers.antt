@@ -1,3 +1,4 @@
+-- The root counts what the tree counts.
 use Rattle.std.proofs.Common.{Some, sym, ap, ◌∙◌, subst, reverse}
 use Rattle.htl_tree.specs.Trees.{count_at}
 use Rattle.htl_tree.specs.Nodes.{tally, tree_of, IsNormalRoot}
@@ -10,5 +11,7 @@ at-requires g c = let h : IsNormalRoot (Some c.in-Some.root) = subst (λ r. IsNo
 pub returns-in-Some : goal.returns-in-Some
 returns-in-Some g c =
     let h : IsNormalRoot (Some c.in-Some.root) = subst (λ r. IsNormalRoot r) c.in-Some.is c.self.invariant.normal in
-    c.at.ensures ∙ ap (λ k. tally (reverse k) c.args.slot c.in-Some.root) c.frames.ensures.value ∙ sym (count_tree c.in-Some.root h.normal c.args.slot c.args.stack.now)
-    ∙ ap (λ r. count_at (tree_of r) c.args.slot c.args.stack.now) (sym c.in-Some.is) ∙ ap (λ t. count_at t c.args.slot c.args.stack.now) c.self.view_is
+    c.at.ensures ∙ ap (λ k. tally (reverse k) c.args.slot c.in-Some.root) c.frames.ensures.value
+    ∙ sym (count_tree c.in-Some.root h.normal c.args.slot c.args.stack.now)
+    ∙ ap (λ r. count_at (tree_of r) c.args.slot c.args.stack.now) (sym c.in-Some.is)
+    ∙ ap (λ t. count_at t c.args.slot c.args.stack.now) c.self.view_is

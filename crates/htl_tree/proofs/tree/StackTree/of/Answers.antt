@@ -1,36 +1,99 @@
-use Rattle.std.proofs.Common.{◌≡◌, ◌+◌, List, [], ◌∷◌, ◌++◌, map, take, sym, ap, ◌∙◌, subst, length, arith}
-use Rattle.std.specs.Borrow.{Bor}
-use Rattle.std.proofs.lemmas.List.{take_all, map_more, length-map}
-use Rattle.std.proofs.lemmas.List.Sorted.{length_permutation}
-use Rattle.htl_event.specs.declared.event.Event.{Event}
-use Rattle.htl_tree.specs.Trees.{HasTally}
-use Rattle.htl_tree.proofs.Events.{tally_moved}
+-- A run more is counted, and the tree of the rows has the tally of the events.
+use Rattle.std.proofs.Common.{◌≡◌, ℕ, ◌+◌, ◌<◌, ◌≤◌, ◌^◌, List, [], ◌∷◌, ◌++◌, length}
+use Rattle.std.proofs.Common.{take, get_or, Option, refl, sym, ap, ◌∙◌, subst, append-nil, length-append, arith}
+use Rattle.std.specs.List.{flat_map}
+use Rattle.std.proofs.lemmas.List.{take_more, take_all}
+use Rattle.std.proofs.lemmas.List.Folds.{length-flat_map-take}
+use Rattle.std.proofs.lemmas.Grind.{flat_map-append}
+use Rattle.htl_event.specs.Events.{Event}
+use Rattle.htl_event.specs.declared.slot.Slot.{Slot}
+use Rattle.htl_event.specs.Tallies.{tally, total_of}
+use Rattle.htl_tree.specs.declared.row.Row.{Row}
+use Rattle.htl_tree.specs.Trees.{count_at, total_count, HasTally}
+use Rattle.htl_tree.specs.declared.node.Node.{Node}
+use Rattle.htl_tree.specs.Nodes.{tree_of, IsNormalRoot}
+use Rattle.htl_tree.specs.Rows.{entries_of, sum_at, AreRows, HaveTally}
+use Rattle.htl_tree.proofs.SumsFromTally.{weigh_rows}
+use Rattle.htl_tree.proofs.Roots.{root_is_tree}
 use Rattle.htl_tree.proofs.tree.StackTree.of.Goals as goal
 
-pub add_event-requires : goal.add_event-requires
-add_event-requires g c = omega (arith, c.loop-event.invariant.total, c.loop-event-test.true, c.deref-event-items.type_inv.0)
+pub count_all-requires-clause-room : goal.count_all-requires-clause-room
+count_all-requires-clause-room g c =
+    let runs = c.args.runs.now in
+    let i = c.loop-run.run-index in
+    let of = g.R.Run.events_of in
+    let most : length (flat_map of (take i runs)) + length (of (get_or runs i c.run-item.result)) ≤ length (flat_map of runs) =
+    length-flat_map-take of runs i c.run-item.result c.loop-run-test.true in
+    let its : length (c.events.result.now) ≡ length (of (get_or runs i c.run-item.result)) = ap length c.events.ensures
+    ∙ ap (λ r. length (of r)) c.run-item.is in
+    omega (arith, c.requires, most, its, c.loop-run.invariant.total)
 
-pub loop-event-preserved : goal.loop-event-preserved
-loop-event-preserved g c =
-    let i = c.loop-event.event-index in
-    let places = c.deref-event-items.result.now in
-    let before : List Event = map (λ (place : Bor Event). place.now) (take i places) in
-    let more : map (λ (place : Bor Event). place.now) (take (i + 1) places) ≡ before ++ c.event-item.result.now ∷ [] =
-    map_more (λ (place : Bor Event). place.now) places i c.event-item.result c.loop-event-test.true ∙ ap (λ (p : Bor Event). before ++ p.now ∷ []) (sym c.event-item.is) in
+pub loop-run-preserved : goal.loop-run-preserved
+loop-run-preserved g c =
+    let runs = c.args.runs.now in
+    let i = c.loop-run.run-index in
+    let of = g.R.Run.events_of in
+    let r = c.run-item.result in
+    let before : List Event = flat_map of (take i runs) in
+    let one : flat_map of (r ∷ []) ≡ c.events.result.now = append-nil (of r) ∙ sym c.events.ensures in
+    let more : flat_map of (take (i + 1) runs) ≡ before ++ c.events.result.now =
+    ap (flat_map of) (take_more runs i r c.loop-run-test.true) ∙ ap (λ x. flat_map of (take i runs ++ x ∷ [])) (sym c.run-item.is)
+    ∙ flat_map-append of (take i runs) (r ∷ []) ∙ ap (λ l. before ++ l) one in
+    let longer : length (flat_map of (take (i + 1) runs)) ≡ length before + length c.events.result.now = ap length more
+    ∙ length-append before c.events.result.now in
     record {
-      tally = subst (λ (l : List Event). HasTally c.add_event.new.self l) (sym more) (c.in_ok-add_event.ensures.tally before c.loop-event.invariant.tally);
-      total = omega (arith, c.in_ok-add_event.ensures.total, c.loop-event.invariant.total);
+      rows = c.in_ok-count_all.ensures.rows;
+      tally = subst (λ (l : List Event). HaveTally c.count_all.new.self.rows.items l) (sym more)
+          (c.in_ok-count_all.ensures.tally before c.loop-run.invariant.tally);
+      total = omega (arith, longer, c.in_ok-count_all.ensures.total, c.loop-run.invariant.total);
+    }
+
+-- the tree of rows has their tally and counts as many
+made : {A : Type 0} (root : Option (Node A)) (total : ℕ) (rows : List Row) (events : List Event) → IsNormalRoot root
+    → ((slot : Slot) (stack : List ℕ) → count_at (tree_of root) slot stack ≡ sum_at (entries_of rows) slot stack) → AreRows rows total
+    → HaveTally rows events → HasTally (tree_of root) events × (total ≡ total_count (tree_of root))
+made root total rows events h counts are tallied =
+    let is : total_count (tree_of root) ≡ total_count (entries_of rows) = weigh_rows (λ k c. total_of c) (λ k. refl)
+    (λ k c d. omega arith) (tree_of root) (root_is_tree root h) (entries_of rows) are.each.positive counts in
+    (λ slot stack. counts slot stack ∙ tallied slot stack, are.counted ∙ sym is)
+
+pub invariant_of-result : goal.invariant_of-result
+invariant_of-result g c =
+    let runs = c.args.runs.now in
+    let rows : List Row = c.loop-run.counting.rows.items in
+    let same : c.into_rows-rows.result.0.items ≡ rows = ap (λ v. v.items) c.into_rows-rows.ensures.rows in
+    let whole = made c.in_ok-root.root c.loop-run.counting.total rows
+    (flat_map g.R.Run.events_of (take c.loop-run.run-index runs)) c.in_ok-root.ensures.normal
+    (λ slot stack. c.in_ok-root.ensures.counts slot stack ∙ ap (λ (l : List Row). sum_at (entries_of l) slot stack) same)
+    c.loop-run.invariant.rows c.loop-run.invariant.tally in
+    let all = ap (λ l. length (flat_map g.R.Run.events_of l)) (take_all c.loop-run.run-index runs c.loop-run-test.false) in
+    record {
+      normal = c.in_ok-root.ensures.normal;
+      counted = c.into_rows-rows.ensures.total ∙ whole.1;
+      fits = omega (arith, c.into_rows-rows.ensures.total, c.loop-run.invariant.total, c.requires, all);
     }
 
 pub returns-clause-tally : goal.returns-clause-tally
 returns-clause-tally g c =
-    let places = c.deref-event-items.result.now in
-    let all : map (λ (place : Bor Event). place.now) (take c.loop-event.event-index places) ≡ map (λ (place : Bor Event). place.now) c.in_ok-places.places.items =
-    ap (map (λ (place : Bor Event). place.now)) (take_all c.loop-event.event-index places c.loop-event-test.false ∙ c.deref-event-items.ensures.value) in
-    tally_moved c.loop-event.tree c.args.events.now (map (λ (place : Bor Event). place.now) c.in_ok-places.places.items) c.in_ok-places.ensures
-    (subst (λ (l : List Event). HasTally c.loop-event.tree l) all c.loop-event.invariant.tally)
+    let runs = c.args.runs.now in
+    let rows : List Row = c.loop-run.counting.rows.items in
+    let same : c.into_rows-rows.result.0.items ≡ rows = ap (λ v. v.items) c.into_rows-rows.ensures.rows in
+    let whole = made c.in_ok-root.root c.loop-run.counting.total rows
+    (flat_map g.R.Run.events_of (take c.loop-run.run-index runs)) c.in_ok-root.ensures.normal
+    (λ slot stack. c.in_ok-root.ensures.counts slot stack ∙ ap (λ (l : List Row). sum_at (entries_of l) slot stack) same)
+    c.loop-run.invariant.rows c.loop-run.invariant.tally in
+    subst (λ (l : List Event). HasTally (tree_of c.in_ok-root.root) l)
+    (ap (flat_map g.R.Run.events_of) (take_all c.loop-run.run-index runs c.loop-run-test.false)) whole.0
 
 pub returns-clause-total : goal.returns-clause-total
 returns-clause-total g c =
-    let places = c.in_ok-places.places.items in
-    omega (arith, c.loop-event.invariant.total, ap length c.deref-event-items.ensures.value, length-map places (λ (place : Bor Event). place.now), length_permutation c.args.events.now (map (λ (place : Bor Event). place.now) places) c.in_ok-places.ensures)
+    let runs = c.args.runs.now in
+    let rows : List Row = c.loop-run.counting.rows.items in
+    let same : c.into_rows-rows.result.0.items ≡ rows = ap (λ v. v.items) c.into_rows-rows.ensures.rows in
+    let whole = made c.in_ok-root.root c.loop-run.counting.total rows
+    (flat_map g.R.Run.events_of (take c.loop-run.run-index runs)) c.in_ok-root.ensures.normal
+    (λ slot stack. c.in_ok-root.ensures.counts slot stack ∙ ap (λ (l : List Row). sum_at (entries_of l) slot stack) same)
+    c.loop-run.invariant.rows c.loop-run.invariant.tally in
+    let is = whole.1 in
+    let all = ap (λ l. length (flat_map g.R.Run.events_of l)) (take_all c.loop-run.run-index runs c.loop-run-test.false) in
+    omega (arith, is, c.loop-run.invariant.total, all)

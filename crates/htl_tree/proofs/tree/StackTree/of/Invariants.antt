@@ -1,11 +1,12 @@
-use Rattle.std.proofs.Common.{◌≤◌, map, take}
-use Rattle.std.specs.Borrow.{Bor}
-use Rattle.htl_event.specs.declared.event.Event.{Event}
-use Rattle.htl_tree.specs.Trees.{HasTally, total_count}
+-- The events of the runs so far are counted.
+use Rattle.std.proofs.Common.{◌≤◌, take, length}
+use Rattle.std.specs.List.{flat_map}
+use Rattle.htl_tree.specs.Rows.{AreRows, HaveTally}
 use Rattle.htl_tree.proofs.tree.StackTree.of.Given as goal
 
-abbrev pub invariant-loop-event : goal.invariant-loop-event
-invariant-loop-event g l = record {
-  tally : HasTally l.tree (map (λ (place : Bor Event). place.now) (take l.event-index l.event-items));
-  total : total_count l.tree ≤ l.event-index;
+abbrev pub invariant-loop-run : goal.invariant-loop-run
+invariant-loop-run g l = record {
+  rows : AreRows l.counting.rows.items l.counting.total;
+  tally : HaveTally l.counting.rows.items (flat_map g.R.Run.events_of (take l.run-index l.runs));
+  total : l.counting.total ≤ length (flat_map g.R.Run.events_of (take l.run-index l.runs));
 }

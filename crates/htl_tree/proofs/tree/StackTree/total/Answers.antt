@@ -1,3 +1,4 @@
+-- The kept total is the sum of all counts.
 use Rattle.std.proofs.Common.{subst}
 use Rattle.htl_tree.specs.Trees.{IsTree}
 use Rattle.htl_tree.proofs.Roots.{root_is_tree}

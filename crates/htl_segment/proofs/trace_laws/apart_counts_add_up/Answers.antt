@@ -1,5 +1,0 @@
-use Rattle.htl_segment.proofs.Traces.{apart_counts_add_up}
-use Rattle.htl_segment.proofs.trace_laws.apart_counts_add_up.Goals as goal
-
-pub returns : goal.returns
-returns c = apart_counts_add_up

@@ -1,0 +1,240 @@
+//! How a piece is taken in behind the bytes that make no segment yet.
+//!
+//! Where those hold a header, they have room for the whole segment; so the bytes that complete it need no
+//! memory, and memory is asked for only where no fault stands.
+ghost use Rattle.std.specs.Prelude.{◌≡◌, ℕ, ◌+◌, ◌<◌, ◌≤◌, ◌^◌, ◌++◌, length, vec_capacity};
+ghost use Rattle.std.specs.Prelude.{None, IsOk, OnOk, MatchResult};
+ghost use Rattle.htl_segment.specs.Spelling.{spelling};
+ghost use Rattle.htl_segment.specs.Reading.{length_in};
+ghost use Rattle.htl_segment.specs.Faults.{header_fault};
+ghost use Rattle.htl_segment.specs.Bundles.{IsRest, IsPieceRefused};
+ghost use Rattle.htl_segment.specs.Feeding.{SplitsMore, Extends, HasRoom, IsTakenIn};
+
+use crate::bundle::split;
+use crate::decoding::decode_with;
+use crate::fault::Fault;
+use crate::header::{HEADER_LEN, len_at};
+use crate::segment::Segment;
+use crate::segment_bytes::SegmentBytes;
+use crate::stack_cache::StackCache;
+use htl_event::NoMemory;
+use std::alloc::{AllocError, Global};
+
+/// Takes a piece in behind `rest`: gives the segments that it completes, and leaves the bytes after them
+/// in `rest`. A refusal tells the offset of the refused segment, and may leave bytes of the piece behind
+/// those that `rest` held.
+pub fn absorb(
+    alloc: Global,
+    cache: &mut StackCache,
+    rest: &mut Vec<u8>,
+    piece: &[u8],
+) -> Result<Vec<Segment>, (u64, Fault)>
+    requires rest { IsRest rest.old.items }
+    requires room { HasRoom rest.old.items (vec_capacity rest.old) }
+    ensures taken { MatchResult result
+        (λ segments. IsTakenIn (rest.old.items ++ piece.now)
+        segments.items rest.new.items (vec_capacity rest.new))
+        (λ refused. IsPieceRefused (rest.old.items ++ piece.now) refused.0 refused.1
+        × Extends rest.old.items rest.new.items) }
+    ensures capacity { vec_capacity rest.old ≤ vec_capacity rest.new }
+{
+    if rest.is_empty() {
+        keep_tail(alloc, cache, Vec::new(alloc), rest, piece)
+    } else if rest.len() < HEADER_LEN {
+        complete_header(alloc, cache, rest, piece)
+    } else {
+        complete_records(alloc, cache, rest, piece)
+    }
+}
+
+/// Does so where `rest` is a part of a header.
+fn complete_header(
+    alloc: Global,
+    cache: &mut StackCache,
+    rest: &mut Vec<u8>,
+    piece: &[u8],
+) -> Result<Vec<Segment>, (u64, Fault)>
+    requires some { 0 < length rest.old.items }
+    requires part { length rest.old.items < HEADER_LEN }
+    requires room { HEADER_LEN ≤ vec_capacity rest.old }
+    ensures taken { MatchResult result
+        (λ segments. IsTakenIn (rest.old.items ++ piece.now)
+        segments.items rest.new.items (vec_capacity rest.new))
+        (λ refused. IsPieceRefused (rest.old.items ++ piece.now) refused.0 refused.1
+        × Extends rest.old.items rest.new.items) }
+    ensures capacity { vec_capacity rest.old ≤ vec_capacity rest.new }
+{
+    if piece.len() < HEADER_LEN - rest.len() {
+        return keep_piece(alloc, rest, piece, HEADER_LEN);
+    }
+    let (taken, left) = piece.split_at(HEADER_LEN - rest.len());
+    let header = header_of(rest, taken);
+    match SegmentBytes::check_parts(&header, left) {
+        Ok(found) => match found.to_segment_with(alloc, cache) {
+            Ok(first) => {
+                let len = found.byte_len();
+                keep_after(alloc, cache, first, len, rest, &left[len - HEADER_LEN..])
+            }
+            Err(NoMemory) => Err((0, Fault::NoMemory)),
+        },
+        Err(fault) if fault.is_early_end() => keep_piece(alloc, rest, piece, len_at(&header)),
+        Err(fault) => Err((0, fault)),
+    }
+}
+
+/// The header that these parts make.
+fn header_of(front: &[u8], back: &[u8]) -> [u8; HEADER_LEN]
+    requires { length front.now + length back.now ≡ HEADER_LEN }
+    ensures { result ≡ front.now ++ back.now }
+{
+    let mut header = [0; HEADER_LEN];
+    let (start, end) = header.split_at_mut(front.len());
+    start.copy_from_slice(front);
+    end.copy_from_slice(back);
+    header
+}
+
+/// Does so where `rest` has a header.
+fn complete_records(
+    alloc: Global,
+    cache: &mut StackCache,
+    rest: &mut Vec<u8>,
+    piece: &[u8],
+) -> Result<Vec<Segment>, (u64, Fault)>
+    requires long { HEADER_LEN ≤ length rest.old.items }
+    requires no_fault { header_fault rest.old.items ≡ None }
+    requires cut { length rest.old.items < length_in rest.old.items }
+    requires room { length_in rest.old.items ≤ vec_capacity rest.old }
+    ensures taken { MatchResult result
+        (λ segments. IsTakenIn (rest.old.items ++ piece.now)
+        segments.items rest.new.items (vec_capacity rest.new))
+        (λ refused. IsPieceRefused (rest.old.items ++ piece.now) refused.0 refused.1
+        × Extends rest.old.items rest.new.items) }
+    ensures capacity { vec_capacity rest.old ≤ vec_capacity rest.new }
+{
+    let len = len_at(rest);
+    if piece.len() < len - rest.len() {
+        return keep_piece(alloc, rest, piece, len);
+    }
+    let (taken, left) = piece.split_at(len - rest.len());
+    put_behind(rest, taken);
+    match decode_with(alloc, cache, rest) {
+        Ok((first, len)) => keep_after(alloc, cache, first, len, rest, left),
+        Err(fault) => Err((0, fault)),
+    }
+}
+
+/// Puts a piece behind `rest` that completes no segment, and makes room for `len` bytes.
+fn keep_piece(
+    alloc: Global,
+    rest: &mut Vec<u8>,
+    piece: &[u8],
+    len: usize,
+) -> Result<Vec<Segment>, (u64, Fault)>
+    requires some { 0 < length rest.old.items }
+    requires fewer { length rest.old.items + length piece.now < len }
+    requires is_rest { IsRest (rest.old.items ++ piece.now) }
+    requires room { (c : ℕ) → len ≤ c → HasRoom (rest.old.items ++ piece.now) c }
+    ensures taken { MatchResult result
+        (λ segments. IsTakenIn (rest.old.items ++ piece.now)
+        segments.items rest.new.items (vec_capacity rest.new))
+        (λ refused. IsPieceRefused (rest.old.items ++ piece.now) refused.0 refused.1
+        × Extends rest.old.items rest.new.items) }
+    ensures capacity { vec_capacity rest.old ≤ vec_capacity rest.new }
+{
+    if make_room(rest, len).is_err() {
+        return Err((0, Fault::NoMemory));
+    }
+    put_behind(rest, piece);
+    Ok(Vec::new(alloc))
+}
+
+/// Takes in what follows a first segment of `len` bytes.
+fn keep_after(
+    alloc: Global,
+    cache: &mut StackCache,
+    first: Segment,
+    len: usize,
+    rest: &mut Vec<u8>,
+    bytes: &[u8],
+) -> Result<Vec<Segment>, (u64, Fault)>
+    requires len { len ≡ length (spelling first) }
+    requires small { len + length bytes.now < 2 ^ 64 }
+    ensures taken { MatchResult result
+        (λ segments. IsTakenIn (spelling first ++ bytes.now)
+        segments.items rest.new.items (vec_capacity rest.new))
+        (λ refused. IsPieceRefused (spelling first ++ bytes.now) refused.0 refused.1
+        × (rest.new.items ≡ rest.old.items)) }
+    ensures capacity { vec_capacity rest.old ≤ vec_capacity rest.new }
+{
+    let _fits = first.events();
+    let mut segments = Vec::new(alloc);
+    if segments.push(first).is_err() {
+        return Err((0, Fault::NoMemory));
+    }
+    match keep_tail(alloc, cache, segments, rest, bytes) {
+        Ok(segments) => Ok(segments),
+        Err((offset, fault)) => Err((len as u64 + offset, fault)),
+    }
+}
+
+/// Splits `bytes` behind `segments`, and keeps the last of them as `rest`.
+fn keep_tail(
+    alloc: Global,
+    cache: &mut StackCache,
+    mut segments: Vec<Segment>,
+    rest: &mut Vec<u8>,
+    bytes: &[u8],
+) -> Result<Vec<Segment>, (u64, Fault)>
+    ensures taken { MatchResult result
+        (λ new. SplitsMore bytes.now segments.items new.items rest.new.items
+        × (IsRest rest.new.items × HasRoom rest.new.items (vec_capacity rest.new)))
+        (λ refused. IsPieceRefused bytes.now refused.0 refused.1
+        × (rest.new.items ≡ rest.old.items)) }
+    ensures capacity { vec_capacity rest.old ≤ vec_capacity rest.new }
+{
+    let tail = split(alloc, cache, &mut segments, bytes)?;
+    if make_room(rest, room_of(tail)).is_err() {
+        return Err(((bytes.len() - tail.len()) as u64, Fault::NoMemory));
+    }
+    rest.clear();
+    put_behind(rest, tail);
+    Ok(segments)
+}
+
+/// How many bytes the segment has that begins so, or its header where that isn't there yet.
+fn room_of(rest: &[u8]) -> usize
+    requires { IsRest rest.now }
+    ensures room { (c : ℕ) → result ≤ c → HasRoom rest.now c }
+    ensures enough { length rest.now ≤ result }
+    ensures none { length rest.now ≡ 0 → result ≡ 0 }
+{
+    if rest.is_empty() {
+        0
+    } else if rest.len() < HEADER_LEN {
+        HEADER_LEN
+    } else {
+        len_at(rest)
+    }
+}
+
+/// Makes room for `len` bytes in all.
+fn make_room(rest: &mut Vec<u8>, len: usize) -> Result<(), AllocError>
+    ensures items { rest.new.items ≡ rest.old.items }
+    ensures room { OnOk result (len ≤ vec_capacity rest.new) }
+    ensures capacity { vec_capacity rest.old ≤ vec_capacity rest.new }
+    ensures none { len ≡ 0 → IsOk result }
+{
+    rest.reserve_exact(len.saturating_sub(rest.len()))
+}
+
+/// Puts bytes behind others, for which there is room.
+fn put_behind(rest: &mut Vec<u8>, bytes: &[u8])
+    requires { length rest.old.items + length bytes.now ≤ vec_capacity rest.old }
+    ensures items { rest.new.items ≡ rest.old.items ++ bytes.now }
+    ensures capacity { vec_capacity rest.old ≤ vec_capacity rest.new }
+{
+    if rest.extend_from_slice(bytes).is_err() {
+        unreachable!()
+    }
+}

@@ -1,0 +1,71 @@
+-- The sort keys of events that open or close a handle: by handle, of one handle the latest first, and of
+-- one sequence the first of the list.
+use Rattle.std.specs.Prelude.{◌≡◌, ℕ, ◌⊎◌, true, false, List, Some, Contains, slice_get}
+use Rattle.std.specs.Ordering.{is_lt}
+use Rattle.std.specs.declared.cmp.Ordering.{Ordering}
+use Rattle.htl_event.specs.Events.{Event}
+use Rattle.htl_event.specs.Slots.{base_of}
+use Rattle.htl_tables.specs.declared.sort_key.SortKey.{SortKey}
+use Rattle.htl_tables.specs.contracts.sort_key.SortKeyOrd.TheImpl.{cmp-value}
+use Rattle.htl_event.specs.Handles.{opens_or_closes}
+
+abbrev pub sort_key_cmp : SortKey → SortKey → Ordering
+sort_key_cmp = cmp-value.it
+
+-- the sort key of the event at a place of a run
+abbrev pub sort_key_of : Event → ℕ → ℕ → SortKey
+sort_key_of e run i =
+    record { process = e.process; base = base_of e.handle; sequence = record { 0 = e.sequence }; run = run; index = i }
+
+-- the event stands at place i of the r-th run
+pub record StandsAt {X : Type 0} (events_of : X → List Event) (runs : List X) (r i : ℕ) (e : Event) : Type 0 where
+  pub run : X
+  pub in_runs : slice_get runs r ≡ Some run
+  pub in_run : slice_get (events_of run) i ≡ Some e
+
+-- the key is that of an open or close of the runs
+pub record IsKeyIn {X : Type 0} (events_of : X → List Event) (runs : List X) (k : SortKey) : Type 0 where
+  pub event : Event
+  pub stands : StandsAt events_of runs k.run k.index event
+  pub opens : opens_or_closes event.kind ≡ true
+  pub is : k ≡ sort_key_of event k.run k.index
+
+-- one of the keys is of the same handle and comes no later
+pub record IsMet (keys : List SortKey) (k : SortKey) : Type 0 where
+  pub key : SortKey
+  pub here : Contains keys key
+  pub process : key.process ≡ k.process
+  pub base : key.base ≡ k.base
+  pub order : is_lt (sort_key_cmp k key) ≡ false
+
+-- the keys are of opens and closes of the runs, and meet each of these
+pub record AreCandidates {X : Type 0} (events_of : X → List Event) (runs : List X) (keys : List SortKey) : Type 0 where
+  pub each : (k : SortKey) → Contains keys k → IsKeyIn events_of runs k
+  pub all : (r i : ℕ) (e : Event) → StandsAt events_of runs r i e → opens_or_closes e.kind ≡ true
+      → IsMet keys (sort_key_of e r i)
+
+-- the key is that of an open or close of the r-th run
+pub record IsKeyAt (r : ℕ) (events : List Event) (k : SortKey) : Type 0 where
+  pub event : Event
+  pub at : slice_get events k.index ≡ Some event
+  pub opens : opens_or_closes event.kind ≡ true
+  pub is : k ≡ sort_key_of event r k.index
+
+-- the keys of one run's opens and closes came to the old ones, or in their places
+pub record Gathers (r : ℕ) (events : List Event) (old new : List SortKey) : Type 0 where
+  pub each : (k : SortKey) → Contains new k → Contains old k ⊎ IsKeyAt r events k
+  pub met : (k : SortKey) → IsMet old k → IsMet new k
+  pub all : (i : ℕ) (e : Event) → slice_get events i ≡ Some e → opens_or_closes e.kind ≡ true → IsMet new (sort_key_of e r i)
+
+-- a key of the same handle stands at the place
+pub record IsPlaceOf (keys : List SortKey) (k : SortKey) (place : ℕ) : Type 0 where
+  pub key : SortKey
+  pub at : slice_get keys place ≡ Some key
+  pub process : key.process ≡ k.process
+  pub base : key.base ≡ k.base
+
+-- the key came to the old ones, in the place of one of its handle that comes later, or one of them meets it
+pub record Offers (k : SortKey) (old new : List SortKey) : Type 0 where
+  pub each : (u : SortKey) → Contains new u → Contains old u ⊎ (k ≡ u)
+  pub met : (u : SortKey) → IsMet old u → IsMet new u
+  pub own : IsMet new k

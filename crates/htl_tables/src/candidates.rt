@@ -1,0 +1,109 @@
+//! The events that may be the latest of their handles, gathered from runs in one pass.
+
+ghost use Rattle.std.specs.Prelude.{IfOk, IsSorted};
+ghost use Rattle.htl_tables.specs.SortKeys.{sort_key_cmp, AreCandidates};
+
+use crate::hints::{Hints, WAYS};
+use crate::sort_key::SortKey;
+use htl_event::{NoMemory, Run, SharedEvent};
+use std::alloc::{AllocError, Allocator};
+
+/// Sort keys of opens and closes, mostly one for each handle, and hints where they stand.
+#[derive(Drop)]
+struct Candidates<A: Allocator> {
+    keys: Vec<SortKey, A>,
+    hints: Hints<A>,
+}
+
+/// Sort keys of the runs' opens and closes, in order. The latest event of each handle is among them.
+pub(crate) fn candidates_in<R: Run, A: Allocator + Clone>(
+    alloc: A,
+    runs: &[R],
+) -> Result<Vec<SortKey, A>, NoMemory>
+    ensures all { IfOk result (λ keys. AreCandidates R.events_of runs.now keys.items) }
+    ensures sorted { IfOk result (λ keys. IsSorted sort_key_cmp keys.items) }
+{
+    let mut candidates = Candidates::new(alloc, events_in(runs))?;
+    for (run, events) in runs.iter().enumerate() {
+        candidates.gather(run, events.events())?;
+    }
+    let mut keys = candidates.keys;
+    keys.sort_unstable();
+    Ok(keys)
+}
+
+/// About how many events the runs have.
+fn events_in<R: Run>(runs: &[R]) -> usize {
+    let mut events: usize = 0;
+    for run in runs {
+        events = events.saturating_add(run.events().len());
+    }
+    events
+}
+
+impl<A: Allocator + Clone> Candidates<A> {
+    ghost use Rattle.std.specs.Prelude.{◌≡◌, [], IfOk};
+
+    /// No key yet, and room for hints on this many events.
+    fn new(alloc: A, events: usize) -> Result<Candidates<A>, AllocError>
+        ensures { IfOk result (λ candidates. candidates.keys.items ≡ []) }
+    {
+        Ok(Candidates {
+            hints: Hints::new(alloc.clone()?, events)?,
+            keys: Vec::new(alloc),
+        })
+    }
+}
+
+impl<A: Allocator> Candidates<A> {
+    ghost use Rattle.std.specs.Prelude.{IfOk, OnOk};
+    ghost use Rattle.htl_tables.specs.SortKeys.{IsPlaceOf, Gathers, Offers};
+
+    /// Offers the key of each open and close of one run.
+    fn gather(&mut self, run: usize, events: &[SharedEvent]) -> Result<(), AllocError>
+        ensures { OnOk result (Gathers run events.now self.old.keys.items self.new.keys.items) }
+    {
+        for (index, event) in events.iter().enumerate() {
+            if event.kind.opens_or_closes() {
+                self.offer(SortKey::of(event, run, index))?;
+            }
+        }
+        Ok(())
+    }
+
+    /// Puts the key in the place of its handle's that comes later, or adds it where none is found.
+    fn offer(&mut self, key: SortKey) -> Result<(), AllocError>
+        ensures { OnOk result (Offers key self.old.keys.items self.new.keys.items) }
+    {
+        match self.find(&key) {
+            Ok(place) => {
+                let kept = &mut self.keys[place];
+                if key.cmp(kept).is_lt() {
+                    *kept = key;
+                }
+            }
+            Err(cell) => {
+                self.hints.set(cell, self.keys.len());
+                self.keys.push(key)?;
+            }
+        }
+        Ok(())
+    }
+
+    /// The place of a key of the same handle, where a hint tells it, or else a cell for a hint.
+    fn find(&self, key: &SortKey) -> Result<usize, usize>
+        ensures { IfOk result (IsPlaceOf self.now.keys.items key.now) }
+    {
+        let first = self.hints.first_cell(key.process, key.base);
+        for way in 0..WAYS {
+            let cell = first.wrapping_add(way);
+            let place = self.hints.place(cell);
+            match self.keys.get(place) {
+                None => return Err(cell),
+                Some(other) if other.is_of_handle_of(key) => return Ok(place),
+                Some(_) => {}
+            }
+        }
+        Err(first)
+    }
+}

@@ -1,0 +1,59 @@
+//! Small keys of events, by which the latest of a handle are found: they are sorted in place of the events.
+
+ghost use Rattle.std.specs.Prelude.{◌≤◌, length};
+
+use htl_event::{Run, SharedEvent, base};
+use std::cmp::Reverse;
+
+/// The sort key of an event that opens or closes a handle: by handle, of one handle the latest first, and
+/// of one sequence the first of the list.
+#[derive(Clone, Copy, PartialEq, Eq, PartialOrd, Ord)]
+pub(crate) struct SortKey {
+    pub process: u32,
+    pub base: u32,
+    pub sequence: Reverse<u64>,
+    /// The place of the event's run.
+    pub run: usize,
+    /// The event's place in its run.
+    pub index: usize,
+}
+
+impl SortKey {
+    ghost use Rattle.std.specs.Prelude.{◌≡◌, ◌↔◌, IsTrue};
+    ghost use Rattle.htl_event.specs.Events.{Event};
+    ghost use Rattle.htl_tables.specs.SortKeys.{StandsAt, sort_key_of};
+
+    pub fn of(event: &SharedEvent, run: usize, index: usize) -> SortKey
+        ensures { result ≡ sort_key_of event.now run index }
+    {
+        SortKey {
+            process: event.process,
+            base: base(event.handle),
+            sequence: Reverse(event.sequence),
+            run,
+            index,
+        }
+    }
+
+    pub fn is_of_handle_of(&self, other: &SortKey) -> bool
+        ensures { IsTrue result
+            ↔ ((self.now.process ≡ other.now.process) × (self.now.base ≡ other.now.base)) }
+    {
+        self.process == other.process && self.base == other.base
+    }
+
+    /// The event with this key.
+    pub fn event<'a, R: Run>(&self, runs: &'a [R]) -> &'a SharedEvent
+        requires { (e : Event) × StandsAt R.events_of runs.now self.now.run self.now.index e }
+        ensures { StandsAt R.events_of runs.now self.now.run self.now.index result.now }
+    {
+        &runs[self.run].events()[self.index]
+    }
+}
+
+/// How many handles the keys have.
+pub(crate) fn handles_in(keys: &[SortKey]) -> usize
+    ensures { result ≤ length keys.now }
+{
+    keys.chunk_by(|one, next| one.is_of_handle_of(next)).count()
+}

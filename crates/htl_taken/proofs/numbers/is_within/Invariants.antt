@@ -1,7 +1,0 @@
-use Rattle.std.proofs.Common.{drop}
-use Rattle.htl_taken.specs.declared.TheConstants.{MAX_FRONT}
-use Rattle.htl_taken.proofs.Within.{Decide}
-use Rattle.htl_taken.proofs.numbers.is_within.Given as goal
-
-abbrev pub invariant-loop-number : goal.invariant-loop-number
-invariant-loop-number l = Decide MAX_FRONT l.numbers l.all l.left (drop l.number-index l.all)

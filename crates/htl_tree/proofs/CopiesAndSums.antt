@@ -1,0 +1,249 @@
+-- Nodes made of others: copies and sums.
+use Rattle.std.proofs.Common.{◌≡◌, ℕ, ◌+◌, ◌<◌, ◌≤◌, ◌^◌, List, [], ◌∷◌, ◌++◌, length, map}
+use Rattle.std.proofs.Common.{drop, get_or, Option, Some, None, unwrap_or, refl, sym, ◌∙◌, ap, subst, arith}
+use Rattle.std.specs.Cmp.{nat_cmp_total}
+use Rattle.std.specs.Ordering.{nat_cmp}
+use Rattle.std.specs.declared.cmp.Ordering.{Ordering}
+use Rattle.std.specs.declared.cmp.Ordering.TheVariants.{Less, Equal, Greater}
+use Rattle.std.specs.FinMap.Entries.{find}
+use Rattle.htl_event.specs.declared.slot.Slot.{Slot}
+use Rattle.htl_event.specs.declared.slot.Count.{Count}
+use Rattle.htl_event.specs.Tallies.{zero_count, plus_count, total_of, IsPositive}
+use Rattle.htl_sorted.specs.Entries.{IsSorted, joined_at}
+use Rattle.htl_sorted.specs.Made.{Made}
+use Rattle.htl_sorted.proofs.Finds.{each_found}
+use Rattle.htl_sorted.proofs.SideBySide.{join, pair, MadeAt, find_made, sorted_made, sorted_join}
+use Rattle.htl_sorted.proofs.SideBySide.{find_join, Carries, carry_less, carry_greater, carry_equal, carries_end}
+use Rattle.htl_tree.specs.declared.node.Node.{Node}
+use Rattle.htl_event.specs.SlotOrder.{slot_cmp}
+use Rattle.htl_event.specs.OrderLaws.{slot_total}
+use Rattle.htl_tree.specs.Nodes.{tally, own, kids, at_child, AtChild, NormalAt}
+use Rattle.htl_tree.specs.Nodes.{IsNormal, IsNonEmpty, IsCopy, IsSum, AppendsCopies, FitsSum}
+use Rattle.htl_tree.proofs.Canonical.{inhabited}
+use Rattle.htl_tree.proofs.ChangedKeys.{each_from_found}
+use Rattle.htl_tree.proofs.CountAdded.{normal_here, normal_child, nonempty_from}
+
+-- ---- copies
+
+pub copied_nonempty : {A : Type 0} (n m : Node A) → IsNormal n → IsCopy n m → IsNonEmpty n → IsNonEmpty m
+copied_nonempty n m h copy some = let w = inhabited n h some in
+    nonempty_from m w.path w.slot (subst IsPositive (sym (copy.counts w.path w.slot)) w.counts)
+
+abbrev CopyAt : {A : Type 0} → Option (Node A) → Option (Node A) → Type 0
+CopyAt o p = MadeAt (λ k c. IsCopy k c) o p
+
+copied_tally : {A : Type 0} (p : List ℕ) (s : Slot) (o q : Option (Node A)) → CopyAt o q
+    → at_child (λ c. tally p s c) q ≡ at_child (λ c. tally p s c) o
+copied_tally p s None None m = refl
+copied_tally p s None (Some c) m = absurd m
+copied_tally p s (Some k) None m = absurd m
+copied_tally p s (Some k) (Some c) m = m.counts p s
+
+copied_normal : {A : Type 0} (p : List ℕ) (o q : Option (Node A)) → CopyAt o q → AtChild (λ c. NormalAt p c) q
+copied_normal p None None m = tt
+copied_normal p None (Some c) m = absurd m
+copied_normal p (Some k) None m = absurd m
+copied_normal p (Some k) (Some c) m = m.normal.everywhere p
+
+module _ {A : Type 0} (n m : Node A) (h : IsNormal n) (same : own m ≡ own n) (copies : Made (λ k c. IsCopy k c) (kids n) (kids m)) where
+  copy_at : (f : ℕ) → CopyAt (find nat_cmp f (kids n)) (find nat_cmp f (kids m))
+  copy_at f = find_made nat_cmp (λ k c. IsCopy k c) f (kids n) (kids m) copies
+
+  frames_sorted : IsSorted nat_cmp (kids m)
+  frames_sorted = sorted_made nat_cmp (λ k c. IsCopy k c) (kids n) (kids m) copies (normal_here n h).frames
+
+  kid_nonempty : (f : ℕ) (c : Node A) → find nat_cmp f (kids m) ≡ Some c → IsNonEmpty c
+  kid_nonempty f c e = of (find nat_cmp f (kids n)) refl (subst (λ q. CopyAt (find nat_cmp f (kids n)) q) e (copy_at f))
+    where
+      of : (o : Option (Node A)) → find nat_cmp f (kids n) ≡ o → CopyAt o (Some c) → IsNonEmpty c
+      of None is m = absurd m
+      of (Some k) is m = copied_nonempty k c (normal_child n h f k is) m
+          (each_found nat_cmp (λ c. IsNonEmpty c) f k (kids n) (normal_here n h).nonempty is)
+
+  pub copied : IsCopy n m
+  copied = record { normal = record { everywhere = at }; counts = counts }
+    where
+      at : (p : List ℕ) → NormalAt p m
+      at [] = let here = normal_here n h in record {
+        slots = rw same here.slots;
+        positive = rw same here.positive;
+        frames = frames_sorted;
+        nonempty = each_from_found nat_cmp nat_cmp_total (λ c. IsNonEmpty c) (kids m) frames_sorted kid_nonempty;
+      }
+      at (f ∷ p) = copied_normal p (find nat_cmp f (kids n)) (find nat_cmp f (kids m)) (copy_at f)
+
+      counts : (p : List ℕ) (s : Slot) → tally p s m ≡ tally p s n
+      counts [] s = rw same refl
+      counts (f ∷ p) s = copied_tally p s (find nat_cmp f (kids n)) (find nat_cmp f (kids m)) (copy_at f)
+
+-- ---- sums
+
+pub zero_right : (c : Count) → c ≡ plus_count c zero_count
+zero_right c = let p : c.plus ≡ c.plus + 0 = omega arith in let m : c.minus ≡ c.minus + 0 = omega arith in
+    λ i. record { plus = p i; minus = m i }
+
+pub zero_left : (c : Count) → c ≡ plus_count zero_count c
+zero_left c = let p : c.plus ≡ 0 + c.plus = omega arith in let m : c.minus ≡ 0 + c.minus = omega arith in
+    λ i. record { plus = p i; minus = m i }
+
+-- the node that two sides make
+abbrev pub SumOf : {A : Type 0} → Option (Node A) × Option (Node A) → Node A → Type 0
+SumOf {A} sides sum = of sides.0 sides.1
+  where
+    of : Option (Node A) → Option (Node A) → Type 0
+    of None None = ⊥
+    of None (Some right) = IsCopy right sum
+    of (Some left) None = IsCopy left sum
+    of (Some left) (Some right) = IsSum left right sum
+
+abbrev SumAt : {A : Type 0} → Option (Node A) → Option (Node A) → Option (Node A) → Type 0
+SumAt a b c = MadeAt (λ sides sum. SumOf sides sum) (pair a b) c
+
+sum_tally : {A : Type 0} (p : List ℕ) (s : Slot) (a b c : Option (Node A)) → SumAt a b c
+    → at_child (λ c. tally p s c) c ≡ plus_count (at_child (λ c. tally p s c) a) (at_child (λ c. tally p s c) b)
+sum_tally p s None None None m = refl
+sum_tally p s None None (Some z) m = absurd m
+sum_tally p s None (Some y) None m = absurd m
+sum_tally p s None (Some y) (Some z) m = m.counts p s ∙ zero_left (tally p s y)
+sum_tally p s (Some x) None None m = absurd m
+sum_tally p s (Some x) None (Some z) m = m.counts p s ∙ zero_right (tally p s x)
+sum_tally p s (Some x) (Some y) None m = absurd m
+sum_tally p s (Some x) (Some y) (Some z) m = m.counts p s
+
+sum_normal : {A : Type 0} (p : List ℕ) (a b c : Option (Node A)) → SumAt a b c → AtChild (λ c. NormalAt p c) c
+sum_normal p a b None m = tt
+sum_normal p None None (Some z) m = absurd m
+sum_normal p None (Some y) (Some z) m = m.normal.everywhere p
+sum_normal p (Some x) None (Some z) m = m.normal.everywhere p
+sum_normal p (Some x) (Some y) (Some z) m = m.normal.everywhere p
+
+pub summed_nonempty : {A : Type 0} (a b c : Node A) → IsNormal a → IsSum a b c → IsNonEmpty a → IsNonEmpty c
+summed_nonempty a b c h sum some =
+    let w = inhabited a h some in
+    let is = sum.counts w.path w.slot in
+    let positive : IsPositive (plus_count (tally w.path w.slot a) (tally w.path w.slot b)) = omega (arith, w.counts) in
+    nonempty_from c w.path w.slot (subst IsPositive (sym is) positive)
+
+joined_count : (o p : Option Count) → unwrap_or (joined_at plus_count o p) zero_count
+    ≡ plus_count (unwrap_or o zero_count) (unwrap_or p zero_count)
+joined_count None None = refl
+joined_count None (Some d) = zero_left d
+joined_count (Some c) None = zero_right c
+joined_count (Some c) (Some d) = refl
+
+joined_positive : (o p : Option Count) (v : Count) → ((c : Count) → o ≡ Some c → IsPositive c)
+    → ((d : Count) → p ≡ Some d → IsPositive d) → joined_at plus_count o p ≡ Some v → IsPositive v
+joined_positive None None v g h e = cc
+joined_positive None (Some d) v g h e = h v e
+joined_positive (Some c) None v g h e = g v e
+joined_positive (Some c) (Some d) v g h e =
+    let positive : IsPositive (plus_count c d) = let c' = g c refl in omega (arith, c') in
+    let is : plus_count c d ≡ v = ap (λ (o : Option Count). unwrap_or o v) e in
+    subst IsPositive is positive
+
+module _ {A : Type 0} (a b c : Node A) (g : IsNormal a) (h : IsNormal b)
+    (sorted : IsSorted slot_cmp (own c))
+    (values : (s : Slot) → find slot_cmp s (own c) ≡ joined_at plus_count (find slot_cmp s (own a)) (find slot_cmp s (own b)))
+    (sums : Made (λ sides sum. SumOf sides sum) (join nat_cmp (kids a) (kids b)) (kids c)) where
+  sum_at : (f : ℕ) → SumAt (find nat_cmp f (kids a)) (find nat_cmp f (kids b)) (find nat_cmp f (kids c))
+  sum_at f = subst (λ o. MadeAt (λ sides sum. SumOf sides sum) o (find nat_cmp f (kids c)))
+      (find_join nat_cmp nat_cmp_total f (kids a) (kids b) (normal_here a g).frames (normal_here b h).frames)
+      (find_made nat_cmp (λ sides sum. SumOf sides sum) f (join nat_cmp (kids a) (kids b)) (kids c) sums)
+
+  sum_frames : IsSorted nat_cmp (kids c)
+  sum_frames = sorted_made nat_cmp (λ sides sum. SumOf sides sum) (join nat_cmp (kids a) (kids b)) (kids c) sums
+      (sorted_join nat_cmp nat_cmp_total (kids a) (kids b) (normal_here a g).frames (normal_here b h).frames)
+
+  sum_nonempty : (f : ℕ) (k : Node A) → find nat_cmp f (kids c) ≡ Some k → IsNonEmpty k
+  sum_nonempty f k e = of (find nat_cmp f (kids a)) refl (find nat_cmp f (kids b)) refl
+      (subst (λ o. SumAt (find nat_cmp f (kids a)) (find nat_cmp f (kids b)) o) e (sum_at f))
+    where
+      of : (o : Option (Node A)) → find nat_cmp f (kids a) ≡ o → (q : Option (Node A)) → find nat_cmp f (kids b) ≡ q
+          → SumAt o q (Some k) → IsNonEmpty k
+      of None no_left None no_right m = absurd m
+      of None no_left (Some y) right m = copied_nonempty y k (normal_child b h f y right) m
+          (each_found nat_cmp (λ c. IsNonEmpty c) f y (kids b) (normal_here b h).nonempty right)
+      of (Some x) left None no_right m = copied_nonempty x k (normal_child a g f x left) m
+          (each_found nat_cmp (λ c. IsNonEmpty c) f x (kids a) (normal_here a g).nonempty left)
+      of (Some x) left (Some y) right m = summed_nonempty x y k (normal_child a g f x left) m
+          (each_found nat_cmp (λ c. IsNonEmpty c) f x (kids a) (normal_here a g).nonempty left)
+
+  sum_positive : (s : Slot) (v : Count) → find slot_cmp s (own c) ≡ Some v → IsPositive v
+  sum_positive s v e =
+      joined_positive (find slot_cmp s (own a)) (find slot_cmp s (own b)) v
+      (λ x is. each_found slot_cmp IsPositive s x (own a) (normal_here a g).positive is)
+      (λ y is. each_found slot_cmp IsPositive s y (own b) (normal_here b h).positive is)
+      (sym (values s) ∙ e)
+
+  pub summed : IsSum a b c
+  summed = record { normal = record { everywhere = at }; counts = counts }
+    where
+      at : (p : List ℕ) → NormalAt p c
+      at [] = record {
+        slots = sorted;
+        positive = each_from_found slot_cmp slot_total IsPositive (own c) sorted sum_positive;
+        frames = sum_frames;
+        nonempty = each_from_found nat_cmp nat_cmp_total (λ c. IsNonEmpty c) (kids c) sum_frames sum_nonempty;
+      }
+      at (f ∷ p) = sum_normal p (find nat_cmp f (kids a)) (find nat_cmp f (kids b)) (find nat_cmp f (kids c)) (sum_at f)
+
+      counts : (p : List ℕ) (s : Slot) → tally p s c ≡ plus_count (tally p s a) (tally p s b)
+      counts [] s = ap (λ (o : Option Count). unwrap_or o zero_count) (values s)
+          ∙ joined_count (find slot_cmp s (own a)) (find slot_cmp s (own b))
+      counts (f ∷ p) s = sum_tally p s (find nat_cmp f (kids a)) (find nat_cmp f (kids b)) (find nat_cmp f (kids c)) (sum_at f)
+
+-- ---- the children of a sum, made in one pass
+
+module _ {A : Type 0} (left right : List (ℕ × Node A)) where
+  abbrev pub IsMadeOf : ℕ → ℕ → List (ℕ × Node A) → Type 0
+  IsMadeOf i j out = Carries nat_cmp (λ sides sum. SumOf sides sum) left right i j out
+
+  module _ (i j : ℕ) (out new : List (ℕ × Node A)) (h : IsMadeOf i j out) (x y : ℕ × Node A) (lt : i < length left)
+      (lu : j < length right) (is_x : x ≡ get_or left i x) (is_y : y ≡ get_or right j y) (c : Node A) where
+    frames : (r : Ordering) → nat_cmp x.0 y.0 ≡ r → nat_cmp (get_or left i x).0 (get_or right j y).0 ≡ r
+    frames r e = ap (λ (k : ℕ × Node A). nat_cmp k.0 (get_or right j y).0) (sym is_x)
+        ∙ ap (λ (k : ℕ × Node A). nat_cmp x.0 k.0) (sym is_y) ∙ e
+
+    pub sum_less : nat_cmp x.0 y.0 ≡ Less → IsCopy x.1 c → new ≡ out ++ (x.0, c) ∷ [] → IsMadeOf (i + 1) j new
+    sum_less e copy more = carry_less nat_cmp (λ sides sum. SumOf sides sum) left right i j out new h x y lt lu c (frames Less e)
+        (subst (λ (k : ℕ × Node A). IsCopy k.1 c) is_x copy) (more ∙ ap (λ (k : ℕ × Node A). out ++ (k.0, c) ∷ []) is_x)
+
+    pub sum_greater : nat_cmp x.0 y.0 ≡ Greater → IsCopy y.1 c → new ≡ out ++ (y.0, c) ∷ [] → IsMadeOf i (j + 1) new
+    sum_greater e copy more = carry_greater nat_cmp (λ sides sum. SumOf sides sum) left right i j out new h x y lt lu c
+        (frames Greater e) (subst (λ (k : ℕ × Node A). IsCopy k.1 c) is_y copy) (more ∙ ap (λ (k : ℕ × Node A). out ++ (k.0, c) ∷ []) is_y)
+
+    pub sum_equal : nat_cmp x.0 y.0 ≡ Equal → IsSum x.1 y.1 c → new ≡ out ++ (x.0, c) ∷ [] → IsMadeOf (i + 1) (j + 1) new
+    sum_equal e sum more = carry_equal nat_cmp (λ sides sum. SumOf sides sum) left right i j out new h x y lt lu c (frames Equal e)
+        (subst (λ (k : ℕ × Node A). IsSum k.1 (get_or right j y).1 c) is_x (subst (λ (k : ℕ × Node A). IsSum x.1 k.1 c) is_y sum))
+        (more ∙ ap (λ (k : ℕ × Node A). out ++ (k.0, c) ∷ []) is_x)
+
+  lefts_made : (ks cs : List (ℕ × Node A)) → Made (λ k c. IsCopy k c) ks cs
+      → Made (λ sides sum. SumOf sides sum) (map (λ e. (e.0, (Some e.1, None))) ks) cs
+  lefts_made [] [] m = tt
+  lefts_made [] (c ∷ cs) m = absurd m
+  lefts_made (k ∷ ks) [] m = absurd m
+  lefts_made (k ∷ ks) (c ∷ cs) m = (m.0, m.1, lefts_made ks cs m.2)
+
+  rights_made : (ks cs : List (ℕ × Node A)) → Made (λ k c. IsCopy k c) ks cs
+      → Made (λ sides sum. SumOf sides sum) (map (λ e. (e.0, (None, Some e.1))) ks) cs
+  rights_made [] [] m = tt
+  rights_made [] (c ∷ cs) m = absurd m
+  rights_made (k ∷ ks) [] m = absurd m
+  rights_made (k ∷ ks) (c ∷ cs) m = (m.0, m.1, rights_made ks cs m.2)
+
+  -- copies of what is left of either side follow, where one is at its end
+  pub sums_end : (i j : ℕ) (out mid new : List (ℕ × Node A)) → IsMadeOf i j out → (i < length left → length right ≤ j) → AppendsCopies
+      (drop i left) out mid → AppendsCopies (drop j right) mid new → Made (λ sides sum. SumOf sides sum) (join nat_cmp left right) new
+  sums_end i j out mid new h one (lefts, first, copies) (rights, second, more_copies) =
+      let whole : new ≡ (out ++ lefts) ++ rights = second ∙ ap (λ l. l ++ rights) first in
+      rw whole (carries_end nat_cmp (λ sides sum. SumOf sides sum) left right i j out lefts rights h one
+      (lefts_made (drop i left) lefts copies) (rights_made (drop j right) rights more_copies))
+
+-- what fits at two nodes fits at two children of one frame
+pub fits_below : {A : Type 0} (a b : Node A) → FitsSum a b → (f : ℕ) (x y : Node A) → find nat_cmp f (kids a) ≡ Some x
+    → find nat_cmp f (kids b) ≡ Some y → FitsSum x y
+fits_below a b fits f x y left right p s =
+    let at_left : tally (f ∷ p) s a ≡ tally p s x = ap (at_child (λ c. tally p s c)) left in
+    let at_right : tally (f ∷ p) s b ≡ tally p s y = ap (at_child (λ c. tally p s c)) right in
+    subst (λ n. total_of (tally p s x) + total_of n < 2 ^ 64) at_right
+    (subst (λ n. total_of n + total_of (tally (f ∷ p) s b) < 2 ^ 64) at_left (fits (f ∷ p) s))

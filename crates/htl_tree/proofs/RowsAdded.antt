@@ -1,0 +1,213 @@
+-- Nodes before and after rows were added.
+use Rattle.std.proofs.Common.{◌≡◌, ℕ, zero, suc, ◌+◌, ◌<◌, ◌≤◌, ◌^◌, ◌≢◌, List, [], ◌∷◌, ◌++◌, length, get_or, set, take, Option}
+use Rattle.std.proofs.Common.{Some, None, Result, Ok, Err, OnOk, true, false, cond, unwrap_or, refl, sym, inl, inr, ◌∙◌, ap, subst, arith}
+use Rattle.std.specs.Cmp.{tied_itself, nat_cmp_total}
+use Rattle.std.specs.Ordering.{nat_cmp, is_eq, eq_by_cmp}
+use Rattle.std.specs.List.{insert}
+use Rattle.std.specs.declared.cmp.Ordering.{Ordering}
+use Rattle.std.specs.declared.cmp.Ordering.TheVariants.{Less, Equal, Greater}
+use Rattle.std.specs.FinMap.{nat_cmp-IsAntisymmetric}
+use Rattle.std.specs.FinMap.Entries.{find, put, find-put, is_sorted-put}
+use Rattle.std.proofs.lemmas.Bool.{cases_eq}
+use Rattle.htl_event.specs.SlotOrder.{slot_cmp}
+use Rattle.htl_event.specs.OrderLaws.{slot_total, slot_same}
+use Rattle.htl_event.specs.declared.slot.Slot.{Slot}
+use Rattle.htl_event.specs.declared.slot.Count.{Count}
+use Rattle.htl_event.specs.Tallies.{zero_count, plus_count, total_of, IsPositive}
+use Rattle.htl_sorted.specs.Entries.{IsSorted, IsPlace, IsGap, Each}
+use Rattle.htl_sorted.proofs.Finds.{find_put_other, each_put}
+use Rattle.htl_tree.specs.declared.node.Node.{Node}
+use Rattle.htl_tree.specs.declared.row.Row.{Row}
+use Rattle.htl_tree.specs.Nodes.{tally, tally_of, no_tally, own, kids, count_in, at_child, IsNonEmpty, IsNormal, NormalAt, AtChild}
+use Rattle.htl_tree.specs.Rows.{entries_of, slot_sum, Gained, AddsRows, IsGained, IsChain}
+use Rattle.htl_tree.proofs.CountAdded.{normal_here, normal_own, normal_kid, tally_kid, tally_else, nonempty_from, child_found}
+use Rattle.htl_tree.proofs.CopiesAndSums.{zero_left, zero_right}
+use Rattle.htl_tree.proofs.SumsFromTally.{plus_assoc}
+
+-- ---- one row more
+
+pub slot_sum-append : (slot : Slot) (xs ys : List Row) → slot_sum slot (xs ++ ys) ≡ plus_count (slot_sum slot xs) (slot_sum slot ys)
+slot_sum-append slot [] ys = zero_left (slot_sum slot ys)
+slot_sum-append slot (x ∷ xs) ys =
+    elim (eq_by_cmp slot_cmp slot x.slot) as (λ b. cond b (plus_count x.count (slot_sum slot (xs ++ ys))) (slot_sum slot (xs ++ ys))
+    ≡ plus_count (cond b (plus_count x.count (slot_sum slot xs)) (slot_sum slot xs)) (slot_sum slot ys)) [
+      | true ↦ ap (plus_count x.count) (slot_sum-append slot xs ys) ∙ sym (plus_assoc x.count (slot_sum slot xs) (slot_sum slot ys))
+      | false ↦ slot_sum-append slot xs ys
+    ]
+
+-- what the first rows and the next one count is no more than what all count
+pub sum_room : (rows : List Row) (i : ℕ) (d : Row) (slot : Slot) → i < length rows → slot ≡ (get_or rows i d).slot
+    → total_of (slot_sum slot (take i rows)) + total_of (get_or rows i d).count ≤ total_of (slot_sum slot rows)
+sum_room [] i d slot lt is = absurd (omega arith)
+sum_room (x ∷ xs) zero d slot lt is =
+    let here : slot_sum slot (x ∷ xs) ≡ plus_count x.count (slot_sum slot xs) =
+    ap (λ s. cond (eq_by_cmp slot_cmp slot s) (plus_count x.count (slot_sum slot xs)) (slot_sum slot xs)) (sym is)
+    ∙ ap (λ r. cond (is_eq r) (plus_count x.count (slot_sum slot xs)) (slot_sum slot xs)) (tied_itself slot_total slot) in
+    let all = ap total_of here in
+    omega (arith, all)
+sum_room (x ∷ xs) (suc i) d slot lt is =
+    let rest = sum_room xs i d slot (omega arith) is in
+    elim (eq_by_cmp slot_cmp slot x.slot)
+    as (λ b. total_of (cond b (plus_count x.count (slot_sum slot (take i xs))) (slot_sum slot (take i xs))) + total_of
+    (get_or xs i d).count ≤ total_of (cond b (plus_count x.count (slot_sum slot xs)) (slot_sum slot xs))) [
+      | true ↦ omega (arith, rest)
+      | false ↦ rest
+    ]
+
+-- a slot that rows count
+pub some_slot : (rows : List Row) → 0 < length rows → Each IsPositive (entries_of rows) → (slot : Slot) × IsPositive (slot_sum slot rows)
+some_slot [] lt h = absurd (omega arith)
+some_slot (row ∷ rows) lt h =
+    let here : slot_sum row.slot (row ∷ rows) ≡ plus_count row.count (slot_sum row.slot rows) = ap
+    (λ r. cond (is_eq r) (plus_count row.count (slot_sum row.slot rows)) (slot_sum row.slot rows)) (tied_itself slot_total row.slot) in
+    let some : IsPositive row.count = h.0 in
+    let sum : IsPositive (plus_count row.count (slot_sum row.slot rows)) = omega (arith, some) in
+    (row.slot, subst IsPositive (sym here) sum)
+
+-- a count that was put
+count_put : (counts : List (Slot × Count)) (row : Row) (slot : Slot)
+    → count_in (put slot_cmp row.slot (plus_count (count_in counts row.slot) row.count) counts) slot
+    ≡ plus_count (count_in counts slot) (slot_sum slot (row ∷ []))
+count_put counts row slot =
+    let v : Count = plus_count (count_in counts row.slot) row.count in
+    ap (λ (o : Option Count). unwrap_or o zero_count) (find-put slot_cmp slot_total slot row.slot v counts)
+    ∙ (elim (slot_cmp slot row.slot) as (λ r. slot_cmp slot row.slot ≡ r
+    → unwrap_or (cond (is_eq r) (Some v) (find slot_cmp slot counts)) zero_count
+    ≡ plus_count (count_in counts slot) (cond (is_eq r) (plus_count row.count zero_count) zero_count)) [
+      | Less ↦ λ c. zero_right (count_in counts slot)
+      | Equal ↦ λ c. ap (λ s. plus_count (count_in counts s) row.count) (sym (slot_same slot row.slot c))
+          ∙ ap (plus_count (count_in counts slot)) (zero_right row.count)
+      | Greater ↦ λ c. zero_right (count_in counts slot)
+    ]) refl
+
+pub gained_nothing : (counts : List (Slot × Count)) → IsSorted slot_cmp counts → Each IsPositive counts → Gained [] counts counts
+gained_nothing counts sorted positive = record { sorted = sorted; positive = positive; counts = λ slot. zero_right (count_in counts slot) }
+
+pub gained_more : (rows : List Row) (row : Row) (old mid new : List (Slot × Count)) → Gained rows old mid → IsPositive row.count
+    → new ≡ put slot_cmp row.slot (plus_count (count_in mid row.slot) row.count) mid → Gained (rows ++ row ∷ []) old new
+gained_more rows row old mid new h some is =
+    let v : Count = plus_count (count_in mid row.slot) row.count in
+    let more : IsPositive v = omega (arith, some) in
+    subst (λ l. Gained (rows ++ row ∷ []) old l) (sym is) record {
+      sorted = is_sorted-put slot_cmp slot_total row.slot v mid h.sorted;
+      positive = each_put slot_cmp IsPositive row.slot v mid more h.positive;
+      counts = λ slot. count_put mid row slot ∙ ap (λ c. plus_count c (slot_sum slot (row ∷ []))) (h.counts slot)
+          ∙ plus_assoc (count_in old slot) (slot_sum slot rows) (slot_sum slot (row ∷ []))
+          ∙ ap (plus_count (count_in old slot)) (sym (slot_sum-append slot rows (row ∷ [])));
+    }
+
+-- ---- a node with more
+
+module _ {A : Type 0} (n m : Node A) (rows : List Row) where
+  pub gained_own : kids m ≡ kids n → IsNormal n → Gained rows (own n) (own m) → IsGained [] rows n m
+  gained_own k h gained = record {
+    normal = normal_own n m k h gained.sorted gained.positive;
+    counts = record { here = gained.counts; elsewhere = elsewhere };
+  }
+    where
+      elsewhere : (p : List ℕ) (t : Slot) → p ≢ [] → tally p t m ≡ tally p t n
+      elsewhere [] t differs = absurd (differs refl)
+      elsewhere (f ∷ p) t differs = rw k refl
+
+  module _ (some : (slot : Slot) × IsPositive (slot_sum slot rows)) (f : ℕ) (c : Node A) (o : own m ≡ own n)
+      (k : kids m ≡ put nat_cmp f c (kids n)) (h : IsNormal n) where
+    adds_below : (path : List ℕ) → AddsRows path rows (λ p t. at_child (λ c. tally p t c) (find nat_cmp f (kids n))) (tally_of c)
+        → AddsRows (f ∷ path) rows (tally_of n) (tally_of m)
+    adds_below path adds = record { here = λ s. tally_kid n m f c o k h path s ∙ adds.here s; elsewhere = elsewhere }
+      where
+        elsewhere : (p : List ℕ) (t : Slot) → p ≢ f ∷ path → tally p t m ≡ tally p t n
+        elsewhere [] t differs = rw o refl
+        elsewhere (g ∷ p) t differs = elim (cases_eq g f) [
+          | inl same ↦ rw same (tally_kid n m f c o k h p t ∙ adds.elsewhere p t (λ e. differs (λ i. same i ∷ e i)))
+          | inr other ↦ tally_else n m f c o k h g p t other
+        ]
+
+    -- the node that the path leads to counts something
+    filled : (path : List ℕ) (old : List ℕ → Slot → Count) → AddsRows path rows old (tally_of c) → IsNonEmpty c
+    filled path old adds =
+        let positive = some.1 in
+        let sum : IsPositive (plus_count (old path some.0) (slot_sum some.0 rows)) = omega (arith, positive) in
+        nonempty_from c path some.0 (subst IsPositive (sym (adds.here some.0)) sum)
+
+    pub gained_below : (old : Node A) → find nat_cmp f (kids n) ≡ Some old → (path : List ℕ) → IsGained path rows old c
+        → IsGained (f ∷ path) rows n m
+    gained_below old found path gained = record {
+      normal = normal_kid n m f c o k h gained.normal (filled path (tally_of old) gained.counts);
+      counts = adds_below path (rw found gained.counts);
+    }
+
+    pub gained_branch : find nat_cmp f (kids n) ≡ None → (path : List ℕ) → IsChain path rows c → IsGained (f ∷ path) rows n m
+    gained_branch none path new = record {
+      normal = normal_kid n m f c o k h new.normal (filled path no_tally new.counts);
+      counts = adds_below path (rw none new.counts);
+    }
+
+pub on_ok : {X E P Q : Type 0} (r : Result X E) → OnOk r P → (P → Q) → OnOk r Q
+on_ok (Ok x) h f = f h
+on_ok (Err e) h f = tt
+
+-- at the place of a child
+pub gained_step : {A : Type 0} (n : Node A) → IsNormal n → (es : List (ℕ × Node A)) → es ≡ kids n → (f i : ℕ) → IsPlace nat_cmp es f i
+    → (d : ℕ × Node A) → d ≡ get_or (kids n) i d → (m c : Node A) → own m ≡ own n → kids m ≡ set (kids n) i (d.0, c)
+    → (path : List ℕ) (rows : List Row) → (slot : Slot) × IsPositive (slot_sum slot rows) → {X E : Type 0} (r : Result X E)
+    → OnOk r (IsGained path rows d.1 c) → OnOk r (IsGained (f ∷ path) rows n m)
+gained_step n h es e f i pl d is m c o k path rows some r result =
+    let place : IsPlace nat_cmp (kids n) f i = subst (λ l. IsPlace nat_cmp l f i) e pl in
+    let key : (get_or (kids n) i d).0 ≡ d.0 = ap (λ (x : ℕ × Node _). x.0) (sym is) in
+    let as_put : kids m ≡ put nat_cmp f c (kids n) = k ∙ ap (λ (x : ℕ). set (kids n) i (x, c)) (sym key) ∙ sym (place.puts d c) in
+    on_ok r result (λ gained. gained_below n m rows some f c o as_put h d.1 (child_found n h es e f i pl d is) path gained)
+
+-- at the gap for a child
+pub gained_graft : {A : Type 0} (n : Node A) → IsNormal n → (es : List (ℕ × Node A)) → es ≡ kids n → (f i : ℕ) → IsGap nat_cmp es f i
+    → (m c : Node A) → own m ≡ own n → kids m ≡ insert (kids n) i (f, c) → (path : List ℕ) (rows : List Row)
+    → (slot : Slot) × IsPositive (slot_sum slot rows) → IsChain path rows c → IsGained (f ∷ path) rows n m
+gained_graft n h es e f i gap m c o k path rows some new =
+    let here = subst (λ l. IsGap nat_cmp l f i) e gap in
+    gained_branch n m rows some f c o (k ∙ sym (here.puts c)) h here.value path new
+
+-- ---- chains
+
+pub chain_end : {A : Type 0} (m : Node A) (rows : List Row) → kids m ≡ [] → Gained rows [] (own m) → IsChain [] rows m
+chain_end {A} m rows k gained = record {
+  normal = record { everywhere = at };
+  counts = record { here = gained.counts; elsewhere = elsewhere };
+}
+  where
+    at : (p : List ℕ) → NormalAt p m
+    at [] = record { slots = gained.sorted; positive = gained.positive; frames = rw k tt; nonempty = rw k tt }
+    at (f ∷ p) = rw k tt
+
+    elsewhere : (p : List ℕ) (t : Slot) → p ≢ [] → tally p t m ≡ zero_count
+    elsewhere [] t differs = absurd (differs refl)
+    elsewhere (f ∷ p) t differs = rw k refl
+
+pub chain_on : {A : Type 0} (m c : Node A) (f : ℕ) (path : List ℕ) (rows : List Row) → (slot : Slot) × IsPositive (slot_sum slot rows)
+    → own m ≡ [] → kids m ≡ (f, c) ∷ [] → IsChain path rows c → IsChain (f ∷ path) rows m
+chain_on m c f path rows some o k child = record {
+  normal = record { everywhere = at };
+  counts = record { here = λ s. here path s ∙ child.counts.here s; elsewhere = elsewhere };
+}
+  where
+    filled : IsNonEmpty c
+    filled =
+        let positive = some.1 in
+        let sum : IsPositive (plus_count zero_count (slot_sum some.0 rows)) = omega (arith, positive) in
+        nonempty_from c path some.0 (subst IsPositive (sym (child.counts.here some.0)) sum)
+
+    at : (p : List ℕ) → NormalAt p m
+    at [] = record { slots = rw o tt; positive = rw o tt; frames = rw k tt; nonempty = rw k (filled, tt) }
+    at (g ∷ p) = elim (cases_eq g f) [
+      | inl same ↦ rw (k, same, tied_itself nat_cmp_total f) (child.normal.everywhere p)
+      | inr other ↦ rw (k, find_put_other nat_cmp nat_cmp_total nat_cmp-IsAntisymmetric g f c [] other) tt
+    ]
+
+    here : (p : List ℕ) (t : Slot) → tally (f ∷ p) t m ≡ tally p t c
+    here p t = rw (k, tied_itself nat_cmp_total f) refl
+
+    elsewhere : (p : List ℕ) (t : Slot) → p ≢ f ∷ path → tally p t m ≡ zero_count
+    elsewhere [] t differs = rw o refl
+    elsewhere (g ∷ p) t differs = elim (cases_eq g f) [
+      | inl same ↦ rw same (here p t ∙ child.counts.elsewhere p t (λ e. differs (λ i. same i ∷ e i)))
+      | inr other ↦ rw k (ap (λ x. at_child (λ c. tally p t c) x)
+          (find_put_other nat_cmp nat_cmp_total nat_cmp-IsAntisymmetric g f c [] other))
+    ]

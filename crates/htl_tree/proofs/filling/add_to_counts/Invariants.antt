@@ -1,0 +1,7 @@
+-- What the rows so far count was added.
+use Rattle.std.proofs.Common.{take}
+use Rattle.htl_tree.specs.Rows.{Gained}
+use Rattle.htl_tree.proofs.filling.add_to_counts.Given as goal
+
+abbrev pub invariant-loop-row : goal.invariant-loop-row
+invariant-loop-row g l = Gained (take l.row-index l.rows) l.fn.counts.items l.counts.items

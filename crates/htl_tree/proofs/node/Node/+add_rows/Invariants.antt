@@ -1,0 +1,6 @@
+-- The stack gets shorter.
+use Rattle.std.proofs.Common.{length}
+use Rattle.htl_tree.proofs.node.Node.+add_rows.Given as goal
+
+abbrev pub decreases-add_rows : goal.decreases-add_rows
+decreases-add_rows g l = length l.stack.now

@@ -1,0 +1,19 @@
+-- The rows of the root are those of the tree.
+use Rattle.std.proofs.Common.{◌≡◌, ℕ, List, sym, subst}
+use Rattle.htl_event.specs.declared.slot.Slot.{Slot}
+use Rattle.htl_event.specs.declared.slot.Count.{Count}
+use Rattle.htl_tree.specs.Trees.{Tree, ListsRowsOf}
+use Rattle.htl_tree.specs.Asked.{has_slot}
+use Rattle.htl_tree.specs.Nodes.{tree_of, picked}
+use Rattle.htl_tree.proofs.Roots.{root_is_tree}
+use Rattle.htl_tree.proofs.Between.{if_ok, lists_rows_of}
+use Rattle.htl_tree.proofs.tree.StackTree.rows_of.Goals as goal
+
+pub returns : goal.returns
+returns g c =
+    let t : Tree = tree_of c.self.inside.root in
+    let p = has_slot c.args.slots in
+    let lists : ListsRowsOf c.args.self.now c.args.slots (picked p t) = subst (λ (u : Tree). ListsRowsOf u c.args.slots (picked p t))
+    c.self.view_is (lists_rows_of t (root_is_tree c.self.inside.root c.self.invariant.normal) c.args.slots) in
+    if_ok c.list_root_rows.result c.list_root_rows.ensures
+    (λ rows is. subst (λ (l : List ((Slot × List ℕ) × Count)). ListsRowsOf c.args.self.now c.args.slots l) (sym is) lists)

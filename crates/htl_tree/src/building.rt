@@ -1,0 +1,147 @@
+//! The tree of rows. They are gathered by stack, and each stack is put into the tree by one descent.
+
+ghost use Rattle.std.specs.Prelude.{◌≡◌, ℕ, List, ◌+◌, ◌<◌, ◌≤◌, ◌^◌, length, take, true, IfOk, OnOk};
+ghost use Rattle.std.specs.Borrow.{Bor};
+ghost use Rattle.std.specs.List.{flat_map, AllByRecursion};
+ghost use Rattle.htl_event.specs.declared.slot.Slot.{Slot};
+ghost use Rattle.htl_event.specs.Tallies.{total_of};
+ghost use Rattle.htl_tree.specs.Trees.{count_at, total_count};
+ghost use Rattle.htl_tree.specs.declared.row.Row.{Row};
+ghost use Rattle.htl_tree.specs.Nodes.{tree_of, entries_at, IsNormalRoot};
+ghost use Rattle.htl_tree.specs.Rows.{entries_of, sum_at, AreRows, AreShort, IsGroup, WithRows};
+
+use crate::node::Node;
+use crate::row::Row;
+use htl_event::{Count, NoMemory, SharedStack, Slot};
+use std::alloc::Allocator;
+use std::cmp::Ordering;
+
+/// The counts as rows, and how many they count in all. Each has its place as its fingerprint, so that they
+/// stay in their order, in which those of one stack stand together.
+pub fn rows_in<'a, A: Allocator>(
+    alloc: A,
+    counts: &'a [((Slot, SharedStack), Count)],
+) -> Result<(Vec<Row<'a>, A>, u64), NoMemory>
+    requires { total_count (entries_at counts.now) < 2 ^ 64 }
+    ensures rows { IfOk result (λ made. entries_of made.0.items ≡ entries_at counts.now) }
+    ensures total { IfOk result (λ made. made.1 ≡ total_count (entries_at counts.now)) }
+{
+    let mut rows = Vec::with_capacity(alloc, counts.len())?;
+    let mut total = 0;
+    for ((slot, stack), count) in counts {
+        rows.push(Row {
+            fingerprint: rows.len() as u64,
+            stack: stack.frames(),
+            slot: *slot,
+            count: *count,
+        })?;
+        total += count.plus + count.minus;
+    }
+    Ok((rows, total))
+}
+
+/// The root of the tree that counts what the rows count. Rows of one stack come together by their fingerprints,
+/// and stacks are compared once for each of these groups.
+pub fn root_of<A: Allocator + Clone>(
+    alloc: &A,
+    rows: &mut Vec<Row<'_>, A>,
+    total: u64,
+) -> Result<Option<Node<A>>, NoMemory>
+    requires { AreRows rows.old.items total }
+    ensures normal { IfOk result (λ root. IsNormalRoot root) }
+    ensures counts { IfOk result (λ root. (slot : Slot) (stack : List ℕ)
+        → count_at (tree_of root) slot stack ≡ sum_at (entries_of rows.old.items) slot stack) }
+{
+    rows.sort_unstable_by(|a, b| by_fingerprint(a, b));
+    let mut groups = groups_of(alloc.clone()?, rows)?;
+    groups.sort_unstable_by(|a, b| by_stack(a, b));
+    let mut root = None;
+    for group in &groups {
+        add_group(&mut root, alloc, group)?;
+    }
+    Ok(root)
+}
+
+fn by_fingerprint(a: &Row<'_>, b: &Row<'_>) -> Ordering {
+    match a.fingerprint.cmp(&b.fingerprint) {
+        Ordering::Equal => a.slot.cmp(&b.slot),
+        order => order,
+    }
+}
+
+/// In stack order, and then by the first slot.
+fn by_stack(a: &[Row<'_>], b: &[Row<'_>]) -> Ordering {
+    match (a.first(), b.first()) {
+        (Some(a), Some(b)) => match a.stack.iter().rev().cmp(b.stack.iter().rev()) {
+            Ordering::Equal => a.slot.cmp(&b.slot),
+            order => order,
+        },
+        _ => Ordering::Equal,
+    }
+}
+
+/// The rows in groups of neighbours that have one stack.
+fn groups_of<'a, 'b, A: Allocator>(
+    alloc: A,
+    rows: &'b [Row<'a>],
+) -> Result<Vec<&'b [Row<'a>], A>, NoMemory>
+    ensures all { IfOk result (λ groups.
+        flat_map (λ (group : Bor (List Row)). group.now) groups.items ≡ rows.now) }
+    ensures groups { IfOk result (λ groups.
+        AllByRecursion (λ (group : Bor (List Row)). IsGroup group.now) groups.items) }
+{
+    let mut groups = Vec::new(alloc);
+    let mut start = 0;
+    while start < rows.len() {
+        let rest = &rows[start..];
+        let len = alike(rest);
+        groups.push(&rest[..len])?;
+        start += len;
+    }
+    Ok(groups)
+}
+
+/// How many rows at the start have one stack.
+fn alike(rows: &[Row<'_>]) -> usize
+    requires { 0 < length rows.now }
+    ensures some { 0 < result }
+    ensures within { result ≤ length rows.now }
+    ensures group { IsGroup (take result rows.now) }
+{
+    let mut len = 1;
+    while len < rows.len() && have_one_stack(&rows[0], &rows[len]) {
+        len += 1;
+    }
+    len
+}
+
+/// Whether two rows have one stack, where equal ones have one fingerprint. Others needn't be fetched from memory.
+fn have_one_stack(one: &Row<'_>, other: &Row<'_>) -> bool
+    ensures { result ≡ true → other.now.stack.now ≡ one.now.stack.now }
+{
+    one.fingerprint == other.fingerprint && other.stack == one.stack
+}
+
+/// Adds what the rows of one stack count.
+fn add_group<A: Allocator + Clone>(
+    root: &mut Option<Node<A>>,
+    alloc: &A,
+    group: &[Row<'_>],
+) -> Result<(), NoMemory>
+    requires normal { IsNormalRoot root.old }
+    requires group { IsGroup group.now }
+    requires rows { AreShort group.now }
+    requires fits { (slot : Slot) (stack : List ℕ)
+        → total_of (count_at (tree_of root.old) slot stack)
+        + total_of (sum_at (entries_of group.now) slot stack) < 2 ^ 64 }
+    ensures { OnOk result (IsNormalRoot root.new
+        × WithRows (tree_of root.new) (tree_of root.old) group.now) }
+{
+    let stack = group[0].stack;
+    if let Some(root) = root {
+        return root.add_rows(stack, group);
+    }
+    let chain = Node::chain(alloc, stack, group)?;
+    *root = Some(chain);
+    Ok(())
+}

@@ -1,0 +1,164 @@
+//! Events counted in rows. Hints find the row that counts an event's slot and stack.
+
+ghost use Rattle.std.specs.Prelude.{◌≡◌, List, ◌+◌, ◌<◌, ◌≤◌, ◌^◌, [], ◌∷◌, ◌++◌, length, true, false, IfOk, IfSome, OnOk};
+ghost use Rattle.std.specs.List.{flat_map};
+ghost use Rattle.htl_event.specs.Events.{Event};
+ghost use Rattle.htl_tree.specs.Trees.{total_count};
+ghost use Rattle.htl_tree.specs.Rows.{entries_of, AreRows, HaveTally, IsOneMore};
+
+use crate::hints::Hints;
+use crate::node::{ZERO, bumped};
+use crate::row::Row;
+use htl_event::{NoMemory, Run, SharedEvent, Sign, Slot};
+use std::alloc::Allocator;
+
+/// Rows that count events, and their number.
+#[derive(Drop)]
+pub struct Counting<'a, A: Allocator> {
+    pub rows: Vec<Row<'a>, A>,
+    pub total: u64,
+    hints: Hints<A>,
+}
+
+impl<'a, A: Allocator> Counting<'a, A> {
+    /// No rows yet, and hints for so many events.
+    pub fn new(alloc: &A, events: usize) -> Result<Self, NoMemory>
+    where
+        A: Clone,
+        ensures rows { IfOk result (λ counting. AreRows counting.rows.items counting.total) }
+        ensures none { IfOk result (λ counting. HaveTally counting.rows.items []) }
+        ensures total { IfOk result (λ counting. counting.total ≡ 0) }
+    {
+        let hints = Hints::new(alloc.clone()?, events)?;
+        Ok(Counting {
+            rows: Vec::new(alloc.clone()?),
+            total: 0,
+            hints,
+        })
+    }
+
+    /// Counts the events too.
+    pub fn count_all(&mut self, events: &'a [SharedEvent]) -> Result<(), NoMemory>
+        requires rows { AreRows self.old.rows.items self.old.total }
+        requires room { self.old.total + length events.now < 2 ^ 64 }
+        ensures rows { OnOk result (AreRows self.new.rows.items self.new.total) }
+        ensures tally { OnOk result ((before : List Event) → HaveTally self.old.rows.items before
+            → HaveTally self.new.rows.items (before ++ events.now)) }
+        ensures total { OnOk result (self.new.total ≤ self.old.total + length events.now) }
+    {
+        for (index, event) in events.iter().enumerate() {
+            let place = self.hints.likely_row(&self.rows, events, index);
+            self.count(event, place)?;
+        }
+        Ok(())
+    }
+
+    /// The rows, and how many events they count.
+    pub fn into_rows(self) -> (Vec<Row<'a>, A>, u64)
+        ensures rows { result.0 ≡ self.entry.rows }
+        ensures total { result.1 ≡ self.entry.total }
+    {
+        (self.rows, self.total)
+    }
+
+    /// Counts one more event, whose row is likely to be at this place. One that is counted nowhere changes nothing.
+    fn count(&mut self, event: &'a SharedEvent, place: usize) -> Result<(), NoMemory>
+        requires rows { AreRows self.old.rows.items self.old.total }
+        requires room { self.old.total + 1 < 2 ^ 64 }
+        ensures rows { OnOk result (AreRows self.new.rows.items self.new.total) }
+        ensures tally { OnOk result ((before : List Event) → HaveTally self.old.rows.items before
+            → HaveTally self.new.rows.items (before ++ event.now ∷ [])) }
+        ensures total { OnOk result (self.new.total ≤ self.old.total + 1) }
+    {
+        match event.slot() {
+            None => Ok(()),
+            Some((slot, sign)) => {
+                let fingerprint = event.stack.fingerprint();
+                let stack = event.stack.frames();
+                count_in(
+                    &mut self.rows,
+                    &mut self.hints,
+                    place,
+                    fingerprint,
+                    stack,
+                    slot,
+                    sign,
+                )?;
+                self.total += 1;
+                Ok(())
+            }
+        }
+    }
+}
+
+/// How many events the runs have, or none where the number is no `u64`.
+pub fn number_of_events<R: Run>(runs: &[R]) -> Option<usize>
+    ensures some { IfSome result (λ number. number ≡ length (flat_map R.events_of runs.now)) }
+    ensures none { result ≡ None → 2 ^ 64 ≤ length (flat_map R.events_of runs.now) }
+{
+    let mut number = 0usize;
+    for run in runs {
+        match number.checked_add(run.events().len()) {
+            Some(sum) => number = sum,
+            None => return None,
+        }
+    }
+    Some(number)
+}
+
+/// Counts one more of the slot with the stack: in the row at this place, where that counts these, else in a row of
+/// its own.
+fn count_in<'a, A: Allocator>(
+    rows: &mut Vec<Row<'a>, A>,
+    hints: &mut Hints<A>,
+    place: usize,
+    fingerprint: u64,
+    stack: &'a [u64],
+    slot: Slot,
+    sign: Sign,
+) -> Result<(), NoMemory>
+    requires { total_count (entries_of rows.old.items) + 1 < 2 ^ 64 }
+    ensures { OnOk result (IsOneMore stack.now slot sign rows.old.items rows.new.items) }
+{
+    if raise(rows, place, fingerprint, stack, slot, sign) {
+        return Ok(());
+    }
+    let row = Row {
+        fingerprint,
+        stack,
+        slot,
+        count: bumped(ZERO, sign),
+    };
+    rows.push(row)?;
+    hints.note(hints.cell(fingerprint, slot), rows.len());
+    Ok(())
+}
+
+/// Counts one more in the row at this place, where there is one of this slot and stack.
+fn raise(
+    rows: &mut [Row<'_>],
+    place: usize,
+    fingerprint: u64,
+    stack: &[u64],
+    slot: Slot,
+    sign: Sign,
+) -> bool
+    requires { total_count (entries_of rows.old) + 1 < 2 ^ 64 }
+    ensures raised { result ≡ true → IsOneMore stack.now slot sign rows.old rows.new }
+    ensures kept { result ≡ false → rows.new ≡ rows.old }
+{
+    if place >= rows.len() || !counts(&rows[place], fingerprint, stack, slot) {
+        return false;
+    }
+    let count = bumped(rows[place].count, sign);
+    rows[place].count = count;
+    true
+}
+
+/// Whether the row counts this slot with this stack.
+fn counts(row: &Row<'_>, fingerprint: u64, stack: &[u64], slot: Slot) -> bool
+    ensures stack { result ≡ true → row.now.stack.now ≡ stack.now }
+    ensures slot { result ≡ true → row.now.slot ≡ slot }
+{
+    row.fingerprint == fingerprint && row.slot == slot && row.stack == stack
+}

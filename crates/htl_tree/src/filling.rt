@@ -1,0 +1,107 @@
+//! Rows of one stack put into a node: all their counts by one descent.
+
+ghost use Rattle.std.specs.Prelude.{◌≡◌, ◌+◌, ◌<◌, ◌^◌, length, reverse, IfOk, OnOk, OnErr};
+ghost use Rattle.std.specs.FinMap.Entries.{put};
+ghost use Rattle.htl_event.specs.declared.slot.Slot.{Slot};
+ghost use Rattle.htl_event.specs.SlotOrder.{slot_cmp};
+ghost use Rattle.htl_event.specs.Tallies.{plus_count, total_of, IsPositive};
+ghost use Rattle.htl_sorted.specs.Entries.{IsSorted, Each};
+ghost use Rattle.htl_tree.specs.Nodes.{tally, count_in, IsNormal};
+ghost use Rattle.htl_tree.specs.Rows.{entries_of, slot_sum, Gained, IsGained, IsChain};
+
+use crate::node::{Node, find_frame, find_slot, sum_of};
+use crate::row::Row;
+use htl_event::{Count, NoMemory, Slot};
+use std::alloc::Allocator;
+
+impl<A: Allocator + Clone> Node<A> {
+    /// A node that counts the rows at the end of the stack, and nothing else. Its vectors have no room to spare.
+    pub fn chain(alloc: &A, stack: &[u64], rows: &[Row<'_>]) -> Result<Self, NoMemory>
+        requires some { 0 < length rows.now }
+        requires positive { Each IsPositive (entries_of rows.now) }
+        requires fits { (slot : Slot) → total_of (slot_sum slot rows.now) < 2 ^ 64 }
+        ensures { IfOk result (IsChain (reverse stack.now) rows.now) }
+    {
+        let mut counts = Vec::new(alloc.clone()?);
+        match stack.split_last() {
+            None => {
+                add_to_counts(&mut counts, rows)?;
+                let children = Vec::new(alloc.clone()?);
+                Ok(Node { counts, children })
+            }
+            Some((frame, rest)) => {
+                let child = Node::chain(alloc, rest, rows)?;
+                let mut children = Vec::with_capacity(alloc.clone()?, 1)?;
+                children.push((*frame, child))?;
+                Ok(Node { counts, children })
+            }
+        }
+    }
+
+    /// Adds what the rows count at the end of the stack.
+    pub fn add_rows(&mut self, stack: &[u64], rows: &[Row<'_>]) -> Result<(), NoMemory>
+        requires normal { IsNormal self.old }
+        requires some { 0 < length rows.now }
+        requires positive { Each IsPositive (entries_of rows.now) }
+        requires fits { (slot : Slot) → total_of (tally (reverse stack.now) slot self.old)
+            + total_of (slot_sum slot rows.now) < 2 ^ 64 }
+        ensures { OnOk result (IsGained (reverse stack.now) rows.now self.old self.new) }
+    {
+        match stack.split_last() {
+            None => add_to_counts(&mut self.counts, rows),
+            Some((frame, rest)) => match find_frame(&self.children, *frame) {
+                Ok(i) => self.children[i].1.add_rows(rest, rows),
+                Err(i) => {
+                    let child = Node::chain(self.children.allocator(), rest, rows)?;
+                    self.children.insert(i, (*frame, child))?;
+                    Ok(())
+                }
+            },
+        }
+    }
+}
+
+/// Adds what the rows count of each slot. Room for all is made at once.
+fn add_to_counts<A: Allocator>(
+    counts: &mut Vec<(Slot, Count), A>,
+    rows: &[Row<'_>],
+) -> Result<(), NoMemory>
+    requires sorted { IsSorted slot_cmp counts.old.items }
+    requires positive { Each IsPositive counts.old.items }
+    requires rows { Each IsPositive (entries_of rows.now) }
+    requires fits { (slot : Slot) → total_of (count_in counts.old.items slot)
+        + total_of (slot_sum slot rows.now) < 2 ^ 64 }
+    ensures { OnOk result (Gained rows.now counts.old.items counts.new.items) }
+{
+    if counts.is_empty() {
+        counts.reserve_exact(rows.len())?;
+    }
+    for row in rows {
+        add_count(counts, row.slot, row.count)?;
+    }
+    Ok(())
+}
+
+/// Adds to the slot's count.
+pub fn add_count<A: Allocator>(
+    counts: &mut Vec<(Slot, Count), A>,
+    slot: Slot,
+    count: Count,
+) -> Result<(), NoMemory>
+    requires sorted { IsSorted slot_cmp counts.old.items }
+    requires fits { total_of (count_in counts.old.items slot) + total_of count < 2 ^ 64 }
+    ensures { OnOk result (counts.new.items
+        ≡ put slot_cmp slot (plus_count (count_in counts.old.items slot) count) counts.old.items) }
+{
+    match find_slot(counts, slot) {
+        Ok(i) => {
+            let sum = sum_of(counts[i].1, count);
+            counts[i].1 = sum;
+            Ok(())
+        }
+        Err(i) => {
+            counts.insert(i, (slot, count))?;
+            Ok(())
+        }
+    }
+}

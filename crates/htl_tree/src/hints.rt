@@ -1,0 +1,92 @@
+//! Hints: where the row of a slot and a stack may be. Nothing is promised of them, so whoever takes one compares
+//! what is there. A hint that was overwritten costs a further row.
+
+use crate::row::Row;
+use htl_event::{NoMemory, SharedEvent, Slot};
+use std::alloc::Allocator;
+
+/// How many events are looked for together.
+const BLOCK: usize = 32;
+
+/// A fixed number of cells. Each has the place that was noted there last.
+#[derive(Drop)]
+pub struct Hints<A: Allocator> {
+    /// One more than the place, or 0 where none was noted.
+    cells: Vec<u32, A>,
+    /// Where the rows of a block of events are likely to be.
+    block: [usize; BLOCK],
+}
+
+/// How many cells there are at most: with more, looking at one takes longer than a further row now and then.
+const MAX_CELLS: usize = 0x10_0000;
+
+/// A place that no row has.
+const NOWHERE: usize = usize::MAX;
+
+impl<A: Allocator> Hints<A> {
+    /// No hints yet, and a power of two of cells, no more than there are events.
+    pub fn new(alloc: A, events: usize) -> Result<Self, NoMemory> {
+        let len = (events.min(MAX_CELLS) / 2 + 1).next_power_of_two();
+        let cells = vec![in alloc; 0u32; len]?;
+        Ok(Hints {
+            cells,
+            block: [NOWHERE; BLOCK],
+        })
+    }
+
+    /// The cell for a stack with this fingerprint and the slot.
+    pub fn cell(&self, fingerprint: u64, slot: Slot) -> usize {
+        let name = match slot {
+            Slot::Tagged { object, tag } => {
+                object.rotate_left(32) ^ u64::from(u32::from_le_bytes(tag))
+            }
+            Slot::Handles { process } => u64::from(process),
+            Slot::Bad { process, handle } => u64::from(process) << 32 ^ u64::from(handle),
+        };
+        let mixed = (fingerprint ^ name.wrapping_mul(0x9e37_79b9_7f4a_7c15)).wrapping_mul(
+            0xd6e8_feb8_6659_fd93,
+        );
+        (mixed >> 40) as usize & self.cells.len().wrapping_sub(1)
+    }
+
+    /// The place that was noted at the cell last.
+    fn place(&self, cell: usize) -> usize {
+        match self.cells.get(cell) {
+            Some(number) => (*number as usize).wrapping_sub(1),
+            None => NOWHERE,
+        }
+    }
+
+    /// The place of the row that is likely to count the event at this index.
+    ///
+    /// The events are asked for one after the other. They are looked for a block at a time, so that the memory of
+    /// many rows is fetched at once.
+    pub fn likely_row(&mut self, rows: &[Row<'_>], events: &[SharedEvent], index: usize) -> usize {
+        let within = index % BLOCK;
+        if within == 0 {
+            for (offset, event) in events.iter().skip(index).take(BLOCK).enumerate() {
+                self.block[offset] = self.look(rows, event);
+            }
+        }
+        self.block[within]
+    }
+
+    fn look(&self, rows: &[Row<'_>], event: &SharedEvent) -> usize {
+        let Some((slot, _)) = event.slot() else {
+            return NOWHERE;
+        };
+        let fingerprint = event.stack.fingerprint();
+        let place = self.place(self.cell(fingerprint, slot));
+        match rows.get(place) {
+            Some(row) if row.stack.first() == event.stack.frames().first() => place,
+            _ => NOWHERE,
+        }
+    }
+
+    /// Notes the last of so many places.
+    pub fn note(&mut self, cell: usize, places: usize) {
+        if let Some(number) = self.cells.get_mut(cell) {
+            *number = (places & 0xffff_ffff) as u32;
+        }
+    }
+}

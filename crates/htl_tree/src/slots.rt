@@ -1,0 +1,29 @@
+//! Which slots are asked for.
+
+ghost use Rattle.std.specs.Prelude.{◌≡◌};
+ghost use Rattle.htl_tree.specs.Asked.{has_slot};
+
+use htl_event::Slot;
+
+/// Which slots are asked for.
+#[derive(Clone, Copy)]
+pub enum Slots {
+    One(Slot),
+    /// References and dereferences of the object, under whatever tag.
+    OfObject(u64),
+    /// Bad references of the process, to whatever handle.
+    BadOf(u32),
+}
+
+impl Slots {
+    pub fn contains(&self, slot: Slot) -> bool
+        ensures { result ≡ has_slot self.now slot }
+    {
+        match (*self, slot) {
+            (Slots::One(one), _) => one == slot,
+            (Slots::OfObject(object), Slot::Tagged { object: its, .. }) => its == object,
+            (Slots::BadOf(process), Slot::Bad { process: its, .. }) => its == process,
+            (Slots::OfObject(_) | Slots::BadOf(_), _) => false,
+        }
+    }
+}

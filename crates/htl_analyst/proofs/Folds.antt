@@ -1,0 +1,185 @@
+-- The run of one processor folded.
+use Rattle.std.proofs.Common.{◌≡◌, ◌≢◌, ℕ, ◌+◌, ◌-◌, ◌*◌, ◌^◌, ◌<◌, ◌≤◌, List, [], ◌∷◌, ◌++◌, length, length-append, take, drop}
+use Rattle.std.proofs.Common.{sym, ap, ◌∙◌, subst, arith, inl, inr}
+use Rattle.std.specs.Prelude.{Contains, ◌↔◌}
+use Rattle.std.specs.List.{AllByRecursion}
+use Rattle.std.proofs.lemmas.Bool.{cases_eq, cases_lt}
+use Rattle.htl_event.specs.Events.{Event}
+use Rattle.htl_event.proofs.Members.{at_member, AllByRecursion-weaker}
+use Rattle.htl_segment.specs.Content.{Content}
+use Rattle.htl_segment.specs.Traces.{Trace, HasKey, all_events}
+use Rattle.htl_tree.specs.Trees.{total_count}
+use Rattle.htl_taken.specs.NumberSets.{Has}
+use Rattle.htl_taken.specs.Numbers.{Numbers, numbers_at, reach_of, settled}
+use Rattle.htl_taken.specs.Rising.{reach_from}
+use Rattle.htl_taken.specs.declared.TheConstants.{MAX_FRONT}
+use Rattle.htl_taken.proofs.Reaching.{reach_from-ge, reach_from-le}
+use Rattle.htl_taken.proofs.Rising.{length-Rises}
+use Rattle.htl_taken.proofs.Numbers.{IsProper-settled, Has-settled, settled-drop}
+use Rattle.htl_analyst.specs.States.{Digest, Lane, lane, lane_at, held_at, below_at, State}
+use Rattle.htl_analyst.specs.Keys.{HasTaken}
+use Rattle.htl_analyst.specs.Right.{IsOwned, IsDigestOf, run_events, IsLane, IsState, IsRightAt, IsRight}
+use Rattle.htl_analyst.specs.StepParts.{run_length, run_of, settled_with, IsCompactedAt}
+use Rattle.htl_analyst.proofs.Lists.{all-drop, all-take, map-drop, length-take-le}
+use Rattle.htl_analyst.proofs.Held.{number}
+use Rattle.htl_analyst.proofs.Runs.{IsRunFrom, events_of-run, run_taken, run_has}
+use Rattle.htl_analyst.proofs.Fresh.{run_events-0}
+use Rattle.htl_analyst.proofs.Updates.{place-set_same, place-set_other, IsState-updated, IsRight-updated}
+
+pub run_reaches : (q : Numbers) → q.front + (reach_of q - q.front) ≡ reach_of q
+run_reaches q = let ge = reach_from-ge q.front q.loose in omega (arith, ge)
+
+owned_by : (id count p : ℕ) (hs : List Content) → AllByRecursion (IsOwned id count p) hs → AllByRecursion (λ s. s.processor ≡ p) hs
+owned_by id count p hs all = AllByRecursion-weaker (IsOwned id count p) (λ s. s.processor ≡ p) hs (λ s o. o.processor) all
+
+-- the held segments of the run
+pub run_is : (id count p : ℕ) (q : Numbers) (k : Lane) → IsLane id count p q k
+    → IsRunFrom p q.front (take (reach_of q - q.front) k.held) × (length (take (reach_of q - q.front) k.held) ≡ reach_of q - q.front)
+run_is id count p q k is =
+    run_taken p q.front (reach_of q - q.front) k.held (owned_by id count p k.held is.owned)
+    (run_reaches q ∙ ap (λ (ns : List ℕ). reach_from q.front ns) (sym is.numbers))
+
+pub run_within : (id count p : ℕ) (q : Numbers) (k : Lane) → IsLane id count p q k → reach_of q - q.front ≤ length k.held
+run_within id count p q k is =
+    let r = (run_is id count p q k is).1 in
+    let t = length-take-le (reach_of q - q.front) k.held in
+    omega (arith, r, t)
+
+-- a segment has 4,096 events at most
+pub events_few : (id count p : ℕ) (hs : List Content) → AllByRecursion (IsOwned id count p) hs → length (all_events hs) ≤ 4096 * length hs
+events_few id count p [] all = omega arith
+events_few id count p (h ∷ hs) all =
+    let ih = events_few id count p hs all.1 in
+    let here = all.0.fits.count in
+    let both = length-append h.events (all_events hs) in
+    omega (arith, ih, here, both)
+
+-- its segments have 4,096 events each at most
+pub run_few : (id count p : ℕ) (q : Numbers) (k : Lane) → IsLane id count p q k
+    → length (all_events (take (reach_of q - q.front) k.held)) ≤ 4096 * (reach_of q - q.front)
+run_few id count p q k is =
+    let few =
+    events_few id count p (take (reach_of q - q.front) k.held) (all-take (IsOwned id count p) (reach_of q - q.front) k.held is.owned) in
+    let len = (run_is id count p q k is).1 in
+    omega (arith, few, len)
+
+-- so has the run that is read, of so many of the segments held
+pub run_read_few : (a : State) (p run : ℕ) (hs : List Content) (k : Lane) → IsLane a.trace_id a.processors p (numbers_at a.taken p) k
+    → run ≡ run_length a p → hs ≡ k.held → length (all_events (take run hs)) ≤ 4096 * run_length a p
+run_read_few a p run hs k is er eh =
+    let few = run_few a.trace_id a.processors p (numbers_at a.taken p) k is in
+    let same : length (all_events (take run hs)) ≡ length (all_events (take (run_length a p) k.held)) =
+    ap (λ (n : ℕ). length (all_events (take n hs))) er ∙ ap (λ (cs : List Content). length (all_events (take (run_length a p) cs))) eh in
+    omega (arith, few, same)
+
+-- no count outgrows 64 bits
+pub totals_fit : (id count p : ℕ) (q : Numbers) (k : Lane) → IsLane id count p q k
+    → total_count k.below.tree + 4096 * (reach_of q - q.front) < 2 ^ 64
+totals_fit id count p q k is =
+    let old = is.bounded in
+    let reach = reach_from-le q.front q.loose in
+    let high = length-Rises q.front MAX_FRONT q.loose is.proper.rises in
+    let r = run_reaches q in
+    omega (arith, old, reach, high, r)
+
+module _ (a : State) (p : ℕ) (is : IsState a) (lt : p < a.processors) (below : Digest) where
+  abbrev q : Numbers
+  q = numbers_at a.taken p
+
+  abbrev hs : List Content
+  hs = held_at a.lanes p
+
+  abbrev k : ℕ
+  k = run_length a p
+
+  was : IsLane a.trace_id a.processors p q (lane_at a.lanes p)
+  was = is.each p lt
+
+  run : IsRunFrom p q.front (take k hs) × (length (take k hs) ≡ k)
+  run = run_is a.trace_id a.processors p q (lane_at a.lanes p) was
+
+  settled_lane : total_count below.tree ≤ 4096 * reach_of q → IsLane a.trace_id a.processors p (settled q) (lane (drop k hs) below)
+  settled_lane bounded = record {
+    proper = IsProper-settled q was.proper;
+    numbers = map-drop number k hs ∙ ap (drop k) was.numbers ∙ settled-drop q was.proper;
+    owned = all-drop (IsOwned a.trace_id a.processors p) k hs was.owned;
+    bounded = bounded;
+  }
+
+  pub IsState-settled : total_count below.tree ≤ 4096 * reach_of q → IsState (settled_with a p below)
+  IsState-settled bounded = IsState-updated a p (settled q) (lane (drop k hs) below) is lt (settled_lane bounded)
+
+  module _ (T : Trace) (right : IsRight a T) where
+    old : IsRightAt T p q (lane_at a.lanes p)
+    old = right.each p lt
+
+    run_in_trace : AllByRecursion (Contains T.segments) (take k hs)
+    run_in_trace = all-take (Contains T.segments) k hs old.held
+
+    -- what lies below the new front is what lay below the old one, and then the run
+    pub grown : run_events T p (reach_of q) ≡ run_events T p q.front ++ run_of a p
+    grown =
+        let e : q.front + length (take k hs) ≡ reach_of q = (let r = run.1 in let s = run_reaches q in omega (arith, r, s)) in
+        ap (λ (f : ℕ). run_events T p f) (sym e)
+        ∙ events_of-run T.segments right.trace.in_order p q.front (take k hs) run.0 run_in_trace
+
+    complete : (n : ℕ) → n < reach_of q → HasKey T p n
+    complete n below_reach =
+        elim (cases_lt n q.front) [
+          | inl low ↦ old.complete n low
+          | inr le ↦
+              let s = run_has p q.front n (take k hs) run.0 le (let r = run.1 in let t = run_reaches q in omega (arith, r, t)) in
+              (s.0, at_member (Contains T.segments) (take k hs) s.0 run_in_trace s.1, s.2, s.3)
+        ]
+
+    none_below : q.front ≡ 0 → run_events T p q.front ≡ []
+    none_below e = ap (λ (f : ℕ). run_events T p f) e ∙ run_events-0 p T.segments
+
+    pub IsRight-settled : total_count below.tree ≤ 4096 * reach_of q
+        → ((events : List Event) → (q.front ≡ 0 → events ≡ []) → IsDigestOf (below_at a.lanes p) events
+        → IsDigestOf below (events ++ run_of a p))
+        → IsRight (settled_with a p below) T
+    IsRight-settled bounded joins =
+        IsRight-updated a p (settled q) (lane (drop k hs) below) is lt T right (settled_lane bounded) (record {
+          complete = complete;
+          held = all-drop (Contains T.segments) k hs old.held;
+          below = subst (IsDigestOf below) (sym grown) (joins (run_events T p q.front) none_below old.below);
+        })
+
+-- ---- the fold as a step
+
+module _ (a b : State) (p : ℕ) (is : IsState a) (lt : p < a.processors) (f : IsCompactedAt a b p) where
+  bounded : total_count (f.below).tree ≤ 4096 * reach_of (numbers_at a.taken p)
+  bounded =
+      let old = (is.each p lt).bounded in
+      let new = f.bounded in
+      let r = run_reaches (numbers_at a.taken p) in
+      omega (arith, old, new, r)
+
+  pub IsState-compacted : IsState b
+  IsState-compacted = subst IsState (sym f.is) (IsState-settled a p is lt f.below bounded)
+
+  pub IsRight-compacted : (T : Trace) → IsRight a T → IsRight b T
+  IsRight-compacted T right = subst (λ (x : State). IsRight x T) (sym f.is) (IsRight-settled a p is lt f.below T right bounded f.joins)
+
+  in_places : p < length a.taken
+  in_places = let e = is.places in omega (arith, e)
+
+  in_lanes : p < length a.lanes
+  in_lanes = let e = is.lanes in omega (arith, e)
+
+  pub place-compacted : numbers_at b.taken p ≡ settled (numbers_at a.taken p)
+  place-compacted = ap (λ (x : State). numbers_at x.taken p) f.is ∙ place-set_same a.taken p (settled (numbers_at a.taken p)) in_places
+
+  pub place-compacted_other : (r : ℕ) → r ≢ p → numbers_at b.taken r ≡ numbers_at a.taken r
+  place-compacted_other r ne =
+      ap (λ (x : State). numbers_at x.taken r) f.is ∙ place-set_other a.taken p r (settled (numbers_at a.taken p)) ne
+
+  pub HasTaken-compacted : (r n : ℕ) → HasTaken b r n ↔ HasTaken a r n
+  HasTaken-compacted r n =
+      elim (cases_eq r p) [
+        | inl e ↦
+            subst (λ (x : ℕ). HasTaken b x n ↔ HasTaken a x n) (sym e)
+            (subst (λ (x : Numbers). Has x n ↔ HasTaken a p n) (sym place-compacted) (Has-settled (numbers_at a.taken p) n))
+        | inr ne ↦ subst (λ (x : Numbers). Has x n ↔ HasTaken a r n) (sym (place-compacted_other r ne)) (λ h. h, λ h. h)
+      ]

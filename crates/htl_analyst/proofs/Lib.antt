@@ -1,0 +1,17 @@
+pub mod Lists
+pub mod Held
+pub mod Updates
+pub mod Takes
+pub mod Holds
+pub mod Fresh
+pub mod Digests
+pub mod Runs
+pub mod Folds
+pub mod Compacts
+pub mod Merges
+pub mod United
+pub mod Determined
+pub mod MergeLaws
+pub mod KeyEvents
+pub mod Falling
+pub mod Answered

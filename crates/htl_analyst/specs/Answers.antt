@@ -1,0 +1,21 @@
+-- What answers are about: the events of the segments that were taken.
+use Rattle.std.specs.Prelude.{List}
+use Rattle.htl_event.specs.Events.{Event}
+use Rattle.htl_segment.specs.Traces.{Trace, all_events, events_of}
+use Rattle.htl_answers.specs.Parts.{Contents}
+use Rattle.htl_analyst.specs.States.{Lane, State}
+use Rattle.htl_analyst.specs.Keys.{keys}
+
+-- the trace's events of the taken keys
+abbrev pub taken_events : Trace → State → List Event
+taken_events T a = events_of (keys a) T.segments
+
+-- a lane as a part of an answer
+abbrev pub contents_of : Lane → Contents
+contents_of k = record {
+  tree = k.below.tree;
+  latest = k.below.latest;
+  marks = k.below.marks;
+  exits = k.below.exits;
+  held = all_events k.held;
+}

@@ -1,0 +1,12 @@
+-- cited by public contracts
+pub mod States
+pub mod Keys
+pub mod Right
+pub mod Same
+pub mod Refusals
+pub mod Steps
+pub mod Moments
+pub mod Answers
+pub mod Laws
+-- cited by private contracts alone
+pub mod StepParts

@@ -1,0 +1,51 @@
+-- Parts of a merge and of a compaction.
+use Rattle.std.specs.Prelude.{◌≡◌, ℕ, ◌+◌, ◌-◌, ◌*◌, ◌<◌, ◌≤◌, ◌⊎◌, List, [], ◌++◌, map, Contains, drop, take, length}
+use Rattle.std.specs.List.{AllByRecursion}
+use Rattle.htl_event.specs.Events.{Event}
+use Rattle.htl_segment.specs.Content.{Content}
+use Rattle.htl_segment.specs.Traces.{all_events}
+use Rattle.htl_tree.specs.Trees.{total_count}
+use Rattle.htl_taken.specs.Numbers.{Numbers, numbers_at, front_at, reach_of, settled}
+use Rattle.htl_analyst.specs.States.{Digest, Lane, lane, lane_at, held_at, below_at, State}
+use Rattle.htl_analyst.specs.Right.{IsDigestOf}
+use Rattle.htl_analyst.specs.Steps.{updated}
+
+-- ---- of a merge
+
+-- the segments of these loose numbers, from either lane
+pub record IsHeldOfBoth (k l : Lane) (u : Numbers) (held : List Content) : Type 0 where
+  pub numbers : map (λ s. s.number) held ≡ u.loose
+  pub from : AllByRecursion (λ s. Contains k.held s ⊎ Contains l.held s) held
+
+-- the first lanes hold what a merge of the two states holds
+pub record AreHeldOfBoth (a b : State) (taken : List Numbers) (lanes : List Lane) (n : ℕ) : Type 0 where
+  pub len : length lanes ≡ n
+  pub each : (p : ℕ) → p < n → IsHeldOfBoth (lane_at a.lanes p) (lane_at b.lanes p) (numbers_at taken p) (held_at lanes p)
+
+-- the first lanes have what the second state has folded where its front is greater
+pub record AreGreaterOf (a b : State) (lanes : List Lane) (n : ℕ) : Type 0 where
+  pub len : length lanes ≡ n
+  pub each : (p : ℕ) → p < n → front_at a.taken p < front_at b.taken p → below_at lanes p ≡ below_at b.lanes p
+
+-- ---- of a compaction
+
+-- how many held segments of the processor go on from its front without a gap
+abbrev pub run_length : State → ℕ → ℕ
+run_length a p = reach_of (numbers_at a.taken p) - front_at a.taken p
+
+-- their events
+abbrev pub run_of : State → ℕ → List Event
+run_of a p = all_events (take (run_length a p) (held_at a.lanes p))
+
+-- the front moved to its reach, over what was folded by then
+abbrev pub settled_with : State → ℕ → Digest → State
+settled_with a p below =
+    updated a p (settled (numbers_at a.taken p)) (lane (drop (run_length a p) (held_at a.lanes p)) below)
+
+-- the run of one processor is folded
+pub record IsCompactedAt (a b : State) (p : ℕ) : Type 0 where
+  pub below : Digest
+  pub is : b ≡ settled_with a p below
+  pub joins : (events : List Event) → (front_at a.taken p ≡ 0 → events ≡ []) → IsDigestOf (below_at a.lanes p) events
+      → IsDigestOf below (events ++ run_of a p)
+  pub bounded : total_count below.tree ≤ total_count (below_at a.lanes p).tree + 4096 * run_length a p

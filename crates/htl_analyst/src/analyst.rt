@@ -1,0 +1,210 @@
+//! The analyst: its state, and what it tells of that.
+ghost use Rattle.std.specs.Prelude.{◌≡◌, IfOk, replicate};
+ghost use Rattle.htl_analyst.specs.States.{no_lane};
+
+use crate::MAX_PROCESSORS;
+use crate::fault::AnalystFault;
+use crate::part::Part;
+use htl_event::NoMemory;
+use htl_segment::Segment;
+use htl_taken::Taken;
+use std::alloc::Allocator;
+use std::marker::Model;
+
+/// What is known of a trace: which of its segments were taken, and what they come to.
+#[derive(Drop)]
+pub struct Analyst<A: Allocator> {
+    pub(crate) trace_id: u64,
+    pub(crate) processors: u16,
+    pub(crate) taken: Taken<A>,
+    pub(crate) parts: Vec<Part<A>, A>,
+}
+
+impl<A: Allocator> Model for Analyst<A> {
+    ghost use Rattle.htl_analyst.specs.States.{State, state};
+    ghost use Rattle.htl_analyst.specs.Right.{IsState};
+
+    ghost Value = { State };
+
+    ghost view = { λ a. state a.trace_id a.processors a.taken a.parts.items };
+
+    ghost invariant = { λ a. IsState (state a.trace_id a.processors a.taken a.parts.items) };
+}
+
+impl<A: Allocator> Analyst<A> {
+    ghost use Rattle.std.specs.Prelude.{◌≡◌, ◌↔◌, ◌<◌, ℕ, length, sum_by, IsTrue, IfSome, IfNone, Contains};
+    ghost use Rattle.htl_taken.specs.Numbers.{numbers_at, front_at, size_of};
+    ghost use Rattle.htl_analyst.specs.States.{lane_at, held_at};
+    ghost use Rattle.htl_analyst.specs.Keys.{keys};
+    ghost use Rattle.htl_analyst.specs.Right.{IsLane, IsState, IsRight};
+    ghost use Rattle.htl_analyst.specs.Same.{IsSame, IsSameLane};
+    ghost use Rattle.htl_segment.specs.Traces.{Trace};
+    ghost use Rattle.htl_segment.specs.Rising.{SequencesRise};
+    ghost use Rattle.htl_analyst.specs.Moments.{IsLeastKept, IsCompleteTo, NothingMissing};
+
+    /// The number that all segments of the trace share.
+    pub fn trace_id(&self) -> u64
+        ensures { result ≡ self.now.trace_id }
+    {
+        self.trace_id
+    }
+
+    /// How many processors the trace has.
+    pub fn processors(&self) -> u16
+        ensures value { result ≡ self.now.processors }
+        // What every analyst's state is, so that callers have it too.
+        ensures state { IsState self.now }
+    {
+        self.processors
+    }
+
+    /// Whether the segment was taken. None of a processor that isn't there was.
+    pub fn has(&self, processor: u16, number: u32) -> bool
+        ensures { result ≡ keys self.now processor number }
+    {
+        self.taken.has(processor, number)
+    }
+
+    /// The front of the processor: the segments with numbers below it were folded. It is 0 where there is
+    /// no such processor.
+    pub fn front(&self, processor: u16) -> u32
+        ensures { result ≡ front_at self.now.taken processor }
+    {
+        self.taken.front(processor)
+    }
+
+    /// How many segments are held.
+    pub fn held(&self) -> u64
+        ensures { result ≡ sum_by (λ k. length k.held) self.now.lanes }
+    {
+        let mut held = 0;
+        for processor in 0..self.processors {
+            held += self.part(processor).held().len() as u64;
+        }
+        held
+    }
+
+    /// How many segments were taken.
+    pub fn taken(&self) -> u64
+        ensures { result ≡ sum_by size_of self.now.taken }
+    {
+        self.taken.len()
+    }
+
+    /// Whether both have the same fronts, hold the same segments and come to the same counts and tables.
+    pub fn same(&self, other: &Analyst<A>) -> bool
+        ensures { IsTrue result ↔ IsSame self.now other.now }
+    {
+        if self.trace_id != other.trace_id || self.processors != other.processors {
+            return false;
+        }
+        if !self.taken.same(&other.taken) {
+            return false;
+        }
+        self.parts_are_same(other)
+    }
+
+    /// The moment up to which nothing of the trace is missing, where sequences rise along each processor: the
+    /// least, over all processors, of the greatest sequences that were folded.
+    pub fn complete_to(&self) -> u64
+        ensures kept { IsLeastKept self.now result }
+        ensures complete { (T : Trace) → IsRight self.now T → IsCompleteTo T self.now result }
+        ensures missing { (T : Trace) → IsRight self.now T → SequencesRise T.segments
+            → NothingMissing T self.now result }
+    {
+        let _some = &self.trace_id;
+        let mut least = self.part(0).below().last_sequence();
+        for processor in 1..self.processors {
+            least = self.part(processor).below().last_sequence().min(least);
+        }
+        least
+    }
+
+    /// Whether both keep the same of each processor.
+    fn parts_are_same(&self, other: &Analyst<A>) -> bool
+        requires { self.now.processors ≡ other.now.processors }
+        ensures { IsTrue result ↔ ((p : ℕ) → p < self.now.processors
+            → IsSameLane (lane_at self.now.lanes p) (lane_at other.now.lanes p)) }
+    {
+        for processor in 0..self.processors {
+            if !self.part(processor).same(other.part(processor)) {
+                return false;
+            }
+        }
+        true
+    }
+
+    /// What is kept of one processor.
+    pub(crate) fn part(&self, processor: u16) -> &Part<A>
+        requires { processor < self.now.processors }
+        ensures value { result.now ≡ lane_at self.now.lanes processor }
+        ensures lane { IsLane self.now.trace_id self.now.processors processor
+            (numbers_at self.now.taken processor) result.now }
+    {
+        &self.parts[usize::from(processor)]
+    }
+}
+
+impl<A: Allocator + Clone> Analyst<A> {
+    ghost use Rattle.std.specs.Prelude.{◌≡◌, ◌⊎◌, ◌↔◌, ◌<◌, ℕ, IfOk};
+    ghost use Rattle.htl_segment.specs.Traces.{Trace, IsTrace};
+    ghost use Rattle.htl_analyst.specs.Right.{IsRight};
+    ghost use Rattle.htl_analyst.specs.Keys.{HasTaken};
+    ghost use Rattle.htl_analyst.specs.Steps.{new_state};
+
+    /// An analyst that has taken nothing.
+    pub fn new(alloc: A, trace_id: u64, processors: u16) -> Result<Analyst<A>, AnalystFault>
+        ensures state { IfOk result (λ a. a ≡ new_state trace_id processors) }
+        ensures processors { (result ≡ Err AnalystFault.Processors)
+            ↔ ((processors ≡ 0) ⊎ (256 < processors)) }
+        ensures keys { IfOk result (λ a. (p n : ℕ) → HasTaken a p n → ⊥) }
+        ensures right { IfOk result (λ a. (T : Trace) → IsTrace T → T.id ≡ trace_id
+            → T.processors ≡ processors → IsRight a T) }
+    {
+        if processors == 0 || processors > MAX_PROCESSORS {
+            return Err(AnalystFault::Processors);
+        }
+        let taken = Taken::new(alloc.clone()?, processors)?;
+        let parts = no_parts(alloc, processors)?;
+        Ok(Analyst {
+            trace_id,
+            processors,
+            taken,
+            parts,
+        })
+    }
+
+    /// An equal analyst, under clones of the allocator. The segments that it holds are shared.
+    pub fn copy(&self) -> Result<Analyst<A>, NoMemory>
+        ensures { IfOk result (λ copy. copy ≡ self.now) }
+    {
+        Ok(Analyst {
+            trace_id: self.trace_id,
+            processors: self.processors,
+            taken: self.taken.copy()?,
+            parts: copies(self.parts.allocator().clone()?, &self.parts)?,
+        })
+    }
+}
+
+/// A part that has nothing for each processor.
+fn no_parts<A: Allocator + Clone>(alloc: A, processors: u16) -> Result<Vec<Part<A>, A>, NoMemory>
+    ensures { IfOk result (λ parts. parts.items ≡ replicate processors no_lane) }
+{
+    let mut parts = Vec::with_capacity(alloc.clone()?, usize::from(processors))?;
+    for _ in 0..processors {
+        parts.push(Part::new(alloc.clone()?)?)?;
+    }
+    Ok(parts)
+}
+
+/// Equal parts, under clones of the allocator.
+fn copies<A: Allocator + Clone>(alloc: A, parts: &[Part<A>]) -> Result<Vec<Part<A>, A>, NoMemory>
+    ensures { IfOk result (λ copies. copies.items ≡ parts.now) }
+{
+    let mut copies = Vec::with_capacity(alloc, parts.len())?;
+    for part in parts {
+        copies.push(part.copy()?)?;
+    }
+    Ok(copies)
+}

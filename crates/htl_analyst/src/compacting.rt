@@ -1,0 +1,96 @@
+//! Folding what goes on from the fronts without a gap.
+ghost use Rattle.std.specs.Prelude.{◌≡◌, ◌≤◌, length, drop};
+
+use crate::analyst::Analyst;
+use crate::folded::Folded;
+use htl_event::NoMemory;
+use htl_segment::Segment;
+use std::alloc::Allocator;
+
+impl<A: Allocator + Clone> Analyst<A> {
+    ghost use Rattle.std.specs.Prelude.{◌≡◌, ◌↔◌, ◌<◌, ◌≤◌, ◌+◌, ◌*◌, ◌++◌, ℕ, List, [], IfOk, OnOk, OnErr};
+    ghost use Rattle.htl_event.specs.Events.{Event};
+    ghost use Rattle.htl_segment.specs.Traces.{Trace};
+    ghost use Rattle.htl_tree.specs.Trees.{total_count};
+    ghost use Rattle.htl_taken.specs.Numbers.{front_at};
+    ghost use Rattle.htl_analyst.specs.States.{below_at};
+    ghost use Rattle.htl_analyst.specs.Keys.{HasTaken};
+    ghost use Rattle.htl_analyst.specs.Right.{IsDigestOf, IsRight, IsStanding};
+    ghost use Rattle.htl_analyst.specs.Moments.{NeverFalls};
+    ghost use Rattle.htl_analyst.specs.StepParts.{IsCompactedAt, run_length, run_of, settled_with};
+
+    /// Moves every front to the least number that wasn't taken. The held segments below it are folded and
+    /// dropped. After want of memory some fronts may have moved, and the keys are as before.
+    pub fn compact(&mut self) -> Result<(), NoMemory>
+        ensures keys { (p n : ℕ) → HasTaken self.new p n ↔ HasTaken self.old p n }
+        ensures settled { OnOk result ((p : ℕ) → HasTaken self.new p (front_at self.new.taken p) → ⊥) }
+        ensures trace { (self.new.trace_id ≡ self.old.trace_id)
+            × (self.new.processors ≡ self.old.processors) }
+        ensures right { (T : Trace) → IsRight self.old T → IsRight self.new T }
+        ensures standing { OnOk result ((T : Trace) → IsRight self.old T → IsStanding self.new T) }
+        ensures never_falls { (T : Trace) → IsRight self.old T → NeverFalls self.old self.new }
+    {
+        for processor in 0..self.processors {
+            self.fold(processor)?;
+        }
+        Ok(())
+    }
+
+    /// Folds the run of one processor.
+    fn fold(&mut self, processor: u16) -> Result<(), NoMemory>
+        requires { processor < self.old.processors }
+        ensures ok { OnOk result (IsCompactedAt self.old self.new processor) }
+        ensures err { OnErr result (self.new ≡ self.old) }
+    {
+        let run = (self.taken.reach(processor) - self.taken.front(processor)) as usize;
+        if run == 0 {
+            return Ok(());
+        }
+        let below = self.folded(processor, run)?;
+        self.settle(processor, run, below);
+        Ok(())
+    }
+
+    /// What was folded of the processor, and the run after it.
+    fn folded(&self, processor: u16, run: usize) -> Result<Folded<A>, NoMemory>
+        requires here { processor < self.now.processors }
+        requires run { run ≡ run_length self.now processor }
+        ensures joins { IfOk result (λ below. (events : List Event)
+            → (front_at self.now.taken processor ≡ 0 → events ≡ [])
+            → IsDigestOf (below_at self.now.lanes processor) events
+            → IsDigestOf below (events ++ run_of self.now processor)) }
+        ensures bounded { IfOk result (λ below. total_count below.tree
+            ≤ total_count (below_at self.now.lanes processor).tree + 4096 * run_length self.now processor) }
+    {
+        let part = self.part(processor);
+        let alloc = self.parts.allocator().clone()?;
+        let newer = Folded::of(alloc, &part.held()[..run])?;
+        if self.front(processor) == 0 {
+            return Ok(newer);
+        }
+        let both = part.below().joined(&newer)?;
+        Ok(both)
+    }
+
+    /// Moves the front of one processor to its reach, over what was folded by then.
+    fn settle(&mut self, processor: u16, run: usize, below: Folded<A>)
+        requires here { processor < self.old.processors }
+        requires run { run ≡ run_length self.old processor }
+        requires bounded { total_count below.tree
+            ≤ total_count (below_at self.old.lanes processor).tree + 4096 * run_length self.old processor }
+        ensures { self.new ≡ settled_with self.old processor below }
+    {
+        self.taken.settle(processor);
+        let part = &mut self.parts[usize::from(processor)];
+        part.below = below;
+        drop_front(&mut part.held, run);
+    }
+}
+
+/// Drops the first segments.
+fn drop_front<A: Allocator>(held: &mut Vec<Segment, A>, run: usize)
+    requires { run ≤ length held.old.items }
+    ensures { held.new.items ≡ drop run held.old.items }
+{
+    let _ = held.drain(..run);
+}

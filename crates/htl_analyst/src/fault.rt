@@ -1,0 +1,71 @@
+//! Answers of calls that take, merge or make analysts.
+ghost use Rattle.std.specs.Prelude.{◌≡◌};
+ghost use Rattle.htl_analyst.specs.declared.fault.AnalystFault.TheVariants as analysts;
+ghost use Rattle.htl_analyst.specs.declared.fault.MergeFault.TheVariants as merges;
+
+use htl_event::NoMemory;
+use std::alloc::AllocError;
+
+/// Why an analyst was not made.
+#[derive(Clone, Copy, Debug, PartialEq, Eq)]
+pub enum AnalystFault {
+    /// The number of processors is 0 or above 256.
+    Processors,
+    NoMemory,
+}
+
+/// Why a segment was not taken. The causes are tried in this order.
+#[derive(Clone, Copy, Debug, PartialEq, Eq)]
+pub enum TakeFault {
+    /// The segment has another trace id.
+    OtherTrace,
+    /// The segment has another processor count.
+    OtherProcessors,
+    /// A segment of this processor and number is held that says something else.
+    Conflict(u16, u32),
+    NoMemory,
+}
+
+/// Why two analysts were not merged. The causes are tried in this order.
+#[derive(Clone, Copy, Debug, PartialEq, Eq)]
+pub enum MergeFault {
+    /// The analysts have two trace ids.
+    OtherTrace,
+    /// The analysts have two processor counts.
+    OtherProcessors,
+    /// Both hold a segment of this processor and number, and the two say different things. It is the
+    /// least such processor, and the least such number there.
+    Conflict(u16, u32),
+    NoMemory,
+}
+
+/// Whether a segment was taken now or had been before.
+#[derive(Clone, Copy, Debug, PartialEq, Eq)]
+pub enum Took {
+    New,
+    Repeat,
+}
+
+impl From<NoMemory> for AnalystFault {
+    ghost from_gives = { λ _ fault. fault ≡ analysts.NoMemory };
+
+    fn from(_refused: NoMemory) -> AnalystFault {
+        AnalystFault::NoMemory
+    }
+}
+
+impl From<AllocError> for AnalystFault {
+    ghost from_gives = { λ _ fault. fault ≡ analysts.NoMemory };
+
+    fn from(_refused: AllocError) -> AnalystFault {
+        AnalystFault::NoMemory
+    }
+}
+
+impl From<NoMemory> for MergeFault {
+    ghost from_gives = { λ _ fault. fault ≡ merges.NoMemory };
+
+    fn from(_refused: NoMemory) -> MergeFault {
+        MergeFault::NoMemory
+    }
+}

@@ -1,0 +1,180 @@
+//! What is left of the segments of one processor that were folded.
+ghost use Rattle.std.specs.Prelude.{◌≡◌, ◌++◌, ◌≤◌, ◌<◌, ◌+◌, ◌*◌, ◌^◌, ◌↔◌, ℕ, List, length, Contains, IsTrue, IfOk, OnOk};
+ghost use Rattle.htl_event.specs.Events.{Event};
+ghost use Rattle.htl_event.specs.Handles.{IsGreatestSequence};
+ghost use Rattle.htl_segment.specs.Traces.{all_events};
+
+use htl_event::{NoMemory, SharedEvent};
+use htl_segment::Segment;
+use htl_tables::{Exits, Latest, Marks};
+use htl_tree::StackTree;
+use std::alloc::Allocator;
+use std::marker::Model;
+
+/// Counts by stack, the latest event of each handle, the mark and the last exit of each process, and the
+/// greatest sequence.
+#[derive(Drop)]
+pub(crate) struct Folded<A: Allocator> {
+    tree: StackTree<A>,
+    latest: Latest<A>,
+    marks: Marks<A>,
+    exits: Exits<A>,
+    last_sequence: u64,
+}
+
+impl<A: Allocator> Model for Folded<A> {
+    ghost use Rattle.htl_analyst.specs.States.{Digest, digest};
+
+    ghost Value = { Digest };
+
+    ghost view = { λ f. digest f.tree f.latest f.marks f.exits f.last_sequence };
+}
+
+impl<A: Allocator> Folded<A> {
+    ghost use Rattle.std.specs.Prelude.{◌≡◌, ◌↔◌, IsTrue};
+    ghost use Rattle.htl_tree.specs.Trees.{total_count};
+    ghost use Rattle.htl_analyst.specs.Same.{IsSameDigest};
+
+    /// The counts of the folded events, by stack.
+    pub fn tree(&self) -> &StackTree<A>
+        ensures { result.now ≡ self.now.tree }
+    {
+        &self.tree
+    }
+
+    /// The latest folded open or close of each handle.
+    pub fn latest(&self) -> &Latest<A>
+        ensures { result.now ≡ self.now.latest }
+    {
+        &self.latest
+    }
+
+    /// The snapshot mark of each process, of the folded events.
+    pub fn marks(&self) -> &Marks<A>
+        ensures { result.now ≡ self.now.marks }
+    {
+        &self.marks
+    }
+
+    /// The last exit of each process, of the folded events.
+    pub fn exits(&self) -> &Exits<A>
+        ensures { result.now ≡ self.now.exits }
+    {
+        &self.exits
+    }
+
+    /// The greatest folded sequence, 0 where there is none.
+    pub fn last_sequence(&self) -> u64
+        ensures { result ≡ self.now.last_sequence }
+    {
+        self.last_sequence
+    }
+
+    /// Whether both come to the same counts, tables and sequence.
+    pub fn same(&self, other: &Folded<A>) -> bool
+        ensures { IsTrue result ↔ IsSameDigest self.now other.now }
+    {
+        if self.last_sequence != other.last_sequence {
+            return false;
+        }
+        if !self.tree.same(&other.tree) {
+            return false;
+        }
+        if !self.latest.same(&other.latest) {
+            return false;
+        }
+        if !self.marks.same(&other.marks) {
+            return false;
+        }
+        self.exits.same(&other.exits)
+    }
+}
+
+impl<A: Allocator + Clone> Folded<A> {
+    ghost use Rattle.std.specs.Prelude.{◌≡◌, ◌++◌, ◌≤◌, ◌<◌, ◌+◌, ◌*◌, ◌^◌, List, length, IfOk};
+    ghost use Rattle.htl_event.specs.Events.{Event};
+    ghost use Rattle.htl_segment.specs.Traces.{all_events};
+    ghost use Rattle.htl_tree.specs.Trees.{total_count};
+    ghost use Rattle.htl_analyst.specs.States.{no_digest};
+    ghost use Rattle.htl_analyst.specs.Right.{IsDigestOf};
+
+    /// A fold of no events.
+    pub fn new(alloc: A) -> Result<Folded<A>, NoMemory>
+        ensures { IfOk result (λ f. f ≡ no_digest) }
+    {
+        Ok(Folded {
+            tree: StackTree::new(alloc.clone()?),
+            latest: Latest::new(alloc.clone()?),
+            marks: Marks::new(alloc.clone()?),
+            exits: Exits::new(alloc),
+            last_sequence: 0,
+        })
+    }
+
+    /// What the events of the segments come to.
+    pub fn of(alloc: A, segments: &[Segment]) -> Result<Folded<A>, NoMemory>
+        requires { length (all_events segments.now) < 2 ^ 64 }
+        ensures digest { IfOk result (λ f. IsDigestOf f (all_events segments.now)) }
+        ensures bounded { IfOk result (λ f. total_count f.tree ≤ length (all_events segments.now)) }
+    {
+        Ok(Folded {
+            tree: StackTree::of(alloc.clone()?, segments)?,
+            latest: Latest::of(alloc.clone()?, segments)?,
+            marks: Marks::of(alloc.clone()?, segments)?,
+            exits: Exits::of(alloc, segments)?,
+            last_sequence: greatest_sequence(segments),
+        })
+    }
+
+    /// What both come to.
+    pub fn joined(&self, other: &Folded<A>) -> Result<Folded<A>, NoMemory>
+        requires { total_count self.now.tree + total_count other.now.tree < 2 ^ 64 }
+        ensures digest { IfOk result (λ f. (events more : List Event)
+            → IsDigestOf self.now events → IsDigestOf other.now more → IsDigestOf f (events ++ more)) }
+        ensures bounded { IfOk result (λ f.
+            total_count f.tree ≡ total_count self.now.tree + total_count other.now.tree) }
+    {
+        Ok(Folded {
+            tree: self.tree.plus(&other.tree)?,
+            latest: self.latest.join(&other.latest)?,
+            marks: self.marks.join(&other.marks)?,
+            exits: self.exits.join(&other.exits)?,
+            last_sequence: self.last_sequence.max(other.last_sequence),
+        })
+    }
+
+    /// An equal value, under clones of the allocator.
+    pub fn copy(&self) -> Result<Folded<A>, NoMemory>
+        ensures { IfOk result (λ copy. copy ≡ self.now) }
+    {
+        Ok(Folded {
+            tree: self.tree.copy()?,
+            latest: self.latest.copy()?,
+            marks: self.marks.copy()?,
+            exits: self.exits.copy()?,
+            last_sequence: self.last_sequence,
+        })
+    }
+}
+
+/// The greatest sequence of the segments' events, 0 where there are none.
+fn greatest_sequence(segments: &[Segment]) -> u64
+    ensures { IsGreatestSequence (Contains (all_events segments.now)) result }
+{
+    let mut greatest = 0;
+    for segment in segments {
+        greatest = last_sequence(segment.events()).max(greatest);
+    }
+    greatest
+}
+
+/// The greatest sequence of the events, 0 where there are none.
+fn last_sequence(events: &[SharedEvent]) -> u64
+    ensures { IsGreatestSequence (Contains events.now) result }
+{
+    let mut greatest = 0;
+    for event in events {
+        greatest = event.sequence.max(greatest);
+    }
+    greatest
+}

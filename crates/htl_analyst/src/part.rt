@@ -1,0 +1,113 @@
+//! What an analyst keeps of one processor.
+use crate::folded::Folded;
+use htl_event::NoMemory;
+use htl_segment::Segment;
+use std::alloc::Allocator;
+use std::marker::Model;
+use std::mem;
+
+/// The segments that wait for others with lower numbers, and what was folded of all below them.
+#[derive(Drop)]
+pub(crate) struct Part<A: Allocator> {
+    pub held: Vec<Segment, A>,
+    pub below: Folded<A>,
+}
+
+impl<A: Allocator> Model for Part<A> {
+    ghost use Rattle.htl_analyst.specs.States.{Lane, lane};
+
+    ghost Value = { Lane };
+
+    ghost view = { λ k. lane k.held.items k.below };
+}
+
+impl<A: Allocator> Part<A> {
+    ghost use Rattle.std.specs.Prelude.{◌≡◌, ◌↔◌, IsTrue};
+    ghost use Rattle.htl_analyst.specs.States.{lane};
+    ghost use Rattle.htl_analyst.specs.Same.{IsSameLane};
+
+    /// The held segments, in rising order of their numbers.
+    pub fn held(&self) -> &[Segment]
+        ensures { result.now ≡ self.now.held }
+    {
+        self.held.as_slice()
+    }
+
+    /// What was folded below the front.
+    pub fn below(&self) -> &Folded<A>
+        ensures { result.now ≡ self.now.below }
+    {
+        &self.below
+    }
+
+    /// Exchanges what was folded. Each keeps its held segments.
+    pub fn swap_below(&mut self, other: &mut Part<A>)
+        ensures own { self.new ≡ lane self.old.held other.old.below }
+        ensures others { other.new ≡ lane other.old.held self.old.below }
+    {
+        mem::swap(&mut self.below, &mut other.below);
+    }
+
+    /// Whether both hold the same segments and have folded the same.
+    pub fn same(&self, other: &Part<A>) -> bool
+        ensures { IsTrue result ↔ IsSameLane self.now other.now }
+    {
+        if !are_same(self.held(), other.held()) {
+            return false;
+        }
+        self.below.same(&other.below)
+    }
+}
+
+impl<A: Allocator + Clone> Part<A> {
+    ghost use Rattle.std.specs.Prelude.{◌≡◌, IfOk};
+    ghost use Rattle.htl_analyst.specs.States.{no_lane};
+
+    /// A part that has nothing.
+    pub fn new(alloc: A) -> Result<Part<A>, NoMemory>
+        ensures { IfOk result (λ part. part ≡ no_lane) }
+    {
+        Ok(Part {
+            held: Vec::new(alloc.clone()?),
+            below: Folded::new(alloc)?,
+        })
+    }
+
+    /// An equal part, under clones of the allocator. The held segments are shared.
+    pub fn copy(&self) -> Result<Part<A>, NoMemory>
+        ensures { IfOk result (λ copy. copy ≡ self.now) }
+    {
+        Ok(Part {
+            held: copies(self.held.allocator().clone()?, &self.held)?,
+            below: self.below.copy()?,
+        })
+    }
+}
+
+ghost use Rattle.std.specs.Prelude.{◌≡◌, ◌↔◌, IsTrue, IfOk};
+
+/// Whether the lists have the same segments.
+fn are_same(segments: &[Segment], others: &[Segment]) -> bool
+    ensures { IsTrue result ↔ (segments.now ≡ others.now) }
+{
+    if segments.len() != others.len() {
+        return false;
+    }
+    for (place, segment) in segments.iter().enumerate() {
+        if !segment.same(&others[place]) {
+            return false;
+        }
+    }
+    true
+}
+
+/// The same segments, in the same memory.
+fn copies<A: Allocator>(alloc: A, segments: &[Segment]) -> Result<Vec<Segment, A>, NoMemory>
+    ensures { IfOk result (λ copies. copies.items ≡ segments.now) }
+{
+    let mut copies = Vec::with_capacity(alloc, segments.len())?;
+    for segment in segments {
+        copies.push(segment.copy()?)?;
+    }
+    Ok(copies)
+}

@@ -1,0 +1,11 @@
+pub mod Appended
+pub mod PartLemmas
+pub mod MomentLemmas
+pub mod Filters
+pub mod CandidateLemmas
+pub mod Outermost
+pub mod WholeLemmas
+pub mod AskedLemmas
+pub mod Opens
+pub mod TagLemmas
+pub mod BadLemmas

@@ -1,0 +1,176 @@
+-- How often stacks opened handles, over events that each open a handle of one process.
+use Rattle.std.proofs.Common.{◌≡◌, ℕ, ◌+◌, ◌<◌, Bool, true, false, cond, List, [], ◌∷◌, map, refl, sym, ap, subst, ◌∙◌, arith, inl, inr, ◌&&◌}
+use Rattle.std.specs.Prelude.{Contains, ◌↔◌, count_by}
+use Rattle.std.specs.Ordering.{nat_cmp, is_eq, ordering_then}
+use Rattle.std.specs.Cmp.{unsigned_Decides}
+use Rattle.std.specs.Cmp.Lexicographic.{pointwise_decides}
+use Rattle.std.specs.FinMap.{nat_cmp-IsAntisymmetric}
+use Rattle.std.specs.declared.cmp.Ordering.{Ordering}
+use Rattle.std.specs.declared.cmp.Ordering.TheVariants.{Less, Equal, Greater}
+use Rattle.std.specs.declared.cmp.Reverse.{Reverse}
+use Rattle.std.proofs.lemmas.Bool.{and_from}
+use Rattle.std.proofs.lemmas.Bool.Decides.{Decides-eqb}
+use Rattle.std.proofs.lemmas.List.Sums.{sum_by-cons}
+use Rattle.htl_event.specs.Events.{Event}
+use Rattle.htl_event.specs.declared.kind.Kind.{Kind}
+use Rattle.htl_event.specs.declared.kind.Kind.TheVariants.{Opened}
+use Rattle.htl_event.specs.declared.slot.Slot.TheVariants.{Handles}
+use Rattle.htl_event.specs.declared.slot.Sign.{Sign}
+use Rattle.htl_event.specs.declared.slot.Sign.TheVariants.{Plus, Minus}
+use Rattle.htl_event.specs.declared.slot.Count.{Count}
+use Rattle.htl_event.specs.Slots.{slot_by_kind, is_slot, is_counted}
+use Rattle.htl_event.specs.Members.{IsRising, Lists}
+use Rattle.htl_event.specs.Stacks.{stack_cmp}
+use Rattle.htl_event.specs.OrderLaws.{stack_ties}
+use Rattle.htl_event.specs.Handles.{IsOutstanding}
+use Rattle.htl_event.specs.Tallies.{times, tally, has_stack, MostFirst, IsLeaks}
+use Rattle.htl_tree.specs.Trees.{Tree, HasTally, ListsRows, count_at}
+use Rattle.htl_answers.specs.Leaks.{counted_first, stack_before_number}
+use Rattle.htl_event.proofs.Members.{Contains-here, Contains-there, Contains-map, Contains-from_map, each_member, at_member}
+
+-- each event opens a handle of the process
+pub record AllOpen (process : ℕ) (events : List Event) : Type 0 where
+  pub each : (e : Event) → Contains events e → (e.kind ≡ Opened) × (e.process ≡ process)
+
+counted_open : (kind : Kind) (e : Event) (process : ℕ) → kind ≡ Opened → e.process ≡ process
+    → is_slot (Handles process) Plus (slot_by_kind kind e) ≡ true
+counted_open Opened e process k p = and_from _ _ ((Decides-eqb process e.process).1 (sym p)) refl
+counted_open kind e process k p = absurd cc
+
+pub and_false : (b : Bool) → (b && false) ≡ false
+and_false true = refl
+and_false false = refl
+
+not_closed : (kind : Kind) (e : Event) (process : ℕ) → kind ≡ Opened → is_slot (Handles process) Minus (slot_by_kind kind e) ≡ false
+not_closed Opened e process k = and_false _
+not_closed kind e process k = absurd cc
+
+tail : (process : ℕ) (e : Event) (es : List Event) → AllOpen process (e ∷ es) → AllOpen process es
+tail process e es all = record { each = λ x h. all.each x (Contains-there e es x h) }
+
+abbrev weight : Bool → ℕ
+weight b = cond b 1 0
+
+opened_times : (process : ℕ) (es : List Event) → AllOpen process es → (stack : List ℕ)
+    → times (has_stack stack) es (Handles process) Plus ≡ count_by (has_stack stack) es
+opened_times process [] all stack = refl
+opened_times process (e ∷ es) all stack =
+    let rest = opened_times process es (tail process e es all) stack in
+    let is = all.each e (Contains-here e es) in
+    let one : ◌≡◌ {A = ℕ} (cond (is_counted (Handles process) Plus e && has_stack stack e) 1 0) (cond (has_stack stack e) 1 0) =
+    ap (λ (b : Bool). weight (b && has_stack stack e)) (counted_open e.kind e process is.0 is.1) in
+    let left = sum_by-cons (λ x. cond (is_counted (Handles process) Plus x && has_stack stack x) 1 0) e es in
+    let right = sum_by-cons (λ x. cond (has_stack stack x) 1 0) e es in
+    omega (arith, rest, one, left, right)
+
+closed_times : (process : ℕ) (es : List Event) → AllOpen process es → (stack : List ℕ)
+    → times (has_stack stack) es (Handles process) Minus ≡ 0
+closed_times process [] all stack = refl
+closed_times process (e ∷ es) all stack =
+    let rest = closed_times process es (tail process e es all) stack in
+    let is = all.each e (Contains-here e es) in
+    let none : ◌≡◌ {A = ℕ} (cond (is_counted (Handles process) Minus e && has_stack stack e) 1 0) 0 =
+    ap (λ (b : Bool). weight (b && has_stack stack e)) (not_closed e.kind e process is.0) in
+    let left = sum_by-cons (λ x. cond (is_counted (Handles process) Minus x && has_stack stack x) 1 0) e es in
+    omega (arith, rest, none, left)
+
+-- their tally has the opens of the stack alone
+pub opens_tally : (process : ℕ) (es : List Event) → AllOpen process es → (stack : List ℕ)
+    → tally es (Handles process) stack ≡ record { plus = count_by (has_stack stack) es; minus = 0 }
+opens_tally process es all stack = rw (opened_times process es all stack, closed_times process es all stack) refl
+
+pub IsRising-map : {X Y : Type 0} (before : X → X → Type 0) (after : Y → Y → Type 0) (f : X → Y)
+    → ((x y : X) → before x y → after (f x) (f y)) → (xs : List X)
+    → IsRising before xs → IsRising after (map f xs)
+IsRising-map before after f into [] rising = tt
+IsRising-map before after f into (x ∷ xs) rising = (
+  each_member (after (f x)) (map f xs) (λ y h.
+      (let from = Contains-from_map f xs y h in subst (after (f x)) from.2
+      (into x from.0 (at_member (before x) xs from.0 rising.0 from.1)))),
+  IsRising-map before after f into xs rising.1,
+)
+
+-- ---- rows in order
+
+pub both_tied : (r s : Ordering) → ordering_then r s ≡ Equal → (r ≡ Equal) × (s ≡ Equal)
+both_tied Less s e = cc
+both_tied Equal s e = (refl, e)
+both_tied Greater s e = cc
+
+pub stack_same : (a b : List ℕ) → stack_cmp a b ≡ Equal → a ≡ b
+stack_same a b e = (pointwise_decides unsigned_Decides a b).0 (stack_ties a b ∙ ap is_eq e)
+
+row_of : ℕ → List ℕ → Reverse ℕ × List ℕ
+row_of n s = (record { 0 = n }, s)
+
+abbrev leak_cmp : Reverse ℕ × List ℕ → Reverse ℕ × List ℕ → Ordering
+leak_cmp x y = ordering_then (nat_cmp y.0.0 x.0.0) (stack_cmp x.1 y.1)
+
+-- rows that tie are equal
+pub row_ties : (x y : Reverse ℕ × List ℕ) → leak_cmp x y ≡ Equal → x ≡ y
+unfolding row_of
+row_ties x y e =
+    let tied = both_tied _ _ e in
+    let number : y.0.0 ≡ x.0.0 = nat_cmp-IsAntisymmetric y.0.0 x.0.0 tied.0 in
+    let stack : x.1 ≡ y.1 = stack_same x.1 y.1 tied.1 in
+    ap (λ (n : ℕ). row_of n x.1) (sym number) ∙ ap (λ (s : List ℕ). row_of y.0.0 s) stack
+
+abbrev IsLeak : List Event → List ℕ × ℕ → Type 0
+IsLeak opens row = (row.1 ≡ count_by (has_stack row.0) opens) × (0 < row.1)
+
+module _ (process : ℕ) (opens : List Event) (all : AllOpen process opens) (tree : Tree) (tallied : HasTally tree opens)
+    (stacks : List (List ℕ × Count)) (listed : ListsRows tree (Handles process) stacks) where
+  counts : (stack : List ℕ) → count_at tree (Handles process) stack ≡ record { plus = count_by (has_stack stack) opens; minus = 0 }
+  counts stack = tallied (Handles process) stack ∙ opens_tally process opens all stack
+
+  leak_from_row : (r : List ℕ × Count) → Contains stacks r → IsLeak opens (r.0, r.1.plus)
+  leak_from_row r h =
+      let is = (listed.members r).0 h in
+      let whole = is.0 ∙ counts r.0 in
+      let none : r.1.minus ≡ 0 = ap (λ (n : Count). n.minus) whole in
+      let some = is.1 in
+      (ap (λ (n : Count). n.plus) whole, omega (arith, none, some))
+
+  row_from_leak : (row : List ℕ × ℕ) → IsLeak opens row → Contains stacks (row.0, record { plus = row.1; minus = 0 })
+  row_from_leak row h =
+      let some = h.1 in
+      (listed.members (row.0, record { plus = row.1; minus = 0 })).1 (ap count_of h.0 ∙ sym (counts row.0), omega (arith, some))
+    where
+      count_of : ℕ → Count
+      count_of n = record { plus = n; minus = 0 }
+
+  module _ (ordered : List (Reverse ℕ × List ℕ)) (rising : IsRising (λ a b. leak_cmp a b ≡ Less) ordered)
+      (same : (row : Reverse ℕ × List ℕ) → Contains ordered row ↔ Contains (map counted_first stacks) row) where
+    leak_from_ordered : (row : List ℕ × ℕ) → Contains (map stack_before_number ordered) row → IsLeak opens row
+    leak_from_ordered row h =
+        let x = Contains-from_map stack_before_number ordered row h in
+        let r = Contains-from_map counted_first stacks x.0 ((same x.0).0 x.1) in
+        subst (IsLeak opens) (ap stack_before_number r.2 ∙ x.2) (leak_from_row r.0 r.1)
+
+    ordered_from_leak : (row : List ℕ × ℕ) → IsLeak opens row → Contains (map stack_before_number ordered) row
+    ordered_from_leak row h =
+        let r : List ℕ × Count = (row.0, record { plus = row.1; minus = 0 }) in
+        Contains-map stack_before_number ordered (counted_first r)
+        ((same (counted_first r)).1 (Contains-map counted_first stacks r (row_from_leak row h)))
+
+    Lists-leaks : Lists MostFirst (IsLeak opens) (map stack_before_number ordered)
+    Lists-leaks = record {
+      rising = IsRising-map (λ a b. leak_cmp a b ≡ Less) MostFirst stack_before_number (λ x y h. h) ordered rising;
+      members = λ row. (leak_from_ordered row, ordered_from_leak row);
+    }
+
+-- the opens of outstanding handles open handles of the process
+all_open : (events : List Event) (process : ℕ) (opens : List Event) → IsOutstanding (Contains events) process opens → AllOpen process opens
+all_open events process opens is = record { each = λ e h. (let o = (is.members e).0 h in (o.opens, o.latest.of_handle.owner)) }
+
+pub leaks_listed : (events : List Event) (process : ℕ) (opens : List Event) → IsOutstanding (Contains events) process opens
+    → (tree : Tree) → HasTally tree opens
+    → (stacks : List (List ℕ × Count)) → ListsRows tree (Handles process) stacks → (ordered : List (Reverse ℕ × List ℕ))
+    → IsRising (λ a b. leak_cmp a b ≡ Less) ordered
+    → ((row : Reverse ℕ × List ℕ) → Contains ordered row ↔ Contains (map counted_first stacks) row)
+    → IsLeaks (Contains events) process (map stack_before_number ordered)
+leaks_listed events process opens is tree tallied stacks listed ordered rising same = record {
+  outstanding = opens;
+  is = is;
+  stacks = Lists-leaks process opens (all_open events process opens is) tree tallied stacks listed ordered rising same;
+}

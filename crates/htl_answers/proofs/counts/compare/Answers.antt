@@ -1,0 +1,11 @@
+-- Two runs of frames are compared as lists.
+use Rattle.std.proofs.Common.{◌≡◌, refl}
+use Rattle.std.specs.Ordering.{nat_cmp}
+use Rattle.std.proofs.lemmas.Iterator.{YieldsList-from_slice}
+use Rattle.std.proofs.lemmas.Iterator.Adapters.{YieldsList-from_rev_slice}
+use Rattle.std.proofs.lemmas.Iterator.Search.{cmp_from_yields_List}
+use Rattle.htl_answers.proofs.counts.compare.Goals as goal
+
+pub returns : goal.returns
+returns c = cmp_from_yields_List (λ x y. y ≡ x) _ nat_cmp _ c.cmp.ensures.ran (YieldsList-from_slice c.args.path.now cc)
+    (λ it e. YieldsList-from_rev_slice c.args.frames.now cc) (λ x y. refl)

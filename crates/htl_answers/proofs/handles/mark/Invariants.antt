@@ -1,0 +1,11 @@
+-- The answer over the parts so far.
+use Rattle.std.proofs.Common.{List, map, take}
+use Rattle.std.specs.Prelude.{Contains}
+use Rattle.htl_event.specs.Handles.{IsMark}
+use Rattle.htl_event.specs.Events.{Event}
+use Rattle.htl_answers.specs.Parts.{AreEventsOf}
+use Rattle.htl_answers.proofs.handles.mark.Given as goal
+
+abbrev pub invariant-loop-part : goal.invariant-loop-part
+invariant-loop-part g l = (events : List Event) → AreEventsOf (map g.P.Part.contents (take l.part-index l.parts)) events
+    → IsMark (Contains events) l.process l.mark

@@ -1,0 +1,10 @@
+-- The candidates of the parts so far.
+use Rattle.std.proofs.Common.{List, map, take}
+use Rattle.htl_event.specs.Events.{Event}
+use Rattle.htl_answers.specs.Parts.{AreEventsOf}
+use Rattle.htl_answers.specs.Candidates.{AreCandidates}
+use Rattle.htl_answers.proofs.open.candidates.Given as goal
+
+abbrev pub invariant-loop-part : goal.invariant-loop-part
+invariant-loop-part g l = (events : List Event) → AreEventsOf (map g.P.Part.contents (take l.part-index l.parts)) events
+    → AreCandidates events l.process l.rows.items

@@ -1,0 +1,98 @@
+//! What is asked of runs of events that were not folded.
+
+ghost use Rattle.std.specs.Prelude.{◌≡◌, ◌↔◌, IsTrue, Contains, flat_map};
+ghost use Rattle.std.specs.Option.{option_copied};
+ghost use Rattle.htl_tables.specs.Latest.{with_event};
+ghost use Rattle.htl_event.specs.Handles.{LatestIs, IsGreatestSequence, IsOf, later};
+
+use htl_event::{Kind, Run, SharedEvent, base};
+
+/// The later of two events, the first where they came at once.
+pub fn later_of<'a>(
+    one: Option<&'a SharedEvent>,
+    other: Option<&'a SharedEvent>,
+) -> Option<&'a SharedEvent>
+    ensures { option_copied result ≡ later (option_copied one.entry) (option_copied other.entry) }
+{
+    match (one, other) {
+        (None, _) => other,
+        (Some(_), None) => one,
+        (Some(first), Some(second)) => {
+            if first.sequence < second.sequence {
+                other
+            } else {
+                one
+            }
+        }
+    }
+}
+
+/// The later of an event and one more, where that opens or closes the base handle of the process.
+fn with_event<'a>(
+    old: Option<&'a SharedEvent>,
+    event: &'a SharedEvent,
+    process: u32,
+    handle: u32,
+) -> Option<&'a SharedEvent>
+    ensures { option_copied result ≡ with_event process handle (option_copied old.entry) event.now }
+{
+    if event.kind.opens_or_closes() && event.process == process && base(event.handle) == handle {
+        later_of(old, Some(event))
+    } else {
+        old
+    }
+}
+
+/// The latest open or close of the base handle of the process among the events.
+fn latest_of_events(events: &[SharedEvent], process: u32, base: u32) -> Option<&SharedEvent>
+    ensures { LatestIs (Contains events.now) process base (option_copied result) }
+{
+    let mut latest = None;
+    for event in events {
+        latest = with_event(latest, event, process, base);
+    }
+    latest
+}
+
+/// The latest open or close of the base handle of the process among the events of the runs.
+pub fn latest_held<R: Run>(runs: &[R], process: u32, base: u32) -> Option<&SharedEvent>
+    ensures { LatestIs (Contains (flat_map R.events_of runs.now)) process base (option_copied result) }
+{
+    let mut latest = None;
+    for run in runs {
+        latest = later_of(latest, latest_of_events(run.events(), process, base));
+    }
+    latest
+}
+
+/// Whether the event is of the kind and of the process.
+fn is_of(event: &SharedEvent, kind: Kind, process: u32) -> bool
+    ensures { IsTrue result ↔ IsOf kind process event.now }
+{
+    event.kind == kind && event.process == process
+}
+
+/// The greatest sequence of the kind's events of the process among the events.
+fn greatest_of_events(events: &[SharedEvent], kind: Kind, process: u32) -> u64
+    ensures { IsGreatestSequence (λ e. Contains events.now e × IsOf kind process e) result }
+{
+    let mut greatest = 0;
+    for event in events {
+        if is_of(event, kind, process) {
+            greatest = greatest.max(event.sequence);
+        }
+    }
+    greatest
+}
+
+/// The greatest sequence of the kind's events of the process among the events of the runs, 0 where there
+/// are none.
+pub fn greatest_held<R: Run>(runs: &[R], kind: Kind, process: u32) -> u64
+    ensures { IsGreatestSequence (λ e. Contains (flat_map R.events_of runs.now) e × IsOf kind process e) result }
+{
+    let mut greatest = 0;
+    for run in runs {
+        greatest = greatest.max(greatest_of_events(run.events(), kind, process));
+    }
+    greatest
+}

@@ -1,0 +1,77 @@
+-- The first faulty step of a list and its fault are one, and there is none where no step is faulty.
+use Rattle.std.proofs.Common.{◌≡◌, ◌≢◌, ℕ, ◌+◌, ◌<◌, ◌≤◌, List, length, get_or, Some, refl, sym, ap, ◌∙◌, subst, inl, inr}
+use Rattle.std.proofs.Common.{arith}
+use Rattle.std.specs.Prelude.{slice_get}
+use Rattle.std.proofs.lemmas.Bool.{cases_eq, cases_lt}
+use Rattle.std.proofs.lemmas.Option.{same_Some, slice_get_within, get_or_from_slice_get}
+use Rattle.htl_case.specs.declared.step.Step.{Step}
+use Rattle.htl_case.specs.declared.fault.PlayFault.{PlayFault}
+use Rattle.htl_case.specs.declared.fault.PlayFault.TheVariants.{NoAnalyst, NoSegment, NoMemory}
+use Rattle.htl_case.specs.Faults.{IsLeast}
+use Rattle.htl_case.specs.Plays.{HasAt, NamesNoAnalyst, NamesNoSegment, IsFaulty, NoneIsFaulty, IsPlayRefusal}
+
+one_least : (P : ℕ → Type 0) (i j : ℕ) → IsLeast ◌<◌ P i → IsLeast ◌<◌ P j → i ≡ j
+one_least P i j a b =
+    elim (cases_eq i j) [
+      | inl e ↦ e
+      | inr ne ↦ elim (cases_lt i j) [
+        | inl lt ↦ absurd (b.least i lt a.holds)
+        | inr le ↦ let lt : j < i = omega arith in absurd (a.least j lt b.holds)
+      ]
+    ]
+
+module _ (n m : ℕ) (steps : List Step) where
+  one_place : (i j : ℕ) → IsLeast ◌<◌ (HasAt (IsFaulty n m) steps) i → IsLeast ◌<◌ (HasAt (IsFaulty n m) steps) j → i ≡ j
+  one_place = one_least (HasAt (IsFaulty n m) steps)
+
+  pub one_fault : (f g : PlayFault) → f ≢ NoMemory → g ≢ NoMemory → IsPlayRefusal n m steps f → IsPlayRefusal n m steps g → f ≡ g
+  one_fault (NoAnalyst i) (NoAnalyst j) nf ng x y = ap NoAnalyst (one_place i j x.1 y.1)
+  one_fault (NoAnalyst i) (NoSegment j) nf ng x y =
+      absurd (y.0 (subst (HasAt (NamesNoAnalyst n) steps) (one_place i j x.1 y.1) x.0))
+  one_fault (NoAnalyst i) NoMemory nf ng x y = absurd (ng refl)
+  one_fault (NoSegment i) (NoAnalyst j) nf ng x y =
+      absurd (x.0 (subst (HasAt (NamesNoAnalyst n) steps) (one_place j i y.1 x.1) y.0))
+  one_fault (NoSegment i) (NoSegment j) nf ng x y = ap NoSegment (one_place i j x.1 y.1)
+  one_fault (NoSegment i) NoMemory nf ng x y = absurd (ng refl)
+  one_fault NoMemory g nf ng x y = absurd (nf refl)
+
+  -- where no step is faulty, there is no fault
+  pub no_fault : NoneIsFaulty n m steps → (f : PlayFault) → f ≢ NoMemory → IsPlayRefusal n m steps f → ⊥
+  no_fault none (NoAnalyst i) nf x = none i x.1.holds
+  no_fault none (NoSegment i) nf x = none i x.1.holds
+  no_fault none NoMemory nf x = nf refl
+
+  -- ---- going through the steps
+
+  abbrev pub NoneBefore : ℕ → Type 0
+  NoneBefore i = (k : ℕ) → k < i → HasAt (IsFaulty n m) steps k → ⊥
+
+  pub none_more : (i : ℕ) (d : Step) → NoneBefore i → (NamesNoAnalyst n (get_or steps i d) → ⊥)
+      → (NamesNoSegment m (get_or steps i d) → ⊥) → NoneBefore (i + 1)
+  none_more i d before analysts segments k lt faulty =
+      elim (cases_eq k i) [
+        | inl e ↦
+            let here = ap (slice_get steps) (sym e) ∙ faulty.here in
+            let same : faulty.step ≡ get_or steps i d = sym (get_or_from_slice_get steps i faulty.step d here) in
+            elim (subst (IsFaulty n m) same faulty.holds) [ inl h ↦ analysts h | inr h ↦ segments h ]
+        | inr ne ↦ before k (omega arith) faulty
+      ]
+
+  pub none_all : (i : ℕ) → length steps ≤ i → NoneBefore i → NoneIsFaulty n m steps
+  none_all i all before k faulty =
+      let within = slice_get_within steps k faulty.step faulty.here in
+      before k (omega arith) faulty
+
+  pub first_no_analyst : (i : ℕ) (step : Step) → NoneBefore i → slice_get steps i ≡ Some step → NamesNoAnalyst n step
+      → IsPlayRefusal n m steps (NoAnalyst i)
+  first_no_analyst i step before at names = (
+    record { step = step; here = at; holds = names },
+    record { holds = record { step = step; here = at; holds = inl names }; least = before },
+  )
+
+  pub first_no_segment : (i : ℕ) (step : Step) → NoneBefore i → slice_get steps i ≡ Some step → (NamesNoAnalyst n step → ⊥)
+      → NamesNoSegment m step → IsPlayRefusal n m steps (NoSegment i)
+  first_no_segment i step before at there names = (
+    (λ h. there (subst (NamesNoAnalyst n) (same_Some h.step step (sym h.here ∙ at)) h.holds)),
+    record { holds = record { step = step; here = at; holds = inr names }; least = before },
+  )

@@ -1,0 +1,6 @@
+-- The headline holds.
+use Rattle.htl_case.proofs.Headlines.{the_headline}
+use Rattle.htl_case.proofs.laws.headline.Goals as goal
+
+pub returns : goal.returns
+returns c = the_headline

@@ -1,0 +1,15 @@
+-- The least number that the sorted sequences repeat is the least sequence that comes twice.
+use Rattle.std.proofs.Common.{ℕ}
+use Rattle.std.proofs.lemmas.List.Sorted.{IsNonDecreasingBy-from_sort}
+use Rattle.htl_case.proofs.Twice.{told_twice}
+use Rattle.htl_case.proofs.sequences.repeated_sequence.Goals as goal
+
+pub first_repeated-requires : goal.first_repeated-requires
+first_repeated-requires c =
+    rw c.deref.ensures.value (IsNonDecreasingBy-from_sort (λ (x : ℕ). x) _ c.sort_unstable.ensures.sorted)
+
+pub returns-clause-found : goal.returns-clause-found
+returns-clause-found c =
+    told_twice c.args.segments.now c.in_ok-sequences.sequences.items c.sort_unstable.new.self.items c.first_repeated.result c.requires
+    c.in_ok-sequences.ensures.fit c.in_ok-sequences.ensures.value c.sort_unstable.ensures.permutation
+    (rw c.deref.ensures.value at c.first_repeated.ensures)

@@ -1,0 +1,33 @@
+-- For the clauses of private functions: lists of segments in the order of their keys.
+use Rattle.std.specs.Prelude.{◌≡◌, ◌≢◌, ℕ, Bool, ◌==◌, ◌&&◌, List, [], ◌∷◌, Contains, ◌↔◌}
+use Rattle.std.specs.List.{AllByRecursion}
+use Rattle.htl_segment.specs.Content.{Content}
+use Rattle.htl_segment.specs.Traces.{AreInOrder}
+use Rattle.htl_case.specs.declared.fault.CaseFault.{CaseFault}
+use Rattle.htl_case.specs.declared.fault.CaseFault.TheVariants.{TwoContents}
+use Rattle.htl_segment.specs.Rising.{IsKeyBefore}
+use Rattle.htl_case.specs.Faults.{IsLeast, HasTwoContents, HaveOneContent, key_of}
+
+abbrev pub same_key : Content → Content → Bool
+same_key s t = (s.processor == t.processor) && (s.number == t.number)
+
+-- no segment's key comes before that of one in front of it, and keys may come again
+abbrev pub AreSorted : List Content → Type 0
+AreSorted [] = Unit {0}
+AreSorted (s ∷ ss) = AllByRecursion (λ t. IsKeyBefore (key_of t) (key_of s) → ⊥) ss × AreSorted ss
+
+-- the segments of a list in which no key has two contents, each once and in the order of their keys
+pub record IsInOrder (segments ordered : List Content) : Type 0 where
+  pub in_order : AreInOrder ordered
+  pub members : (s : Content) → Contains ordered s ↔ Contains segments s
+  pub content : HaveOneContent segments
+
+-- the segments have one trace id and one processor count, and these are they
+pub record AreOf (segments : List Content) (trace_id processors : ℕ) : Type 0 where
+  pub some : segments ≢ []
+  pub trace : (s : Content) → Contains segments s → s.trace_id ≡ trace_id
+  pub count : (s : Content) → Contains segments s → s.processors ≡ processors
+
+abbrev pub IsTwoContents : List Content → CaseFault → Type 0
+IsTwoContents segments fault =
+    (processor number : ℕ) × (fault ≡ TwoContents processor number) × IsLeast IsKeyBefore (HasTwoContents segments) (processor, number)

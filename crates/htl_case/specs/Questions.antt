@@ -1,0 +1,69 @@
+-- The questions that an analyst answers, by the names of its calls, and their answers by the definitions:
+-- a question and a set of keys have one answer on a trace.
+use Rattle.std.specs.Prelude.{◌≡◌, ℕ, Bool, List, Option, Contains, count_by}
+use Rattle.htl_event.specs.Events.{Event}
+use Rattle.htl_event.specs.declared.slot.Slot.{Slot}
+use Rattle.htl_event.specs.declared.slot.Count.{Count}
+use Rattle.htl_event.specs.Slots.{base_of}
+use Rattle.htl_event.specs.Handles.{LatestIs, IsMark, IsOutstanding, IsDiff}
+use Rattle.htl_event.specs.Tallies.{IsTags, IsBad, IsLeaks, IsStacks}
+use Rattle.htl_event.specs.Tallies.{under as prefix_tally}
+use Rattle.htl_tree.specs.Trees.{Tree, HasTally, IsSameTally}
+use Rattle.htl_segment.specs.Traces.{Trace, has_key, events_of}
+use Rattle.htl_analyst.specs.States.{State}
+use Rattle.htl_analyst.specs.Keys.{keys}
+use Rattle.htl_analyst.specs.Right.{IsRight}
+
+pub data Question : Type 0 where
+  has : ℕ → ℕ → Question
+  taken : Question
+  latest : ℕ → ℕ → Question
+  mark : ℕ → Question
+  under : List ℕ → Slot → Question
+  outstanding : ℕ → Question
+  diff : ℕ → ℕ → Question
+  tags : ℕ → Question
+  bad : ℕ → Question
+  leaks : ℕ → Question
+  stacks : ℕ → List ℕ → Question
+  whole_tree : Question
+
+-- what an answer is
+abbrev pub Answer : Question → Type 0
+Answer (has processor number) = Bool
+Answer taken = ℕ
+Answer (latest process handle) = Option Event
+Answer (mark process) = ℕ
+Answer (under path slot) = Count
+Answer (outstanding process) = List Event
+Answer (diff process since) = List Event
+Answer (tags object) = List (List ℕ × Count)
+Answer (bad process) = List (ℕ × List ℕ × ℕ)
+Answer (leaks process) = List (List ℕ × ℕ)
+Answer (stacks object tag) = List (List ℕ × Count)
+Answer whole_tree = Tree
+
+-- The definition's value over the segments of the trace whose keys are in the set.
+abbrev pub IsAnswer : Trace → (ℕ → ℕ → Bool) → (q : Question) → Answer q → Type 0
+IsAnswer T S (has processor number) x = x ≡ S processor number
+IsAnswer T S taken x = x ≡ count_by (has_key S) T.segments
+IsAnswer T S (latest process handle) x = LatestIs (Contains (events_of S T.segments)) process (base_of handle) x
+IsAnswer T S (mark process) x = IsMark (Contains (events_of S T.segments)) process x
+IsAnswer T S (under path slot) x = x ≡ prefix_tally (events_of S T.segments) path slot
+IsAnswer T S (outstanding process) x = IsOutstanding (Contains (events_of S T.segments)) process x
+IsAnswer T S (diff process since) x = IsDiff (Contains (events_of S T.segments)) process since x
+IsAnswer T S (tags object) x = IsTags (events_of S T.segments) object x
+IsAnswer T S (bad process) x = IsBad (events_of S T.segments) process x
+IsAnswer T S (leaks process) x = IsLeaks (Contains (events_of S T.segments)) process x
+IsAnswer T S (stacks object tag) x = IsStacks (events_of S T.segments) object tag x
+IsAnswer T S whole_tree x = HasTally x (events_of S T.segments)
+
+-- What an analyst in this state answers: for every trace that the state is right about, the definition's value
+-- over the taken keys. (`laws` shows it of each call.)
+abbrev pub Answers : State → (q : Question) → Answer q → Type 0
+Answers a q x = (T : Trace) → IsRight a T → IsAnswer T (keys a) q x
+
+-- two trees have the same tally; other answers are equal
+abbrev pub IsSameAnswer : (q : Question) → Answer q → Answer q → Type 0
+IsSameAnswer whole_tree x y = IsSameTally x y
+IsSameAnswer other x y = x ≡ y

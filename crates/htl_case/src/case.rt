@@ -1,0 +1,85 @@
+//! A case, and what it tells of its trace.
+
+use crate::fault::CaseFault;
+use crate::ordering::{check_one_trace, in_order};
+use crate::rising::falling;
+use crate::sequences::repeated_sequence;
+use htl_segment::Segment;
+use std::alloc::Global;
+use std::marker::Model;
+
+/// All segments of one trace, whose sequences rise along each processor.
+#[derive(Debug, Drop)]
+pub struct Case {
+    trace_id: u64,
+    processors: u16,
+    segments: Vec<Segment>,
+}
+
+impl Model for Case {
+    ghost use Rattle.htl_segment.specs.Traces.{Trace, trace};
+    ghost use Rattle.htl_case.specs.Cases.{IsCase};
+
+    ghost Value = { Trace };
+
+    ghost view = { λ c. trace c.trace_id c.processors c.segments.items };
+
+    ghost invariant = { λ c. IsCase (trace c.trace_id c.processors c.segments.items) };
+}
+
+impl Case {
+    ghost use Rattle.std.specs.Prelude.{◌≡◌, ◌⊎◌, Result, IfOk, IfErr};
+    ghost use Rattle.htl_segment.specs.Traces.{Trace};
+    ghost use Rattle.htl_case.specs.declared.fault.CaseFault.{CaseFault};
+    ghost use Rattle.htl_case.specs.Cases.{IsCase, IsCaseOf};
+    ghost use Rattle.htl_case.specs.Faults.{IsRefusal, IsOutcome};
+
+    /// The case of these segments, which may come in any order and more than once. It takes n log n steps
+    /// for n events and moves the segments as they are. A refusal drops them.
+    pub fn of(alloc: Global, segments: Vec<Segment>) -> Result<Case, CaseFault>
+        ensures ok { IfOk result (IsCaseOf segments.items) }
+        ensures err { IfErr result (IsRefusal segments.items) }
+
+        // A list is a case or breaks a rule, never both, and one rule first. So nothing else is answered, but
+        // for want of memory.
+        ensures exact { (outcome : Result Trace CaseFault) → IsOutcome segments.items outcome
+            → (result ≡ outcome) ⊎ (result ≡ Err CaseFault.NoMemory) }
+    {
+        let (trace_id, processors) = check_one_trace(&segments)?;
+        let segments = in_order(segments)?;
+        if let Some(sequence) = repeated_sequence(alloc, &segments)? {
+            return Err(CaseFault::SequenceTwice(sequence));
+        }
+        if let Some((processor, number)) = falling(&segments) {
+            return Err(CaseFault::Falling(processor, number));
+        }
+        Ok(Case {
+            trace_id,
+            processors,
+            segments,
+        })
+    }
+
+    /// The number that all segments of the trace share.
+    pub fn trace_id(&self) -> u64
+        ensures { result ≡ self.now.id }
+    {
+        self.trace_id
+    }
+
+    /// How many processors the trace has.
+    pub fn processors(&self) -> u16
+        ensures { result ≡ self.now.processors }
+    {
+        self.processors
+    }
+
+    /// The segments by processor, then by number, each once.
+    pub fn segments(&self) -> &[Segment]
+        ensures value { result.now ≡ self.now.segments }
+        // What every case keeps, so that callers have it too.
+        ensures is_case { IsCase self.now }
+    {
+        self.segments.as_slice()
+    }
+}

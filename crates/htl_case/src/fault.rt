@@ -1,0 +1,115 @@
+//! Why a list of segments is no case, and why a list of steps isn't played.
+
+use htl_event::NoMemory;
+use std::alloc::{AllocError, AllocFailed};
+use thiserror::Error;
+
+/// Why a list of segments is no case: the first rule that it breaks, each tried over all segments before
+/// the next. The text is the fault's code.
+#[derive(Clone, Copy, Debug, PartialEq, Eq, Error)]
+pub enum CaseFault {
+    /// No segments.
+    #[error("C1")]
+    Empty,
+    /// The first place, counted from 0, whose trace id isn't that of place 0.
+    #[error("C2({0})")]
+    OtherTrace(u64),
+    /// The first place whose processor count isn't that of place 0.
+    #[error("C3({0})")]
+    OtherProcessors(u64),
+    /// The least processor and number that two different segments have.
+    #[error("C4({0}, {1})")]
+    TwoContents(u16, u32),
+    /// The least sequence that is in two different segments.
+    #[error("C5({0})")]
+    SequenceTwice(u64),
+    /// Memory for a growth was refused. It comes after `TwoContents` and before the faults that are tried
+    /// later.
+    #[error("C6")]
+    NoMemory,
+    /// The least processor and number whose segment has an event that isn't above every sequence in the
+    /// processor's segments of lower numbers. It is tried last.
+    #[error("C7({0}, {1})")]
+    Falling(u16, u32),
+}
+
+/// Why a list of steps isn't played. The steps are checked in their order before any is done, so the fault is
+/// that of the first step that has one. The text is the fault's code.
+#[derive(Clone, Copy, Debug, PartialEq, Eq, Error)]
+pub enum PlayFault {
+    /// The step at this place, counted from 0, names an analyst that isn't there.
+    #[error("P1({0})")]
+    NoAnalyst(u64),
+    /// The step at this place names analysts that are there and a segment that isn't.
+    #[error("P2({0})")]
+    NoSegment(u64),
+    /// Memory for a growth was refused. No step names an analyst or a segment that isn't there.
+    #[error("P3")]
+    NoMemory,
+}
+
+impl From<NoMemory> for CaseFault {
+    ghost use Rattle.std.specs.Prelude.{◌≡◌};
+    ghost use Rattle.htl_case.specs.declared.fault.CaseFault.TheVariants as faults;
+
+    ghost from_gives = { λ _ fault. fault ≡ faults.NoMemory };
+
+    fn from(_refused: NoMemory) -> CaseFault {
+        CaseFault::NoMemory
+    }
+}
+
+impl From<AllocError> for CaseFault {
+    ghost use Rattle.std.specs.Prelude.{◌≡◌};
+    ghost use Rattle.htl_case.specs.declared.fault.CaseFault.TheVariants as faults;
+
+    ghost from_gives = { λ _ fault. fault ≡ faults.NoMemory };
+
+    fn from(_refused: AllocError) -> CaseFault {
+        CaseFault::NoMemory
+    }
+}
+
+impl<T: Drop> From<AllocFailed<T>> for CaseFault {
+    ghost use Rattle.std.specs.Prelude.{◌≡◌};
+    ghost use Rattle.htl_case.specs.declared.fault.CaseFault.TheVariants as faults;
+
+    ghost from_gives = { λ _ fault. fault ≡ faults.NoMemory };
+
+    fn from(_refused: AllocFailed<T>) -> CaseFault {
+        CaseFault::NoMemory
+    }
+}
+
+impl From<NoMemory> for PlayFault {
+    ghost use Rattle.std.specs.Prelude.{◌≡◌};
+    ghost use Rattle.htl_case.specs.declared.fault.PlayFault.TheVariants as faults;
+
+    ghost from_gives = { λ _ fault. fault ≡ faults.NoMemory };
+
+    fn from(_refused: NoMemory) -> PlayFault {
+        PlayFault::NoMemory
+    }
+}
+
+impl From<AllocError> for PlayFault {
+    ghost use Rattle.std.specs.Prelude.{◌≡◌};
+    ghost use Rattle.htl_case.specs.declared.fault.PlayFault.TheVariants as faults;
+
+    ghost from_gives = { λ _ fault. fault ≡ faults.NoMemory };
+
+    fn from(_refused: AllocError) -> PlayFault {
+        PlayFault::NoMemory
+    }
+}
+
+impl<T: Drop> From<AllocFailed<T>> for PlayFault {
+    ghost use Rattle.std.specs.Prelude.{◌≡◌};
+    ghost use Rattle.htl_case.specs.declared.fault.PlayFault.TheVariants as faults;
+
+    ghost from_gives = { λ _ fault. fault ≡ faults.NoMemory };
+
+    fn from(_refused: AllocFailed<T>) -> PlayFault {
+        PlayFault::NoMemory
+    }
+}

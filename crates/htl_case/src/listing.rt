@@ -1,0 +1,70 @@
+//! The listing of one handle.
+
+ghost use Rattle.std.specs.Prelude.{◌≡◌, ◌++◌, filter, IfOk, OnOk, Contains};
+ghost use Rattle.std.specs.List.Sorted.{IsPermutation, IsNonDecreasingBy};
+ghost use Rattle.htl_event.specs.Events.{Event};
+ghost use Rattle.htl_event.specs.Handles.{NewestFirst};
+ghost use Rattle.htl_case.specs.Listed.{is_of_handle, IsNewestFirst};
+
+use crate::case::Case;
+use htl_event::{Kind, NoMemory, SharedEvent, base};
+use std::alloc::Global;
+use std::cmp::Reverse;
+
+impl Case {
+    ghost use Rattle.std.specs.Prelude.{Contains, IfOk};
+    ghost use Rattle.htl_event.specs.Handles.{IsListing};
+    ghost use Rattle.htl_segment.specs.Traces.{all_events};
+
+    /// The opens, closes and bad references of a process with the same base handle, the newest first. Only
+    /// the events that are listed are copied.
+    pub fn trace(
+        &self,
+        alloc: Global,
+        process: u32,
+        handle: u32,
+    ) -> Result<Vec<SharedEvent>, NoMemory>
+        ensures { IfOk result (λ rows.
+            IsListing (Contains (all_events self.now.segments)) process handle rows.items) }
+    {
+        let base = base(handle);
+        let mut rows = Vec::new(alloc);
+        for segment in self.segments() {
+            push_rows(&mut rows, segment.events(), process, base)?;
+        }
+        newest_first(&mut rows);
+        Ok(rows)
+    }
+}
+
+fn is_of_handle(event: &SharedEvent, process: u32, base_handle: u32) -> bool
+    ensures { result ≡ is_of_handle process base_handle event.now }
+{
+    matches!(event.kind, Kind::Opened | Kind::Closed | Kind::BadRef)
+        && event.process == process
+        && base(event.handle) == base_handle
+}
+
+fn push_rows(
+    rows: &mut Vec<SharedEvent>,
+    events: &[SharedEvent],
+    process: u32,
+    base_handle: u32,
+) -> Result<(), NoMemory>
+    ensures { OnOk result (rows.new.items
+        ≡ rows.old.items ++ filter (is_of_handle process base_handle) events.now) }
+{
+    for event in events {
+        if is_of_handle(event, process, base_handle) {
+            rows.push(event.copy()?)?;
+        }
+    }
+    Ok(())
+}
+
+fn newest_first(rows: &mut Vec<SharedEvent>)
+    ensures moved { IsPermutation rows.old.items rows.new.items }
+    ensures sorted { IsNewestFirst rows.new.items }
+{
+    rows.sort_unstable_by_key(|event| Reverse(event.sequence));
+}

@@ -1,0 +1,151 @@
+//! Answers that count, before and after what was taken is folded.
+
+use crate::analysts::taken;
+use htl_analyst::Analyst;
+use htl_event::{Count, NoMemory, SharedStack, Sign, Slot};
+use htl_samples::{TRACE, stack};
+use htl_tree::StackTree;
+use std::alloc::Global;
+use std::process::Abort;
+use std::test::Fail;
+
+/// The object and the tag of most lines.
+const OBJECT: u64 = 0x1000;
+
+const TAG: [u8; 4] = *b"Lky8";
+
+const SLOT: Slot = Slot::Tagged {
+    object: OBJECT,
+    tag: TAG,
+};
+
+/// Two stacks that share their outer frames, and an empty one.
+const X: &[u64] = &[0x30, 0x20, 0x10];
+
+const Y: &[u64] = &[0x40, 0x20, 0x10];
+
+const E: &[u64] = &[];
+
+const SHARED_FRAMES: &[&str] = &[
+    "0/0: R 1 0x1000 Lky8 [0x30 0x20 0x10], \
+    R 2 0x1000 Lky8 [0x40 0x20 0x10], D 3 0x1000 Lky8",
+];
+
+const TAGS: &[&str] = &[
+    "0/0: R 1 0xffffa00000001000 Lky8, R 2 0xffffa00000001000 Lky8, \
+    D 3 0xffffa00000001000 Lky8, R 4 0xffffa00000001000 Dflt, D 5 0xffffa00000001000 Dflt, \
+    D 6 0xffffa00000001000 0x01414243",
+];
+
+const LEAKS: &[&str] = &[
+    "0/0: O 1 0x44 [0x50 0x20], O 2 0x48 [0x30 0x40], O 3 0x4c [0x60], \
+    O 4 0x50 [0x60], B 5 0x7 [0x10], B 6 0x7 [0x10], B 7 0x0",
+];
+
+fn count(plus: u64, minus: u64) -> Count {
+    Count { plus, minus }
+}
+
+/// The tree of the shared frames, counted by hand.
+fn counted(rt: &impl Abort, alloc: Global) -> Result<StackTree<Global>, NoMemory> {
+    let mut tree = StackTree::new(alloc);
+    for (sign, frames) in [(Sign::Minus, E), (Sign::Plus, Y), (Sign::Plus, X)] {
+        assert!(rt; tree.fits(1));
+        tree.add(SLOT, sign, &stack(frames))?;
+    }
+    Ok(tree)
+}
+
+fn are_under(rt: &impl Abort, analyst: &Analyst<Global>) {
+    for (path, plus, minus) in [
+        ([].as_slice(), 2, 1),
+        (&[0x10, 0x20], 2, 0),
+        (&[0x10, 0x20, 0x40], 1, 0),
+        (&[0x20], 0, 0),
+    ] {
+        assert_eq!(rt; analyst.under(path, SLOT), count(plus, minus), "{path:?}");
+    }
+}
+
+fn are_stacks(rt: &impl Abort, rows: &[(SharedStack, Count)], wanted: &[(&[u64], Count)]) {
+    assert_eq!(rt; rows.len(), wanted.len());
+    for ((stack, count), (frames, number)) in rows.iter().zip(wanted) {
+        assert_eq!(rt; stack.frames(), *frames);
+        assert_eq!(rt; *count, *number);
+    }
+}
+
+fn are_counted(
+    rt: &impl Abort,
+    alloc: Global,
+    analyst: &Analyst<Global>,
+    tree: &StackTree<Global>,
+) -> Result<(), NoMemory> {
+    are_under(rt, analyst);
+    assert!(rt; analyst.whole_tree()?.same(tree));
+    let rows = analyst.stacks(alloc, OBJECT, TAG)?;
+    are_stacks(
+        rt,
+        &rows,
+        &[(E, count(0, 1)), (X, count(1, 0)), (Y, count(1, 0))],
+    );
+    Ok(())
+}
+
+#[test]
+fn shared_outer_frames(rt: HostRuntime) -> Result<(), Fail> {
+    let alloc = rt.alloc();
+    let tree = counted(&rt, alloc)?;
+    let mut analyst = taken(&rt, alloc, TRACE, SHARED_FRAMES)?;
+    are_counted(&rt, alloc, &analyst, &tree)?;
+    analyst.compact()?;
+    are_counted(&rt, alloc, &analyst, &tree)?;
+    Ok(())
+}
+
+#[test]
+fn tags_of_an_object(rt: HostRuntime) -> Result<(), Fail> {
+    let mut analyst = taken(&rt, rt.alloc(), TRACE, TAGS)?;
+    let wanted = [
+        ([1, 0x41, 0x42, 0x43], count(0, 1)),
+        (*b"Dflt", count(1, 1)),
+        (TAG, count(2, 1)),
+    ];
+    for _ in 0..2 {
+        let tags = analyst.tags(rt.alloc(), 0xffff_a000_0000_1000)?;
+        assert_eq!(rt; tags.as_slice(), wanted.as_slice());
+        assert!(rt; analyst.tags(rt.alloc(), 0x2000)?.is_empty());
+        analyst.compact()?;
+    }
+    Ok(())
+}
+
+fn are_leaks(rt: &impl Abort, rows: &[(SharedStack, u64)]) {
+    let wanted: [(&[u64], u64); 3] = [(&[0x60], 2), (&[0x50, 0x20], 1), (&[0x30, 0x40], 1)];
+    assert_eq!(rt; rows.len(), wanted.len());
+    for ((stack, number), (frames, count)) in rows.iter().zip(wanted) {
+        assert_eq!(rt; (stack.frames(), *number), (frames, count));
+    }
+}
+
+fn are_bad(rt: &impl Abort, rows: &[(u32, SharedStack, u64)]) {
+    let wanted: [(u32, &[u64], u64); 2] = [(0x0, &[], 1), (0x7, &[0x10], 2)];
+    assert_eq!(rt; rows.len(), wanted.len());
+    for ((handle, stack, number), (written, frames, count)) in rows.iter().zip(wanted) {
+        assert_eq!(rt;
+            (*handle, stack.frames(), *number),
+            (written, frames, count)
+        );
+    }
+}
+
+#[test]
+fn leaking_stacks_and_bad_references(rt: HostRuntime) -> Result<(), Fail> {
+    let mut analyst = taken(&rt, rt.alloc(), TRACE, LEAKS)?;
+    for _ in 0..2 {
+        are_leaks(&rt, &analyst.leaks(rt.alloc(), 4)?);
+        are_bad(&rt, &analyst.bad(rt.alloc(), 4)?);
+        analyst.compact()?;
+    }
+    Ok(())
+}

@@ -1,0 +1,139 @@
+//! Answers by plain scans of a list of events, which stand in any order.
+
+use htl_event::{Count, Kind, NoMemory, SharedEvent, SharedStack, Sign, Slot, base};
+use std::alloc::Global;
+use std::cmp::Reverse;
+
+pub const NONE: Count = Count { plus: 0, minus: 0 };
+
+/// The latest open or close of the handle.
+pub fn latest(events: &[SharedEvent], process: u32, handle: u32) -> Option<&SharedEvent> {
+    let mut latest: Option<&SharedEvent> = None;
+    for event in events {
+        let is_of_handle = event.kind.opens_or_closes()
+            && event.process == process
+            && base(event.handle) == base(handle);
+        if is_of_handle && latest.is_none_or(|other| other.sequence < event.sequence) {
+            latest = Some(event);
+        }
+    }
+    latest
+}
+
+/// The greatest sequence of an event of this kind, 0 where there is none.
+pub fn last(events: &[SharedEvent], kind: Kind, process: u32) -> u64 {
+    let mut last = 0;
+    for event in events {
+        if event.kind == kind && event.process == process {
+            last = event.sequence.max(last);
+        }
+    }
+    last
+}
+
+/// The opens of the base handles that are outstanding and were opened after a moment.
+pub fn outstanding<'a>(
+    alloc: Global,
+    events: &'a [SharedEvent],
+    process: u32,
+    bases: &[u32],
+    since: u64,
+) -> Result<Vec<&'a SharedEvent>, NoMemory> {
+    let after = last(events, Kind::Exited, process).max(since);
+    let mut opens = Vec::new(alloc);
+    for base in bases {
+        if let Some(event) = latest(events, process, *base)
+            && event.kind == Kind::Opened
+            && event.sequence > after
+        {
+            opens.push(event)?;
+        }
+    }
+    Ok(opens)
+}
+
+/// Of these stacks those that opened handles, each with their number, the greatest number first.
+pub fn leaks<'a>(
+    alloc: Global,
+    opens: &[&SharedEvent],
+    stacks: &'a [SharedStack],
+) -> Result<Vec<(&'a SharedStack, u64)>, NoMemory> {
+    let mut rows = Vec::new(alloc);
+    for stack in stacks {
+        let number = opens.iter().filter(|event| event.stack == *stack).count() as u64;
+        if number > 0 {
+            rows.push((stack, number))?;
+        }
+    }
+    rows.sort_by_key(|row| Reverse(row.1))?;
+    Ok(rows)
+}
+
+fn add(count: &mut Count, slot: Slot, event: &SharedEvent) {
+    match event.slot() {
+        Some((other, Sign::Plus)) if other == slot => count.plus = count.plus.wrapping_add(1),
+        Some((other, Sign::Minus)) if other == slot => count.minus = count.minus.wrapping_add(1),
+        _ => {}
+    }
+}
+
+/// How often the slot came with this stack.
+fn at(events: &[SharedEvent], slot: Slot, stack: &SharedStack) -> Count {
+    let mut count = NONE;
+    for event in events {
+        if event.stack == *stack {
+            add(&mut count, slot, event);
+        }
+    }
+    count
+}
+
+fn begins_with(stack: &SharedStack, path: &[u64]) -> bool {
+    let frames = stack.frames();
+    frames.len() >= path.len() && path.iter().eq(frames.iter().rev().take(path.len()))
+}
+
+/// How often the slot came with a stack that begins with the path, read from the outermost frame.
+pub fn under(events: &[SharedEvent], slot: Slot, path: &[u64]) -> Count {
+    let mut count = NONE;
+    for event in events {
+        if begins_with(&event.stack, path) {
+            add(&mut count, slot, event);
+        }
+    }
+    count
+}
+
+/// Of these tags those that the object has, with their counts.
+pub fn tags(
+    alloc: Global,
+    events: &[SharedEvent],
+    object: u64,
+    tags: &[[u8; 4]],
+) -> Result<Vec<([u8; 4], Count)>, NoMemory> {
+    let mut rows = Vec::new(alloc);
+    for tag in tags {
+        let count = under(events, Slot::Tagged { object, tag: *tag }, &[]);
+        if count != NONE {
+            rows.push((*tag, count))?;
+        }
+    }
+    Ok(rows)
+}
+
+/// Of these stacks those that the slot came with, with their counts.
+pub fn stacks<'a>(
+    alloc: Global,
+    events: &[SharedEvent],
+    slot: Slot,
+    stacks: &'a [SharedStack],
+) -> Result<Vec<(&'a SharedStack, Count)>, NoMemory> {
+    let mut rows = Vec::new(alloc);
+    for stack in stacks {
+        let count = at(events, slot, stack);
+        if count != NONE {
+            rows.push((stack, count))?;
+        }
+    }
+    Ok(rows)
+}

@@ -1,0 +1,207 @@
+-- Filling the queue, one run after another.
+use Rattle.std.proofs.Common.{◌≡◌, ◌≢◌, ℕ, ◌+◌, ◌<◌, ◌≤◌, Bool, true, false, true≢false, not, ◌&&◌, eqb, leb, List, [], ◌∷◌, IsPermutation, length, sym, refl, ap, ◌∙◌, subst, inl, inr, ⊎_elim, arith}
+use Rattle.std.specs.Prelude.{Contains, ◌↔◌, filter}
+use Rattle.std.proofs.lemmas.Bool.{eqb-true, eq-eqb, cases_Bool}
+use Rattle.std.proofs.Math.Dec.{leb-zero}
+use Rattle.std.proofs.lemmas.Bool.Decides.{eqb_tells, nat_tests}
+use Rattle.std.proofs.lemmas.List.Sorted.{Contains-permutation, IsPermutation-sym}
+use Rattle.crossbeam_queue.specs.Fifo.{Pushes}
+use Rattle.htl_event.proofs.Members.{at_member, Contains-here, Contains-filter, Contains-from_filter, Contains-nil}
+use Rattle.htl_segment.specs.Content.{Content, Fits}
+use Rattle.htl_segment.specs.Traces.{Trace, HasKey}
+use Rattle.htl_case.specs.Cases.{IsCase}
+use Rattle.htl_exchange.specs.declared.pass.Known.{Known}
+use Rattle.htl_exchange.specs.declared.parcel.Parcel.{Parcel}
+use Rattle.htl_exchange.specs.Runs.{has, one, without, runs_of, is_of, IsRunOf}
+use Rattle.htl_exchange.specs.Parcels.{trace_of, runs_in, HasSegment, IsParcelOf}
+use Rattle.htl_exchange.specs.Rule.{known, blank, MakesUp}
+use Rattle.htl_exchange.specs.Moves.{left_of, Filled}
+use Rattle.htl_exchange.specs.Filling.{FillsTo, IsIdle}
+use Rattle.htl_exchange.proofs.Sets.{has-without, one-same, one-only, one_run, run_of_member, member_of_run}
+use Rattle.htl_exchange.proofs.Keeping.{fills}
+
+-- ---- a run as a parcel
+
+pub turned_run : (T : Trace) (p : ℕ) (segments made run : List Content) → segments ≡ T.segments → made ≡ filter (is_of p) segments → IsPermutation made run
+    → IsRunOf T p run
+turned_run T p segments made run of made_is turned s = (
+  (λ h.
+      let k = Contains-from_filter (is_of p) segments s (subst (λ l. Contains l s) made_is (Contains-permutation run made s (IsPermutation-sym made run turned) h)) in
+      (subst (λ l. Contains l s) of k.0, eqb-true s.processor p k.1)),
+  (λ h. Contains-permutation made run s turned
+      (subst (λ l. Contains l s) (sym made_is) (Contains-filter (is_of p) segments s (subst (λ l. Contains l s) (sym of) h.0) (eq-eqb s.processor p h.1)))),
+)
+
+some_list : (l : List Content) → l ≢ [] → (s : Content) × Contains l s
+some_list [] some_member = absurd (some_member refl)
+some_list (s ∷ l) some_member = (s, Contains-here s l)
+
+-- the one run of these segments
+pub is_one : (T : Trace) (p : ℕ) (run : List Content) → IsRunOf T p run → run ≢ [] → runs_of run ≡ one p
+is_one T p run of_run some_segment = one_run run p some_segment (λ s h. ((of_run s).0 h).1)
+
+-- the processor's run is one of the trace
+pub run_is_there : (T : Trace) (p : ℕ) (run : List Content) → IsRunOf T p run → run ≢ [] → has (runs_of T.segments) p ≡ true
+run_is_there T p run of_run some_segment =
+    let s = some_list run some_segment in
+    let k = (of_run s.0).0 s.1 in
+    subst (λ q. has (runs_of T.segments) q ≡ true) k.1 (run_of_member T.segments s.0 k.0)
+
+pub whole_run : (T : Trace) (p : ℕ) (run : List Content) → IsRunOf T p run → run ≢ [] → (q n : ℕ)
+    → HasSegment run q n ↔ ((has (runs_of run) q ≡ true) × HasKey T q n)
+whole_run T p run of_run some_segment q n = (
+  (λ h. (subst (λ r. has (runs_of run) r ≡ true) h.2 (run_of_member run h.0 h.1), (h.0, ((of_run h.0).0 h.1).0, h.2, h.3))),
+  (λ k.
+      let same : p ≡ q = one-only p q (sym (ap (λ l. has l q) (is_one T p run of_run some_segment)) ∙ k.0) in
+      (k.1.0, (of_run k.1.0).1 (k.1.1, k.1.2 ∙ sym same), k.1.2, k.1.3)),
+)
+
+-- ---- the runs that are left
+
+here : (p : ℕ) → leb p p ≡ true
+here p = grind (arith, nat_tests)
+
+next_same : (p : ℕ) → leb (p + 1) p ≡ false
+next_same p = grind (arith, nat_tests)
+
+next_other : (p q : ℕ) → p ≢ q → leb p q ≡ leb (p + 1) q
+next_other p q n = grind (arith, nat_tests)
+
+and_not : (a : Bool) → (a && not true) ≡ false
+and_not true = refl
+and_not false = refl
+
+and_kept : (a : Bool) → (a && not false) ≡ a
+and_kept true = refl
+and_kept false = refl
+
+and_false : (a : Bool) → (a && false) ≡ false
+and_false true = refl
+and_false false = refl
+
+and_true : (a : Bool) → (a && true) ≡ a
+and_true true = refl
+and_true false = refl
+
+one-other : (p q : ℕ) → p ≢ q → has (one p) q ≡ false
+one-other p q n = elim (cases_Bool (has (one p) q)) [
+  | inl is ↦ absurd (n (one-only p q is))
+  | inr not_one ↦ not_one
+]
+
+-- one run fewer
+next : (b : ℕ → Bool) (p q : ℕ) → ((b q && leb p q) && not (has (one p) q)) ≡ (b q && leb (p + 1) q)
+next b p q = ⊎_elim
+    (λ (x : (eqb p q ≡ true) × (p ≡ q)). subst (λ k. ((b k && leb p k) && not (has (one p) k)) ≡ (b k && leb (p + 1) k)) x.1
+    (ap (λ t. (b p && leb p p) && not t) (one-same p) ∙ and_not (b p && leb p p) ∙ sym (and_false (b p)) ∙ ap (λ t. b p && t) (sym (next_same p))))
+    (λ (x : (eqb p q ≡ false) × (p ≢ q)). ap (λ t. (b q && leb p q) && not t) (one-other p q x.1)
+    ∙ and_kept (b q && leb p q) ∙ ap (λ t. b q && t) (next_other p q x.1))
+    (eqb_tells p q)
+
+-- a processor without a run
+without_run : (b : ℕ → Bool) (p q : ℕ) → b p ≡ false → (b q && leb p q) ≡ (b q && leb (p + 1) q)
+without_run b p q none = ⊎_elim
+    (λ (x : (eqb p q ≡ true) × (p ≡ q)). subst (λ k. (b k && leb p k) ≡ (b k && leb (p + 1) k)) x.1
+    (ap (λ t. t && leb p p) none ∙ ap (λ t. t && leb (p + 1) p) (sym none)))
+    (λ (x : (eqb p q ≡ false) × (p ≢ q)). ap (λ t. b q && t) (next_other p q x.1))
+    (eqb_tells p q)
+
+-- ---- the steps of the filling
+
+pub nothing_put : (T : Trace) (v : Known) → v ≡ blank → FillsTo T 0 v
+nothing_put T v is = subst (FillsTo T 0) (sym is)
+    (record { parts = refl; log = refl; trace = inl refl; left = λ q. sym (and_true (has (runs_of T.segments) q)) ∙ ap (λ t. has (runs_of T.segments) q && t) (sym (leb-zero q)) })
+
+pub skips : (T : Trace) (p : ℕ) (run : List Content) (v : Known) → IsRunOf T p run → run ≡ [] → FillsTo T p v → FillsTo T (p + 1) v
+skips T p run v of_run none f = record {
+  parts = f.parts;
+  log = f.log;
+  trace = f.trace;
+  left = λ q. f.left q ∙ without_run (λ k. has (runs_of T.segments) k) p q no_run;
+} where
+  no_run : has (runs_of T.segments) p ≡ false
+  no_run = elim (cases_Bool (has (runs_of T.segments) p)) [
+    | inl there ↦
+        let s = member_of_run T.segments p there in
+        absurd (Contains-nil s.0 (subst (λ l. Contains l s.0) none ((of_run s.0).1 (s.1, s.2))))
+    | inr is ↦ is
+  ]
+
+left_of-known : (T : Trace) (was : List Content) (got : List Bool) → was ≢ [] → left_of T was got ≡ got
+left_of-known T [] got n = absurd (n refl)
+left_of-known T (s ∷ was) got n = refl
+
+pub may_fill : (n i : ℕ) (T : Trace) (p : ℕ) (v : Known) (x : Parcel) → T.segments ≢ [] → trace_of x ≡ T → IsParcelOf T x → runs_in x ≡ one p
+    → has (runs_of T.segments) p ≡ true → FillsTo T p v → Pushes MakesUp n i v x (Filled v x)
+may_fill n i T p v x some_segment of parcel only there f =
+    fills n i v x f.parts (λ z. some_segment (ap (λ (t : Trace). t.segments) (sym of) ∙ z))
+    (⊎_elim (λ (z : v.trace.segments ≡ []). inl z) (λ (z : v.trace ≡ T). inr (z ∙ sym of)) f.trace) (subst (λ t. IsParcelOf t x) (sym of) parcel)
+    (λ q is. ap (λ t. has (left_of t v.trace.segments v.got) q) of ∙ f.left q ∙ inside q (one-only p q (ap (λ l. has l q) (sym only) ∙ is)))
+  where
+    inside : (q : ℕ) → p ≡ q → (has (runs_of T.segments) q && leb p q) ≡ true
+    inside q same = subst (λ k. (has (runs_of T.segments) k && leb p k) ≡ true) same
+        (ap (λ t. t && leb p p) there ∙ here p)
+
+pub filled : (T : Trace) (p : ℕ) (v w : Known) (x : Parcel) → T.segments ≢ [] → trace_of x ≡ T → runs_in x ≡ one p → Filled v x w → FillsTo T p v
+    → FillsTo T (p + 1) w
+filled T p v w x some_segment of only is f = subst (FillsTo T (p + 1)) (sym now) (record {
+  parts = f.parts;
+  log = f.log;
+  trace = inr refl;
+  left = λ q. ap (λ l. has l q) (left_of-known T T.segments got some_segment) ∙ has-without left (one p) q
+      ∙ ap (λ t. t && not (has (one p) q)) (f.left q) ∙ next (λ k. has (runs_of T.segments) k) p q;
+}) where
+  left : List Bool
+  left = left_of T v.trace.segments v.got
+
+  got : List Bool
+  got = without left (one p)
+
+  now : w ≡ known T v.parts got v.log
+  now = is ∙ (λ i. known (of i) v.parts (without (left_of (of i) v.trace.segments v.got) (only i)) v.log)
+
+below : (n q : ℕ) (b : Bool) → (b ≡ true → q < n) → (b && leb n q) ≡ false
+below n q true h = over (h refl)
+  where
+    over : q < n → leb n q ≡ false
+    over l = grind (arith, nat_tests)
+below n q false h = refl
+
+-- a case's processors with a run are those that it counts
+within : (T : Trace) → IsCase T → (p : ℕ) → has (runs_of T.segments) p ≡ true → p < T.processors
+within T is_case p h =
+    let s = member_of_run T.segments p h in
+    let fits : Fits s.0 = at_member Fits T.segments s.0 is_case.trace.fit s.1 in
+    let same = at_member (λ (t : Content). (t.trace_id ≡ T.id) × (t.processors ≡ T.processors)) T.segments s.0 is_case.trace.same s.1 in
+    let lt = fits.processor in
+    let count = same.1 in
+    let own = s.2 in
+    omega (arith, lt, count, own)
+
+pub all_put : (T : Trace) (n : ℕ) (v : Known) → IsCase T → T.processors ≤ n → FillsTo T n v → IsIdle T 8 v
+all_put T n v is_case past f = record {
+  trace = same;
+  parts = f.parts;
+  log = f.log;
+  got = λ q. ap (λ l. has l q) (sym (left_of-known T v.trace.segments v.got some_known)) ∙ none q;
+} where
+  none : (q : ℕ) → has (left_of T v.trace.segments v.got) q ≡ false
+  none q = f.left q ∙ below n q (has (runs_of T.segments) q) (λ h. let lt = within T is_case q h in omega (arith, lt, past))
+
+  first : (s : Content) × Contains T.segments s
+  first = some_list T.segments is_case.some
+
+  not_blank : v.trace.segments ≡ [] → ⊥
+  not_blank z = true≢false
+      (sym (run_of_member T.segments first.0 first.1)
+      ∙ (subst (λ l. has (left_of T l v.got) first.0.processor ≡ false) z (none first.0.processor)))
+
+  same : v.trace ≡ T
+  same = ⊎_elim (λ (z : v.trace.segments ≡ []). absurd (not_blank z)) (λ (z : v.trace ≡ T). z) f.trace
+
+  some_known : v.trace.segments ≢ []
+  some_known z = not_blank z
+
+pub empty : {A : Type 0} (l : List A) → length l ≡ 0 → l ≡ []
+empty [] e = refl
+empty (x ∷ l) e = absurd (omega (arith, e))

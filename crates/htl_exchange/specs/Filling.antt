@@ -1,0 +1,20 @@
+-- For the clauses of private functions: how the queue is filled, run by run.
+use Rattle.std.specs.Prelude.{◌≡◌, ◌⊎◌, ℕ, false, ◌&&◌, leb, []}
+use Rattle.htl_segment.specs.Traces.{Trace}
+use Rattle.htl_exchange.specs.declared.pass.Known.{Known}
+use Rattle.htl_exchange.specs.Runs.{has, runs_of}
+use Rattle.htl_exchange.specs.Moves.{left_of}
+
+-- the runs of the processors below this one are in the queue
+pub record FillsTo (T : Trace) (p : ℕ) (v : Known) : Type 0 where
+  pub parts : v.parts ≡ 8
+  pub log : v.log ≡ []
+  pub trace : (v.trace.segments ≡ []) ⊎ (v.trace ≡ T)
+  pub left : (q : ℕ) → has (left_of T v.trace.segments v.got) q ≡ (has (runs_of T.segments) q && leb p q)
+
+-- a pass with these parts that has got nothing, and with which nothing was done
+pub record IsIdle (T : Trace) (count : ℕ) (v : Known) : Type 0 where
+  pub trace : v.trace ≡ T
+  pub parts : v.parts ≡ count
+  pub log : v.log ≡ []
+  pub got : (p : ℕ) → has v.got p ≡ false

@@ -1,0 +1,56 @@
+-- The five atomic steps of an exchange: what each makes of what a pass knows.
+use Rattle.std.specs.Prelude.{◌≡◌, ℕ, ◌+◌, ◌-◌, Bool, ◌||◌, List, [], ◌∷◌, ◌++◌}
+use Rattle.crossbeam_queue.specs.Passes.{Pass, view}
+use Rattle.htl_segment.specs.Content.{Content}
+use Rattle.htl_segment.specs.Traces.{Trace}
+use Rattle.htl_exchange.specs.declared.parcel.Parcel.{Parcel}
+use Rattle.htl_exchange.specs.declared.pass.Known.{Known}
+use Rattle.htl_exchange.specs.declared.pass.Move.TheVariants.{Pop, Push}
+use Rattle.htl_exchange.specs.Runs.{has, union, without, runs_of}
+use Rattle.htl_exchange.specs.Parcels.{no_trace, trace_of, runs_in, IsParcelOf}
+use Rattle.htl_exchange.specs.Rule.{known, all_parts, any_in}
+
+-- what the pass knows
+abbrev pub known_of : Pass Parcel Known → Known
+known_of pass = view pass
+
+-- the runs that aren't in the queue yet: before the first push all of the trace
+abbrev pub left_of : Trace → List Content → List Bool → List Bool
+left_of T [] got = runs_of T.segments
+left_of T (s ∷ ss) got = got
+
+-- 1. A filling push: the pass loses the parcel's run. The first one brings the trace.
+abbrev pub Filled : Known → Parcel → Known → Type 0
+Filled v x w = w ≡ known (trace_of x) v.parts (without (left_of (trace_of x) v.trace.segments v.got) (runs_in x)) v.log
+
+-- 2. A push: the log gains it.
+abbrev pub pushed : Known → Known
+pushed v = known v.trace v.parts v.got (v.log ++ Push v.got ∷ [])
+
+abbrev pub Pushed : Known → Parcel → Known → Type 0
+Pushed v x w = w ≡ pushed v
+
+-- 3. A pop: the pass gets the parcel's runs, and the log gains it.
+abbrev pub popped : Known → List Bool → Known
+popped v runs = known v.trace v.parts (union v.got runs) (v.log ++ Pop runs ∷ [])
+
+abbrev pub Popped : Known → Parcel → Known → Type 0
+Popped v x w = IsParcelOf v.trace x × (w ≡ popped v (runs_in x))
+
+-- 4. Splitting: the new pass has one part, and has got nothing. (The first pass is made blank.)
+abbrev pub split : Known → Known
+split v = known v.trace (v.parts - 1) v.got v.log
+
+abbrev pub part : Known → Known
+part v = known v.trace 1 [] []
+
+-- 5. Joining: the pass gets the other's runs and parts, and the other is spent.
+abbrev pub joined : Known → Known → Known
+joined v u = known v.trace (v.parts + u.parts) (union v.got u.got) v.log
+
+abbrev pub spent : Known
+spent = known no_trace 0 [] []
+
+-- Who has every part knows that what it has got and what the queue holds make up the trace.
+abbrev pub KnowsRest : Known → List Parcel → Type 0
+KnowsRest v items = v.parts ≡ all_parts → (p : ℕ) → (any_in p items || has v.got p) ≡ has (runs_of v.trace.segments) p

@@ -1,0 +1,24 @@
+//! An exchange: the queue that the desks share.
+
+use crate::rule::ParcelQueue;
+use htl_case::Case;
+use std::marker::Model;
+use std::snapshot::Snapshot;
+
+/// The runs of a case, and the states that desks posted, in one queue that the desks share.
+#[derive(Drop)]
+pub struct Exchange {
+    pub(crate) queue: ParcelQueue,
+    /// For contracts alone: it takes no memory.
+    pub(crate) case: Snapshot<Case>,
+    /// How many desks are out.
+    pub(crate) desks: u32,
+}
+
+impl Model for Exchange {
+    ghost use Rattle.htl_exchange.specs.Desks.{Place, place};
+
+    ghost Value = { Place };
+
+    ghost view = { λ e. place e.queue.table.shared.table_id e.case.value e.desks };
+}

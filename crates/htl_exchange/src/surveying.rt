@@ -1,0 +1,136 @@
+//! Surveys: workers in threads of their own take in a whole case.
+ghost use Rattle.std.specs.Prelude.{◌≡◌, ◌<◌, ◌↔◌, ◌⊎◌, IfOk, IfSome, Err, vec_len, vec_capacity};
+ghost use Rattle.htl_exchange.specs.Desks.{AreDesksOf, IsDeskOf, parts_at, IsWholeStanding};
+
+use crate::desk::{Collected, Desk};
+use crate::exchange::Exchange;
+use crate::fault::{StartFault, SurveyFault, Why};
+use crate::gate::Gate;
+use htl_analyst::Analyst;
+use htl_case::Case;
+use std::alloc::Global;
+use std::sync::Wait;
+use std::thread;
+use std::thread::{Promise, Scope, Threads};
+
+/// The compacted state of the whole case, taken in by so many workers at once, 1 to 8. Each worker is a started
+/// thread with a desk of its own, which calls the gate before each of its turns; a turn is one `collect`. A worker
+/// stops at the first turn that finds nothing or is refused memory, or after one turn more than there are
+/// processors. What a refused turn left is taken in at the end.
+pub fn survey<G: Gate + Sync, R: Threads + Wait + Sync>(
+    rt: &R,
+    alloc: Global,
+    case: &Case,
+    workers: u32,
+    gate: &G,
+) -> Result<Analyst<Global>, SurveyFault>
+    ensures whole { IfOk result (λ analyst. IsWholeStanding case.now analyst) }
+    ensures workers { (result ≡ Err SurveyFault.Workers) ↔ ((workers ≡ 0) ⊎ (8 < workers)) }
+{
+    let (exchange, desks) = match Exchange::start(rt, alloc, case, workers) {
+        Ok(started) => started,
+        Err(StartFault::Desks) => return Err(SurveyFault::Workers),
+        Err(StartFault::NoMemory) => return Err(SurveyFault::NoMemory),
+    };
+    let turns = u32::from(case.processors()) + 1;
+    match work_together(rt, &exchange, gate, turns, desks) {
+        Some(desks) => match exchange.close(rt, desks) {
+            Ok(analyst) => Ok(analyst),
+            Err(fault) => match fault.why {
+                Why::NoMemory => Err(SurveyFault::NoMemory),
+                // All desks came back.
+                Why::DesksOut(_, _) => unreachable!(),
+            },
+        },
+        None => Err(SurveyFault::NoThread),
+    }
+}
+
+// The desks after all workers have stopped. None: a worker wasn't started.
+fn work_together<G: Gate + Sync, R: Threads + Wait + Sync>(
+    rt: &R,
+    exchange: &Exchange,
+    gate: &G,
+    turns: u32,
+    desks: Vec<Desk>,
+) -> Option<Vec<Desk>>
+    requires { AreDesksOf exchange.now desks.items × (vec_len desks < 9) }
+    ensures { IfSome result (λ v. AreDesksOf exchange.now v.items × (parts_at v.items ≡ parts_at desks.items)) }
+{
+    thread::scope(
+        thread::scope_env(),
+        rt,
+        |scope| -> Option<Vec<Desk>>
+            requires { AreDesksOf exchange.now desks.items × (vec_len desks < 9) }
+            ensures { IfSome result (λ v. AreDesksOf exchange.entry.now v.items
+                × (parts_at v.items ≡ parts_at desks.items)) }
+        { work_all(scope, rt, exchange, gate, turns, desks) },
+    )
+}
+
+// Starts a worker for each desk, the last first, and joins them.
+fn work_all<'s, E, G: Gate + Sync, R: Threads + Wait + Sync>(
+    scope: &Scope<'s, E>,
+    rt: &'s R,
+    exchange: &'s Exchange,
+    gate: &'s G,
+    turns: u32,
+    desks: Vec<Desk>,
+) -> Option<Vec<Desk>>
+    requires { AreDesksOf exchange.now desks.items × (vec_len desks < 9) }
+    ensures of { IfSome result (λ v. AreDesksOf exchange.now v.items × (parts_at v.items ≡ parts_at desks.items)) }
+    ensures room { IfSome result (λ v. (vec_len v ≡ vec_len desks) × (vec_capacity v ≡ vec_capacity desks)) }
+{
+    let mut desks = desks;
+    let Some(desk) = desks.pop() else {
+        return Some(desks);
+    };
+    let worker = desks.len() as u32;
+    let promise = ComesBack(exchange, desk.parts());
+    let started = scope.spawn_with(
+        promise,
+        move || -> Desk
+            requires { IsDeskOf exchange.now desk }
+            ensures { IsDeskOf exchange.entry.now result × (result.known.parts ≡ desk.known.parts) }
+        { work(rt, exchange, gate, worker, turns, desk) },
+    );
+    let Ok(thread) = started else {
+        return None;
+    };
+    let rest = work_all(scope, rt, exchange, gate, turns, desks);
+    let desk = thread.join(rt);
+    let mut desks = rest?;
+    desks.push_reserved(desk);
+    Some(desks)
+}
+
+// What a worker's thread promises: a desk of this exchange comes back, with so many parts.
+#[derive(Clone, Copy)]
+pub(crate) struct ComesBack<'a>(pub(crate) &'a Exchange, pub(crate) u32);
+
+impl<'a> Promise<Desk> for ComesBack<'a> {
+    ghost kept_by = { λ p d. IsDeskOf p.0.now d × (d.known.parts ≡ p.1) };
+}
+
+// Collects until there is nothing, memory is refused or the turns are over.
+fn work<G: Gate, R: Wait>(
+    rt: &R,
+    exchange: &Exchange,
+    gate: &G,
+    worker: u32,
+    turns: u32,
+    desk: Desk,
+) -> Desk
+    requires { IsDeskOf exchange.now desk }
+    ensures { IsDeskOf exchange.now result × (result.known.parts ≡ desk.known.parts) }
+{
+    let mut desk = desk;
+    for turn in 1..=turns {
+        gate.before(worker, turn, desk.analyst());
+        match desk.collect(rt, exchange) {
+            Ok(Collected::Run | Collected::State) => {}
+            Ok(Collected::Nothing) | Err(_) => break,
+        }
+    }
+    desk
+}

@@ -1,10 +1,12 @@
-use htl_event::{Event, Kind, Stack};
+//! A symbol table, and the rows of an answer whose stacks it names.
+
+use htl_event::{Kind, NoMemory, SharedEvent, SharedStack};
 use std::alloc::{AllocError, Global};
 
 /// How many addresses a range has; the next one starts at twice that distance.
 const LENGTH: u64 = 0x40;
 
-const FRAMES: u32 = 16;
+const FRAMES: usize = 16;
 
 /// A table of so many ranges, in no order.
 pub fn table(alloc: Global, ranges: u32) -> Result<String, AllocError> {
@@ -21,23 +23,17 @@ pub fn table(alloc: Global, ranges: u32) -> Result<String, AllocError> {
 }
 
 /// So many opens, each with a stack of its own.
-pub fn rows(alloc: Global, count: u32) -> Result<Vec<Event>, AllocError> {
+pub fn rows(alloc: Global, count: u32) -> Result<Vec<SharedEvent>, NoMemory> {
     let mut rows = Vec::with_capacity(alloc, count as usize)?;
     for row in 0..count {
-        rows.push(open(row, count / 2))?;
+        rows.push(open(alloc, row, count / 2)?)?;
     }
     Ok(rows)
 }
 
-/// The innermost frame is the start of a range, twelve are inside one, and the three outermost in none.
-fn open(row: u32, ranges: u32) -> Event {
-    let mut stack = Stack::new();
-    for frame in 0..FRAMES {
-        let range = row.wrapping_mul(31).wrapping_add(frame) % ranges.max(1);
-        let start = u64::from(range.reverse_bits()) * 2 * LENGTH;
-        let _room = stack.push(start + u64::from(frame) * 5);
-    }
-    Event {
+fn open(alloc: Global, row: u32, ranges: u32) -> Result<SharedEvent, NoMemory> {
+    let addresses = Vec::from_array(alloc, addresses(row, ranges))?;
+    Ok(SharedEvent {
         sequence: u64::from(row) + 1,
         kind: Kind::Opened,
         process: 4,
@@ -45,6 +41,18 @@ fn open(row: u32, ranges: u32) -> Event {
         handle: row,
         object: 0,
         tag: [0; 4],
-        stack,
+        stack: SharedStack::of(alloc, addresses, u64::from(row))?,
+    })
+}
+
+/// The innermost address is the start of a range, twelve are inside one, and the three outermost in none.
+fn addresses(row: u32, ranges: u32) -> [u64; FRAMES] {
+    let mut addresses = [0; FRAMES];
+    for (place, address) in addresses.iter_mut().enumerate() {
+        let frame = place as u32;
+        let range = row.wrapping_mul(31).wrapping_add(frame) % ranges.max(1);
+        let start = u64::from(range.reverse_bits()) * 2 * LENGTH;
+        *address = start + u64::from(frame) * 5;
     }
+    addresses
 }

@@ -5,19 +5,15 @@
 
 mod input;
 
-use bench_clock::Stopwatch;
+use bench_clock::{Stopwatch, size};
 use htl_report::{Answer, text};
 use htl_symbols::Symbols;
-use std::env;
 
 /// The number of rows where no argument tells another.
 const FEW: u32 = 1000;
 
 fn main(rt: HostRuntime) -> anyhow::Result<()> {
-    let count = match env::args(&rt)?.nth(1) {
-        Some(word) => word.parse()?,
-        None => FEW,
-    };
+    let count = size(&rt, FEW)?;
     let table = input::table(rt.alloc(), count / 2)?;
     let answer = Answer::Outstanding {
         process: 4,

@@ -1,1 +1,4 @@
+-- What public contracts cite.
 pub mod Devices
+
+-- What only private contracts cite: nothing.

@@ -5,6 +5,7 @@
 //! does, and else of failures alone. `Reading` and `Writing` make a source and a sink of std's.
 #![tactic(auto)]
 
+pub mod laws;
 mod sink;
 mod source;
 #[cfg(test)]
@@ -16,5 +17,5 @@ mod whole;
 pub struct Failed;
 
 pub use sink::{Sink, Writing};
-pub use source::{Reading, Source};
-pub use whole::{MOST_READS, ReadFault, read_whole, write_whole};
+pub use source::{MAX_READ_LEN, Reading, Source};
+pub use whole::{MAX_READS, ReadFault, read_whole, write_whole};

@@ -1,3 +1,5 @@
+//! Sinks of bytes.
+
 ghost use Rattle.std.specs.Prelude.{◌≡◌, ◌≤◌, ◌||◌, ℕ, Bool, List, Option, None, false, length, IfOk};
 ghost use Rattle.std.specs.Io.KnownBytes.{WriteAppends};
 ghost use Rattle.htl_device.specs.Devices.{write_fails};
@@ -21,7 +23,8 @@ pub trait Sink {
     fn write(&mut self, bytes: &[u8]) -> Result<usize, Failed>
         ensures bound { IfOk result (λ n. n ≤ length bytes.now) }
         ensures bytes { WriteAppends (contents self.old) (contents self.new) result bytes.now }
-        ensures fails { has_failed self.new ≡ (has_failed self.old || write_fails result bytes.now) };
+        ensures fails { has_failed self.new
+            ≡ (has_failed self.old || write_fails result bytes.now) };
 }
 
 /// A writer of std as a sink.

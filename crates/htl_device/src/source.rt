@@ -1,8 +1,13 @@
+//! Sources of bytes.
+
 ghost use Rattle.std.specs.Prelude.{◌≡◌, ◌≤◌, ◌||◌, ℕ, Bool, List, Option, None, false, length, is_err, IfOk};
 ghost use Rattle.std.specs.Io.KnownBytes.{ReadConsumes};
 
 use crate::Failed;
 use std::io::Read;
+
+/// How many bytes one read may ask for.
+pub const MAX_READ_LEN: usize = 65_536;
 
 /// Bytes that are read from the front.
 pub trait Source {
@@ -17,8 +22,9 @@ pub trait Source {
         ensures { result ≡ has_failed self.now };
 
     /// Reads some of the bytes that are left, at most as many as the buffer holds. None for a buffer that
-    /// isn't empty means that the source has ended.
+    /// isn't empty means that the source has ended. No buffer is longer than 65,536 bytes.
     fn read(&mut self, buffer: &mut [u8]) -> Result<usize, Failed>
+        requires { length buffer.old ≤ MAX_READ_LEN }
         ensures bound { IfOk result (λ n. n ≤ length buffer.new) }
         ensures bytes { ReadConsumes (remaining self.old) (remaining self.new) result buffer.new }
         ensures fails { has_failed self.new ≡ (has_failed self.old || is_err result) };

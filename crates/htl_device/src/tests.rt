@@ -1,3 +1,4 @@
+// Devices that give or take a few bytes, and that fail.
 ghost use Rattle.std.specs.Prelude.{◌≡◌, false};
 
 use crate::{Failed, ReadFault, Reading, Sink, Source, Writing, read_whole, write_whole};

@@ -4,8 +4,9 @@ ghost use Rattle.std.specs.Io.KnownBytes.{Appends};
 ghost use Rattle.htl_device.specs.Devices.{AppendsPrefix};
 ghost use Rattle.htl_device.specs.declared.whole.ReadFault.TheVariants.{NoMemory};
 
+use crate::source::MAX_READ_LEN;
 use crate::{Failed, Sink, Source};
-use std::alloc::Global;
+use std::alloc::{AllocError, Global};
 
 /// Writes the whole text, or some first part of it where the sink fails.
 pub fn write_whole<W: Sink>(out: &mut W, text: &[u8]) -> Result<(), Failed>
@@ -28,35 +29,43 @@ pub fn write_whole<W: Sink>(out: &mut W, text: &[u8]) -> Result<(), Failed>
 /// Why the bytes of a source could not be had.
 #[derive(Clone, Copy, Debug, PartialEq, Eq)]
 pub enum ReadFault {
-    /// A read failed, or there were more than `MOST_READS` of them.
+    /// A read failed, or more than `MAX_READS` of them gave bytes.
     Failed,
     /// Memory for a growth was refused.
     NoMemory,
 }
 
-/// How many reads of one source may give bytes.
-pub const MOST_READS: u64 = 4_294_967_296;
+impl From<AllocError> for ReadFault {
+    ghost use Rattle.std.specs.Prelude.{◌≡◌};
+    ghost use Rattle.htl_device.specs.declared.whole.ReadFault.TheVariants.{NoMemory};
 
-/// How many bytes one read asks for.
-const READ_LEN: usize = 65_536;
+    ghost from_gives = { λ _ fault. fault ≡ NoMemory };
 
-/// All bytes of a source, in reads of at most 65,536 bytes.
+    fn from(_refused: AllocError) -> ReadFault {
+        ReadFault::NoMemory
+    }
+}
+
+/// How many reads of one source may give bytes: 2^32.
+pub const MAX_READS: u64 = 4_294_967_296;
+
+/// All bytes of a source, in reads of at most 65,536 bytes. The 2^32-nd read may still find the end, and a
+/// source that gives bytes at each of them has failed.
 pub fn read_whole<R: Source>(alloc: Global, source: &mut R) -> Result<Vec<u8>, ReadFault>
     requires { R.has_failed source.old ≡ false }
     ensures ok { IfOk result (λ v. IfSome (R.remaining source.old) (λ xs. v.items ≡ xs)) }
     ensures fine { OnOk result (R.has_failed source.new ≡ false) }
     ensures told { R.has_failed source.new ≡ true → result ≡ Err ReadFault.Failed }
-    ensures failed { IfErr result (λ e. (e ≡ NoMemory) ⊎ ((R.has_failed source.new ≡ true) ⊎ IfSome (R.remaining source.old) (λ xs. MOST_READS ≤ length xs))) }
+    ensures failed { IfErr result (λ e. (e ≡ NoMemory) ⊎ ((R.has_failed source.new ≡ true)
+        ⊎ IfSome (R.remaining source.old) (λ xs. MAX_READS ≤ length xs))) }
 {
-    let Ok(mut buffer) = vec![in alloc; 0u8; READ_LEN] else {
-        return Err(ReadFault::NoMemory);
-    };
+    let mut buffer = vec![in alloc; 0u8; MAX_READ_LEN]?;
     let mut bytes = Vec::new(alloc);
-    read_within(source, &mut buffer, &mut bytes, MOST_READS)?;
+    read_within(source, &mut buffer, &mut bytes, MAX_READS)?;
     Ok(bytes)
 }
 
-/// All bytes of a source, in reads of at most the buffer's length, of which at most `most` give bytes.
+/// All bytes of a source, in reads of the buffer's length, of which at most `most` give bytes.
 fn read_within<R: Source>(
     source: &mut R,
     buffer: &mut [u8],
@@ -65,11 +74,13 @@ fn read_within<R: Source>(
 ) -> Result<(), ReadFault>
     requires fresh { R.has_failed source.old ≡ false }
     requires room { 0 < length buffer.old }
+    requires short { length buffer.old ≤ MAX_READ_LEN }
     requires empty { bytes.old.items ≡ [] }
     ensures ok { OnOk result (IfSome (R.remaining source.old) (λ xs. bytes.new.items ≡ xs)) }
     ensures fine { OnOk result (R.has_failed source.new ≡ false) }
     ensures told { R.has_failed source.new ≡ true → result ≡ Err ReadFault.Failed }
-    ensures failed { IfErr result (λ e. (e ≡ NoMemory) ⊎ ((R.has_failed source.new ≡ true) ⊎ IfSome (R.remaining source.old) (λ xs. most ≤ length xs))) }
+    ensures failed { IfErr result (λ e. (e ≡ NoMemory) ⊎ ((R.has_failed source.new ≡ true)
+        ⊎ IfSome (R.remaining source.old) (λ xs. most ≤ length xs))) }
 {
     for _read in 0..most {
         let Ok(count) = source.read(buffer) else {
@@ -78,9 +89,7 @@ fn read_within<R: Source>(
         if count == 0 {
             return Ok(());
         }
-        if bytes.extend_from_slice(&buffer[..count]).is_err() {
-            return Err(ReadFault::NoMemory);
-        }
+        bytes.extend_from_slice(&buffer[..count])?;
     }
     Err(ReadFault::Failed)
 }

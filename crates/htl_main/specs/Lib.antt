@@ -1,2 +1,9 @@
-pub mod Printing
+-- What public contracts cite.
+pub mod Inputs
+pub mod Printed
+pub mod Causes
+pub mod Sources
 pub mod Statuses
+-- What only private contracts cite.
+pub mod Faults
+pub mod Questions

@@ -1,12 +1,23 @@
+//! Why a run ended: its faults, their lines and their statuses.
+
+use htl_case::CaseFault;
+use htl_device::ReadFault;
 use htl_event::NoMemory;
+use htl_exchange::SurveyFault;
 use htl_segment::{Fault, HexFault};
+use htl_symbols::SymbolFault;
+use std::alloc::{AllocError, AllocFailed};
 use thiserror::Error;
 
 /// Why a run ended. Its text is the line that the program prints on standard error.
 ///
-/// Inputs and offsets count from 0.
+/// Inputs and offsets count from 0. The offset is that in the bytes of the input, which are the decoded ones
+/// where it is given in hexadecimal.
 #[derive(Clone, Copy, Debug, PartialEq, Eq, Error)]
 pub enum RunFault {
+    /// The number of workers is not allowed.
+    #[error("hleak: workers must be 1 to 8")]
+    Workers,
     /// The bytes at this offset of an input are no segment.
     #[error("hleak: input {input}, offset {offset}: {fault}")]
     Segment {
@@ -20,35 +31,126 @@ pub enum RunFault {
         input: u64,
         fault: HexFault,
     },
-    /// Bytes follow the segment.
-    #[error("hleak: one segment only")]
-    OneSegment,
-    /// A read of an input failed.
+    /// The segments of all inputs are no case.
+    #[error("hleak: case: {0}")]
+    Case(CaseFault),
+    /// The symbols are no symbol table.
+    #[error("hleak: symbols: {0}")]
+    Symbols(SymbolFault),
+    /// A read of an input failed, or the input could not be opened.
     #[error("hleak: input {input}: read failed")]
     Read {
         input: u64,
     },
+    /// The symbols could not be read. No run answers it, since a run is given their bytes.
+    #[error("hleak: symbols: read failed")]
+    SymbolsRead,
     /// A write failed, or took none of some bytes.
     #[error("hleak: output: write failed")]
     Write,
     /// Memory for a growth was refused.
     #[error("hleak: out of memory")]
     Memory,
+    /// The system refused to start a worker.
+    #[error("hleak: no thread")]
+    NoThread,
 }
 
 impl RunFault {
     ghost use Rattle.std.specs.Prelude.{◌≡◌};
+    ghost use Rattle.htl_main.specs.Faults.{of_hex, of_read, of_segment};
     ghost use Rattle.htl_main.specs.Statuses.{status_of};
 
-    /// The exit status of the program: 3 for an input that says something else than the format lets it, 5
-    /// for a device, 6 for memory.
+    /// The exit status of the program: 2 for a wrong command, 3 where an input says something else than the
+    /// format lets it, 4 where the inputs belong to no one case, 5 where a device failed, 6 where memory or a
+    /// thread was refused, and 7 for the symbols. Status 0 is that of a run without a fault.
     pub fn status(&self) -> u8
         ensures { result ≡ status_of self.now }
     {
         match self {
-            RunFault::Segment { .. } | RunFault::Hex { .. } | RunFault::OneSegment => 3,
-            RunFault::Read { .. } | RunFault::Write => 5,
-            RunFault::Memory => 6,
+            RunFault::Workers => 2,
+            RunFault::Segment { .. } | RunFault::Hex { .. } => 3,
+            RunFault::Case(_) => 4,
+            RunFault::Read { .. } | RunFault::SymbolsRead | RunFault::Write => 5,
+            RunFault::Memory | RunFault::NoThread => 6,
+            RunFault::Symbols(_) => 7,
+        }
+    }
+
+    /// The fault of the bytes at an offset of an input.
+    pub(crate) fn of_segment(input: u64, offset: u64, fault: Fault) -> RunFault
+        ensures { result ≡ of_segment input offset fault }
+    {
+        match fault {
+            Fault::NoMemory => RunFault::Memory,
+            _ => RunFault::Segment {
+                input,
+                offset,
+                fault,
+            },
+        }
+    }
+
+    /// The fault of the digits of an input.
+    pub(crate) fn of_hex(input: u64, fault: HexFault) -> RunFault
+        ensures { result ≡ of_hex input fault }
+    {
+        match fault {
+            HexFault::NoMemory => RunFault::Memory,
+            _ => RunFault::Hex { input, fault },
+        }
+    }
+
+    /// The fault of a read of an input.
+    pub(crate) fn of_read(input: u64, fault: ReadFault) -> RunFault
+        ensures { result ≡ of_read input fault }
+    {
+        match fault {
+            ReadFault::NoMemory => RunFault::Memory,
+            ReadFault::Failed => RunFault::Read { input },
+        }
+    }
+}
+
+impl From<CaseFault> for RunFault {
+    ghost use Rattle.std.specs.Prelude.{◌≡◌};
+    ghost use Rattle.htl_main.specs.Faults.{of_case};
+
+    ghost from_gives = { λ fault told. told ≡ of_case fault };
+
+    fn from(fault: CaseFault) -> RunFault {
+        match fault {
+            CaseFault::NoMemory => RunFault::Memory,
+            _ => RunFault::Case(fault),
+        }
+    }
+}
+
+impl From<SymbolFault> for RunFault {
+    ghost use Rattle.std.specs.Prelude.{◌≡◌};
+    ghost use Rattle.htl_main.specs.Faults.{of_symbols};
+
+    ghost from_gives = { λ fault told. told ≡ of_symbols fault };
+
+    fn from(fault: SymbolFault) -> RunFault {
+        match fault {
+            SymbolFault::NoMemory => RunFault::Memory,
+            _ => RunFault::Symbols(fault),
+        }
+    }
+}
+
+impl From<SurveyFault> for RunFault {
+    ghost use Rattle.std.specs.Prelude.{◌≡◌};
+    ghost use Rattle.htl_main.specs.Faults.{of_survey};
+
+    ghost from_gives = { λ fault told. told ≡ of_survey fault };
+
+    fn from(fault: SurveyFault) -> RunFault {
+        match fault {
+            SurveyFault::Workers => RunFault::Workers,
+            SurveyFault::NoMemory => RunFault::Memory,
+            SurveyFault::NoThread => RunFault::NoThread,
         }
     }
 }
@@ -60,6 +162,28 @@ impl From<NoMemory> for RunFault {
     ghost from_gives = { λ _ fault. fault ≡ Memory };
 
     fn from(_refused: NoMemory) -> RunFault {
+        RunFault::Memory
+    }
+}
+
+impl From<AllocError> for RunFault {
+    ghost use Rattle.std.specs.Prelude.{◌≡◌};
+    ghost use Rattle.htl_main.specs.declared.fault.RunFault.TheVariants.{Memory};
+
+    ghost from_gives = { λ _ fault. fault ≡ Memory };
+
+    fn from(_refused: AllocError) -> RunFault {
+        RunFault::Memory
+    }
+}
+
+impl<T: Drop> From<AllocFailed<T>> for RunFault {
+    ghost use Rattle.std.specs.Prelude.{◌≡◌};
+    ghost use Rattle.htl_main.specs.declared.fault.RunFault.TheVariants.{Memory};
+
+    ghost from_gives = { λ _ fault. fault ≡ Memory };
+
+    fn from(_refused: AllocFailed<T>) -> RunFault {
         RunFault::Memory
     }
 }

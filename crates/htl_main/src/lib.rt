@@ -1,15 +1,22 @@
-//! The run: from the bytes of an input to the printed answer.
+//! The run: from the bytes of inputs to the printed answer.
 //!
-//! It reads one segment in hexadecimal and prints the outstanding handles of a process. `specs/Printing` says
-//! what is printed for a text and why a text is refused; `printing.rt` does just that, and `fault.rt` has the
-//! refusals with their lines and statuses.
+//! `specs/` is read in this order: `Inputs` (which segments the inputs spell, and which input is refused first),
+//! `Printed` (the lines of the answer, or the first fault in the order of a run), `Causes` and `Sources` (how a run
+//! ends for want of memory or by a failing device). `printing.rt` and `streaming.rt` put the steps of the two runs in
+//! order: `inputs.rt` decodes what lies in memory and `sources.rt` what comes in reads, and `answering.rt` lets workers
+//! take in the case and answers. `fault.rt` has the faults with their lines and statuses.
 #![tactic(auto)]
 
+mod answering;
 mod fault;
+mod inputs;
 mod printing;
+mod sources;
+mod streaming;
 #[cfg(test)]
 mod tests;
 
 pub use fault::RunFault;
 pub use htl_device::{Failed, Reading, Sink, Source, Writing};
-pub use printing::{print_outstanding, print_outstanding_from};
+pub use printing::run;
+pub use streaming::run_from;

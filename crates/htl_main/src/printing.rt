@@ -1,103 +1,112 @@
-//! The outstanding handles of the one segment that a text spells in hexadecimal.
-ghost use Rattle.std.specs.Prelude.{◌≡◌, ◌≢◌, ◌<◌, ◌≤◌, ◌⊎◌, ℕ, false, true, length, take, IfOk, IfErr, IfSome, OnOk, OnErr};
-ghost use Rattle.htl_segment.specs.Content.{Content};
-ghost use Rattle.htl_segment.specs.Hexadecimal.{WritesBytes};
-ghost use Rattle.htl_segment.specs.Spelling.{Spells};
-ghost use Rattle.htl_main.specs.Printing.{IsCause, IsCauseInBytes, IsPrinted, Prints, PrintsPart};
+//! The run over inputs that lie in memory, and the steps that both runs share.
 
+ghost use Rattle.std.specs.Prelude.{◌≡◌, ◌≢◌, ◌⊎◌, false, true, map, IfOk, IfErr, OnOk};
+ghost use Rattle.std.specs.Io.KnownBytes.{Appends};
+ghost use Rattle.std.specs.Option.{option_copied};
+ghost use Rattle.htl_device.specs.Devices.{AppendsPrefix};
+ghost use Rattle.htl_main.specs.Printed.{Answers, HasSymbols, HasSymbolFault, WorkersFit};
+ghost use Rattle.htl_main.specs.Causes.{Prints, PrintsPart, IsCause, IsCauseBehind};
+
+use crate::answering::answer;
 use crate::fault::RunFault;
-use htl_device::{MOST_READS, ReadFault, Sink, Source, read_whole, write_whole};
-use htl_handles::outstanding;
-use htl_report::{Answer, text};
-use htl_segment::{Fault, HexFault, Segment, decode, from_hex};
-use htl_symbols::Symbols;
+use crate::inputs::decode_all;
+use htl_case::Case;
+use htl_command::Job;
+use htl_device::{Sink, write_whole};
+use htl_report::text;
+use htl_segment::Segment;
+use htl_symbols::{SymbolFault, Symbols};
 use std::alloc::Global;
+use std::sync::Wait;
+use std::thread::Threads;
 
-/// Prints the outstanding handles of the process in the one segment that `digits` spell in hexadecimal.
+/// Prints the answer to the job's question over the segments of all inputs, with addresses by name where the
+/// symbol table has them.
 ///
-/// Nothing is written before the whole text is made. After a failed write some first part of it went out.
-pub fn print_outstanding<W: Sink>(
+/// The number of workers is tested first; then each input in order is decoded, the segments are made a case, the
+/// symbols are read, and the answer is made. The first fault ends the run. Nothing is written before the
+/// whole text is made; after a failed write some first part of it went out. What is printed is the same for
+/// every number of workers.
+pub fn run<Rt: Threads + Wait + Sync, W: Sink>(
+    rt: &Rt,
     alloc: Global,
-    digits: &[u8],
-    process: u32,
+    job: &Job,
+    inputs: &[Vec<u8>],
+    symbols: Option<&[u8]>,
     out: &mut W,
 ) -> Result<(), RunFault>
     requires { W.has_failed out.old ≡ false }
-    ensures ok { OnOk result (Prints process digits.now (W.contents out.old) (W.contents out.new)) }
+    ensures ok { OnOk result (Prints job.now (map (λ input. input.items) inputs.now)
+        (option_copied symbols.entry) (W.contents out.old) (W.contents out.new)) }
+    ensures fine { OnOk result (W.has_failed out.new ≡ false) }
+    ensures cause { IfErr result (IsCause job.now (map (λ input. input.items) inputs.now)
+        (option_copied symbols.entry)) }
     ensures write { result ≡ Err RunFault.Write
-        → PrintsPart process digits.now (W.contents out.old) (W.contents out.new) × (W.has_failed out.new ≡ true) }
-    ensures cause { IfErr result (IsCause digits.now) }
+        → PrintsPart job.now (map (λ input. input.items) inputs.now)
+        (option_copied symbols.entry) (W.contents out.old) (W.contents out.new)
+        × (W.has_failed out.new ≡ true) }
     ensures untouched { IfErr result (λ fault. fault ≢ RunFault.Write → out.new ≡ out.old) }
 {
-    let lines = lines_of(alloc, digits, process)?;
-    match write_whole(out, &lines) {
+    check_workers(job.workers)?;
+    let segments = decode_all(alloc, job.hex, inputs)?;
+    let lines = lines_of(rt, alloc, job, segments, symbols)?;
+    write_lines(out, &lines)
+}
+
+/// Tests the number of workers.
+pub(crate) fn check_workers(workers: u32) -> Result<(), RunFault>
+    ensures ok { OnOk result (WorkersFit workers) }
+    ensures err { IfErr result (λ fault. (fault ≡ RunFault.Workers) × (WorkersFit workers → ⊥)) }
+{
+    if (1..=8).contains(&workers) {
+        Ok(())
+    } else {
+        Err(RunFault::Workers)
+    }
+}
+
+/// The lines of the answer to the job's question over the decoded segments.
+pub(crate) fn lines_of<Rt: Threads + Wait + Sync>(
+    rt: &Rt,
+    alloc: Global,
+    job: &Job,
+    segments: Vec<Segment>,
+    symbols: Option<&[u8]>,
+) -> Result<Vec<u8>, RunFault>
+    requires { WorkersFit job.now.workers }
+    ensures ok { IfOk result (λ lines.
+        Answers segments.items (option_copied symbols.entry) job.now.question lines.items) }
+    ensures err { IfErr result
+        (IsCauseBehind segments.items (option_copied symbols.entry) job.now.question) }
+{
+    let case = Case::of(alloc, segments)?;
+    let symbols = read_symbols(alloc, symbols)?;
+    let answer = answer(rt, alloc, job, &case)?;
+    Ok(text(alloc, &answer, &symbols)?)
+}
+
+/// The symbols of a table's bytes, or none where no table is given.
+fn read_symbols(alloc: Global, symbols: Option<&[u8]>) -> Result<Symbols, SymbolFault>
+    ensures ok { IfOk result (HasSymbols (option_copied symbols.entry)) }
+    ensures err { IfErr result (λ fault. (fault ≡ SymbolFault.NoMemory)
+        ⊎ HasSymbolFault (option_copied symbols.entry) fault) }
+{
+    match symbols {
+        Some(bytes) => Symbols::read(alloc, bytes),
+        None => Ok(Symbols::none(alloc)),
+    }
+}
+
+/// Writes the whole text, or some first part of it where the sink fails.
+pub(crate) fn write_lines<W: Sink>(out: &mut W, lines: &[u8]) -> Result<(), RunFault>
+    requires { W.has_failed out.old ≡ false }
+    ensures ok { OnOk result (Appends (W.contents out.old) (W.contents out.new) lines.now) }
+    ensures fine { OnOk result (W.has_failed out.new ≡ false) }
+    ensures err { IfErr result (λ fault. (fault ≡ RunFault.Write) × (W.has_failed out.new ≡ true)
+        × AppendsPrefix (W.contents out.old) (W.contents out.new) lines.now) }
+{
+    match write_whole(out, lines) {
         Ok(()) => Ok(()),
         Err(_) => Err(RunFault::Write),
-    }
-}
-
-/// The printed lines of the outstanding handles.
-fn lines_of(alloc: Global, digits: &[u8], process: u32) -> Result<Vec<u8>, RunFault>
-    ensures ok { IfOk result (λ lines. IsPrinted process digits.now lines.items) }
-    ensures cause { IfErr result (λ fault. (fault ≢ RunFault.Write) × IsCause digits.now fault) }
-{
-    let bytes = bytes_of(alloc, digits)?;
-    let segment = only_segment(alloc, &bytes)?;
-    let rows = outstanding(alloc, segment.events(), process)?;
-    let answer = Answer::Outstanding { process, rows };
-    Ok(text(alloc, &answer, &Symbols::none(alloc))?)
-}
-
-fn bytes_of(alloc: Global, digits: &[u8]) -> Result<Vec<u8>, RunFault>
-    ensures ok { IfOk result (λ bytes. WritesBytes digits.now bytes.items) }
-    ensures cause { IfErr result (λ fault. (fault ≢ RunFault.Write) × IsCause digits.now fault) }
-{
-    match from_hex(alloc, digits) {
-        Ok(bytes) => Ok(bytes),
-        Err(HexFault::NoMemory) => Err(RunFault::Memory),
-        Err(fault) => Err(RunFault::Hex { input: 0, fault }),
-    }
-}
-
-/// The segment that the bytes spell, where no byte follows it.
-fn only_segment(alloc: Global, bytes: &[u8]) -> Result<Segment, RunFault>
-    ensures ok { IfOk result (Spells bytes.now) }
-    ensures cause { IfErr result (IsCauseInBytes bytes.now) }
-{
-    match decode(alloc, bytes) {
-        Ok((segment, used)) if used == bytes.len() => Ok(segment),
-        Ok(_) => Err(RunFault::OneSegment),
-        Err(Fault::NoMemory) => Err(RunFault::Memory),
-        Err(fault) => Err(RunFault::Segment {
-            input: 0,
-            offset: 0,
-            fault,
-        }),
-    }
-}
-
-/// The same for the text that a source gives.
-pub fn print_outstanding_from<R: Source, W: Sink>(
-    alloc: Global,
-    source: &mut R,
-    process: u32,
-    out: &mut W,
-) -> Result<(), RunFault>
-    requires source_fine { R.has_failed source.old ≡ false }
-    requires out_fine { W.has_failed out.old ≡ false }
-    ensures ok { OnOk result (IfSome (R.remaining source.old)
-        (λ digits. Prints process digits (W.contents out.old) (W.contents out.new))) }
-    ensures cause { IfErr result (λ fault. IfSome (R.remaining source.old)
-        (λ digits. (fault ≡ RunFault.Read 0) ⊎ IsCause digits fault)) }
-    // A read that failed is told, and told only then or after too many reads.
-    ensures told { R.has_failed source.new ≡ true → result ≡ Err (RunFault.Read 0) }
-    ensures read { IfErr result (λ fault. (fault ≢ RunFault.Read 0) ⊎ ((R.has_failed source.new ≡ true)
-        ⊎ IfSome (R.remaining source.old) (λ xs. MOST_READS ≤ length xs))) }
-    ensures untouched { IfErr result (λ fault. fault ≢ RunFault.Write → out.new ≡ out.old) }
-{
-    match read_whole(alloc, source) {
-        Ok(digits) => print_outstanding(alloc, &digits, process, out),
-        Err(ReadFault::Failed) => Err(RunFault::Read { input: 0 }),
-        Err(ReadFault::NoMemory) => Err(RunFault::Memory),
     }
 }

@@ -1,240 +1,176 @@
-// What the printing call writes, and why it refuses, for whole texts.
-use crate::{Reading, RunFault, Writing, print_outstanding, print_outstanding_from};
+// What a run prints, and why it is refused, for whole inputs.
+
+mod devices;
+mod rows;
+
+use crate::{RunFault, Writing, run};
+use htl_command::{Job, Question};
+use htl_samples::TRACE;
+use htl_segment::encode;
+use rows::{PRINTED, Printed, REFUSED, Refused, STORED, STORED_TEXT};
 use std::alloc::Global;
-use std::io;
-use std::io::{Read, Write};
+use std::sync::Wait;
 use std::test::Fail;
+use std::thread::Threads;
 
-/// The stored run: two opens and a close of process 4.
-const STORED: &str = "\
-484c5331010001000000000000000000070000000000000003000000 9c000000
-0100000000000000 01 00 0000 04000000 0c000000 44000000 0000000000000000 00000000
-0200000000000000 02 00 0000 04000000 0c000000 44000000 0000000000000000 00000000
-0300000000000000 01 02 0000 04000000 0c000000 48000000 0000000000000000 00000000
-1010000000000000 0020000000000000
-";
+/// The question of the stored run.
+const OUTSTANDING: Question = Question::Outstanding { process: 4 };
 
-const STORED_TEXT: &str = "\
-outstanding process=4 count=1
-OPEN handle=0x48 seq=3 thread=12
-  0x0000000000001010
-  0x0000000000002000
-";
-
-/// A segment with no events.
-const EMPTY: &str = "484c5331 0100 0100 0000 0000 00000000 0700000000000000 00000000 20000000";
-
-/// Texts of one segment each, and what is printed for process 4.
-const PRINTED: [(&str, &str); 9] = [
-    (STORED, STORED_TEXT),
-    (EMPTY, "outstanding process=4 count=0\n"),
-    // the low bits of a handle are ignored
-    (
-        "\
-484c5331 0100 0100 0000 0000 00000000 0700000000000000 02000000 68000000
-0100000000000000 01 00 0000 04000000 0c000000 44000000 0000000000000000 00000000
-0200000000000000 02 00 0000 04000000 0c000000 46000000 0000000000000000 00000000",
-        "\
-outstanding process=4 count=0
-",
-    ),
-    // the base handle is printed
-    (
-        "\
-484c5331 0100 0100 0000 0000 00000000 0700000000000000 01000000 44000000
-0100000000000000 01 00 0000 04000000 0c000000 46000000 0000000000000000 00000000",
-        "\
-outstanding process=4 count=1
-OPEN handle=0x44 seq=1 thread=12
-",
-    ),
-    // an exit closes what was opened before it
-    (
-        "\
-484c5331 0200 0100 0000 0000 00000000 0700000000000000 03000000 8c000000
-0100000000000000 01 00 0000 04000000 0c000000 44000000 0000000000000000 00000000
-0200000000000000 07 00 0000 04000000 0c000000 00000000 0000000000000000 00000000
-0300000000000000 01 00 0000 04000000 0c000000 48000000 0000000000000000 00000000",
-        "\
-outstanding process=4 count=1
-OPEN handle=0x48 seq=3 thread=12
-",
-    ),
-    // another process's exit closes nothing
-    (
-        "\
-484c5331 0200 0100 0000 0000 00000000 0700000000000000 02000000 68000000
-0100000000000000 01 00 0000 04000000 0c000000 44000000 0000000000000000 00000000
-0200000000000000 07 00 0000 05000000 0c000000 00000000 0000000000000000 00000000",
-        "\
-outstanding process=4 count=1
-OPEN handle=0x44 seq=1 thread=12
-",
-    ),
-    // opened, opened again and closed
-    (
-        "\
-484c5331 0100 0100 0000 0000 00000000 0700000000000000 03000000 8c000000
-0100000000000000 01 00 0000 04000000 0c000000 44000000 0000000000000000 00000000
-0200000000000000 01 00 0000 04000000 0c000000 44000000 0000000000000000 00000000
-0300000000000000 02 00 0000 04000000 0c000000 44000000 0000000000000000 00000000",
-        "\
-outstanding process=4 count=0
-",
-    ),
-    // equal values of two processes are unrelated
-    (
-        "\
-484c5331 0100 0100 0000 0000 00000000 0700000000000000 03000000 8c000000
-0100000000000000 01 00 0000 04000000 0c000000 44000000 0000000000000000 00000000
-0200000000000000 01 00 0000 05000000 0c000000 44000000 0000000000000000 00000000
-0300000000000000 02 00 0000 05000000 0c000000 44000000 0000000000000000 00000000",
-        "\
-outstanding process=4 count=1
-OPEN handle=0x44 seq=1 thread=12
-",
-    ),
-    // rows stand by base handle
-    (
-        "\
-484c5331 0100 0100 0000 0000 00000000 0700000000000000 06000000 f8000000
-0700000000000000 01 00 0000 04000000 0c000000 14000000 0000000000000000 00000000
-0800000000000000 01 00 0000 04000000 0c000000 10000000 0000000000000000 00000000
-0a00000000000000 04 00 0000 04000000 0c000000 00000000 0000000000000000 00000000
-0b00000000000000 02 00 0000 04000000 0c000000 14000000 0000000000000000 00000000
-0c00000000000000 01 00 0000 04000000 0c000000 18000000 0000000000000000 00000000
-0d00000000000000 01 00 0000 04000000 0c000000 14000000 0000000000000000 00000000",
-        "\
-outstanding process=4 count=3
-OPEN handle=0x10 seq=8 thread=12
-OPEN handle=0x14 seq=13 thread=12
-OPEN handle=0x18 seq=12 thread=12
-",
-    ),
-];
-
-/// Texts that are refused, the line on standard error, and the status.
-const REFUSED: [(&str, &str, u8); 5] = [
-    ("4g", "hleak: input 0: H1(1)", 3),
-    ("48 4", "hleak: input 0: H2", 3),
-    ("", "hleak: input 0, offset 0: S1", 3),
-    (
-        "\
-484c5331 0100 0100 0000 0000 00000000 0700000000000000 02000000 68000000
-0100000000000000 01 00 0000 04000000 0c000000 44000000 0000000000000000 00000000
-0100000000000000 02 00 0000 04000000 0c000000 44000000 0000000000000000 00000000",
-        "hleak: input 0, offset 0: S12(1)",
-        3,
-    ),
-    (
-        "\
-484c5331 0100 0100 0000 0000 00000000 0700000000000000 00000000 20000000
-484c5331 0100 0100 0000 0000 00000000 0700000000000000 00000000 20000000",
-        "hleak: one segment only",
-        3,
-    ),
-];
-
-/// What was written for a text, and how the call ended.
-fn printed(alloc: Global, digits: &str) -> (Vec<u8>, Result<(), RunFault>) {
-    let mut written = Vec::new(alloc);
-    let ended = print_outstanding(alloc, digits.as_bytes(), 4, &mut Writing::new(&mut written));
-    (written, ended)
-}
-
-#[test]
-fn prints_one_segment(rt: HostRuntime) {
-    for (digits, text) in PRINTED {
-        let (written, ended) = printed(rt.alloc(), digits);
-        assert_eq!(rt; ended, Ok(()), "of {digits}");
-        assert_eq!(rt; written.as_slice(), text.as_bytes(), "of {digits}");
+/// A job over bytes, with one worker.
+fn over_bytes(question: Question) -> Job {
+    Job {
+        question,
+        hex: false,
+        workers: 1,
     }
 }
 
+/// The bytes of segments that are given by lines, with semicolons between them.
+fn bundle(alloc: Global, lines: &str) -> Result<Vec<u8>, Fail> {
+    let mut bytes = Vec::new(alloc);
+    for line in lines.split(';') {
+        if !line.trim().is_empty() {
+            let segment = TRACE.segment(alloc, line)?;
+            bytes.extend_from_slice(&encode(alloc, &segment)?)?;
+        }
+    }
+    Ok(bytes)
+}
+
+fn bundles(alloc: Global, inputs: &[&str]) -> Result<Vec<Vec<u8>>, Fail> {
+    let mut all = Vec::new(alloc);
+    for lines in inputs {
+        all.push(bundle(alloc, lines)?)?;
+    }
+    Ok(all)
+}
+
+/// What was written, and how the run ended.
+fn printed(
+    rt: &(impl Threads + Wait + Sync),
+    alloc: Global,
+    job: &Job,
+    inputs: &[Vec<u8>],
+    symbols: Option<&str>,
+) -> (Vec<u8>, Result<(), RunFault>) {
+    let mut written = Vec::new(alloc);
+    let symbols = symbols.map(|text| text.as_bytes());
+    let ended = run(
+        rt,
+        alloc,
+        job,
+        inputs,
+        symbols,
+        &mut Writing::new(&mut written),
+    );
+    (written, ended)
+}
+
+/// What is printed for a row by so many workers.
+fn printed_row(
+    rt: &(impl Threads + Wait + Sync),
+    alloc: Global,
+    row: &Printed,
+    workers: u32,
+) -> Result<Vec<u8>, Fail> {
+    let inputs = bundles(alloc, row.inputs)?;
+    let job = Job {
+        workers,
+        ..over_bytes(row.question)
+    };
+    let (written, ended) = printed(rt, alloc, &job, &inputs, row.symbols);
+    ended?;
+    Ok(written)
+}
+
+/// The fault of a run that writes nothing.
+fn refusal(written: &[u8], ended: Result<(), RunFault>) -> Result<RunFault, Fail> {
+    if !written.is_empty() {
+        return Err("something was written".into());
+    }
+    Ok(ended.err().ok_or("it was printed")?)
+}
+
 #[test]
-fn refuses_with_a_line_and_a_status(rt: HostRuntime) -> Result<(), Fail> {
-    for (digits, line, status) in REFUSED {
-        let (written, ended) = printed(rt.alloc(), digits);
-        let fault = ended.err().ok_or("it was printed")?;
-        assert_eq!(rt; fault.to_string(rt.alloc())?.as_str(), line);
-        assert_eq!(rt; fault.status(), status);
-        assert_eq!(rt; written.len(), 0);
+fn prints_the_same_for_every_number_of_workers(rt: HostRuntime) -> Result<(), Fail> {
+    for row in &PRINTED {
+        for workers in [1, 2, 8] {
+            let written = printed_row(&rt, rt.alloc(), row, workers)?;
+            assert_eq!(rt; written.as_slice(), row.text.as_bytes(), "{}", row.name);
+        }
     }
     Ok(())
 }
 
-/// A reader over memory that fails at its second call.
-#[derive(Drop)]
-struct FailsLater<'a> {
-    bytes: &'a [u8],
-    has_read: bool,
+#[test]
+fn prints_the_stored_run(rt: HostRuntime) -> Result<(), Fail> {
+    let job = Job {
+        hex: true,
+        ..over_bytes(OUTSTANDING)
+    };
+    let inputs = vec![in rt.alloc(); Vec::from_slice(rt.alloc(), STORED.as_bytes())?]?;
+    let (written, ended) = printed(&rt, rt.alloc(), &job, &inputs, None);
+    assert_eq!(rt; ended, Ok(()));
+    assert_eq!(rt; written.as_slice(), STORED_TEXT.as_bytes());
+    Ok(())
 }
 
-impl Read for FailsLater<'_> {
-    fn read(&mut self, buffer: &mut [u8]) -> io::Result<usize> {
-        if self.has_read {
-            return Err(io::Error::from(io::ErrorKind::Other));
-        }
-        self.has_read = true;
-        let count = self.bytes.len().min(buffer.len());
-        buffer[..count].copy_from_slice(&self.bytes[..count]);
-        Ok(count)
+/// The fault of a run over a row's inputs.
+fn refused_row(
+    rt: &(impl Threads + Wait + Sync),
+    alloc: Global,
+    row: &Refused,
+) -> Result<RunFault, Fail> {
+    let mut inputs = Vec::new(alloc);
+    for input in row.inputs {
+        inputs.push(Vec::from_slice(alloc, input.as_bytes())?)?;
     }
-}
-
-/// A writer that takes ten bytes into memory and then fails.
-#[derive(Drop)]
-struct TakesTen(Vec<u8>);
-
-impl Write for TakesTen {
-    fn write(&mut self, bytes: &[u8]) -> io::Result<usize> {
-        if !self.0.is_empty() {
-            return Err(io::Error::from(io::ErrorKind::Other));
-        }
-        let count = bytes.len().min(10);
-        self.0.extend_from_slice(&bytes[..count])?;
-        Ok(count)
-    }
-
-    fn flush(&mut self) -> io::Result<()> {
-        Ok(())
-    }
+    let job = Job {
+        question: OUTSTANDING,
+        hex: true,
+        workers: row.workers,
+    };
+    let (written, ended) = printed(rt, alloc, &job, &inputs, row.symbols);
+    refusal(&written, ended)
 }
 
 #[test]
-fn tells_failed_devices(rt: HostRuntime) -> Result<(), Fail> {
-    let mut written = Vec::new(rt.alloc());
-    let reader = FailsLater {
-        bytes: STORED.as_bytes(),
-        has_read: false,
-    };
-    let read = print_outstanding_from(
-        rt.alloc(),
-        &mut Reading::new(reader),
-        4,
-        &mut Writing::new(&mut written),
-    );
-    let fault = read.err().ok_or("it was printed")?;
-    assert_eq!(rt;
-        fault.to_string(rt.alloc())?.as_str(),
-        "hleak: input 0: read failed"
-    );
-    assert_eq!(rt; fault.status(), 5);
-    assert_eq!(rt; written.len(), 0);
+fn refuses_with_a_line_and_a_status(rt: HostRuntime) -> Result<(), Fail> {
+    for row in &REFUSED {
+        let fault = refused_row(&rt, rt.alloc(), row)?;
+        assert_eq!(rt; fault.to_string(rt.alloc())?.as_str(), row.line);
+        assert_eq!(rt; fault.status(), row.status);
+    }
+    Ok(())
+}
 
-    let mut narrow = TakesTen(Vec::new(rt.alloc()));
-    let wrote = print_outstanding(
-        rt.alloc(),
-        STORED.as_bytes(),
-        4,
-        &mut Writing::new(&mut narrow),
-    );
-    let fault = wrote.err().ok_or("it was printed")?;
-    assert_eq!(rt;
-        fault.to_string(rt.alloc())?.as_str(),
-        "hleak: output: write failed"
-    );
-    assert_eq!(rt; fault.status(), 5);
-    assert_eq!(rt; narrow.0.as_slice(), b"outstandin".as_slice());
+/// The fault of a run over inputs that are given by lines. Its symbols have a fault too.
+fn refused_lines(
+    rt: &(impl Threads + Wait + Sync),
+    alloc: Global,
+    inputs: &[&str],
+) -> Result<RunFault, Fail> {
+    let inputs = bundles(alloc, inputs)?;
+    let (written, ended) = printed(rt, alloc, &over_bytes(OUTSTANDING), &inputs, Some(""));
+    refusal(&written, ended)
+}
+
+#[test]
+fn refuses_what_is_no_case(rt: HostRuntime) -> Result<(), Fail> {
+    let table: [(&[&str], &str); 5] = [
+        (&[], "hleak: case: C1"),
+        (&["0/3: O 1 0x44", "0/3: O 2 0x44"], "hleak: case: C4(0, 3)"),
+        (&["0/0: O 1 0x44; 0/1: O 1 0x48"], "hleak: case: C5(1)"),
+        (
+            &["0/0: O 5 0x44; 0/1:; 0/2: O 4 0x48"],
+            "hleak: case: C7(0, 2)",
+        ),
+        (&["", ""], "hleak: case: C1"),
+    ];
+    for (inputs, line) in table {
+        let fault = refused_lines(&rt, rt.alloc(), inputs)?;
+        assert_eq!(rt; fault.to_string(rt.alloc())?.as_str(), line);
+        assert_eq!(rt; fault.status(), 4);
+    }
     Ok(())
 }

@@ -1,1 +1,4 @@
+-- What public contracts cite.
 pub mod Numbers
+
+-- What only private contracts cite: nothing.

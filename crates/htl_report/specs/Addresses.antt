@@ -1,5 +1,6 @@
 -- How an address is printed, as bytes: by its symbol as the debugger does, and else by its digits.
-use Rattle.std.specs.Prelude.{false, ◌-◌, ◌++◌, ◌∷◌, [], ◌==◌, ℕ, List, Option, Some, None, codes, flat_map, if◌then◌else◌, length, replicate}
+use Rattle.std.specs.Prelude.{false, ◌-◌, ◌++◌, ◌∷◌, [], ◌==◌, ℕ, List, Option, Some, None, codes, flat_map}
+use Rattle.std.specs.Prelude.{if◌then◌else◌, length, replicate}
 use Rattle.std.specs.Fmt.{digits}
 use Rattle.htl_symbols.specs.Ranges.{Range, resolved}
 

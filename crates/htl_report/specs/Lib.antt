@@ -1,5 +1,12 @@
+-- What public contracts cite: the text of each answer, and what lines are made of.
 pub mod Addresses
-pub mod Tags
-pub mod Heads
-pub mod Lines
+pub mod Parts
+pub mod Opens
+pub mod Listings
+pub mod BadReferences
+pub mod Leaks
+pub mod TagBalances
+pub mod ReferenceStacks
 pub mod Texts
+
+-- What only private contracts cite: nothing.

@@ -1,3 +1,5 @@
+//! The lines of stacks: addresses by name where the symbols have them.
+
 ghost use Rattle.std.specs.Prelude.{◌≡◌, ◌++◌, codes, OnOk, string_bytes};
 ghost use Rattle.htl_report.specs.Addresses.{frame_line, hex16, line_feed, stack_lines};
 
@@ -10,7 +12,8 @@ pub(crate) fn write_stack(
     symbols: &Symbols,
     frames: &[u64],
 ) -> Result<(), AllocError>
-    ensures { OnOk result (string_bytes out.new ≡ string_bytes out.old ++ stack_lines symbols.now frames.now) }
+    ensures { OnOk result (string_bytes out.new
+        ≡ string_bytes out.old ++ stack_lines symbols.now frames.now) }
 {
     for frame in frames {
         write_frame(out, symbols, *frame)?;
@@ -19,7 +22,8 @@ pub(crate) fn write_stack(
 }
 
 fn write_frame(out: &mut String, symbols: &Symbols, address: u64) -> Result<(), AllocError>
-    ensures { OnOk result (string_bytes out.new ≡ string_bytes out.old ++ frame_line symbols.now address) }
+    ensures { OnOk result (string_bytes out.new
+        ≡ string_bytes out.old ++ frame_line symbols.now address) }
 {
     match symbols.resolve(address) {
         None => write_unnamed(out, address),
@@ -29,7 +33,8 @@ fn write_frame(out: &mut String, symbols: &Symbols, address: u64) -> Result<(), 
 }
 
 fn write_unnamed(out: &mut String, address: u64) -> Result<(), AllocError>
-    ensures { OnOk result (string_bytes out.new ≡ string_bytes out.old ++ (codes "  0x" ++ (hex16 address ++ line_feed))) }
+    ensures { OnOk result (string_bytes out.new
+        ≡ string_bytes out.old ++ (codes "  0x" ++ (hex16 address ++ line_feed))) }
 {
     out.push_str("  0x")?;
     write_padded(out, address)?;

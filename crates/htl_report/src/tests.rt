@@ -1,38 +1,17 @@
-use super::*;
-use htl_event::{Count, Event, Kind, Stack};
+//! The seven texts, and how addresses print.
+use crate::{Answer, text};
+use htl_event::Count;
+use htl_samples::{shared_events, shared_stack};
 use htl_symbols::Symbols;
 use std::alloc::Global;
 use std::test::Fail;
-
-fn stack(frames: &[u64]) -> Stack {
-    let mut stack = Stack::new();
-    for frame in frames {
-        let _room = stack.push(*frame);
-    }
-    stack
-}
-
-fn event(kind: Kind, sequence: u64, handle: u32, frames: &[u64]) -> Event {
-    Event {
-        sequence,
-        kind,
-        process: 4,
-        thread: 12,
-        handle,
-        object: 0,
-        tag: [0; 4],
-        stack: stack(frames),
-    }
-}
 
 fn count(plus: u64, minus: u64) -> Count {
     Count { plus, minus }
 }
 
 fn outstanding(alloc: Global) -> Result<(Answer, &'static str), Fail> {
-    let mut rows = Vec::new(alloc);
-    rows.push(event(Kind::Opened, 1, 0x46, &[]))?;
-    rows.push(event(Kind::Opened, 3, 0x48, &[0x1010, 0x2000]))?;
+    let rows = shared_events(alloc, "O 1 0x46, O 3 0x48 [0x1010 0x2000]")?;
     Ok((
         Answer::Outstanding { process: 4, rows },
         "outstanding process=4 count=2
@@ -45,9 +24,7 @@ OPEN handle=0x48 seq=3 thread=12
 }
 
 fn diff(alloc: Global) -> Result<(Answer, &'static str), Fail> {
-    let mut rows = Vec::new(alloc);
-    rows.push(event(Kind::Opened, 13, 0x14, &[]))?;
-    rows.push(event(Kind::Opened, 12, 0x18, &[]))?;
+    let rows = shared_events(alloc, "O 13 0x14, O 12 0x18")?;
     Ok((
         Answer::Diff {
             process: 4,
@@ -81,8 +58,8 @@ TAG Lky8 refs=2 derefs=1 over=1
 
 fn bad(alloc: Global) -> Result<(Answer, &'static str), Fail> {
     let mut rows = Vec::new(alloc);
-    rows.push((0, stack(&[]), 1))?;
-    rows.push((7, stack(&[0x10]), 2))?;
+    rows.push((0, shared_stack(alloc, &[])?, 1))?;
+    rows.push((7, shared_stack(alloc, &[0x10])?, 2))?;
     Ok((
         Answer::Bad { process: 4, rows },
         "bad process=4 count=2
@@ -95,9 +72,9 @@ BAD REF handle=0x7 times=2
 
 fn leaks(alloc: Global) -> Result<(Answer, &'static str), Fail> {
     let mut rows = Vec::new(alloc);
-    rows.push((stack(&[0x60]), 2))?;
-    rows.push((stack(&[0x50, 0x20]), 1))?;
-    rows.push((stack(&[0x30, 0x40]), 1))?;
+    rows.push((shared_stack(alloc, &[0x60])?, 2))?;
+    rows.push((shared_stack(alloc, &[0x50, 0x20])?, 1))?;
+    rows.push((shared_stack(alloc, &[0x30, 0x40])?, 1))?;
     Ok((
         Answer::Leaks { process: 4, rows },
         "leaks process=4 count=3
@@ -115,9 +92,9 @@ LEAK handles=1
 
 fn stacks(alloc: Global) -> Result<(Answer, &'static str), Fail> {
     let mut rows = Vec::new(alloc);
-    rows.push((stack(&[]), count(0, 1)))?;
-    rows.push((stack(&[0x30, 0x20, 0x10]), count(1, 0)))?;
-    rows.push((stack(&[0x40, 0x20, 0x10]), count(1, 0)))?;
+    rows.push((shared_stack(alloc, &[])?, count(0, 1)))?;
+    rows.push((shared_stack(alloc, &[0x30, 0x20, 0x10])?, count(1, 0)))?;
+    rows.push((shared_stack(alloc, &[0x40, 0x20, 0x10])?, count(1, 0)))?;
     Ok((
         Answer::Stacks {
             object: 0x1000,
@@ -140,14 +117,10 @@ STACK refs=1 derefs=0
 
 /// A listing has events of the first three kinds alone; the others print by the kind's word.
 fn trace(alloc: Global) -> Result<(Answer, &'static str), Fail> {
-    let mut rows = Vec::new(alloc);
-    rows.push(event(Kind::Closed, 3, 0x46, &[]))?;
-    rows.push(event(Kind::BadRef, 2, 0x45, &[]))?;
-    rows.push(event(Kind::Opened, 1, 0x44, &[0x10]))?;
-    rows.push(event(Kind::Snapshot, 7, 0, &[]))?;
-    rows.push(event(Kind::Ref, 6, 0, &[]))?;
-    rows.push(event(Kind::Deref, 5, 0, &[]))?;
-    rows.push(event(Kind::Exited, 4, 0, &[]))?;
+    let rows = shared_events(
+        alloc,
+        "C 3 0x46, B 2 0x45, O 1 0x44 [0x10], S 7, R 6 0x1000 Lky8, D 5 0x1000 Lky8, exit 4",
+    )?;
     Ok((
         Answer::Trace {
             process: 4,
@@ -191,7 +164,7 @@ fn names_of(alloc: Global, rows: &[u8], addresses: &[u64]) -> Result<Vec<u8>, Fa
     table.extend_from_slice(rows)?;
     let symbols = Symbols::read(alloc, &table)?;
     let mut rows = Vec::new(alloc);
-    rows.push((stack(addresses), 1))?;
+    rows.push((shared_stack(alloc, addresses)?, 1))?;
     Ok(text(alloc, &Answer::Leaks { process: 4, rows }, &symbols)?)
 }
 

@@ -36,7 +36,8 @@ fields-wrong row (a ∷ b ∷ c ∷ d ∷ []) n = absurd (n refl)
 fields-wrong row (a ∷ b ∷ c ∷ d ∷ e ∷ fields) n = refl
 
 -- four fields write the range between their numbers
-pub fields-right : (row : ℕ) (fields : Record) (a b c d : List ℕ) (p q : Option ℕ) → fields ≡ a ∷ b ∷ c ∷ d ∷ [] → p ≡ address_of a → q ≡ address_of b
+pub fields-right : (row : ℕ) (fields : Record) (a b c d : List ℕ) (p q : Option ℕ) → fields ≡ a ∷ b ∷ c ∷ d ∷ [] → p ≡ address_of a
+    → q ≡ address_of b
     → range_of_row (row, fields) ≡ range_between row p q c d
 unfolding range_of_row
 fields-right row fields a b c d p q is first second = rw (is, first, second) refl
@@ -56,7 +57,13 @@ columns-header fields a b c d is = (to, from)
         let first = and_parts (bytes_eq a (codes "start")) _ passes in
         let second = and_parts (bytes_eq b (codes "end")) _ first.1 in
         let third = and_parts (bytes_eq c (codes "module")) _ second.1 in
-        rw (is, (bytes_eq-Decides a (codes "start")).0 first.0, (bytes_eq-Decides b (codes "end")).0 second.0, (bytes_eq-Decides c (codes "module")).0 third.0, (bytes_eq-Decides d (codes "name")).0 third.1) refl
+        rw (
+          is,
+          (bytes_eq-Decides a (codes "start")).0 first.0,
+          (bytes_eq-Decides b (codes "end")).0 second.0,
+          (bytes_eq-Decides c (codes "module")).0 third.0,
+          (bytes_eq-Decides d (codes "name")).0 third.1,
+        ) refl
 
     from : fields ≡ header → columns_eq a b c d ≡ true
     from same =

@@ -1,5 +1,6 @@
 -- A table that gains a range which overlaps none.
-use Rattle.std.proofs.Common.{◌≡◌, ◌≢◌, ◌≤◌, ◌<◌, ◌⊎◌, [], ◌∷◌, ℕ, false, List, get_or, inl, inr, length, refl, arith, sym, ap, IsPermutation}
+use Rattle.std.proofs.Common.{◌≡◌, ◌≢◌, ◌≤◌, ◌<◌, ◌⊎◌, [], ◌∷◌, ℕ, false, List, get_or, inl, inr, length, refl, arith}
+use Rattle.std.proofs.Common.{sym, ap, IsPermutation}
 use Rattle.std.specs.BTreeMap.{BTreeMap, IsOrdered, insert_entry}
 use Rattle.std.specs.List.{Contains, list_any}
 use Rattle.std.specs.List.Sorted.{IsStrictlySortedBy}
@@ -8,13 +9,14 @@ use Rattle.std.specs.Ordering.{nat_cmp}
 use Rattle.std.proofs.lemmas.Bool.{cases_order, le-ltb, lt-ltb, ne_eqb}
 use Rattle.std.proofs.lemmas.List.{get_or-map, length-map}
 use Rattle.std.proofs.lemmas.List.Elements.{All-contains, Contains-get_or}
-use Rattle.std.proofs.lemmas.List.Sorted.{Contains-permutation, IsPermutation-cons, IsPermutation-refl, IsPermutation-swap, IsPermutation-sym, IsPermutation-trans}
+use Rattle.std.proofs.lemmas.List.Sorted.{Contains-permutation, IsPermutation-cons, IsPermutation-refl}
+use Rattle.std.proofs.lemmas.List.Sorted.{IsPermutation-swap, IsPermutation-sym, IsPermutation-trans}
 use Rattle.std.proofs.lemmas.Map.Keys.{below_from_sorted}
 use Rattle.htl_symbols.specs.Ranges.{IsTable, Range, meets}
 use Rattle.htl_symbols.specs.Symbols.{range_of, ranges_of}
 use Rattle.htl_symbols.specs.declared.symbols.Symbol.{Symbol}
-use Rattle.htl_symbols.proofs.Members.{Contains-cons_cases, Contains-head, Contains-map, Contains-tail}
-use Rattle.htl_symbols.proofs.Begun.{apart}
+use Rattle.htl_sorted.proofs.Members.{Contains-cases, Contains-here, Contains-map, Contains-there}
+use Rattle.htl_symbols.proofs.LastBegun.{apart}
 use Rattle.htl_symbols.proofs.Overlaps.{not-met}
 
 -- an entry of the map
@@ -26,10 +28,10 @@ insert_entry-IsPermutation : (es : List Entry) (k : ℕ) (v : Symbol) → ((e : 
     → IsPermutation ((k, v) ∷ es) (insert_entry nat_cmp es k v)
 insert_entry-IsPermutation [] k v new = IsPermutation-refl ((k, v) ∷ [])
 insert_entry-IsPermutation (e ∷ es) k v new = elim (cases_order k e.0) [
-  | inl same ↦ absurd (new e (Contains-head e es) (sym same))
+  | inl same ↦ absurd (new e (Contains-here e es) (sym same))
   | inr (inl less) ↦ rw (lt-ltb k e.0 less) (IsPermutation-refl ((k, v) ∷ e ∷ es))
   | inr (inr more) ↦
-      let later = insert_entry-IsPermutation es k v (λ f there. new f (Contains-tail e es f there)) in
+      let later = insert_entry-IsPermutation es k v (λ f there. new f (Contains-there e es f there)) in
       rw (le-ltb k e.0 (omega arith), ne_eqb k e.0 (λ same. omega arith)) (
       IsPermutation-trans ((k, v) ∷ e ∷ es) (e ∷ (k, v) ∷ es) (e ∷ insert_entry nat_cmp es k v)
       (IsPermutation-swap ((k, v) ∷ e ∷ es) (e ∷ (k, v) ∷ es) 0 1 (omega arith) (omega arith) refl)
@@ -40,8 +42,14 @@ insert_entry-IsPermutation (e ∷ es) k v new = elim (cases_order k e.0) [
 -- sorted entries that are filled and of which each ends before those that start later are a table
 IsTable-from_entries : (es : List Entry) → IsStrictlySortedBy nat_cmp (keys_of es) → ((e : Entry) → Contains es e → e.0 < e.1.end)
     → ((e f : Entry) → Contains es e → Contains es f → e.0 < f.0 → e.1.end ≤ f.0) → IsTable (ranges_of es)
-IsTable-from_entries [] sorted filled apart = record { filled = λ k d below. absurd (omega arith); rising = λ i j d less below. absurd (omega arith) }
-IsTable-from_entries (e ∷ es) sorted filled apart = record { filled = λ k d below. rw (range_at k d (within k below)) (filled (entry k) (Contains-get_or (e ∷ es) k e (within k below))); rising = rising }
+IsTable-from_entries [] sorted filled apart =
+    record { filled = λ k d below. absurd (omega arith); rising = λ i j d less below. absurd (omega arith) }
+IsTable-from_entries (e ∷ es) sorted filled apart =
+    record {
+      filled = λ k d below. rw (range_at k d (within k below))
+          (filled (entry k) (Contains-get_or (e ∷ es) k e (within k below)));
+      rising = rising;
+    }
   where
     entry : ℕ → Entry
     entry k = get_or (e ∷ es) k e
@@ -63,7 +71,8 @@ IsTable-from_entries (e ∷ es) sorted filled apart = record { filled = λ k d b
         let keys-below : j < length (keys_of (e ∷ es)) = rw length-map j-below in
         let starts = rw (key_at i i-below, key_at j j-below) at (below_from_sorted (keys_of (e ∷ es)) i j 0 sorted less keys-below) in
         rw (range_at i d i-below, range_at j d j-below) (
-        apart (get_or (e ∷ es) i e) (get_or (e ∷ es) j e) (Contains-get_or (e ∷ es) i e i-below) (Contains-get_or (e ∷ es) j e j-below) starts
+        apart (get_or (e ∷ es) i e) (get_or (e ∷ es) j e) (Contains-get_or (e ∷ es) i e i-below) (Contains-get_or (e ∷ es) j e j-below)
+        starts
         )
 
 -- the key of a range that overlaps none is new
@@ -84,7 +93,8 @@ pub gains : (m n : BTreeMap ℕ Symbol) (start : ℕ) (v : Symbol) → IsOrdered
 gains m n start v o t some none e = rw e (insert_entry-IsPermutation m.entries start v (new-key m start v o t some none))
 
 -- and it is a table again
-pub IsTable-insert : (m n : BTreeMap ℕ Symbol) (start : ℕ) (v : Symbol) → IsOrdered nat_cmp m → IsOrdered nat_cmp n → IsTable (ranges_of m.entries)
+pub IsTable-insert : (m n : BTreeMap ℕ Symbol) (start : ℕ) (v : Symbol) → IsOrdered nat_cmp m → IsOrdered nat_cmp n
+    → IsTable (ranges_of m.entries)
     → start < v.end → list_any (meets start v.end) (ranges_of m.entries) ≡ false
     → n.entries ≡ insert_entry nat_cmp m.entries start v → IsTable (ranges_of n.entries)
 IsTable-insert m n start v o p t some none e = IsTable-from_entries n.entries p filled ordered
@@ -93,10 +103,16 @@ IsTable-insert m n start v o p t some none e = IsTable-from_entries n.entries p 
     moved = gains m n start v o t some none e
 
     from : (e : Entry) → Contains n.entries e → (e ≡ (start, v)) ⊎ Contains m.entries e
-    from e there = Contains-cons_cases (start, v) m.entries e (Contains-permutation n.entries ((start, v) ∷ m.entries) e (IsPermutation-sym ((start, v) ∷ m.entries) n.entries moved) there)
+    from e there =
+        let back = IsPermutation-sym ((start, v) ∷ m.entries) n.entries moved in
+        elim (Contains-cases (start, v) m.entries e (Contains-permutation n.entries ((start, v) ∷ m.entries) e back there)) [
+          | inl is ↦ inl (sym is)
+          | inr old ↦ inr old
+        ]
 
     old-filled : (e : Entry) → Contains m.entries e → e.0 < e.1.end
-    old-filled e there = All-contains (λ r. r.start < r.end) (ranges_of m.entries) (range_of e) t.filled (Contains-map range_of m.entries e there)
+    old-filled e there = All-contains (λ r. r.start < r.end) (ranges_of m.entries) (range_of e) t.filled
+        (Contains-map range_of m.entries e there)
 
     filled : (e : Entry) → Contains n.entries e → e.0 < e.1.end
     filled e there = elim (from e there) [ inl new ↦ rw new some | inr old ↦ old-filled e old ]
@@ -113,12 +129,14 @@ IsTable-insert m n start v o p t some none e = IsTable-from_entries n.entries p 
       ]
       | inr e-old ↦ elim (from f f-there) [
         | inl f-new ↦ rw f-new (new-last e e-old (rw f-new at less))
-        | inr f-old ↦ apart (ranges_of m.entries) (range_of e) (range_of f) t (Contains-map range_of m.entries e e-old) (Contains-map range_of m.entries f f-old) less
+        | inr f-old ↦ apart (ranges_of m.entries) (range_of e) (range_of f) t (Contains-map range_of m.entries e e-old)
+            (Contains-map range_of m.entries f f-old) less
       ]
     ]
       where
         new-first : (f : Entry) → Contains m.entries f → start < f.0 → v.end ≤ f.0
-        new-first f old less = let filled = old-filled f old in elim (beside f old) [ inl behind ↦ behind | inr before ↦ absurd (omega arith) ]
+        new-first f old less = let filled =
+            old-filled f old in elim (beside f old) [ inl behind ↦ behind | inr before ↦ absurd (omega arith) ]
 
         new-last : (e : Entry) → Contains m.entries e → e.0 < start → e.1.end ≤ start
         new-last e old less = elim (beside e old) [ inl behind ↦ absurd (omega arith) | inr before ↦ before ]

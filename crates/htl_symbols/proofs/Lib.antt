@@ -1,5 +1,5 @@
-pub mod Members
-pub mod Begun
+pub mod Searches
+pub mod LastBegun
 pub mod Resolving
 pub mod Overlaps
 pub mod Insertion
@@ -7,5 +7,5 @@ pub mod Fields
 pub mod RecordEnds
 pub mod Records
 pub mod Reader
-pub mod Adding
-pub mod Progress
+pub mod RowsAdded
+pub mod RowsRead

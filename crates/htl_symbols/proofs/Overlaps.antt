@@ -6,8 +6,8 @@ use Rattle.std.proofs.lemmas.Bool.Decides.{nat_tests}
 use Rattle.std.proofs.lemmas.List.Elements.{All-contains}
 use Rattle.htl_symbols.specs.Ranges.{Range, meets}
 use Rattle.htl_symbols.specs.Symbols.{IsLastBegun}
-use Rattle.htl_symbols.proofs.Members.{list_any-false, list_any-true}
-use Rattle.htl_symbols.proofs.Begun.{cases_begun}
+use Rattle.htl_symbols.proofs.Searches.{list_any-false, list_any-true}
+use Rattle.htl_symbols.proofs.LastBegun.{cases_begun}
 
 -- a range that starts before the end and ends behind the start
 pub meets-true : (start end : ℕ) (r : Range) → r.start < end → start < r.end → meets start end r ≡ true
@@ -25,7 +25,8 @@ meets-before start end r before = grind (arith, nat_tests)
 pub any-met : (table : List Range) (start end : ℕ) (r : Range) → start < end → IsLastBegun table (end - 1) r
     → nat_lt start r.end ≡ list_any (meets start end) table
 any-met table start end r some l = elim (cases_lt start r.end) [
-  | inl less ↦ let begun = l.begun in lt-ltb start r.end less ∙ sym (list_any-true (meets start end) table r l.listed (meets-true start end r (omega arith) less))
+  | inl less ↦ let begun = l.begun in lt-ltb start r.end less ∙ sym
+      (list_any-true (meets start end) table r l.listed (meets-true start end r (omega arith) less))
   | inr past ↦ le-ltb start r.end past ∙ sym (list_any-false (meets start end) table (fails past))
 ]
   where
@@ -37,9 +38,11 @@ any-met table start end r some l = elim (cases_lt start r.end) [
     ]
 
 -- where every range begins behind the last address, none is met
-pub none-met : (table : List Range) (start end : ℕ) → start < end → All (λ r. end - 1 < r.start) table → false ≡ list_any (meets start end) table
+pub none-met : (table : List Range) (start end : ℕ) → start < end → All (λ r. end - 1 < r.start) table
+    → false ≡ list_any (meets start end) table
 none-met table start end some after =
-    sym (list_any-false (meets start end) table (λ q listed. let begins = All-contains (λ r. end - 1 < r.start) table q after listed in meets-before start end q (omega arith)))
+    sym (list_any-false (meets start end) table
+    (λ q listed. let begins = All-contains (λ r. end - 1 < r.start) table q after listed in meets-before start end q (omega arith)))
 
 -- a range that isn't met lies behind or before
 pub not-met : (table : List Range) (start end : ℕ) (r : Range) → list_any (meets start end) table ≡ false → Contains table r

@@ -3,7 +3,8 @@ use Rattle.std.proofs.Common.{◌≡◌, ◌≢◌, ◌≤◌, ◌+◌, arith, l
 use Rattle.std.specs.Borrow.{Bor}
 use Rattle.std.specs.Prelude.{IsSome, Ok, Err, unwrap_or}
 use Rattle.csv.specs.Machine.{next_record}
-use Rattle.csv.specs.Reading.{ExplainsRead, NextIs, ReadRecord, ReadsNext, default_config, is_flexible, pending_of, reader_state, records_from, source_of, strip_bom, took_first}
+use Rattle.csv.specs.Reading.{ExplainsRead, NextIs, ReadRecord, ReadsNext, default_config, is_flexible, pending_of}
+use Rattle.csv.specs.Reading.{reader_state, records_from, source_of, strip_bom, took_first}
 use Rattle.csv.specs.Records.{AllText}
 use Rattle.csv.specs.declared.parser.State.{State}
 use Rattle.csv.specs.declared.parser.State.TheVariants as st
@@ -42,12 +43,18 @@ reads-some s xs (Some ys) f t h = (ys, refl, next-some (next_record default_conf
     next-some (Some p) h = rw (h.1, h.2, h.3) refl
 
 -- a read that took a record took the first of those left
-took-first : (a : SliceReader) (k : Option (List ℕ)) (f : Record) (t : State) → IsAtRecord a → ReadsNext a.config a.state (source a) k true f t
+took-first : (a : SliceReader) (k : Option (List ℕ)) (f : Record) (t : State) → IsAtRecord a
+    → ReadsNext a.config a.state (source a) k true f t
     → (ys : List ℕ) × (k ≡ Some ys) × (is_start t ≡ true) × (records_left a ≡ f ∷ records_from default_config (length ys + 1) t ys)
 unfolding records_left
 took-first a k f t at r =
-    let some = reads-some a.state (bytes_left a) k f t (rw (at.config, known-bytes a at.known) at r) in
-    (some.0, some.1, next-starts a.state [] [] (bytes_left a) (f, t, some.0) some.2, records-more a.state (bytes_left a) (f, t, some.0) at.start some.2)
+    let some = reads-some a.state (bytes_left a) k f t (rw (at.config, known-bytes a at.known) at r) in (
+      some.0,
+      some.1,
+      next-starts a.state [] [] (bytes_left a) (f, t, some.0) some.2,
+      records-more a.state (bytes_left a) (f, t, some.0)
+          at.start some.2,
+    )
 
 -- a read that found a record
 read-found : (number : ℕ) (a b : SliceReader) (f : Record) → IsAtRecord a → ReadRecord (λ s. Some s.now) a b true f
@@ -69,10 +76,12 @@ read-found number a b f at r flexible first text =
     )
 
 -- a read that found none
-read-end : (number : ℕ) (a b : SliceReader) (f : Record) → IsAtRecord a → ReadRecord (λ s. Some s.now) a b false f → RecordRead number a b f (Ok false)
+read-end : (number : ℕ) (a b : SliceReader) (f : Record) → IsAtRecord a → ReadRecord (λ s. Some s.now) a b false f
+    → RecordRead number a b f (Ok false)
 unfolding records_left
 read-end number a b f at r =
-    records-none a.state (bytes_left a) (rows-end (λ (s : Bor (List ℕ)). Some s.now) a b f default_config (bytes_left a) at.config (known-bytes a at.known) r)
+    records-none a.state (bytes_left a)
+    (rows-end (λ (s : Bor (List ℕ)). Some s.now) a b f default_config (bytes_left a) at.config (known-bytes a at.known) r)
 
 -- what a read that isn't refused says
 pub read-ok : (number : ℕ) (a b : SliceReader) (f : Record) (found : Bool) → IsAtRecord a → ReadRecord (λ s. Some s.now) a b found f
@@ -81,18 +90,21 @@ read-ok number a b f true at r flexible first text = read-found number a b f at 
 read-ok number a b f false at r flexible first text = read-end number a b f at r
 
 -- and one that is refused for another cause than memory and the source
-pub read-refused : (number : ℕ) (a b : SliceReader) (f : Record) (kind : ErrorKind) → IsAtRecord a → ExplainsRead (λ s. Some s.now) a b true kind
+pub read-refused : (number : ℕ) (a b : SliceReader) (f : Record) (kind : ErrorKind) → IsAtRecord a
+    → ExplainsRead (λ s. Some s.now) a b true kind
     → ((e : IoError) → kind ≢ k.Io e) → kind ≢ k.OutOfMemory → RecordRead number a b f (Err (fault.Csv number))
 read-refused number a b f (k.Io e) at why source memory = absurd (source e refl)
 read-refused number a b f k.OutOfMemory at why source memory = absurd (memory refl)
 read-refused number a b f (k.Utf8 pos err) at why source memory =
-    let took = took-first a (pending_of (Some b.rdr.now) b) why.1 b.state at why.2 in (refl, why.1, records_from default_config (length took.0 + 1) b.state took.0, took.3, why.3)
+    let took = took-first a (pending_of (Some b.rdr.now) b) why.1 b.state at why.2 in
+    (refl, why.1, records_from default_config (length took.0 + 1) b.state took.0, took.3, why.3)
 read-refused number a b f (k.UnequalLengths pos expected len) at why source memory = let flexible = at.flexible in absurd (cc)
 read-refused number a b f (k.Serialize text) at why source memory = absurd why
 read-refused number a b f (k.Deserialize pos err) at why source memory = absurd why
 
 -- a reader before these bytes has their records
-pub records_left-fresh : (reader : SliceReader) (bytes : List ℕ) → reader_state reader ≡ st.StartRecord → source reader ≡ Some (strip_bom bytes) → records_left reader ≡ records_of bytes
+pub records_left-fresh : (reader : SliceReader) (bytes : List ℕ) → reader_state reader ≡ st.StartRecord
+    → source reader ≡ Some (strip_bom bytes) → records_left reader ≡ records_of bytes
 unfolding records_left records_of
 records_left-fresh reader bytes state left = rw (left, state) refl
 

@@ -1,8 +1,10 @@
 -- A record of a text ends where another can begin, and has a byte at least.
-use Rattle.std.proofs.Common.{◌≡◌, ◌≤◌, ◌<◌, ◌==◌, ℕ, Bool, true, false, cond, List, [], ◌∷◌, ◌++◌, Option, Some, length, refl, arith, sym, inl, inr}
+use Rattle.std.proofs.Common.{◌≡◌, ◌≤◌, ◌<◌, ◌==◌, ℕ, Bool, true, false, cond, List, [], ◌∷◌, ◌++◌, Option, Some}
+use Rattle.std.proofs.Common.{length, refl, arith, sym, inl, inr}
 use Rattle.std.proofs.lemmas.Bool.{cases_cond}
 use Rattle.std.proofs.lemmas.Option.{cond_some, same_Some}
-use Rattle.csv.specs.Machine.{Read, after_end, ends_at_end, ends_with, field_after, fields_after, in_field, is_end, next_record, start_field, start_record, step}
+use Rattle.csv.specs.Machine.{Read, after_end, ends_at_end, ends_with, field_after, fields_after, in_field, is_end}
+use Rattle.csv.specs.Machine.{next_record, start_field, start_record, step}
 use Rattle.csv.specs.Reading.{default_config}
 use Rattle.csv.specs.declared.parser.State.{State}
 use Rattle.csv.specs.declared.parser.State.TheVariants as st
@@ -30,7 +32,8 @@ line-end c e = elim (c == 13) as (λ b. is_start (cond b st.AfterCr st.StartReco
 
 -- a byte in each state, by the state machine's definitions
 in-field : (c : ℕ) → EndsAtStart (in_field default_config c)
-in-field c = either (c == 44) _ _ (goes-on st.StartField act.EndField refl) (either (ends_with default_config.terminator c) _ _ (line-end c) (goes-on st.InField act.Copy refl))
+in-field c = either (c == 44) _ _ (goes-on st.StartField act.EndField refl)
+    (either (ends_with default_config.terminator c) _ _ (line-end c) (goes-on st.InField act.Copy refl))
 
 -- at the start of a field
 start-field : (c : ℕ) → EndsAtStart (start_field default_config c)
@@ -52,33 +55,39 @@ step-end st.InComment c = either (c == 10) _ _ (goes-on st.StartRecord act.Skip 
 step-end st.AfterCr c = either (c == 10) _ _ (goes-on st.StartRecord act.Skip refl) (start-record c)
 
 -- a record leaves a state in which one begins
-pub next-starts : (s : State) (fields : Record) (field xs : List ℕ) (p : Read) → next_record default_config s fields field xs ≡ Some p → is_start p.1 ≡ true
+pub next-starts : (s : State) (fields : Record) (field xs : List ℕ) (p : Read) → next_record default_config s fields field xs ≡ Some p
+    → is_start p.1 ≡ true
 unfolding next_record
 next-starts s fields field [] p e =
     let parts = cond_some (ends_at_end s) (fields ++ (field ∷ []), st.StartRecord, []) p e in rw (sym parts.1) refl
 next-starts s fields field (c ∷ rest) p e =
     by_end (is_end (step default_config s c).1) refl
-    (next-starts (step default_config s c).0 (fields_after (step default_config s c).1 fields field) (field_after (step default_config s c).1 c field) rest p) e
+    (next-starts (step default_config s c).0 (fields_after (step default_config s c).1 fields field)
+    (field_after (step default_config s c).1 c field) rest p) e
   where
     by_end : {more : Option Read} (b : Bool) → is_end (step default_config s c).1 ≡ b → (more ≡ Some p → is_start p.1 ≡ true)
-        → cond b (Some (fields_after (step default_config s c).1 fields field, (step default_config s c).0, rest)) more ≡ Some p → is_start p.1 ≡ true
+        → cond b (Some (fields_after (step default_config s c).1 fields field, (step default_config s c).0, rest)) more ≡ Some p
+        → is_start p.1 ≡ true
     by_end true end later e = rw (sym (same_Some _ _ e)) (step-end s c end)
     by_end false end later e = later e
 
 -- a record takes no more than is there
-next-le : (s : State) (fields : Record) (field xs : List ℕ) (p : Read) → next_record default_config s fields field xs ≡ Some p → length p.2 ≤ length xs
+next-le : (s : State) (fields : Record) (field xs : List ℕ) (p : Read) → next_record default_config s fields field xs ≡ Some p
+    → length p.2 ≤ length xs
 unfolding next_record
 next-le s fields field [] p e =
     let parts = cond_some (ends_at_end s) (fields ++ (field ∷ []), st.StartRecord, []) p e in rw (sym parts.1) (omega arith)
 next-le s fields field (c ∷ rest) p e = elim (cases_cond (is_end (step default_config s c).1) _ _ _ (sym e)) [
   | inl ends ↦ rw (same_Some _ _ ends) (omega arith)
   | inr goes ↦
-      let more = next-le (step default_config s c).0 (fields_after (step default_config s c).1 fields field) (field_after (step default_config s c).1 c field) rest p (sym goes) in
+      let more = next-le (step default_config s c).0 (fields_after (step default_config s c).1 fields field)
+      (field_after (step default_config s c).1 c field) rest p (sym goes) in
       omega arith
 ]
 
 -- and from a state in which one begins, a byte at least
-pub next-lt : (s : State) (xs : List ℕ) (p : Read) → is_start s ≡ true → next_record default_config s [] [] xs ≡ Some p → length p.2 < length xs
+pub next-lt : (s : State) (xs : List ℕ) (p : Read) → is_start s ≡ true → next_record default_config s [] [] xs ≡ Some p
+    → length p.2 < length xs
 unfolding next_record
 next-lt s [] p start e =
     let parts = cond_some (ends_at_end s) ([] ∷ [], st.StartRecord, []) p e in absurd (no-end s start parts.0)
@@ -95,6 +104,7 @@ next-lt s [] p start e =
 next-lt s (c ∷ rest) p start e = elim (cases_cond (is_end (step default_config s c).1) _ _ _ (sym e)) [
   | inl ends ↦ rw (same_Some _ _ ends) (omega arith)
   | inr goes ↦
-      let more = next-le (step default_config s c).0 (fields_after (step default_config s c).1 [] []) (field_after (step default_config s c).1 c []) rest p (sym goes) in
+      let more = next-le (step default_config s c).0 (fields_after (step default_config s c).1 [] [])
+      (field_after (step default_config s c).1 c []) rest p (sym goes) in
       omega arith
 ]

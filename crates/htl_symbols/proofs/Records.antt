@@ -1,5 +1,6 @@
 -- The records of a text, one after another.
-use Rattle.std.proofs.Common.{◌≡◌, ◌≤◌, ◌<◌, ◌+◌, ℕ, zero, suc, true, false, cond, List, [], ◌∷◌, Option, Some, None, length, refl, add-one, arith, ap}
+use Rattle.std.proofs.Common.{◌≡◌, ◌≤◌, ◌<◌, ◌+◌, ℕ, zero, suc, true, false, cond, List, [], ◌∷◌, Option, Some, None}
+use Rattle.std.proofs.Common.{length, refl, add-one, arith, ap}
 use Rattle.csv.specs.Machine.{Read, next_record}
 use Rattle.csv.specs.Reading.{default_config, is_bom, records_from, records_next, strip_bom}
 use Rattle.csv.specs.declared.parser.State.{State}
@@ -12,7 +13,8 @@ abbrev records_by : ℕ → State → List ℕ → List Record
 records_by n s xs = records_from default_config n s xs
 
 -- enough turns give all records
-records-enough : (n m : ℕ) (s : State) (xs : List ℕ) → is_start s ≡ true → length xs < n → length xs < m → records_by n s xs ≡ records_by m s xs
+records-enough : (n m : ℕ) (s : State) (xs : List ℕ) → is_start s ≡ true → length xs < n → length xs < m
+    → records_by n s xs ≡ records_by m s xs
 unfolding records_from
 records-enough zero m s xs start less more = absurd (omega arith)
 records-enough (suc n) zero s xs start less more = absurd (omega arith)
@@ -32,7 +34,8 @@ pub records-more : (s : State) (xs : List ℕ) (p : Read) → is_start s ≡ tru
 unfolding records_from
 records-more s xs p start e =
     let shorter = next-lt s xs p start e in
-    rw (add-one (length xs), e) (ap (λ (rs : List Record). p.0 ∷ rs) (records-enough (length xs) (length p.2 + 1) p.1 p.2 (next-starts s [] [] xs p e) shorter (omega arith)))
+    rw (add-one (length xs), e) (ap (λ (rs : List Record). p.0 ∷ rs)
+    (records-enough (length xs) (length p.2 + 1) p.1 p.2 (next-starts s [] [] xs p e) shorter (omega arith)))
 
 -- a text without a next record has none
 pub records-none : (s : State) (xs : List ℕ) → next_record default_config s [] [] xs ≡ None → records_by (length xs + 1) s xs ≡ []
@@ -61,4 +64,5 @@ length-strip_bom [] = omega arith
 length-strip_bom (a ∷ []) = omega arith
 length-strip_bom (a ∷ b ∷ []) = omega arith
 length-strip_bom (a ∷ b ∷ c ∷ rest) =
-    elim (is_bom a b c) as (λ t. length (cond t rest (a ∷ b ∷ c ∷ rest)) ≤ length (a ∷ b ∷ c ∷ rest)) [ true ↦ omega arith | false ↦ omega arith ]
+    elim (is_bom a b c) as (λ t. length (cond t rest (a ∷ b ∷ c ∷ rest)) ≤ length (a ∷ b ∷ c ∷ rest))
+    [ true ↦ omega arith | false ↦ omega arith ]

@@ -6,8 +6,8 @@ use Rattle.std.proofs.lemmas.Bool.Decides.{nat_tests}
 use Rattle.std.proofs.lemmas.List.Elements.{All-contains}
 use Rattle.htl_symbols.specs.Ranges.{Range, has, resolved}
 use Rattle.htl_symbols.specs.Symbols.{IsLastBegun}
-use Rattle.htl_symbols.proofs.Members.{find-none, find-only}
-use Rattle.htl_symbols.proofs.Begun.{cases_begun}
+use Rattle.htl_symbols.proofs.Searches.{find-none, find-only}
+use Rattle.htl_symbols.proofs.LastBegun.{cases_begun}
 
 -- an address inside a range
 has-inside : (address : ℕ) (r : Range) → r.start ≤ address → address < r.end → has address r ≡ true
@@ -34,7 +34,8 @@ resolved-inside table address r l inside = rw (find-only (has address) table r l
     ]
 
 -- where it hasn't the address, none has
-pub resolved-outside : (table : List Range) (address : ℕ) (r : Range) → IsLastBegun table address r → r.end ≤ address → resolved table address ≡ None
+pub resolved-outside : (table : List Range) (address : ℕ) (r : Range) → IsLastBegun table address r → r.end ≤ address
+    → resolved table address ≡ None
 resolved-outside table address r l past = rw (find-none (has address) table fails) refl
   where
     fails : (q : Range) → Contains table q → has address q ≡ false
@@ -47,4 +48,5 @@ resolved-outside table address r l past = rw (find-none (has address) table fail
 -- where every range begins behind the address, none has it
 pub resolved-before : (table : List Range) (address : ℕ) → All (λ r. address < r.start) table → resolved table address ≡ None
 resolved-before table address before =
-    rw (find-none (has address) table (λ q listed. has-before address q (All-contains (λ r. address < r.start) table q before listed))) refl
+    rw (find-none (has address) table (λ q listed. has-before address q (All-contains (λ r. address < r.start) table q before listed)))
+    refl

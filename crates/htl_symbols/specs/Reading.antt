@@ -1,5 +1,6 @@
 -- What reading a symbol table answers, over the records that `csv` reads. This project's own.
-use Rattle.std.specs.Prelude.{◌≡◌, ◌≢◌, ◌⊎◌, ◌++◌, ℕ, true, false, List, [], ◌∷◌, Result, Ok, Err, All, AllPairs, IsPermutation, length, map, ⊤}
+use Rattle.std.specs.Prelude.{◌≡◌, ◌≢◌, ◌⊎◌, ◌++◌, ℕ, true, false, List, [], ◌∷◌, Result, Ok, Err, All, AllPairs}
+use Rattle.std.specs.Prelude.{IsPermutation, length, map, ⊤}
 use Rattle.std.specs.List.{enumerate_from, list_any}
 use Rattle.csv.specs.Reading.{default_config, records, strip_bom}
 use Rattle.csv.specs.Records.{AllText}

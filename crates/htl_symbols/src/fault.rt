@@ -1,3 +1,5 @@
+//! Why a symbol table is refused.
+
 ghost use Rattle.std.specs.Prelude.{◌≡◌};
 ghost use Rattle.htl_symbols.specs.declared.fault.SymbolFault.TheVariants as fault;
 

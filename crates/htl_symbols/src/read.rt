@@ -1,3 +1,5 @@
+//! Reading a symbol table from CSV.
+
 ghost use Rattle.std.specs.Prelude.{◌≡◌, ◌+◌, ◌^◌, ◌<◌, ◌∷◌, IfOk, List, length, ℕ};
 ghost use Rattle.csv.specs.Records.{fields_of};
 ghost use Rattle.htl_symbols.specs.Reading.{Reads, records_of};
@@ -16,6 +18,11 @@ impl Symbols {
     /// Reads a table from CSV with the header record `start,end,module,name`. A row is a start and an
     /// end, which is exclusive, in hexadecimal digits of either case with or without `0x`, and a
     /// module and a name, which are any texts. Rows stand in any order.
+    ///
+    /// The first record with a fault ends the reading, and is told with its number: 0 for the header, 1 for
+    /// the first row; blank lines are no records. Of one record's faults the first of these is told: it is
+    /// no text, it hasn't four fields, its start or its end is no number, its range is empty, its range
+    /// overlaps that of an earlier row. Want of memory can come at any row.
     pub fn read(alloc: Global, bytes: &[u8]) -> Result<Symbols, SymbolFault>
         ensures { Reads (records_of bytes.now) result }
     {
@@ -109,7 +116,8 @@ fn read_record(
     fields: &mut StringRecord,
     number: u64,
 ) -> Result<bool, SymbolFault>
-    ensures { IsAtRecord reader.old → RecordRead number reader.old reader.new (fields_of fields.new) result }
+    ensures { IsAtRecord reader.old
+        → RecordRead number reader.old reader.new (fields_of fields.new) result }
 {
     match reader.read_record(fields) {
         Ok(found) => Ok(found),

@@ -22,7 +22,8 @@ pub(crate) struct Row<'r> {
 /// The row that record number `number` writes.
 pub(crate) fn row_of(fields: &StringRecord, number: u64) -> Result<Row<'_>, SymbolFault>
     ensures filled { IfOk result (λ row. row.start < row.end) }
-    ensures row { MatchResult result (λ row. range_of_row (number, fields_of fields.now) ≡ Ok (row_range row))
+    ensures row { MatchResult result
+        (λ row. range_of_row (number, fields_of fields.now) ≡ Ok (row_range row))
         (λ fault. range_of_row (number, fields_of fields.now) ≡ Err fault) }
 {
     let Some((start, end, module, name)) = four_fields(fields) else {
@@ -56,7 +57,8 @@ pub(crate) fn is_header(fields: &StringRecord) -> bool
 }
 
 fn are_columns(columns: (&str, &str, &str, &str)) -> bool
-    ensures { result ≡ columns_eq columns.entry.0.now columns.entry.1.now columns.entry.2.now columns.entry.3.now }
+    ensures { result ≡ columns_eq
+        columns.entry.0.now columns.entry.1.now columns.entry.2.now columns.entry.3.now }
 {
     columns.0 == "start" && columns.1 == "end" && columns.2 == "module" && columns.3 == "name"
 }

@@ -1,3 +1,5 @@
+//! A symbol table in memory.
+
 ghost use Rattle.std.specs.Prelude.{◌≡◌, ◌<◌, ◌≤◌, ◌∷◌, [], All, false, IsPermutation, MatchOption, OnErr, OnOk, option_map};
 ghost use Rattle.std.specs.List.{list_any};
 ghost use Rattle.htl_symbols.specs.Ranges.{IsTable, meets, resolved};
@@ -16,7 +18,7 @@ pub(crate) struct Symbol {
     pub(crate) name: String,
 }
 
-/// A symbol table.
+/// A symbol table: ranges of addresses with their names, of which no two have an address in common.
 #[derive(Debug, Drop)]
 pub struct Symbols {
     by_start: BTreeMap<u64, Symbol>,
@@ -44,10 +46,11 @@ impl Symbols {
         }
     }
 
-    /// The module and the name of the range that has the address, and how far from the range's start
-    /// the address is.
+    /// The module and the name of the range that has the address, and how many bytes behind the range's
+    /// start the address is. None where no range has it.
     pub fn resolve(&self, address: u64) -> Option<(&str, &str, u64)>
-        ensures value { option_map (λ s. (s.0.now, s.1.now, s.2)) result ≡ resolved self.now address }
+        ensures value { option_map (λ s. (s.0.now, s.1.now, s.2)) result
+            ≡ resolved self.now address }
         // so no other range has it
         ensures apart { IsTable self.now }
     {

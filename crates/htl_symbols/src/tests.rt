@@ -1,3 +1,4 @@
+//! Tables from worked rows: what addresses resolve to, and why rows are refused.
 use super::*;
 use std::alloc::{AllocError, Global};
 use std::test::Fail;

@@ -1,3 +1,4 @@
+-- A read takes the next record, finds the end, or is refused at a record that is no text.
 use Rattle.std.proofs.Common.{◌∙◌}
 use Rattle.csv.specs.Records.{fields_of}
 use Rattle.htl_symbols.proofs.Reader.{read-ok, read-refused}
@@ -11,5 +12,6 @@ returns-in-Ok c = λ at.
 
 pub returns : goal.returns
 returns c = λ at.
-    read-refused c.args.number c.args.reader.now c.read_record.new.self (fields_of c.read_record.new.row) _ at (c.in-Err.ensures.why at.trim at.ready)
+    read-refused c.args.number c.args.reader.now c.read_record.new.self (fields_of c.read_record.new.row) _ at
+    (c.in-Err.ensures.why at.trim at.ready)
     (λ e is. c.in_default.not-Io e (c.kind.ensures ∙ is)) (λ is. c.in_default.not-OutOfMemory (c.kind.ensures ∙ is))

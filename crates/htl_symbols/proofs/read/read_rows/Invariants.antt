@@ -1,6 +1,7 @@
+-- The rows so far wrote the ranges of the table; the reader stands before the next.
 use Rattle.std.proofs.Common.{length}
 use Rattle.htl_symbols.specs.Records.{records_left}
-use Rattle.htl_symbols.proofs.Progress.{Progress}
+use Rattle.htl_symbols.proofs.RowsRead.{Progress}
 use Rattle.htl_symbols.proofs.read.read_rows.Given as goal
 
 abbrev pub invariant-loop-symbols : goal.invariant-loop-symbols

@@ -1,3 +1,4 @@
+-- Four fields that equal the columns are the header, and no other record is.
 use Rattle.csv.specs.Records.{fields_of}
 use Rattle.htl_symbols.proofs.Fields.{columns-header, header-wrong}
 use Rattle.htl_symbols.proofs.row.is_header.Goals as goal

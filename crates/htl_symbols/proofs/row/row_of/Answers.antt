@@ -1,3 +1,4 @@
+-- A row is what its fields write, or its first fault.
 use Rattle.std.proofs.Common.{◌∙◌, refl}
 use Rattle.std.specs.Prelude.{Some, None}
 use Rattle.std.proofs.lemmas.Bool.{le-ltb, lt-ltb}
@@ -14,14 +15,17 @@ returns-in_default-hexadecimal-clause-row c =
 
 pub returns-in_default-hexadecimal-2-clause-row : goal.returns-in_default-hexadecimal-2-clause-row
 returns-in_default-hexadecimal-2-clause-row c =
-    fields-right c.args.number (fields_of c.args.fields.now) _ _ _ _ (Some c.in-Some-hexadecimal.start) None c.in-Some.ensures c.in-Some-hexadecimal.ensures.value c.in_default-hexadecimal-2.ensures.value
+    fields-right c.args.number (fields_of c.args.fields.now) _ _ _ _ (Some c.in-Some-hexadecimal.start) None c.in-Some.ensures
+    c.in-Some-hexadecimal.ensures.value c.in_default-hexadecimal-2.ensures.value
 
 pub returns-then-start-end-clause-row : goal.returns-then-start-end-clause-row
 returns-then-start-end-clause-row c =
-    fields-right c.args.number (fields_of c.args.fields.now) _ _ _ _ (Some c.in-Some-hexadecimal.start) (Some c.in-Some-hexadecimal-2.end) c.in-Some.ensures c.in-Some-hexadecimal.ensures.value c.in-Some-hexadecimal-2.ensures.value
+    fields-right c.args.number (fields_of c.args.fields.now) _ _ _ _ (Some c.in-Some-hexadecimal.start)
+    (Some c.in-Some-hexadecimal-2.end) c.in-Some.ensures c.in-Some-hexadecimal.ensures.value c.in-Some-hexadecimal-2.ensures.value
     ∙ rw (lt-ltb c.in-Some-hexadecimal.start c.in-Some-hexadecimal-2.end c.if-start-end.true) refl
 
 pub returns-else-start-end-clause-row : goal.returns-else-start-end-clause-row
 returns-else-start-end-clause-row c =
-    fields-right c.args.number (fields_of c.args.fields.now) _ _ _ _ (Some c.in-Some-hexadecimal.start) (Some c.in-Some-hexadecimal-2.end) c.in-Some.ensures c.in-Some-hexadecimal.ensures.value c.in-Some-hexadecimal-2.ensures.value
+    fields-right c.args.number (fields_of c.args.fields.now) _ _ _ _ (Some c.in-Some-hexadecimal.start)
+    (Some c.in-Some-hexadecimal-2.end) c.in-Some.ensures c.in-Some-hexadecimal.ensures.value c.in-Some-hexadecimal-2.ensures.value
     ∙ rw (le-ltb c.in-Some-hexadecimal.start c.in-Some-hexadecimal-2.end c.if-start-end.false) refl

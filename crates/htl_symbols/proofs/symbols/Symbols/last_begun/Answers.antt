@@ -1,6 +1,7 @@
+-- The last entry of a map up to an address is the last range that begins there.
 use Rattle.std.proofs.Common.{sym}
 use Rattle.std.proofs.lemmas.Map.Keys.{le_from_not_gt, ge_from_not_lt}
-use Rattle.htl_symbols.proofs.Begun.{IsLastBegun-from_map, begin-after_from_map, not_gt_from_le}
+use Rattle.htl_symbols.proofs.LastBegun.{IsLastBegun-from_map, begin-after_from_map, not_gt_from_le}
 use Rattle.htl_symbols.proofs.symbols.Symbols.last_begun.Goals as goal
 
 pub returns-in_err-start-clause-last : goal.returns-in_err-start-clause-last
@@ -17,6 +18,7 @@ returns-clause-last c =
     let last = c.in_ok-start.ensures.steps in
     let at = range.3 _ _ last in
     rw (sym c.self.view_is) (
-    IsLastBegun-from_map c.self.inside.by_start c.args.address (c.in_ok-start.start.now, c.in_ok-start.symbol.now) c.range.ensures.ordered c.self.invariant
+    IsLastBegun-from_map c.self.inside.by_start c.args.address (c.in_ok-start.start.now, c.in_ok-start.symbol.now)
+    c.range.ensures.ordered c.self.invariant
     (le_from_not_gt _ _ at.0.1) at.1 (λ k le some. ge_from_not_lt _ _ (range.4 _ _ last k (tt, not_gt_from_le k c.args.address le) some))
     )

@@ -1,3 +1,4 @@
+-- A range overlaps one of the table exactly where it overlaps the last one begun before its end.
 use Rattle.htl_symbols.proofs.Overlaps.{any-met, none-met}
 use Rattle.htl_symbols.proofs.symbols.Symbols.overlaps.Goals as goal
 

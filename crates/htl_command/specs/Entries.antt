@@ -1,0 +1,63 @@
+-- What `clap` is told of the table, and so what it finds in words and when it refuses them.
+use Rattle.std.specs.Prelude.{true, List, [], ◌∷◌, Option, Some, codes, map}
+use Rattle.clap.specs.Lexer.{usize_max}
+use Rattle.clap.specs.Simple.{new_shape}
+use Rattle.clap.specs.Words.{App, Kinds, Row, Rule, Text, fault_of, new_app, new_rule, subcommand_of, with_rule, with_subcommand}
+use Rattle.clap.specs.declared.builder.ArgAction.TheVariants.{SetTrue}
+use Rattle.htl_command.specs.Commands.{commands, is_required, name_of, option_name, own_options}
+use Rattle.htl_command.specs.declared.commands.CommandName.{CommandName}
+use Rattle.htl_command.specs.declared.commands.CommandOption.{CommandOption}
+use Rattle.htl_command.specs.declared.commands.CommandOption.TheVariants.{Symbols, Workers}
+
+-- an option takes one value
+abbrev pub option_rule : CommandOption → Rule
+option_rule option = record (new_rule (option_name option)) {
+  long = Some (option_name option);
+  value_names = 1;
+  required = is_required option;
+}
+
+abbrev pub hex_rule : Rule
+hex_rule = record (new_rule (codes "hex")) { long = Some (codes "hex"); action = Some SetTrue }
+
+-- all other words are files
+abbrev pub files_rule : Rule
+files_rule = record (new_rule (codes "files")) {
+  value_names = 1;
+  range = Some (record { start_inclusive = 1; end_inclusive = usize_max });
+}
+
+-- what every command has
+abbrev pub common_rules : List Rule
+common_rules = option_rule Symbols ∷ option_rule Workers ∷ hex_rule ∷ files_rule ∷ []
+
+-- with these arguments, in order
+abbrev pub with_rules : App → List Rule → App
+with_rules a [] = a
+with_rules a (rule ∷ more) = with_rules (with_rule a rule) more
+
+abbrev pub command_app : CommandName → App
+command_app command = with_rules (with_rules (new_app (name_of command)) (map option_rule (own_options command))) common_rules
+
+-- with these commands, in order
+abbrev pub with_commands : App → List CommandName → App
+with_commands a [] = a
+with_commands a (command ∷ more) = with_commands (with_subcommand a (command_app command).top) more
+
+-- the program without its commands; one is wanted
+abbrev pub program_app : App
+program_app = record {
+  top = record (new_shape (codes "hleak")) { no_binary_name = true; has_version = true; subcommand_required = true };
+  subs = [];
+}
+
+unfoldable pub hleak_app : App
+hleak_app = with_commands program_app commands
+
+-- why `clap` refuses the words; where it takes them, nothing
+unfoldable pub refusals : List Text → Kinds
+refusals words = fault_of hleak_app words
+
+-- the name of the command in the words, and its entries
+unfoldable pub entries : List Text → Option (Text × List Row)
+entries words = subcommand_of hleak_app words

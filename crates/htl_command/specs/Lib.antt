@@ -1,0 +1,7 @@
+pub mod Commands
+pub mod Values
+pub mod Entries
+pub mod Requests
+pub mod Refusals
+pub mod Steps
+pub mod Statuses

@@ -1,0 +1,95 @@
+-- What words ask for: of the entries that `clap` finds in them, each value is read by its rule.
+use Rattle.std.specs.Prelude.{ℕ, Bool, true, false, List, [], ◌∷◌, Option, Some, None, codes, if◌then◌else◌, map, option_and_then, option_map, string_bytes, unwrap_or}
+use Rattle.std.specs.Option.{option_map_or}
+use Rattle.std.specs.Str.{bytes_eq}
+use Rattle.clap.specs.Words.{Kinds, Row, Text, all_of, first_of}
+use Rattle.htl_command.specs.Commands.{command_named, option_name}
+use Rattle.htl_command.specs.Entries.{entries, refusals}
+use Rattle.htl_command.specs.Values.{handle_in, object_in, process_in, sequence_in, tag_in, workers_in}
+use Rattle.htl_command.specs.declared.asked.Asked.{Asked}
+use Rattle.htl_command.specs.declared.commands.CommandName.{CommandName}
+use Rattle.htl_command.specs.declared.commands.CommandName.TheVariants as command
+use Rattle.htl_command.specs.declared.commands.CommandOption.{CommandOption}
+use Rattle.htl_command.specs.declared.commands.CommandOption.TheVariants.{Process, Since, Object, Tag, Handle, Symbols, Workers}
+use Rattle.htl_command.specs.declared.question.Job.{Job}
+use Rattle.htl_command.specs.declared.question.Question.{Question}
+use Rattle.htl_command.specs.declared.question.Question.TheVariants.{Outstanding, Diff, Tags, Bad, Leaks, Stacks, Trace}
+
+-- the text that was given for an option
+abbrev pub given : CommandOption → List Row → Option Text
+given option rows = first_of (option_name option) rows
+
+-- an option's value, by the rule of its kind
+abbrev pub value : {X : Type 0} → (Text → Option X) → CommandOption → List Row → Option X
+value rule option rows = option_and_then rule (given option rows)
+
+-- the same of an option that may be left out
+abbrev pub optional : {X : Type 0} → (Text → Option X) → CommandOption → List Row → Option (Option X)
+optional rule option rows = option_map_or (λ text. option_map (λ x. Some x) (rule text)) (given option rows) (Some None)
+
+-- what is made of two values, where both are there
+abbrev pub both : {X Y Z : Type 0} → (X → Y → Z) → Option X → Option Y → Option Z
+both make x y = option_and_then (λ a. option_map (make a) y) x
+
+-- the question of each command
+unfoldable pub question_of : CommandName → List Row → Option Question
+question_of command.Outstanding rows = option_map (λ p. Outstanding p) (value process_in Process rows)
+question_of command.Diff rows = both (λ p s. Diff p s) (value process_in Process rows) (optional sequence_in Since rows)
+question_of command.Tags rows = option_map (λ o. Tags o) (value object_in Object rows)
+question_of command.Bad rows = option_map (λ p. Bad p) (value process_in Process rows)
+question_of command.Leaks rows = option_map (λ p. Leaks p) (value process_in Process rows)
+question_of command.Stacks rows = both (λ o t. Stacks o t) (value object_in Object rows) (value tag_in Tag rows)
+question_of command.Trace rows = both (λ p h. Trace p h) (value process_in Process rows) (value handle_in Handle rows)
+
+-- one where it is left out
+abbrev pub workers : List Row → Option ℕ
+workers rows = option_map (λ n. unwrap_or n 1) (optional workers_in Workers rows)
+
+-- `clap` gives a flag that was used the text `true`
+abbrev pub is_hex : List Row → Bool
+is_hex rows = option_map_or (λ text. bytes_eq text (codes "true")) (first_of (codes "hex") rows) false
+
+unfoldable pub job_of : CommandName → List Row → Option Job
+job_of command rows =
+    both (λ question n. record { question = question; hex = is_hex rows; workers = n }) (question_of command rows) (workers rows)
+
+-- what is asked for: a job, with the names of its files
+pub record Request : Type 0 where
+  pub job : Job
+  pub files : List Text
+  pub symbols : Option Text
+
+abbrev pub file_names : List Row → List Text
+file_names rows = unwrap_or (all_of (codes "files") rows) []
+
+abbrev pub with_files : List Row → Job → Request
+with_files rows job = record { job = job; files = file_names rows; symbols = given Symbols rows }
+
+-- what a command asks for
+abbrev pub request_of : CommandName → List Row → Option Request
+request_of command rows = option_map (with_files rows) (job_of command rows)
+
+-- what a command's name and its entries ask for
+abbrev pub request_met : Option (Text × List Row) → Option Request
+request_met met = option_and_then (λ p. option_and_then (λ command. request_of command p.1) (command_named p.0)) met
+
+-- what no words ask for
+abbrev pub stored : Request
+stored = record { job = record { question = Outstanding 4; hex = true; workers = 1 }; files = []; symbols = None }
+
+abbrev pub is_nothing : Kinds → Bool
+is_nothing [] = true
+is_nothing (kind ∷ more) = false
+
+-- what words ask for, where `clap` refuses nothing
+unfoldable pub requested : List Text → Option Request
+requested [] = Some stored
+requested (word ∷ more) = if is_nothing (refusals (word ∷ more)) then request_met (entries (word ∷ more)) else None
+
+-- the same of the program's own type
+abbrev pub request : Asked → Request
+request asked = record {
+  job = asked.job;
+  files = map string_bytes asked.files.items;
+  symbols = option_map string_bytes asked.symbols;
+}

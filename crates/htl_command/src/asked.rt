@@ -1,0 +1,126 @@
+//! What a command line asks for.
+ghost use Rattle.std.specs.Prelude.{◌≡◌, ◌≢◌, [], IfErr, IfOk, IsOk, None, Some, map, string_bytes};
+ghost use Rattle.clap.specs.Words.{subcommand_rows_of};
+ghost use Rattle.htl_command.specs.Entries.{entries as entries_in, refusals};
+ghost use Rattle.htl_command.specs.Refusals.{Refuses};
+ghost use Rattle.htl_command.specs.Requests.{request, request_met, request_of, requested, stored as stored_request, with_files as with_files_in};
+ghost use Rattle.htl_command.specs.Steps.{IsRefused, IsUsageWith, entries_of};
+
+use crate::builder::program;
+use crate::commands::CommandName;
+use crate::fault::{ParseFault, no_command, of_clap, of_value};
+use crate::question::{Job, Question};
+use crate::reading::{files, job, symbols};
+use clap::ArgMatches;
+use std::alloc::{AllocError, Global};
+
+/// What a command line asks for.
+#[derive(Debug, PartialEq, Eq, Drop)]
+pub struct Asked {
+    pub job: Job,
+    /// The names of the inputs, in order. Where there is none, standard input is read.
+    pub files: Vec<String>,
+    /// The name of the file with the symbol table.
+    pub symbols: Option<String>,
+}
+
+/// The job that the words after the program's name ask for. No words ask for the stored job: the outstanding
+/// handles of process 4, from standard input in hexadecimal.
+///
+/// A command, its options and its files are words as `clap` takes them: `--process 4` or `--process=4`, options
+/// and files in any order, and only files after `--`. No option may be given twice.
+///
+/// Where several things are wrong, what `clap` refuses is told first, and then the first value that breaks
+/// its rule.
+#[tactic(auto, using(crate::proofs::Words::no_words))]
+pub fn parse(alloc: Global, words: Vec<String>) -> Result<Asked, ParseFault>
+    ensures ok { IfOk result (λ asked.
+        requested (map string_bytes words.items) ≡ Some (request asked)) }
+    ensures err { IfErr result (Refuses (map string_bytes words.items)) }
+    ensures none { words.items ≡ [] → IsOk result }
+{
+    if words.is_empty() {
+        Ok(stored(alloc))
+    } else {
+        read_words(alloc, &words)
+    }
+}
+
+fn stored(alloc: Global) -> Asked
+    ensures { request result ≡ stored_request }
+{
+    Asked {
+        job: Job {
+            question: Question::Outstanding { process: 4 },
+            hex: true,
+            workers: 1,
+        },
+        files: Vec::new(alloc),
+        symbols: None,
+    }
+}
+
+fn read_words(alloc: Global, words: &[String]) -> Result<Asked, ParseFault>
+    requires some { words.now ≢ [] }
+    ensures ok { IfOk result (λ asked.
+        requested (map string_bytes words.now) ≡ Some (request asked)) }
+    ensures err { IfErr result (Refuses (map string_bytes words.now)) }
+{
+    match matches(alloc, words) {
+        Ok(matches) => read_matches(alloc, &matches),
+        Err(fault) => Err(fault),
+    }
+}
+
+/// What `clap` finds in the words.
+fn matches<'a>(alloc: Global, words: &'a [String]) -> Result<ArgMatches<'a>, ParseFault>
+    ensures ok { IfOk result (λ matches. (refusals (map string_bytes words.entry.now) ≡ [])
+        × (subcommand_rows_of matches ≡ entries_in (map string_bytes words.entry.now))) }
+    ensures err { IfErr result (IsRefused (map string_bytes words.entry.now)) }
+{
+    match program(alloc)?.try_get_matches_from(words) {
+        Ok(matches) => Ok(matches),
+        Err(error) => Err(of_clap(alloc, &error)),
+    }
+}
+
+fn read_matches(alloc: Global, matches: &ArgMatches) -> Result<Asked, ParseFault>
+    ensures ok { IfOk result (λ asked.
+        request_met (subcommand_rows_of matches.now) ≡ Some (request asked)) }
+    ensures err { IfErr result (IsUsageWith (request_met (subcommand_rows_of matches.now) ≡ None)) }
+{
+    let Some((name, entries)) = matches.subcommand() else {
+        return Err(no_command(alloc));
+    };
+    match CommandName::from_name(name) {
+        Some(command) => read_command(alloc, command, entries),
+        None => Err(no_command(alloc)),
+    }
+}
+
+fn read_command(
+    alloc: Global,
+    command: CommandName,
+    entries: &ArgMatches,
+) -> Result<Asked, ParseFault>
+    ensures ok { IfOk result (λ asked.
+        request_of command (entries_of entries.now) ≡ Some (request asked)) }
+    ensures err { IfErr result
+        (IsUsageWith (request_of command (entries_of entries.now) ≡ None)) }
+{
+    match job(command, entries) {
+        Ok(job) => Ok(with_files(alloc, job, entries)?),
+        Err(refused) => Err(of_value(alloc, command, refused)),
+    }
+}
+
+fn with_files(alloc: Global, job: Job, entries: &ArgMatches) -> Result<Asked, AllocError>
+    ensures { IfOk result (λ asked.
+        request asked ≡ with_files_in (entries_of entries.now) job) }
+{
+    Ok(Asked {
+        job,
+        files: files(alloc, entries)?,
+        symbols: symbols(alloc, entries)?,
+    })
+}

@@ -1,0 +1,127 @@
+//! What `clap` is told of the commands.
+ghost use Rattle.std.specs.Prelude.{◌≡◌, IfOk, false, map};
+ghost use Rattle.clap.specs.Words.{app_of, rule_of, with_subcommand};
+ghost use Rattle.clap.specs.declared.builder.Command.TheViews.{out-Command as fields_of};
+ghost use Rattle.htl_command.specs.Steps.{IsTold};
+ghost use Rattle.htl_command.specs.Entries.{common_rules, command_app, files_rule, hex_rule, hleak_app, option_rule, program_app, with_commands as with_commands_of, with_rules};
+
+use crate::commands::{COMMANDS, CommandName, CommandOption};
+use crate::help::{ABOUT, AFTER_HELP, FILES_HELP, HEX_HELP, VERSION};
+use clap::{Arg, ArgAction, Command};
+use std::alloc::{AllocError, Global};
+
+fn option<'a>(alloc: Global, option: CommandOption) -> Arg<'a>
+    ensures rule { rule_of result ≡ option_rule option }
+    ensures local { result.global ≡ false }
+{
+    Arg::new(alloc, option.as_str())
+        .long(option.as_str())
+        .value_name(option.value_name())
+        .help(option.help())
+        .required(option.is_required())
+}
+
+fn hex_flag<'a>(alloc: Global) -> Arg<'a>
+    ensures rule { rule_of result ≡ hex_rule }
+    ensures local { result.global ≡ false }
+{
+    Arg::new(alloc, "hex")
+        .long("hex")
+        .action(ArgAction::SetTrue)
+        .help(HEX_HELP)
+}
+
+fn files<'a>(alloc: Global) -> Arg<'a>
+    ensures rule { rule_of result ≡ files_rule }
+    ensures local { result.global ≡ false }
+{
+    Arg::new(alloc, "files")
+        .value_name("FILES")
+        .num_args(1..)
+        .help(FILES_HELP)
+}
+
+fn with_own_options<'a>(
+    alloc: Global,
+    command: Command<'a>,
+    options: &[CommandOption],
+) -> Result<Command<'a>, AllocError>
+    requires { (fields_of command).has_globals ≡ false }
+    ensures { IfOk result
+        (IsTold (with_rules (app_of command.entry) (map option_rule options.now))) }
+{
+    let mut command = command;
+    for own in options {
+        command = command.arg(option(alloc, *own))?;
+    }
+    Ok(command)
+}
+
+fn with_common_options<'a>(alloc: Global, command: Command<'a>) -> Result<Command<'a>, AllocError>
+    requires { (fields_of command).has_globals ≡ false }
+    ensures { IfOk result (IsTold (with_rules (app_of command.entry) common_rules)) }
+{
+    command
+        .arg(option(alloc, CommandOption::Symbols))?
+        .arg(option(alloc, CommandOption::Workers))?
+        .arg(hex_flag(alloc))?
+        .arg(files(alloc))
+}
+
+fn command<'a>(alloc: Global, name: CommandName) -> Result<Command<'a>, AllocError>
+    ensures { IfOk result (IsTold (command_app name)) }
+{
+    let bare = Command::new(alloc, name.as_str())
+        .about(name.about())
+        .after_help(name.example());
+    let command = with_own_options(alloc, bare, name.own_options())?;
+    with_common_options(alloc, command)
+}
+
+fn bare_program<'a>(alloc: Global) -> Result<Command<'a>, AllocError>
+    ensures { IfOk result (IsTold program_app) }
+{
+    let program = Command::new(alloc, "hleak")
+        .bin_name("hleak")?
+        .version(VERSION)
+        .about(ABOUT)
+        .after_help(AFTER_HELP)
+        .no_binary_name(true)
+        .subcommand_required(true);
+    Ok(program)
+}
+
+#[tactic(auto, using(crate::proofs::Told::added))]
+fn with_command<'a>(
+    alloc: Global,
+    program: Command<'a>,
+    name: CommandName,
+) -> Result<Command<'a>, AllocError>
+    requires { (fields_of program).has_globals ≡ false }
+    ensures { IfOk result (IsTold (with_subcommand (app_of program.entry) (command_app name).top)) }
+{
+    program.subcommand(command(alloc, name)?)
+}
+
+fn with_commands<'a>(
+    alloc: Global,
+    program: Command<'a>,
+    names: &[CommandName],
+) -> Result<Command<'a>, AllocError>
+    requires { (fields_of program).has_globals ≡ false }
+    ensures { IfOk result (IsTold (with_commands_of (app_of program.entry) names.now)) }
+{
+    let mut program = program;
+    for name in names {
+        program = with_command(alloc, program, *name)?;
+    }
+    Ok(program)
+}
+
+/// The command line of the program.
+#[tactic(auto, unfolding(crate::specs::Entries::hleak_app))]
+pub(crate) fn program<'a>(alloc: Global) -> Result<Command<'a>, AllocError>
+    ensures { IfOk result (IsTold hleak_app) }
+{
+    with_commands(alloc, bare_program(alloc)?, &COMMANDS)
+}

@@ -1,0 +1,91 @@
+//! Why words give no job, and what a person reads of it.
+ghost use Rattle.std.specs.Prelude.{◌≡◌, ⊤};
+ghost use Rattle.clap.specs.Words.{kind_of};
+ghost use Rattle.htl_command.specs.Steps.{IsUsageWith, Tells};
+
+use crate::commands::CommandName;
+use crate::reading::Refused;
+use clap::error::ErrorKind;
+use std::alloc::{AllocError, Global};
+use thiserror::Error;
+
+/// Why words give no job.
+#[derive(Debug, PartialEq, Eq, Drop, Error)]
+pub enum ParseFault {
+    /// Help or the version was asked for. The text, which ends with a line feed, goes to standard output.
+    #[error("{0}")]
+    Help(String),
+    /// The words are no command line of the program. The text says why; it ends with a line feed and goes to
+    /// standard error.
+    #[error("{0}")]
+    Usage(String),
+    /// Memory for a growth was refused.
+    #[error("hleak: out of memory")]
+    Memory,
+}
+
+impl ParseFault {
+    ghost use Rattle.std.specs.Prelude.{◌≡◌};
+    ghost use Rattle.htl_command.specs.Statuses.{status_of};
+
+    /// The exit status of the program: 0 for help, 2 for words that are no command line, 6 for memory.
+    pub fn status(&self) -> u8
+        ensures { result ≡ status_of self.now }
+    {
+        match self {
+            ParseFault::Help(_) => 0,
+            ParseFault::Usage(_) => 2,
+            ParseFault::Memory => 6,
+        }
+    }
+}
+
+impl From<AllocError> for ParseFault {
+    ghost use Rattle.std.specs.Prelude.{◌≡◌};
+    ghost use Rattle.htl_command.specs.declared.fault.ParseFault.TheVariants.{Memory};
+
+    ghost from_gives = { λ _ fault. fault ≡ Memory };
+
+    fn from(_refused: AllocError) -> ParseFault {
+        ParseFault::Memory
+    }
+}
+
+/// The fault that `clap` tells, in its own words.
+pub(crate) fn of_clap(alloc: Global, error: &clap::Error) -> ParseFault
+    ensures { Tells (kind_of error.now) result }
+{
+    if matches!(error.kind(), ErrorKind::OutOfMemory) {
+        return ParseFault::Memory;
+    }
+    match error.to_string(alloc) {
+        Err(_) => ParseFault::Memory,
+        Ok(text) if error.use_stderr() => ParseFault::Usage(text),
+        Ok(text) => ParseFault::Help(text),
+    }
+}
+
+/// The fault of a value that breaks its rule, in the form of `clap`'s texts.
+pub(crate) fn of_value(alloc: Global, command: CommandName, refused: Refused) -> ParseFault
+    ensures { IsUsageWith ⊤ result }
+{
+    let text = format!(in alloc;
+        "error: {refused}\n\nFor more information, try 'hleak {} --help'.\n",
+        command.as_str()
+    );
+    match text {
+        Ok(text) => ParseFault::Usage(text),
+        Err(_) => ParseFault::Memory,
+    }
+}
+
+/// The fault of words with no command. `clap` refuses these itself, so it is not told.
+pub(crate) fn no_command(alloc: Global) -> ParseFault
+    ensures { IsUsageWith ⊤ result }
+{
+    let text = "error: a command is missing\n\nFor more information, try 'hleak --help'.\n";
+    match String::from_str(alloc, text) {
+        Ok(text) => ParseFault::Usage(text),
+        Err(_) => ParseFault::Memory,
+    }
+}

@@ -1,0 +1,147 @@
+//! What a person reads of the commands and their options: the texts of help.
+
+use crate::commands::{CommandName, CommandOption};
+
+pub(crate) const VERSION: &str = "0.1.0";
+
+pub(crate) const ABOUT: &str = "\
+Finds handles that were opened and never closed, and object references that
+were never dropped, in trace segments. Its questions are those of the Windows
+debugger's !htrace and !obtrace.";
+
+pub(crate) const AFTER_HELP: &str = "\
+Options of every command:
+      --symbols <FILE>  Names for addresses: CSV of start,end,module,name
+      --workers <N>     How many threads take in segments: 1 to 8 [default: 1]
+      --hex             The files hold hexadecimal digits, not bytes
+  [FILES]...            Trace segments; standard input where no file is given
+
+Exit status:
+  0  done                        4  the segments are not of one trace
+  2  wrong command line          5  a read or a write failed
+  3  not a segment               6  out of memory or of threads
+                                 7  not a symbol table
+
+Examples:
+  hleak outstanding --process 4 cpu0.hls cpu1.hls
+  hleak tags --object 0xffffa00000001000 --symbols names.csv cpu0.hls cpu1.hls
+
+'hleak COMMAND --help' tells the options of a command. No word at all stands for
+'hleak outstanding --process 4 --hex'.";
+
+pub(crate) const HEX_HELP: &str = "The files hold hexadecimal digits, not bytes";
+
+pub(crate) const FILES_HELP: &str = "Trace segments; standard input where no file is given";
+
+impl CommandName {
+    /// What the command answers, in one line.
+    pub(crate) fn about<'a>(self) -> &'a str {
+        match self {
+            CommandName::Outstanding => "Handles that are open, each with the stack that opened it",
+            CommandName::Diff => "Handles opened since a snapshot and still open (!htrace -diff)",
+            CommandName::Tags => "References and dereferences of an object, by tag (!obtrace)",
+            CommandName::Bad => "References to invalid handles, by stack (BAD REF of !htrace)",
+            CommandName::Leaks => "Stacks by how many of their handles are still open, most first",
+            CommandName::Stacks => "Stacks behind one tag of an object (!obtrace)",
+            CommandName::Trace => "Each open, close and bad reference of a handle (!htrace HANDLE)",
+        }
+    }
+
+    /// A command line to begin with, after what else is to be known.
+    pub(crate) fn example<'a>(self) -> &'a str {
+        match self {
+            CommandName::Outstanding => {
+                "\
+Example:
+  hleak outstanding --process 4 --symbols names.csv cpu0.hls cpu1.hls"
+            }
+            CommandName::Diff => {
+                "\
+Example:
+  hleak diff --process 4 --since 1200 cpu0.hls cpu1.hls"
+            }
+            CommandName::Tags => {
+                "\
+Example:
+  hleak tags --object 0xffffa00000001000 cpu0.hls cpu1.hls"
+            }
+            CommandName::Bad => {
+                "\
+Example:
+  hleak bad --process 4 --symbols names.csv cpu0.hls cpu1.hls"
+            }
+            CommandName::Leaks => {
+                "\
+Example:
+  hleak leaks --process 4 --workers 4 cpu0.hls cpu1.hls"
+            }
+            CommandName::Stacks => {
+                "\
+Example:
+  hleak stacks --object 0xffffa00000001000 --tag Lky8 cpu0.hls cpu1.hls"
+            }
+            CommandName::Trace => {
+                "\
+The low two bits of a handle are ignored.
+
+Example:
+  hleak trace --process 4 --handle 0x44 cpu0.hls cpu1.hls"
+            }
+        }
+    }
+}
+
+impl CommandOption {
+    /// What help calls the value.
+    pub(crate) fn value_name<'a>(self) -> &'a str {
+        match self {
+            CommandOption::Process | CommandOption::Since | CommandOption::Workers => "N",
+            CommandOption::Object | CommandOption::Handle => "HEX",
+            CommandOption::Tag => "TAG",
+            CommandOption::Symbols => "FILE",
+        }
+    }
+
+    pub(crate) fn help<'a>(self) -> &'a str {
+        match self {
+            CommandOption::Process => "The process: decimal, at most 4294967295",
+            CommandOption::Since => {
+                "\
+Handles opened after this sequence: decimal, at most
+18446744073709551615 [default: the last snapshot's]"
+            }
+            CommandOption::Object => {
+                "\
+The object's address: 1 to 16 hexadecimal digits, with
+or without 0x"
+            }
+            CommandOption::Tag => {
+                "\
+The tag: four bytes of text, as Lky8, or 0x and eight
+hexadecimal digits, as 0x4c6b7938"
+            }
+            CommandOption::Handle => {
+                "\
+The handle: 1 to 16 hexadecimal digits, with or without
+0x, at most 0xffffffff"
+            }
+            CommandOption::Symbols => "Names for addresses: CSV of start,end,module,name",
+            CommandOption::Workers => "How many threads take in segments: 1 to 8 [default: 1]",
+        }
+    }
+
+    /// The rule of the value, as a refusal tells it.
+    pub(crate) fn expected<'a>(self) -> &'a str {
+        match self {
+            CommandOption::Process => "decimal digits, at most 4294967295",
+            CommandOption::Since => "decimal digits, at most 18446744073709551615",
+            CommandOption::Object => "1 to 16 hexadecimal digits, with or without 0x",
+            CommandOption::Tag => "four bytes of text, or 0x and eight hexadecimal digits",
+            CommandOption::Handle => {
+                "1 to 16 hexadecimal digits, with or without 0x, at most 0xffffffff"
+            }
+            CommandOption::Symbols => "the name of a file",
+            CommandOption::Workers => "1 to 8",
+        }
+    }
+}

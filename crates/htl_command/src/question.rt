@@ -1,0 +1,31 @@
+//! What the program can be asked.
+
+/// A question about the events of a trace.
+#[derive(Clone, Copy, Debug, PartialEq, Eq)]
+pub enum Question {
+    /// The handles of a process that are open.
+    Outstanding { process: u32 },
+    /// The handles of a process that were opened after a sequence and are open. `None` stands for the sequence
+    /// of the process's last snapshot.
+    Diff { process: u32, since: Option<u64> },
+    /// The references and dereferences of an object under each tag.
+    Tags { object: u64 },
+    /// The references of a process to invalid handles.
+    Bad { process: u32 },
+    /// The stacks that opened handles of a process which are still open.
+    Leaks { process: u32 },
+    /// The stacks behind a tag of an object. The tag's bytes are in the order in which they are shown.
+    Stacks { object: u64, tag: [u8; 4] },
+    /// Each event of a handle of a process.
+    Trace { process: u32, handle: u32 },
+}
+
+/// A question with how it is answered.
+#[derive(Clone, Copy, Debug, PartialEq, Eq)]
+pub struct Job {
+    pub question: Question,
+    /// Whether the inputs are digits in hexadecimal.
+    pub hex: bool,
+    /// How many threads take in segments, 1 to 8.
+    pub workers: u32,
+}

@@ -1,0 +1,201 @@
+//! The job of a command, read from the entries that `clap` gives.
+ghost use Rattle.std.specs.Prelude.{◌≡◌, IfOk, map, option_map, string_bytes};
+ghost use Rattle.std.specs.Result.{result_ok};
+ghost use Rattle.clap.specs.Words.{all_of, first_of};
+ghost use Rattle.htl_command.specs.Steps.{entries_of};
+ghost use Rattle.htl_command.specs.Requests.{file_names, given as given_in, is_hex as is_hex_in, job_of, optional, question_of, value, workers as workers_given};
+ghost use Rattle.htl_command.specs.Values.{handle_in, object_in, process_in, sequence_in, tag_in};
+ghost use Rattle.htl_command.specs.declared.commands.CommandOption.TheVariants as option;
+
+use crate::commands::{CommandName, CommandOption};
+use crate::question::{Job, Question};
+use crate::values;
+use clap::ArgMatches;
+use std::alloc::{AllocError, Global};
+use std::fmt;
+
+/// A value that breaks the rule of its option.
+#[derive(Clone, Copy)]
+pub(crate) struct Refused<'a> {
+    pub option: CommandOption,
+    /// The text that was given; empty where there is none.
+    pub given: &'a str,
+}
+
+impl fmt::Display for Refused<'_> {
+    fn fmt<W: fmt::Write>(&self, f: &mut fmt::Formatter<W>) -> fmt::Result {
+        write!(
+            f,
+            "invalid value '{}' for '--{} <{}>'\n  [expected: {}]",
+            self.given,
+            self.option.as_str(),
+            self.option.value_name(),
+            self.option.expected()
+        )
+    }
+}
+
+fn entry<'a>(entries: &ArgMatches<'a>, id: &str) -> Option<&'a str>
+    ensures { option_map (λ text. text.now) result ≡ first_of id.now (entries_of entries.now) }
+{
+    entries.get_str(id)
+}
+
+fn entry_list<'e, 'a>(entries: &'e ArgMatches<'a>, id: &str) -> Option<&'e [&'a str]>
+    ensures { option_map (λ texts. map (λ text. text.now) texts.now) result
+        ≡ all_of id.now (entries_of entries.now) }
+{
+    entries.get_strs(id)
+}
+
+fn given<'a>(entries: &ArgMatches<'a>, option: CommandOption) -> Option<&'a str>
+    ensures { option_map (λ text. text.now) result ≡ given_in option (entries_of entries.now) }
+{
+    entry(entries, option.as_str())
+}
+
+fn required<'a>(entries: &ArgMatches<'a>, option: CommandOption) -> Result<&'a str, Refused<'a>>
+    ensures { option_map (λ text. text.now) (result_ok result)
+        ≡ given_in option (entries_of entries.now) }
+{
+    given(entries, option).ok_or(Refused { option, given: "" })
+}
+
+fn process<'a>(entries: &ArgMatches<'a>) -> Result<u32, Refused<'a>>
+    ensures { result_ok result ≡ value process_in option.Process (entries_of entries.now) }
+{
+    let option = CommandOption::Process;
+    let given = required(entries, option)?;
+    values::process(given).ok_or(Refused { option, given })
+}
+
+fn since<'a>(entries: &ArgMatches<'a>) -> Result<Option<u64>, Refused<'a>>
+    ensures { result_ok result ≡ optional sequence_in option.Since (entries_of entries.now) }
+{
+    let option = CommandOption::Since;
+    match given(entries, option) {
+        None => Ok(None),
+        Some(given) => match values::sequence(given) {
+            Some(sequence) => Ok(Some(sequence)),
+            None => Err(Refused { option, given }),
+        },
+    }
+}
+
+fn object<'a>(entries: &ArgMatches<'a>) -> Result<u64, Refused<'a>>
+    ensures { result_ok result ≡ value object_in option.Object (entries_of entries.now) }
+{
+    let option = CommandOption::Object;
+    let given = required(entries, option)?;
+    values::object(given).ok_or(Refused { option, given })
+}
+
+fn tag<'a>(entries: &ArgMatches<'a>) -> Result<[u8; 4], Refused<'a>>
+    ensures { result_ok result ≡ value tag_in option.Tag (entries_of entries.now) }
+{
+    let option = CommandOption::Tag;
+    let given = required(entries, option)?;
+    values::tag(given).ok_or(Refused { option, given })
+}
+
+fn handle<'a>(entries: &ArgMatches<'a>) -> Result<u32, Refused<'a>>
+    ensures { result_ok result ≡ value handle_in option.Handle (entries_of entries.now) }
+{
+    let option = CommandOption::Handle;
+    let given = required(entries, option)?;
+    values::handle(given).ok_or(Refused { option, given })
+}
+
+fn workers<'a>(entries: &ArgMatches<'a>) -> Result<u32, Refused<'a>>
+    ensures { result_ok result ≡ workers_given (entries_of entries.now) }
+{
+    let option = CommandOption::Workers;
+    match given(entries, option) {
+        None => Ok(1),
+        Some(given) => values::workers(given).ok_or(Refused { option, given }),
+    }
+}
+
+#[tactic(auto, unfolding(crate::specs::Requests::question_of))]
+fn question<'a>(command: CommandName, entries: &ArgMatches<'a>) -> Result<Question, Refused<'a>>
+    ensures { result_ok result ≡ question_of command (entries_of entries.now) }
+{
+    Ok(match command {
+        CommandName::Outstanding => Question::Outstanding {
+            process: process(entries)?,
+        },
+        CommandName::Diff => Question::Diff {
+            process: process(entries)?,
+            since: since(entries)?,
+        },
+        CommandName::Tags => Question::Tags {
+            object: object(entries)?,
+        },
+        CommandName::Bad => Question::Bad {
+            process: process(entries)?,
+        },
+        CommandName::Leaks => Question::Leaks {
+            process: process(entries)?,
+        },
+        CommandName::Stacks => Question::Stacks {
+            object: object(entries)?,
+            tag: tag(entries)?,
+        },
+        CommandName::Trace => Question::Trace {
+            process: process(entries)?,
+            handle: handle(entries)?,
+        },
+    })
+}
+
+/// `clap` gives a flag the text `true` or `false`.
+fn is_hex(entries: &ArgMatches) -> bool
+    ensures { result ≡ is_hex_in (entries_of entries.now) }
+{
+    match entry(entries, "hex") {
+        Some(text) => text == "true",
+        None => false,
+    }
+}
+
+/// The job of the command with these entries.
+#[tactic(auto, unfolding(crate::specs::Requests::job_of))]
+pub(crate) fn job<'a>(command: CommandName, entries: &ArgMatches<'a>) -> Result<Job, Refused<'a>>
+    ensures { result_ok result ≡ job_of command (entries_of entries.now) }
+{
+    Ok(Job {
+        question: question(command, entries)?,
+        hex: is_hex(entries),
+        workers: workers(entries)?,
+    })
+}
+
+fn copies(alloc: Global, texts: &[&str]) -> Result<Vec<String>, AllocError>
+    ensures { IfOk result (λ copies.
+        map string_bytes copies.items ≡ map (λ text. text.now) texts.now) }
+{
+    let mut copies = Vec::new(alloc);
+    for text in texts {
+        copies.push(String::from_str(alloc, text)?)?;
+    }
+    Ok(copies)
+}
+
+pub(crate) fn files(alloc: Global, entries: &ArgMatches) -> Result<Vec<String>, AllocError>
+    ensures { IfOk result (λ files. map string_bytes files.items ≡ file_names (entries_of entries.now)) }
+{
+    match entry_list(entries, "files") {
+        None => Ok(Vec::new(alloc)),
+        Some(texts) => copies(alloc, texts),
+    }
+}
+
+pub(crate) fn symbols(alloc: Global, entries: &ArgMatches) -> Result<Option<String>, AllocError>
+    ensures { IfOk result (λ name. option_map string_bytes name
+        ≡ given_in option.Symbols (entries_of entries.now)) }
+{
+    match given(entries, CommandOption::Symbols) {
+        None => Ok(None),
+        Some(text) => Ok(Some(String::from_str(alloc, text)?)),
+    }
+}

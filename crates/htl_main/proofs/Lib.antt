@@ -1,0 +1,5 @@
+pub mod NoMemoryFault
+pub mod InputLaws
+pub mod SplitLaws
+pub mod SourceLaws
+pub mod WholeLaws

@@ -1,0 +1,87 @@
+-- Sources one after another: which of them has failed, and what is told of the one that was read last.
+use Rattle.std.proofs.Common.{◌≡◌, ◌<◌, ◌≤◌, ℕ, zero, suc, Bool, true, false, List, [], ◌∷◌, length, map, All, refl, sym, ap, ◌∙◌}
+use Rattle.std.proofs.Common.{Option, Some, None, IfSome, arith}
+use Rattle.std.specs.Prelude.{slice_get, option_map}
+use Rattle.std.proofs.Math.ListN.{set}
+use Rattle.std.proofs.lemmas.List.Elements.{All-head, All-tail}
+use Rattle.std.proofs.lemmas.Option.{slice_get-map}
+use Rattle.htl_device.specs.declared.whole.TheConstants.{MAX_READS}
+use Rattle.htl_main.specs.Sources.{IsTrueAt, MayBeEndless}
+
+pub slice_get-set_other : {X : Type 0} (xs : List X) (i k : ℕ) (y : X) → (k ≡ i → ⊥) → slice_get (set xs i y) k ≡ slice_get xs k
+slice_get-set_other [] i k y other = refl
+slice_get-set_other (x ∷ xs) zero zero y other = absurd (other refl)
+slice_get-set_other (x ∷ xs) zero (suc k) y other = refl
+slice_get-set_other (x ∷ xs) (suc i) zero y other = refl
+slice_get-set_other (x ∷ xs) (suc i) (suc k) y other = slice_get-set_other xs i k y (λ e. other (ap suc e))
+
+slice_get-set_same : {X : Type 0} (xs : List X) (i : ℕ) (y : X) → i < length xs → slice_get (set xs i y) i ≡ Some y
+slice_get-set_same [] i y within = absurd (omega arith)
+slice_get-set_same (x ∷ xs) zero y within = refl
+slice_get-set_same (x ∷ xs) (suc i) y within = slice_get-set_same xs i y (omega arith)
+
+-- the test of the element at a place
+pub other_value : {X Y : Type 0} (f : X → Y) (xs : List X) (i k : ℕ) (y : X) → (k ≡ i → ⊥)
+    → slice_get (map f (set xs i y)) k ≡ slice_get (map f xs) k
+other_value f xs i k y other =
+    slice_get-map f (set xs i y) k ∙ ap (option_map f) (slice_get-set_other xs i k y other) ∙ sym (slice_get-map f xs k)
+
+pub true_there : {X : Type 0} (f : X → Bool) (xs : List X) (i : ℕ) (y : X) → i < length xs → f y ≡ true → IsTrueAt (map f (set xs i y)) i
+true_there f xs i y within holds =
+    slice_get-map f (set xs i y) i ∙ ap (option_map f) (slice_get-set_same xs i y within) ∙ ap Some holds
+
+-- where the test is false of all it is true of none
+pub true_nowhere : {X : Type 0} (f : X → Bool) (xs : List X) (k : ℕ) → All (λ x. f x ≡ false) xs → IsTrueAt (map f xs) k → ⊥
+true_nowhere f [] k all holds = cc
+true_nowhere f (x ∷ xs) zero all holds =
+    let no : f x ≡ false = All-head (λ z. f z ≡ false) x xs all in cc
+true_nowhere f (x ∷ xs) (suc k) all holds = true_nowhere f xs k (All-tail (λ z. f z ≡ false) x xs all) holds
+
+-- where it was false of all, it is true of the new element alone
+pub true_of_new : {X : Type 0} (f : X → Bool) (xs : List X) (i k : ℕ) (y : X) → All (λ x. f x ≡ false) xs
+    → IsTrueAt (map f (set xs i y)) k → (k ≡ i) × (f y ≡ true)
+true_of_new f [] i k y all holds = absurd cc
+true_of_new f (x ∷ xs) zero zero y all holds = (refl, cc)
+true_of_new f (x ∷ xs) zero (suc k) y all holds = absurd (true_nowhere f xs k (All-tail (λ z. f z ≡ false) x xs all) holds)
+true_of_new f (x ∷ xs) (suc i) zero y all holds =
+    let no : f x ≡ false = All-head (λ z. f z ≡ false) x xs all in absurd cc
+true_of_new f (x ∷ xs) (suc i) (suc k) y all holds =
+    let there = true_of_new f xs i k y (All-tail (λ z. f z ≡ false) x xs all) holds in (ap suc there.0, there.1)
+
+-- the bytes that the source at a place tells
+pub record Tells (inputs : List (List ℕ)) (place : ℕ) (known : Option (List ℕ)) : Type 0 where
+  pub input : List ℕ
+  pub here : slice_get inputs place ≡ Some input
+  pub is : known ≡ Some input
+
+tells_all : (inputs : List (List ℕ)) (place : ℕ) (known : Option (List ℕ))
+    → slice_get (map (λ (x : List ℕ). Some x) inputs) place ≡ Some known
+    → Tells inputs place known
+tells_all [] place known is = absurd cc
+tells_all (x ∷ inputs) zero known is = record { input = x; here = refl; is = cc }
+tells_all (x ∷ inputs) (suc place) known is =
+    let there = tells_all inputs place known is in record { input = there.input; here = there.here; is = there.is }
+
+-- the source that is read next gives what it gave at the start
+pub known_now : {X : Type 0} (f : X → Option (List ℕ)) (first now : List X) (place : ℕ) (x : X)
+    → slice_get (map f now) place ≡ slice_get (map f first) place → slice_get now place ≡ Some x
+    → slice_get (map f first) place ≡ Some (f x)
+known_now f first now place x left here =
+    sym left ∙ slice_get-map f now place ∙ ap (option_map f) here
+
+pub tells_now : {X : Type 0} (f : X → Option (List ℕ)) (first now : List X) (inputs : List (List ℕ)) (place : ℕ) (x : X)
+    → slice_get (map f now) place ≡ slice_get (map f first) place → slice_get now place ≡ Some x
+    → map f first ≡ map (λ (y : List ℕ). Some y) inputs → Tells inputs place (f x)
+tells_now f first now inputs place x left here all =
+    tells_all inputs place (f x) (ap (λ (l : List (Option (List ℕ))). slice_get l place) (sym all)
+    ∙ known_now f first now place x left here)
+
+-- a fact of the known bytes, where they are told
+pub at_told : (inputs : List (List ℕ)) (place : ℕ) (known : Option (List ℕ)) (P : List ℕ → Type 0) (tells : Tells inputs place known)
+    → IfSome known P → P tells.input
+at_told inputs place None P tells fact = absurd (let is = tells.is in cc)
+at_told inputs place (Some x) P tells fact = let is : x ≡ tells.input = let e = tells.is in cc in rw (← is) fact
+
+pub endless_at : {X : Type 0} (f : X → Option (List ℕ)) (first : List X) (place : ℕ) (x : X) → slice_get (map f first) place ≡ Some (f x)
+    → IfSome (f x) (λ bytes. MAX_READS ≤ length bytes) → MayBeEndless (map f first) place
+endless_at f first place x here many = (f x, here, many)

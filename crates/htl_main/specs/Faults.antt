@@ -1,0 +1,48 @@
+-- How the faults of the crates below are told as faults of a run (this project's own): want of memory is one
+-- fault wherever it comes, and every other one says of which input it is, or of what.
+use Rattle.std.specs.Prelude.{ℕ}
+use Rattle.htl_device.specs.declared.whole.ReadFault.{ReadFault}
+use Rattle.htl_device.specs.declared.whole.ReadFault.TheVariants as reads
+use Rattle.htl_segment.specs.declared.fault.Fault.{Fault}
+use Rattle.htl_segment.specs.declared.fault.Fault.TheVariants as faults
+use Rattle.htl_segment.specs.declared.hexadecimal.HexFault.{HexFault}
+use Rattle.htl_segment.specs.declared.hexadecimal.HexFault.TheVariants as digits
+use Rattle.htl_case.specs.declared.fault.CaseFault.{CaseFault}
+use Rattle.htl_case.specs.declared.fault.CaseFault.TheVariants as cases
+use Rattle.htl_exchange.specs.declared.fault.SurveyFault.{SurveyFault}
+use Rattle.htl_exchange.specs.declared.fault.SurveyFault.TheVariants as surveys
+use Rattle.htl_symbols.specs.declared.fault.SymbolFault.{SymbolFault}
+use Rattle.htl_symbols.specs.declared.fault.SymbolFault.TheVariants as tables
+use Rattle.htl_main.specs.declared.fault.RunFault.{RunFault}
+use Rattle.htl_main.specs.declared.fault.RunFault.TheVariants.{Workers, Segment, Hex, Case, Symbols, Read, Memory, NoThread}
+
+-- of the bytes at an offset of an input
+abbrev pub of_segment : ℕ → ℕ → Fault → RunFault
+of_segment input offset faults.NoMemory = Memory
+of_segment input offset fault = Segment input offset fault
+
+-- of the digits of an input
+abbrev pub of_hex : ℕ → HexFault → RunFault
+of_hex input digits.NoMemory = Memory
+of_hex input fault = Hex input fault
+
+-- of a read of an input
+abbrev pub of_read : ℕ → ReadFault → RunFault
+of_read input reads.NoMemory = Memory
+of_read input reads.Failed = Read input
+
+-- of the segments as a case
+abbrev pub of_case : CaseFault → RunFault
+of_case cases.NoMemory = Memory
+of_case fault = Case fault
+
+-- of the symbols
+abbrev pub of_symbols : SymbolFault → RunFault
+of_symbols tables.NoMemory = Memory
+of_symbols fault = Symbols fault
+
+-- of a survey
+abbrev pub of_survey : SurveyFault → RunFault
+of_survey surveys.Workers = Workers
+of_survey surveys.NoMemory = Memory
+of_survey surveys.NoThread = NoThread

@@ -1,0 +1,57 @@
+-- Which segments the inputs of a run spell, and which input is refused first (this project's own).
+use Rattle.std.specs.Prelude.{◌≡◌, ℕ, Bool, true, false, List, [], ◌∷◌, ◌++◌, take, slice_get, Some, None}
+use Rattle.htl_segment.specs.Content.{Content}
+use Rattle.htl_segment.specs.Hexadecimal.{WritesBytes, hex_fault}
+use Rattle.htl_segment.specs.Bundles.{Splits, BundleFault, SegmentAt}
+use Rattle.htl_segment.specs.declared.fault.Fault.{Fault}
+use Rattle.htl_segment.specs.declared.hexadecimal.HexFault.{HexFault}
+use Rattle.htl_main.specs.declared.fault.RunFault.{RunFault}
+use Rattle.htl_main.specs.declared.fault.RunFault.TheVariants.{Segment, Hex, Memory}
+
+-- the bytes of an input, which is these bytes or writes them in hexadecimal
+abbrev pub HasBytes : Bool → List ℕ → List ℕ → Type 0
+HasBytes false input bytes = bytes ≡ input
+HasBytes true input bytes = WritesBytes input bytes
+
+-- the input's bytes are those of these segments, one after another
+pub record Decodes (hex : Bool) (input : List ℕ) (segments : List Content) : Type 0 where
+  pub bytes : List ℕ
+  pub has : HasBytes hex input bytes
+  pub splits : Splits bytes segments []
+
+-- the segments of all inputs, those of the first input first
+abbrev pub DecodeAll : Bool → List (List ℕ) → List Content → Type 0
+DecodeAll hex [] segments = segments ≡ []
+DecodeAll hex (input ∷ more) segments =
+    (first later : List Content) × Decodes hex input first × DecodeAll hex more later × (segments ≡ first ++ later)
+
+-- at this offset of the input's bytes stand some that begin with no segment: their first fault
+pub record HasBundleFault (hex : Bool) (input : List ℕ) (offset : ℕ) (fault : Fault) : Type 0 where
+  pub bytes : List ℕ
+  pub has : HasBytes hex input bytes
+  pub is : BundleFault bytes offset fault
+
+-- the input is a text that writes no bytes
+abbrev pub HasHexFault : Bool → List ℕ → HexFault → Type 0
+HasHexFault hex input fault = (hex ≡ true) × (hex_fault input ≡ Some fault)
+
+-- Memory is asked for where the digits have no fault, and where a segment begins.
+abbrev pub AsksMemory : Bool → List ℕ → Type 0
+AsksMemory true input = hex_fault input ≡ None
+AsksMemory false input = (offset : ℕ) × SegmentAt input offset
+
+-- what is told of the input at a place: its first fault, and want of memory only where it is asked for
+abbrev pub IsTold : Bool → ℕ → List ℕ → RunFault → Type 0
+IsTold hex place input (Segment at offset fault) = (at ≡ place) × HasBundleFault hex input offset fault
+IsTold hex place input (Hex at fault) = (at ≡ place) × HasHexFault hex input fault
+IsTold hex place input Memory = AsksMemory hex input
+IsTold hex place input other = ⊥
+
+-- the inputs before one are decoded, and this is told of that one
+pub record StopsAt (hex : Bool) (Told : ℕ → List ℕ → RunFault → Type 0) (inputs : List (List ℕ)) (fault : RunFault) : Type 0 where
+  pub place : ℕ
+  pub input : List ℕ
+  pub here : slice_get inputs place ≡ Some input
+  pub segments : List Content
+  pub before : DecodeAll hex (take place inputs) segments
+  pub told : Told place input fault

@@ -1,0 +1,87 @@
+-- What a run prints for a job, its inputs and its symbol table, or why it is refused.
+use Rattle.std.specs.Prelude.{◌≡◌, ◌≢◌, ℕ, ◌<◌, ◌≤◌, List, [], Contains, Option, Some, None, Result, Ok, Err}
+use Rattle.htl_event.specs.Events.{Event}
+use Rattle.htl_event.specs.declared.slot.Count.{Count}
+use Rattle.htl_event.specs.Handles.{IsOutstanding, IsMark, IsDiff, IsListing}
+use Rattle.htl_event.specs.Tallies.{IsTags, IsBad, IsLeaks, IsStacks}
+use Rattle.htl_segment.specs.Content.{Content}
+use Rattle.htl_segment.specs.Traces.{Trace, all_events}
+use Rattle.htl_case.specs.Cases.{IsCaseOf}
+use Rattle.htl_case.specs.Faults.{IsOutcome}
+use Rattle.htl_symbols.specs.Ranges.{Range}
+use Rattle.htl_symbols.specs.Reading.{Reads, records_of}
+use Rattle.htl_symbols.specs.declared.fault.SymbolFault.{SymbolFault}
+use Rattle.htl_symbols.specs.declared.fault.SymbolFault.TheVariants as symbol_faults
+use Rattle.htl_report.specs.Opens.{outstanding_text, diff_text}
+use Rattle.htl_report.specs.TagBalances.{tags_text}
+use Rattle.htl_report.specs.BadReferences.{bad_text}
+use Rattle.htl_report.specs.Leaks.{leaks_text}
+use Rattle.htl_report.specs.ReferenceStacks.{stacks_text}
+use Rattle.htl_report.specs.Listings.{trace_text}
+use Rattle.htl_command.specs.declared.question.Job.{Job}
+use Rattle.htl_command.specs.declared.question.Question.{Question}
+use Rattle.htl_command.specs.declared.question.Question.TheVariants as asked
+use Rattle.htl_main.specs.Inputs.{DecodeAll, IsTold, StopsAt}
+use Rattle.htl_main.specs.declared.fault.RunFault.{RunFault}
+use Rattle.htl_main.specs.declared.fault.RunFault.TheVariants.{Workers, Segment, Hex, Case, Symbols}
+
+-- The lines of the answer to a question over these events. Without a moment a difference is since the mark.
+abbrev pub IsText : List Event → List Range → Question → List ℕ → Type 0
+IsText events table (asked.Outstanding process) lines =
+    (rows : List Event) × IsOutstanding (Contains events) process rows × (lines ≡ outstanding_text table process rows)
+IsText events table (asked.Diff process (Some since)) lines =
+    (rows : List Event) × IsDiff (Contains events) process since rows × (lines ≡ diff_text table process since rows)
+IsText events table (asked.Diff process None) lines =
+    (since : ℕ) × (rows : List Event) × IsMark (Contains events) process since × IsDiff (Contains events) process since rows
+    × (lines ≡ diff_text table process since rows)
+IsText events table (asked.Tags object) lines =
+    (rows : List (List ℕ × Count)) × IsTags events object rows × (lines ≡ tags_text object rows)
+IsText events table (asked.Bad process) lines =
+    (rows : List (ℕ × List ℕ × ℕ)) × IsBad events process rows × (lines ≡ bad_text table process rows)
+IsText events table (asked.Leaks process) lines =
+    (rows : List (List ℕ × ℕ)) × IsLeaks (Contains events) process rows × (lines ≡ leaks_text table process rows)
+IsText events table (asked.Stacks object tag) lines =
+    (rows : List (List ℕ × Count)) × IsStacks events object tag rows × (lines ≡ stacks_text table object tag rows)
+IsText events table (asked.Trace process handle) lines =
+    (rows : List Event) × IsListing (Contains events) process handle rows × (lines ≡ trace_text table process handle rows)
+
+-- the table of symbols, which has no range where none is given
+abbrev pub HasSymbols : Option (List ℕ) → List Range → Type 0
+HasSymbols None table = table ≡ []
+HasSymbols (Some bytes) table = Reads (records_of bytes) (Ok table)
+
+-- its first fault (want of memory is none)
+abbrev pub HasSymbolFault : Option (List ℕ) → SymbolFault → Type 0
+HasSymbolFault None fault = ⊥
+HasSymbolFault (Some bytes) fault = (fault ≢ symbol_faults.NoMemory) × Reads (records_of bytes) (Err fault)
+
+-- the lines are those of the answer over the trace of the case of the segments
+pub record Answers (segments : List Content) (symbols : Option (List ℕ)) (question : Question) (lines : List ℕ) : Type 0 where
+  pub trace : Trace
+  pub of_case : IsCaseOf segments trace
+  pub table : List Range
+  pub named : HasSymbols symbols table
+  pub is : IsText (all_events trace.segments) table question lines
+
+-- What decoded segments come to: the lines of the answer, or the first rule that they break as a case, or else
+-- the first fault of the symbols.
+abbrev pub IsPrinted : List Content → Option (List ℕ) → Question → Result (List ℕ) RunFault → Type 0
+IsPrinted segments symbols question (Ok lines) = Answers segments symbols question lines
+IsPrinted segments symbols question (Err (Case fault)) = IsOutcome segments (Err fault)
+IsPrinted segments symbols question (Err (Symbols fault)) = (T : Trace) × IsCaseOf segments T × HasSymbolFault symbols fault
+IsPrinted segments symbols question (Err other) = ⊥
+
+-- the number of workers is allowed
+abbrev pub WorkersFit : ℕ → Type 0
+WorkersFit workers = (0 < workers) × (workers ≤ 8)
+
+-- Printed: what a run comes to. Its inputs are decoded in order, each to its end, and the first fault ends the
+-- run. (A failed read or write, a refused growth and a refused thread are no faults of what is given.)
+abbrev pub Printed : Job → List (List ℕ) → Option (List ℕ) → Result (List ℕ) RunFault → Type 0
+Printed job inputs symbols (Err Workers) = WorkersFit job.workers → ⊥
+Printed job inputs symbols (Err (Segment at offset fault)) =
+    WorkersFit job.workers × StopsAt job.hex (IsTold job.hex) inputs (Segment at offset fault)
+Printed job inputs symbols (Err (Hex at fault)) = WorkersFit job.workers × StopsAt job.hex (IsTold job.hex) inputs (Hex at fault)
+Printed job inputs symbols outcome =
+    WorkersFit job.workers
+    × (segments : List Content) × DecodeAll job.hex inputs segments × IsPrinted segments symbols job.question outcome

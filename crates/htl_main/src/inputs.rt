@@ -1,0 +1,57 @@
+//! The segments of inputs that lie in memory.
+
+ghost use Rattle.std.specs.Prelude.{◌≡◌, false, true, IfOk, IfErr, map};
+ghost use Rattle.htl_segment.specs.Bundles.{Splits, BundleFault};
+ghost use Rattle.htl_main.specs.Inputs.{Decodes, DecodeAll, IsTold, StopsAt};
+
+use crate::fault::RunFault;
+use htl_segment::{Segment, decode_bundle, from_hex};
+use std::alloc::Global;
+
+/// The segments of all inputs, those of the first input first. The first fault is told.
+pub(crate) fn decode_all(
+    alloc: Global,
+    hex: bool,
+    inputs: &[Vec<u8>],
+) -> Result<Vec<Segment>, RunFault>
+    ensures ok { IfOk result (λ segments.
+        DecodeAll hex (map (λ input. input.items) inputs.now) segments.items) }
+    ensures err { IfErr result (StopsAt hex (IsTold hex) (map (λ input. input.items) inputs.now)) }
+{
+    let mut segments = Vec::new(alloc);
+    for (place, input) in inputs.iter().enumerate() {
+        let mut more = decode_input(alloc, hex, place as u64, input)?;
+        segments.append(&mut more)?;
+    }
+    Ok(segments)
+}
+
+/// The segments of the input at a place.
+pub(crate) fn decode_input(
+    alloc: Global,
+    hex: bool,
+    place: u64,
+    input: &[u8],
+) -> Result<Vec<Segment>, RunFault>
+    ensures ok { IfOk result (λ segments. Decodes hex input.now segments.items) }
+    ensures err { IfErr result (IsTold hex place input.now) }
+{
+    if !hex {
+        return decode_bytes(alloc, place, input);
+    }
+    match from_hex(alloc, input) {
+        Ok(bytes) => decode_bytes(alloc, place, &bytes),
+        Err(fault) => Err(RunFault::of_hex(place, fault)),
+    }
+}
+
+/// The segments that the bytes of the input at a place spell.
+fn decode_bytes(alloc: Global, place: u64, bytes: &[u8]) -> Result<Vec<Segment>, RunFault>
+    ensures ok { IfOk result (λ segments. Decodes false bytes.now segments.items) }
+    ensures err { IfErr result (IsTold false place bytes.now) }
+{
+    match decode_bundle(alloc, bytes) {
+        Ok(segments) => Ok(segments),
+        Err((offset, fault)) => Err(RunFault::of_segment(place, offset, fault)),
+    }
+}

@@ -1,0 +1,190 @@
+//! The segments that sources give, each read to its end.
+
+ghost use Rattle.std.specs.Prelude.{◌≡◌, ◌≢◌, ◌⊎◌, ◌+◌, ◌*◌, ◌<◌, ◌≤◌, ◌^◌, ◌++◌, ℕ, List, [], All, None, Some, false, true};
+ghost use Rattle.std.specs.Prelude.{length, map, IfOk, IfErr, IfSome};
+ghost use Rattle.htl_segment.specs.Bundles.{IsRest, Splits, cut_off};
+ghost use Rattle.htl_segment.specs.Pieces.{Refuses, start_of};
+ghost use Rattle.htl_segment.specs.declared.fault.Fault.{Fault};
+ghost use Rattle.htl_main.specs.Faults.{of_segment};
+ghost use Rattle.htl_main.specs.Inputs.{Decodes, DecodeAll, StopsAt};
+ghost use Rattle.htl_main.specs.Sources.{IsToldOfSource, IsTrueAt, MayBeEndless};
+
+use crate::fault::RunFault;
+use crate::inputs::decode_input;
+use htl_device::{MAX_READ_LEN, MAX_READS, Source, read_whole};
+use htl_segment::{Segment, Splitter};
+use std::alloc::Global;
+
+/// The segments of all sources, those of the first source first. The first fault is told, and ends the reading.
+pub(crate) fn read_all<R: Source>(
+    alloc: Global,
+    hex: bool,
+    sources: &mut [R],
+) -> Result<Vec<Segment>, RunFault>
+    requires { All (λ source. R.has_failed source ≡ false) sources.old }
+    ensures ok { (inputs : List (List ℕ)) → map R.remaining sources.old ≡ map Some inputs
+        → IfOk result (λ segments. DecodeAll hex inputs segments.items) }
+    ensures err { (inputs : List (List ℕ)) → map R.remaining sources.old ≡ map Some inputs
+        → IfErr result (λ fault. (fault ≡ RunFault.Memory)
+        ⊎ StopsAt hex (IsToldOfSource hex) inputs fault) }
+    ensures told { (place : ℕ) → IsTrueAt (map R.has_failed sources.new) place
+        → result ≡ Err (RunFault.Read place) }
+    ensures read { (place : ℕ) → result ≡ Err (RunFault.Read place)
+        → IsTrueAt (map R.has_failed sources.new) place
+        ⊎ MayBeEndless (map R.remaining sources.old) place }
+    ensures no_write { IfErr result (λ fault. fault ≢ RunFault.Write) }
+{
+    let mut segments = Vec::new(alloc);
+    for (place, source) in sources.iter_mut().enumerate() {
+        let mut more = read_input(alloc, hex, place as u64, source)?;
+        segments.append(&mut more)?;
+    }
+    Ok(segments)
+}
+
+/// The segments of the source at a place.
+fn read_input<R: Source>(
+    alloc: Global,
+    hex: bool,
+    place: u64,
+    source: &mut R,
+) -> Result<Vec<Segment>, RunFault>
+    requires { R.has_failed source.old ≡ false }
+    ensures ok { IfOk result (λ segments. IfSome (R.remaining source.old)
+        (λ bytes. Decodes hex bytes segments.items)) }
+    ensures err { IfErr result (λ fault. IfSome (R.remaining source.old)
+        (λ bytes. IsToldOfSource hex place bytes fault)) }
+    ensures told { R.has_failed source.new ≡ true → result ≡ Err (RunFault.Read place) }
+    ensures read { (at : ℕ) → result ≡ Err (RunFault.Read at) → (at ≡ place)
+        × ((R.has_failed source.new ≡ true)
+        ⊎ IfSome (R.remaining source.old) (λ bytes. MAX_READS ≤ length bytes)) }
+    ensures no_write { IfErr result (λ fault. fault ≢ RunFault.Write) }
+{
+    if hex {
+        read_digits(alloc, place, source)
+    } else {
+        read_bundle(alloc, place, source)
+    }
+}
+
+/// The segments that the source at a place writes in hexadecimal. Its text is gathered whole first.
+fn read_digits<R: Source>(
+    alloc: Global,
+    place: u64,
+    source: &mut R,
+) -> Result<Vec<Segment>, RunFault>
+    requires { R.has_failed source.old ≡ false }
+    ensures ok { IfOk result (λ segments. IfSome (R.remaining source.old)
+        (λ text. Decodes true text segments.items)) }
+    ensures err { IfErr result (λ fault. IfSome (R.remaining source.old)
+        (λ text. IsToldOfSource true place text fault)) }
+    ensures told { R.has_failed source.new ≡ true → result ≡ Err (RunFault.Read place) }
+    ensures read { (at : ℕ) → result ≡ Err (RunFault.Read at) → (at ≡ place)
+        × ((R.has_failed source.new ≡ true)
+        ⊎ IfSome (R.remaining source.old) (λ bytes. MAX_READS ≤ length bytes)) }
+    ensures no_write { IfErr result (λ fault. fault ≢ RunFault.Write) }
+{
+    match read_whole(alloc, source) {
+        Ok(text) => decode_input(alloc, true, place, &text),
+        Err(fault) => Err(RunFault::of_read(place, fault)),
+    }
+}
+
+/// The segments whose bytes the source at a place gives. Each read is split at once, so that no more of the
+/// bytes is kept than one segment that is not there whole yet.
+fn read_bundle<R: Source>(
+    alloc: Global,
+    place: u64,
+    source: &mut R,
+) -> Result<Vec<Segment>, RunFault>
+    requires { R.has_failed source.old ≡ false }
+    ensures ok { IfOk result (λ segments. IfSome (R.remaining source.old)
+        (λ bytes. Splits bytes segments.items [])) }
+    ensures err { IfErr result (λ fault. IfSome (R.remaining source.old)
+        (λ bytes. IsToldOfSource false place bytes fault)) }
+    ensures told { R.has_failed source.new ≡ true → result ≡ Err (RunFault.Read place) }
+    ensures read { (at : ℕ) → result ≡ Err (RunFault.Read at) → (at ≡ place)
+        × ((R.has_failed source.new ≡ true)
+        ⊎ IfSome (R.remaining source.old) (λ bytes. MAX_READS ≤ length bytes)) }
+    ensures no_write { IfErr result (λ fault. fault ≢ RunFault.Write) }
+{
+    let mut buffer = vec![in alloc; 0u8; MAX_READ_LEN]?;
+    split_within(alloc, place, source, &mut buffer, MAX_READS)
+}
+
+/// The same in reads of the buffer's length, of which at most `most` give bytes.
+fn split_within<R: Source>(
+    alloc: Global,
+    place: u64,
+    source: &mut R,
+    buffer: &mut [u8],
+    most: u64,
+) -> Result<Vec<Segment>, RunFault>
+    requires fresh { R.has_failed source.old ≡ false }
+    requires room { 0 < length buffer.old }
+    requires short { length buffer.old ≤ MAX_READ_LEN }
+    requires few { most * length buffer.old < 2 ^ 64 }
+    ensures ok { IfOk result (λ segments. IfSome (R.remaining source.old)
+        (λ bytes. Splits bytes segments.items [])) }
+    ensures err { IfErr result (λ fault. IfSome (R.remaining source.old)
+        (λ bytes. IsToldOfSource false place bytes fault)) }
+    ensures told { R.has_failed source.new ≡ true → result ≡ Err (RunFault.Read place) }
+    ensures read { (at : ℕ) → result ≡ Err (RunFault.Read at) → (at ≡ place)
+        × ((R.has_failed source.new ≡ true)
+        ⊎ IfSome (R.remaining source.old) (λ bytes. most ≤ length bytes)) }
+    ensures no_write { IfErr result (λ fault. fault ≢ RunFault.Write) }
+{
+    let mut splitter = Splitter::new(alloc);
+    let mut segments = Vec::new(alloc);
+    for _read in 0..most {
+        let Ok(count) = source.read(buffer) else {
+            return Err(RunFault::Read { input: place });
+        };
+        if count == 0 {
+            return finish(place, splitter, segments);
+        }
+        let mut more = feed(alloc, place, &mut splitter, &buffer[..count])?;
+        segments.append(&mut more)?;
+    }
+    Err(RunFault::Read { input: place })
+}
+
+/// The segments that the piece of the source at a place completes.
+fn feed(
+    alloc: Global,
+    place: u64,
+    splitter: &mut Splitter,
+    piece: &[u8],
+) -> Result<Vec<Segment>, RunFault>
+    requires room { splitter.old.fed + length piece.now < 2 ^ 64 }
+    requires fine { splitter.old.fault ≡ None }
+    ensures ok { IfOk result (λ segments.
+        Splits (splitter.old.rest ++ piece.now) segments.items splitter.new.rest
+        × ((splitter.new.fed ≡ splitter.old.fed + length piece.now)
+        × (splitter.new.fault ≡ None))) }
+    ensures err { IfErr result (λ fault. (refusal : ℕ × Fault)
+        × Refuses splitter.old piece.now refusal
+        × (fault ≡ of_segment place refusal.0 refusal.1)) }
+    ensures no_read { (at : ℕ) → result ≡ Err (RunFault.Read at) → ⊥ }
+    ensures no_write { IfErr result (λ fault. fault ≢ RunFault.Write) }
+{
+    match splitter.feed(alloc, piece) {
+        Ok(segments) => Ok(segments),
+        Err((offset, fault)) => Err(RunFault::of_segment(place, offset, fault)),
+    }
+}
+
+/// The segments of the source at a place, which has ended.
+fn finish(place: u64, splitter: Splitter, segments: Vec<Segment>) -> Result<Vec<Segment>, RunFault>
+    requires { splitter.fault ≡ None }
+    ensures ok { IfOk result (λ given. (given.items ≡ segments.items) × (splitter.rest ≡ [])) }
+    ensures err { IfErr result (λ fault. (0 < length splitter.rest) × IsRest splitter.rest
+        × (fault ≡ of_segment place (start_of splitter) (cut_off splitter.rest))) }
+    ensures no_read { (at : ℕ) → result ≡ Err (RunFault.Read at) → ⊥ }
+    ensures no_write { IfErr result (λ fault. fault ≢ RunFault.Write) }
+{
+    match splitter.finish() {
+        Ok(()) => Ok(segments),
+        Err((offset, fault)) => Err(RunFault::of_segment(place, offset, fault)),
+    }
+}

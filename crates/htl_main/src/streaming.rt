@@ -1,0 +1,56 @@
+//! The run over sources, which are read as it goes on.
+
+ghost use Rattle.std.specs.Prelude.{◌≡◌, ◌≢◌, ◌⊎◌, ℕ, List, All, Some, false, true, map, IfErr, OnOk};
+ghost use Rattle.std.specs.Option.{option_copied};
+ghost use Rattle.htl_main.specs.Causes.{Prints, PrintsPart};
+ghost use Rattle.htl_main.specs.Sources.{IsSourcesCause, IsTrueAt, MayBeEndless};
+
+use crate::fault::RunFault;
+use crate::printing::{check_workers, lines_of, write_lines};
+use crate::sources::read_all;
+use htl_command::Job;
+use htl_device::{Sink, Source};
+use std::alloc::Global;
+use std::sync::Wait;
+use std::thread::Threads;
+
+/// The same as `run` for the bytes that sources give, each of which is read to its end in reads of at most 65,536
+/// bytes.
+///
+/// A fault of a source's bytes ends the run with no further read. Bytes are decoded as they come; a text in
+/// hexadecimal is gathered whole first.
+pub fn run_from<Rt: Threads + Wait + Sync, R: Source, W: Sink>(
+    rt: &Rt,
+    alloc: Global,
+    job: &Job,
+    inputs: &mut [R],
+    symbols: Option<&[u8]>,
+    out: &mut W,
+) -> Result<(), RunFault>
+    requires inputs { All (λ source. R.has_failed source ≡ false) inputs.old }
+    requires out { W.has_failed out.old ≡ false }
+    // What the sources' bytes come to is printed, or told.
+    ensures ok { (texts : List (List ℕ)) → map R.remaining inputs.old ≡ map Some texts
+        → OnOk result (Prints job.now texts (option_copied symbols.entry)
+        (W.contents out.old) (W.contents out.new)) }
+    ensures fine { OnOk result (W.has_failed out.new ≡ false) }
+    ensures cause { (texts : List (List ℕ)) → map R.remaining inputs.old ≡ map Some texts
+        → IfErr result (IsSourcesCause job.now texts (option_copied symbols.entry)) }
+    ensures write { (texts : List (List ℕ)) → map R.remaining inputs.old ≡ map Some texts
+        → result ≡ Err RunFault.Write
+        → PrintsPart job.now texts (option_copied symbols.entry)
+        (W.contents out.old) (W.contents out.new) }
+    ensures failed { result ≡ Err RunFault.Write → W.has_failed out.new ≡ true }
+    // A read that failed is told, and told only then or after too many reads.
+    ensures told { (place : ℕ) → IsTrueAt (map R.has_failed inputs.new) place
+        → result ≡ Err (RunFault.Read place) }
+    ensures read { (place : ℕ) → result ≡ Err (RunFault.Read place)
+        → IsTrueAt (map R.has_failed inputs.new) place
+        ⊎ MayBeEndless (map R.remaining inputs.old) place }
+    ensures untouched { IfErr result (λ fault. fault ≢ RunFault.Write → out.new ≡ out.old) }
+{
+    check_workers(job.workers)?;
+    let segments = read_all(alloc, job.hex, inputs)?;
+    let lines = lines_of(rt, alloc, job, segments, symbols)?;
+    write_lines(out, &lines)
+}

@@ -1,0 +1,9 @@
+-- The lines of the rows so far were written.
+use Rattle.std.proofs.Common.{◌≡◌, ◌++◌, take, string_bytes}
+use Rattle.std.specs.List.{flat_map}
+use Rattle.htl_report.specs.BadReferences.{bad_lines}
+use Rattle.htl_report.proofs.bad.write_rows.Given as goal
+
+abbrev pub invariant-loop-handle : goal.invariant-loop-handle
+invariant-loop-handle l =
+    string_bytes l.out ≡ string_bytes l.initial.out ++ flat_map (bad_lines l.symbols) (take l.handle-index l.rows)

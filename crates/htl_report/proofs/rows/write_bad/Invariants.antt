@@ -1,7 +1,0 @@
-use Rattle.std.proofs.Common.{◌≡◌, ◌++◌, take, string_bytes}
-use Rattle.std.specs.List.{flat_map}
-use Rattle.htl_report.specs.Texts.{bad_lines}
-use Rattle.htl_report.proofs.rows.write_bad.Given as goal
-
-abbrev pub invariant-loop-handle : goal.invariant-loop-handle
-invariant-loop-handle l = string_bytes l.out ≡ string_bytes l.initial.out ++ flat_map (bad_lines l.symbols) (take l.handle-index l.rows)

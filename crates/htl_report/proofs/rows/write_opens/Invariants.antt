@@ -1,7 +1,0 @@
-use Rattle.std.proofs.Common.{◌≡◌, ◌++◌, take, string_bytes}
-use Rattle.std.specs.List.{flat_map}
-use Rattle.htl_report.specs.Texts.{open_lines}
-use Rattle.htl_report.proofs.rows.write_opens.Given as goal
-
-abbrev pub invariant-loop-event : goal.invariant-loop-event
-invariant-loop-event l = string_bytes l.out ≡ string_bytes l.initial.out ++ flat_map (open_lines l.symbols) (take l.event-index l.rows)

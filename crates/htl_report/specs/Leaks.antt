@@ -1,0 +1,19 @@
+-- The text of the stacks that opened outstanding handles, as bytes.
+use Rattle.std.specs.Prelude.{◌++◌, ℕ, List, codes, flat_map, length}
+use Rattle.std.specs.Fmt.{decimal}
+use Rattle.htl_symbols.specs.Ranges.{Range}
+use Rattle.htl_report.specs.Addresses.{line_feed, stack_lines}
+use Rattle.htl_report.specs.Parts.{process_head}
+
+-- how many handles
+unfoldable pub leak_line : ℕ → List ℕ
+leak_line handles = codes "LEAK handles=" ++ (decimal handles ++ line_feed)
+
+-- a stack, and how many handles it opened
+abbrev pub leak_lines : List Range → List ℕ × ℕ → List ℕ
+leak_lines symbols row = leak_line row.1 ++ stack_lines symbols row.0
+
+-- the leaking stacks of a process
+unfoldable pub leaks_text : List Range → ℕ → List (List ℕ × ℕ) → List ℕ
+leaks_text symbols process rows =
+    process_head (codes "leaks") process (length rows) ++ flat_map (leak_lines symbols) rows

@@ -1,0 +1,34 @@
+-- The text of the listing of a handle's events, as bytes.
+use Rattle.std.specs.Prelude.{◌++◌, ℕ, List, codes, flat_map, length}
+use Rattle.std.specs.Fmt.{decimal}
+use Rattle.htl_event.specs.Events.{Event}
+use Rattle.htl_event.specs.Slots.{base_of}
+use Rattle.htl_event.specs.declared.kind.Kind.{Kind}
+use Rattle.htl_event.specs.declared.kind.Kind.TheVariants.{Opened, Closed, BadRef, Snapshot, Ref, Deref, Exited}
+use Rattle.htl_symbols.specs.Ranges.{Range}
+use Rattle.htl_report.specs.Addresses.{hex, line_feed, stack_lines}
+use Rattle.htl_report.specs.Parts.{event_line}
+
+-- `!htrace` prints the first three; a listing has no other kind, but any event can be printed
+abbrev pub word_of : Kind → List ℕ
+word_of Opened = codes "OPEN"
+word_of Closed = codes "CLOSE"
+word_of BadRef = codes "BAD REF"
+word_of Snapshot = codes "SNAPSHOT"
+word_of Ref = codes "REF"
+word_of Deref = codes "DEREF"
+word_of Exited = codes "EXIT"
+
+-- an event, its handle as it was written
+abbrev pub listed_lines : List Range → Event → List ℕ
+listed_lines symbols e = event_line (word_of e.kind) e.handle e ++ stack_lines symbols e.stack
+
+unfoldable pub trace_head : ℕ → ℕ → ℕ → List ℕ
+trace_head process base count =
+    codes "trace process=" ++ (decimal process ++ (codes " handle=0x" ++ (hex base
+    ++ (codes " count=" ++ (decimal count ++ line_feed)))))
+
+-- the events of a handle of a process, with the base handle first
+unfoldable pub trace_text : List Range → ℕ → ℕ → List Event → List ℕ
+trace_text symbols process handle rows =
+    trace_head process (base_of handle) (length rows) ++ flat_map (listed_lines symbols) rows

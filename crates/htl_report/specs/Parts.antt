@@ -1,0 +1,37 @@
+-- Parts of lines that several answers print, as bytes.
+use Rattle.std.specs.Prelude.{◌++◌, ◌&&◌, ℕ, List, codes, if◌then◌else◌, map, nat_le}
+use Rattle.std.specs.Fmt.{decimal}
+use Rattle.htl_event.specs.Events.{Event}
+use Rattle.htl_event.specs.declared.slot.Count.{Count}
+use Rattle.htl_report.specs.Addresses.{hex, hex16, line_feed}
+
+-- the first line of an answer about a process, by its word
+unfoldable pub process_head : List ℕ → ℕ → ℕ → List ℕ
+process_head word process count =
+    word ++ (codes " process=" ++ (decimal process ++ (codes " count=" ++ (decimal count ++ line_feed))))
+
+-- the start of the first line of one about an object
+unfoldable pub object_part : List ℕ → ℕ → List ℕ
+object_part word object = word ++ (codes " object=0x" ++ hex16 object)
+
+-- its end: the number of rows
+unfoldable pub count_part : ℕ → List ℕ
+count_part count = codes " count=" ++ (decimal count ++ line_feed)
+
+-- the line of an event, by this word and this handle
+unfoldable pub event_line : List ℕ → ℕ → Event → List ℕ
+event_line word handle e =
+    word ++ (codes " handle=0x" ++ (hex handle ++ (codes " seq=" ++ (decimal e.sequence
+    ++ (codes " thread=" ++ (decimal e.thread ++ line_feed))))))
+
+-- references and dereferences
+unfoldable pub counts : Count → List ℕ
+counts c = codes "refs=" ++ (decimal c.plus ++ (codes " derefs=" ++ decimal c.minus))
+
+-- printable ASCII as itself, and a dot for every other byte
+abbrev pub shown_byte : ℕ → ℕ
+shown_byte b = if nat_le 0x20 b && nat_le b 0x7E then b else 46
+
+-- a tag in display order
+abbrev pub shown_tag : List ℕ → List ℕ
+shown_tag tag = map shown_byte tag

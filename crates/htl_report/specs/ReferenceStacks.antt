@@ -1,0 +1,21 @@
+-- The text of the stacks of an object's references and dereferences under a tag, as bytes.
+use Rattle.std.specs.Prelude.{◌++◌, ℕ, List, codes, flat_map, length}
+use Rattle.htl_event.specs.declared.slot.Count.{Count}
+use Rattle.htl_symbols.specs.Ranges.{Range}
+use Rattle.htl_report.specs.Addresses.{line_feed, stack_lines}
+use Rattle.htl_report.specs.Parts.{count_part, counts, object_part, shown_tag}
+
+abbrev pub stack_line : Count → List ℕ
+stack_line c = codes "STACK " ++ (counts c ++ line_feed)
+
+-- a stack, and how often it referenced and dereferenced
+abbrev pub stacks_lines : List Range → List ℕ × Count → List ℕ
+stacks_lines symbols row = stack_line row.1 ++ stack_lines symbols row.0
+
+abbrev pub stacks_head : ℕ → List ℕ → ℕ → List ℕ
+stacks_head object tag count = object_part (codes "stacks") object ++ (codes " tag=" ++ (shown_tag tag ++ count_part count))
+
+-- the stacks of an object's references and dereferences under a tag
+unfoldable pub stacks_text : List Range → ℕ → List ℕ → List (List ℕ × Count) → List ℕ
+stacks_text symbols object tag rows =
+    stacks_head object tag (length rows) ++ flat_map (stacks_lines symbols) rows

@@ -1,0 +1,78 @@
+//! Listings of the events of a handle.
+
+ghost use Rattle.std.specs.Prelude.{◌≡◌, ◌++◌, OnOk, flat_map, string_bytes};
+ghost use Rattle.htl_report.specs.Listings.{listed_lines, trace_head, trace_text, word_of};
+
+use crate::address::write_stack;
+use crate::parts::write_event;
+use htl_event::{Kind, SharedEvent, base};
+use htl_symbols::Symbols;
+use std::alloc::AllocError;
+
+#[tactic(auto, unfolding(crate::specs::Listings::trace_text))]
+pub(crate) fn write_trace(
+    out: &mut String,
+    symbols: &Symbols,
+    process: u32,
+    handle: u32,
+    rows: &[SharedEvent],
+) -> Result<(), AllocError>
+    ensures { OnOk result (string_bytes out.new
+        ≡ string_bytes out.old ++ trace_text symbols.now process handle rows.now) }
+{
+    write_trace_head(out, process, base(handle), rows.len())?;
+    write_listing(out, symbols, rows)
+}
+
+#[tactic(auto, unfolding(crate::specs::Listings::trace_head))]
+fn write_trace_head(
+    out: &mut String,
+    process: u32,
+    base: u32,
+    count: usize,
+) -> Result<(), AllocError>
+    ensures { OnOk result (string_bytes out.new
+        ≡ string_bytes out.old ++ trace_head process base count) }
+{
+    writeln!(
+        out,
+        "trace process={process} handle=0x{base:x} count={count}"
+    )
+}
+
+fn write_listing(
+    out: &mut String,
+    symbols: &Symbols,
+    rows: &[SharedEvent],
+) -> Result<(), AllocError>
+    ensures { OnOk result (string_bytes out.new
+        ≡ string_bytes out.old ++ flat_map (listed_lines symbols.now) rows.now) }
+{
+    for event in rows {
+        write_listed(out, symbols, event)?;
+    }
+    Ok(())
+}
+
+fn write_listed(out: &mut String, symbols: &Symbols, event: &SharedEvent) -> Result<(), AllocError>
+    ensures { OnOk result (string_bytes out.new
+        ≡ string_bytes out.old ++ listed_lines symbols.now event.now) }
+{
+    write_event(out, word(event.kind), event.handle, event)?;
+    write_stack(out, symbols, event.stack.frames())
+}
+
+/// The word of an event of this kind. A listing has the first three alone, but any event can be printed.
+fn word(kind: Kind) -> &'static str
+    ensures { result.now ≡ word_of kind }
+{
+    match kind {
+        Kind::Opened => "OPEN",
+        Kind::Closed => "CLOSE",
+        Kind::BadRef => "BAD REF",
+        Kind::Snapshot => "SNAPSHOT",
+        Kind::Ref => "REF",
+        Kind::Deref => "DEREF",
+        Kind::Exited => "EXIT",
+    }
+}

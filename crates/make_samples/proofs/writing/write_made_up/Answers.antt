@@ -1,0 +1,18 @@
+-- One turn more writes the segments of its keys.
+use Rattle.htl_samples.specs.declared.trace.Trace.{Trace}
+use Rattle.htl_samples.specs.declared.trace.TheConstants.{TRACE}
+use Rattle.make_samples.specs.Writing.{turn, turns}
+use Rattle.make_samples.proofs.Written.{keys-both, turns-more}
+use Rattle.make_samples.proofs.writing.write_made_up.Goals as goal
+
+pub loop-number-preserved : goal.loop-number-preserved
+loop-number-preserved g c =
+    let trace : Trace = record TRACE { processors = c.args.made_up.now.processors } in
+    let p = c.args.made_up.now.processors in
+    let n = c.loop-number.number in
+    record {
+      written = rw (turns-more p n) (keys-both trace (turns p n) (turn p n) (g.W.Sink.contents c.args.out.now)
+          (g.W.Sink.contents c.loop-number.out) (g.W.Sink.contents c.write_turn.new.out) c.loop-number.invariant.written
+          c.in_ok-write_turn.ensures.ok);
+      fine = c.in_ok-write_turn.ensures.fine;
+    }

@@ -1,0 +1,21 @@
+-- One processor more writes the segment of one key more.
+use Rattle.std.proofs.Common.{[], ◌∷◌}
+use Rattle.htl_samples.specs.declared.trace.Trace.{Trace}
+use Rattle.htl_samples.specs.declared.trace.TheConstants.{TRACE}
+use Rattle.make_samples.specs.Writing.{turn}
+use Rattle.make_samples.proofs.Written.{keys-both, keys-one, turn-more}
+use Rattle.make_samples.proofs.writing.write_turn.Goals as goal
+
+pub loop-processor-preserved : goal.loop-processor-preserved
+loop-processor-preserved g c =
+    let trace : Trace = record TRACE { processors = c.args.made_up.now.processors } in
+    let p = c.loop-processor.processor in
+    let n = c.args.number in
+    let mid = g.W.Sink.contents c.loop-processor.out in
+    let new = g.W.Sink.contents c.write_segment.new.out in
+    record {
+      written = rw (turn-more p n) (keys-both trace (turn p n) ((p, n) ∷ []) (g.W.Sink.contents c.args.out.now) mid new
+          c.loop-processor.invariant.written
+          (keys-one trace c.in_ok-segment.segment (p, n) mid new c.in_ok-segment.ensures.1 c.in_ok-write_segment.ensures.ok));
+      fine = c.in_ok-write_segment.ensures.fine;
+    }

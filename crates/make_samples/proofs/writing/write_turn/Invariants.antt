@@ -1,0 +1,10 @@
+-- The segments of the processors so far went out.
+use Rattle.std.proofs.Common.{◌≡◌, false}
+use Rattle.make_samples.specs.Writing.{WritesKeys, turn}
+use Rattle.make_samples.proofs.writing.write_turn.Given as goal
+
+abbrev pub invariant-loop-processor : goal.invariant-loop-processor
+invariant-loop-processor g l = record {
+  written : WritesKeys l.trace (turn l.processor l.number) (g.W.Sink.contents l.initial.out) (g.W.Sink.contents l.out);
+  fine : g.W.Sink.has_failed l.out ≡ false;
+}

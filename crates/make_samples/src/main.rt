@@ -1,0 +1,44 @@
+//! Writes sample traces to standard output, as bundles of segments.
+//!
+//! `make_samples driver`, `object` and `exit` write small traces that tell a story. `make_samples trace MEGABYTES
+//! STACKS HANDLES PROCESSORS` writes a made-up trace of about that size, to measure with: each segment is made,
+//! written and let go, so it takes little memory whatever the size.
+//!
+//! `stories.rt` has the stories, `sizes.rt` the sizes of made-up traces, and `writing.rt` writes both.
+#![tactic(auto)]
+
+mod fault;
+mod sizes;
+mod stories;
+mod writing;
+
+use anyhow::{Result, bail};
+use htl_device::Writing;
+use std::{env, io};
+use stories::Story;
+
+const USAGE: &str =
+    "make_samples driver | object | exit | trace MEGABYTES STACKS HANDLES PROCESSORS";
+
+fn main(rt: HostRuntime) -> Result<()> {
+    let alloc = rt.alloc();
+    let words: Vec<String> = env::args(&rt)?.skip(1).collect(alloc)?;
+    let mut out = Writing::new(io::writer(&rt));
+    match words.as_slice() {
+        [name] => match Story::named(name) {
+            Some(story) => writing::write_lines(alloc, story.trace, story.lines, &mut out)?,
+            None => bail!("{USAGE}"),
+        },
+        [kind, megabytes, stacks, handles, processors] if kind.as_str() == "trace" => {
+            let made_up = sizes::made_up(
+                megabytes.parse()?,
+                stacks.parse()?,
+                handles.parse()?,
+                processors.parse()?,
+            );
+            writing::write_made_up(alloc, &made_up, &mut out)?;
+        }
+        _ => bail!("{USAGE}"),
+    }
+    Ok(())
+}

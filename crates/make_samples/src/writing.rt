@@ -1,0 +1,115 @@
+//! Segments as they are made, one after the other into a sink.
+ghost use Rattle.std.specs.Prelude.{◌≡◌, [], ◌∷◌, false, true, length, IfOk, OnOk};
+ghost use Rattle.htl_samples.specs.Samples.{IsOfTrace};
+ghost use Rattle.make_samples.specs.Writing.{Writes, WritesCount, WritesKeys, key_of, turn, turns};
+
+use crate::fault::MakeFault;
+use htl_device::{Sink, write_whole};
+use htl_samples::{RandomTrace, SampleFault, TRACE, Trace};
+use htl_segment::{Segment, encode};
+use std::alloc::Global;
+
+/// Writes the segment of each line, in their order. After a fault the segments before it are written, and after
+/// a failed write a part of one more.
+pub fn write_lines<W: Sink>(
+    alloc: Global,
+    trace: Trace,
+    lines: &[&str],
+    out: &mut W,
+) -> Result<(), MakeFault>
+    requires { W.has_failed out.old ≡ false }
+    ensures ok { OnOk result (WritesCount trace (length lines.now)
+        (W.contents out.old) (W.contents out.new)) }
+    ensures fine { OnOk result (W.has_failed out.new ≡ false) }
+    ensures told { W.has_failed out.new ≡ true → result ≡ Err MakeFault.Write }
+{
+    for line in lines {
+        let segment = trace.segment(alloc, line)?;
+        write_segment(alloc, trace, &segment, out)?;
+    }
+    Ok(())
+}
+
+/// Writes a made-up trace: number 0 of each processor, then number 1 of each, and so on. Only one segment is in
+/// memory at a time. After a fault the segments before it are written, and after a failed write a part of one
+/// more.
+pub fn write_made_up<W: Sink>(
+    alloc: Global,
+    made_up: &RandomTrace,
+    out: &mut W,
+) -> Result<(), MakeFault>
+    requires { W.has_failed out.old ≡ false }
+    ensures ok { OnOk result (WritesKeys (record TRACE { processors = made_up.now.processors })
+        (turns made_up.now.processors made_up.now.segments)
+        (W.contents out.old) (W.contents out.new)) }
+    ensures fine { OnOk result (W.has_failed out.new ≡ false) }
+    ensures told { W.has_failed out.new ≡ true → result ≡ Err MakeFault.Write }
+{
+    for number in 0..made_up.segments {
+        write_turn(alloc, made_up, number, out)?;
+    }
+    Ok(())
+}
+
+/// Writes the segment of this number of each processor.
+fn write_turn<W: Sink>(
+    alloc: Global,
+    made_up: &RandomTrace,
+    number: u32,
+    out: &mut W,
+) -> Result<(), MakeFault>
+    requires { W.has_failed out.old ≡ false }
+    ensures ok { OnOk result (WritesKeys (record TRACE { processors = made_up.now.processors })
+        (turn made_up.now.processors number)
+        (W.contents out.old) (W.contents out.new)) }
+    ensures fine { OnOk result (W.has_failed out.new ≡ false) }
+    ensures told { W.has_failed out.new ≡ true → result ≡ Err MakeFault.Write }
+{
+    let trace = Trace {
+        processors: made_up.processors,
+        ..TRACE
+    };
+    for processor in 0..made_up.processors {
+        let segment = make_up(alloc, trace, made_up, processor, number)?;
+        write_segment(alloc, trace, &segment, out)?;
+    }
+    Ok(())
+}
+
+/// The segment of a key, of made-up events.
+fn make_up(
+    alloc: Global,
+    trace: Trace,
+    made_up: &RandomTrace,
+    processor: u16,
+    number: u32,
+) -> Result<Segment, SampleFault>
+    ensures { IfOk result (λ s. IsOfTrace trace s × (key_of s ≡ (processor, number))) }
+{
+    let mut events = Vec::with_capacity(alloc, made_up.events as usize)?;
+    for place in 0..made_up.events {
+        events.push(made_up.event(processor, number, place))?;
+    }
+    Ok(Segment::build2(alloc, trace.id, trace.processors, processor, number, events)?)
+}
+
+/// Writes one segment.
+fn write_segment<W: Sink>(
+    alloc: Global,
+    trace: Trace,
+    segment: &Segment,
+    out: &mut W,
+) -> Result<(), MakeFault>
+    requires fresh { W.has_failed out.old ≡ false }
+    requires of_trace { IsOfTrace trace segment.now }
+    ensures ok { OnOk result (Writes trace (segment.now ∷ [])
+        (W.contents out.old) (W.contents out.new)) }
+    ensures fine { OnOk result (W.has_failed out.new ≡ false) }
+    ensures told { W.has_failed out.new ≡ true → result ≡ Err MakeFault.Write }
+{
+    let bytes = encode(alloc, segment).map_err(SampleFault::from)?;
+    match write_whole(out, &bytes) {
+        Ok(()) => Ok(()),
+        Err(_) => Err(MakeFault::Write),
+    }
+}

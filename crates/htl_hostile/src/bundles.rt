@@ -10,8 +10,8 @@ pub const BUNDLES: u32 = 500;
 
 const PROCESSORS: u16 = 2;
 
-/// The bundle of a number: one to three segments in either version, with up to three events each. Every tenth one
-/// has deep stacks, and every ninth one the last numbers that segments may have.
+/// The bundle of a number: one to three segments in either version, with up to three events each.
+/// Every tenth one has deep stacks, and every ninth one the last numbers that segments may have.
 pub fn bundle(alloc: Global, number: u32) -> Result<Vec<u8>, SampleFault> {
     let made_up = RandomTrace {
         seed: u64::from(number),

@@ -7,7 +7,8 @@ use std::alloc::Global;
 use std::process::Abort;
 use std::test::Fail;
 
-/// What `decode` says of the bytes: the length of the segment at their front, which is written as it was read.
+/// What `decode` says of the bytes: the length of the segment at their front, which is written as
+/// it was read.
 fn check_first(rt: &impl Abort, alloc: Global, bytes: &[u8]) -> Result<(), Fail> {
     let wanted = segment_len(bytes);
     match decode(alloc, bytes) {

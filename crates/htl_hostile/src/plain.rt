@@ -1,5 +1,5 @@
-//! A plain reader of the format, which only looks for faults. It was written from docs/FORMAT.md and shares no code
-//! with the readers that it is compared with.
+//! A plain reader of the format, which only looks for faults. It was written from docs/FORMAT.md
+//! and shares no code with the readers that it is compared with.
 
 ghost use Rattle.std.specs.Prelude.{◌<◌};
 
@@ -58,7 +58,8 @@ pub fn code(fault: Fault) -> u32
     }
 }
 
-/// How many segments stand one after the other in the bytes, or the place and the fault of the first that is none.
+/// How many segments stand one after the other in the bytes, or the place and the fault of the
+/// first that is none.
 pub fn count_segments(bytes: &[u8]) -> Result<usize, (u64, Fault)> {
     let mut count: usize = 0;
     let mut rest = bytes;

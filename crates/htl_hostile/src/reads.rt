@@ -82,8 +82,8 @@ impl<'a> Sources<'a> {
     }
 }
 
-/// Fails each read of the inputs in turn, and says how many. A run with a failed read tells its input and writes
-/// nothing; with none it writes the text.
+/// Fails each read of the inputs in turn, and says how many. A run with a failed read tells its
+/// input and writes nothing; with none it writes the text.
 fn fail_reads(
     rt: &(impl Threads + Wait + Sync + Abort),
     alloc: Global,

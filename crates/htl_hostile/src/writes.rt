@@ -72,8 +72,8 @@ fn run_into(
     (narrow.held, ended)
 }
 
-/// Fails each write of so many bytes in turn, and says how many. A run with a failed write tells it, and what was
-/// written before went out; with none the whole text does.
+/// Fails each write of so many bytes in turn, and says how many. A run with a failed write tells
+/// it, and what was written before went out; with none the whole text does.
 fn fail_writes(
     rt: &(impl Threads + Wait + Sync + Abort),
     alloc: Global,

@@ -1,7 +1,7 @@
 //! How long workers take to take in a whole case: `bench_exchange EVENTS` (16 by default, at most
-//! 4,096) in each of 256 segments, of 8 processors. One analyst that takes all segments and compacts
-//! comes first, and then surveys by 1, 2 and 4 workers, each of which has to come to the same state.
-//! Counts go to standard output, times to standard error.
+//! 4,096) in each of 256 segments, of 8 processors. One analyst that takes all segments and
+//! compacts comes first, and then surveys by 1, 2 and 4 workers, each of which has to come to the
+//! same state. Counts go to standard output, times to standard error.
 #![tactic(auto)]
 
 use anyhow::Context;

@@ -14,7 +14,7 @@ use Rattle.htl_segment.specs.Traces.{Trace, HasKey}
 use Rattle.htl_case.specs.Cases.{IsCase}
 use Rattle.htl_exchange.specs.declared.pass.Known.{Known}
 use Rattle.htl_exchange.specs.declared.parcel.Parcel.{Parcel}
-use Rattle.htl_exchange.specs.Runs.{has, union, one, without, runs_of, is_of, IsRunOf}
+use Rattle.htl_exchange.specs.Runs.{has, one, without, runs_of, is_of, IsRunOf}
 use Rattle.htl_exchange.specs.Parcels.{trace_of, runs_in, HasSegment, IsParcelOf}
 use Rattle.htl_exchange.specs.Rule.{known, blank, MakesUp}
 use Rattle.htl_exchange.specs.Moves.{left_of, Filled, CountsPushes}

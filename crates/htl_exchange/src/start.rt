@@ -97,7 +97,7 @@ fn has_run(case: &Case, processor: u16) -> bool
         .any(|segment| segment.processor() == processor)
 }
 
-// Puts the runs into the queue, by processor. It has room for all.
+// Puts the runs into the queue, by processor. The queue has room for all of them.
 fn fill<R: Wait>(
     rt: &R,
     alloc: Global,

@@ -4,6 +4,7 @@ ghost use Rattle.std.specs.Prelude.{List};
 ghost use Rattle.std.specs.List.Sorted.{IsPermutation};
 ghost use Rattle.htl_event.specs.Events.{Event};
 ghost use Rattle.htl_event.specs.Laws.{HaveSame, HandlesAreDetermined, CountsAreDetermined, CountsAddUp, IsUnion, LaterOfBoth, PrefixTallyIsSum, BalanceIsSum};
+ghost use Rattle.htl_event.specs.Summaries.{SummariesAreDetermined};
 
 /// Each answer about handles is the only one, and depends on which events there are and not on their
 /// order. (The latest event where no two have one sequence; an outstanding handle's event has it alone.)
@@ -14,6 +15,11 @@ pub fn handles_are_determined()
 /// Each answer about counts is the only one, and depends on how often each event is there, and not on their order.
 pub fn counts_are_determined()
     ensures { (xs ys : List Event) → IsPermutation xs ys → CountsAreDetermined xs ys }
+{}
+
+/// Each answer of a summary is the only one, and depends on how often each event is there, and not on their order.
+pub fn summaries_are_determined()
+    ensures { (xs ys : List Event) → IsPermutation xs ys → SummariesAreDetermined xs ys }
 {}
 
 /// Counts over two lists put together are the sums of the counts over each.

@@ -7,3 +7,4 @@ pub mod Numbers
 pub mod Keys
 pub mod NumberSets
 pub mod SetLaws
+pub mod Gaps

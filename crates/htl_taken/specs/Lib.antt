@@ -1,6 +1,7 @@
 -- cited by public contracts
 pub mod Rising
 pub mod Numbers
+pub mod Gaps
 pub mod Laws
 -- cited by private contracts alone
 pub mod NumberSets

@@ -1,6 +1,7 @@
 //! Laws of sets of taken segments. Each function's contract is the law; none does anything when it runs.
 
 ghost use Rattle.htl_taken.specs.Laws.{UnitesKeys, IsCommutative, IsAssociative, IsIdempotent, SettlesOnce, IsDetermined, CountsNumbers};
+ghost use Rattle.htl_taken.specs.Gaps.{GapsAreDetermined};
 
 /// `a.union(b)` has the segments of `a` and of `b`, and no other.
 pub fn union_unites_keys()
@@ -35,4 +36,9 @@ pub fn settled_sets_are_determined()
 /// A processor's size is the number of its taken numbers.
 pub fn size_counts_numbers()
     ensures { CountsNumbers }
+{}
+
+/// The gaps of a set are one list, and depend on its segments alone.
+pub fn gaps_are_determined()
+    ensures { GapsAreDetermined }
 {}

@@ -5,6 +5,7 @@
 //! `Rising`), and which laws sets of them have (`Laws`).
 #![tactic(auto)]
 
+mod gap;
 pub mod laws;
 mod number_set;
 mod sorted_numbers;
@@ -12,6 +13,7 @@ mod taken;
 #[cfg(test)]
 mod tests;
 
+pub use gap::Gap;
 pub use taken::Taken;
 
 /// The greatest front. Segment numbers are below it.

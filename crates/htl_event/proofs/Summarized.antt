@@ -1,5 +1,5 @@
 -- The same events, at whatever places, give the same summary.
-use Rattle.std.proofs.Common.{◌≡◌, ℕ, ◌<◌, Bool, cond, List, sym, ap, ◌∙◌, arith, ◌&&◌, ◌==◌}
+use Rattle.std.proofs.Common.{◌≡◌, ℕ, ◌<◌, Bool, true, cond, List, sym, ap, ◌∙◌, arith, ◌&&◌, ◌==◌}
 use Rattle.std.specs.Prelude.{Contains, ◌↔◌, length}
 use Rattle.std.specs.List.Sorted.{IsPermutation}
 use Rattle.std.proofs.lemmas.List.Sorted.{IsPermutation-sym, Contains-permutation, sum_by-IsPermutation}

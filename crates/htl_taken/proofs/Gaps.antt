@@ -1,5 +1,5 @@
 -- Gaps depend on the keys alone, and have one list.
-use Rattle.std.proofs.Common.{◌≡◌, ℕ, ◌+◌, ◌<◌, ◌≤◌, List, sym, ◌∙◌, arith, inl, inr}
+use Rattle.std.proofs.Common.{◌≡◌, true, ℕ, ◌+◌, ◌<◌, ◌≤◌, List, sym, ◌∙◌, arith, inl, inr}
 use Rattle.std.specs.Prelude.{◌↔◌}
 use Rattle.htl_event.specs.Members.{Lists, IsStrictOrder}
 use Rattle.htl_event.proofs.Members.{Lists-same}
@@ -52,6 +52,8 @@ gaps_agree has had processors gaps same listed = record {
 }
 
 pub gaps_are_determined : GapsAreDetermined
-gaps_are_determined has had processors a b same =
-    Lists-same IsGapBefore IsGapBefore-strict (IsGap has processors) (IsGap had processors) a b
-    (λ gap. (gap_same has had processors same gap, gap_same had has processors (turned has had processors same) gap))
+gaps_are_determined S R processors a b same listed other =
+    let agree : (p n : ℕ) → p < processors → (S p n ≡ true) ↔ (R p n ≡ true) =
+    (λ p n lt. (λ h. sym (same p n lt) ∙ h, λ h. same p n lt ∙ h)) in
+    Lists-same IsGapBefore IsGapBefore-strict (IsGap (λ p n. R p n ≡ true) processors) (IsGap (λ p n. R p n ≡ true) processors) a b
+    (λ gap. (λ h. h, λ h. h)) (gaps_agree (λ p n. S p n ≡ true) (λ p n. R p n ≡ true) processors a agree listed) other

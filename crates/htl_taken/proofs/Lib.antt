@@ -8,3 +8,4 @@ pub mod Keys
 pub mod NumberSets
 pub mod SetLaws
 pub mod Gaps
+pub mod GapLists

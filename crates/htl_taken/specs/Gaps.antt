@@ -1,5 +1,5 @@
 -- Gaps of a set of keys (this project's own). The set is given as facts: which number each processor has.
-use Rattle.std.specs.Prelude.{◌≡◌, ◌↔◌, ◌⊎◌, ℕ, ◌+◌, ◌<◌, ◌≤◌, List}
+use Rattle.std.specs.Prelude.{◌≡◌, ◌⊎◌, Bool, true, ℕ, ◌+◌, ◌<◌, ◌≤◌, List}
 use Rattle.htl_event.specs.Members.{Lists}
 use Rattle.htl_taken.specs.declared.gap.Gap.{Gap}
 use Rattle.htl_taken.specs.declared.gap.Gap.TheVariants.{Between, Absent}
@@ -33,7 +33,7 @@ IsGapBefore a b = (processor_of a < processor_of b) ⊎ ((processor_of a ≡ pro
 abbrev pub IsGaps : (ℕ → ℕ → Type 0) → ℕ → List Gap → Type 0
 IsGaps has processors gaps = Lists IsGapBefore (IsGap has processors) gaps
 
--- sets with the same numbers of each processor have the same gaps, and one list of them
+-- the gaps of a key set are one list, and sets with the same keys have the same
 abbrev pub GapsAreDetermined : Type 0
-GapsAreDetermined = (has had : ℕ → ℕ → Type 0) (processors : ℕ) (a b : List Gap)
-    → ((p n : ℕ) → p < processors → has p n ↔ had p n) → IsGaps has processors a → IsGaps had processors b → a ≡ b
+GapsAreDetermined = (S R : ℕ → ℕ → Bool) (processors : ℕ) (a b : List Gap) → ((p n : ℕ) → p < processors → S p n ≡ R p n)
+    → IsGaps (λ p n. S p n ≡ true) processors a → IsGaps (λ p n. R p n ≡ true) processors b → a ≡ b

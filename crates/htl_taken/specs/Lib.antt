@@ -7,3 +7,4 @@ pub mod Laws
 pub mod NumberSets
 pub mod Merging
 pub mod RisingProp
+pub mod GapLists

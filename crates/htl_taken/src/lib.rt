@@ -7,6 +7,7 @@
 
 mod gap;
 pub mod laws;
+mod missing;
 mod number_set;
 mod sorted_numbers;
 mod taken;

@@ -21,7 +21,8 @@ pub fn counts_are_determined()
     ensures { (xs ys : List Event) → IsPermutation xs ys → CountsAreDetermined xs ys }
 {}
 
-/// Each answer of a summary is the only one, and depends on how often each event is there, and not on their order.
+/// Each answer of a summary is the only one, and depends on how often each event is there, and not
+/// on their order.
 pub fn summaries_are_determined()
     ensures { (xs ys : List Event) → IsPermutation xs ys → SummariesAreDetermined xs ys }
 {}

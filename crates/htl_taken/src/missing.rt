@@ -15,10 +15,11 @@ impl<A: Allocator> Taken<A> {
     ghost use Rattle.htl_taken.specs.Numbers.{has_key};
     ghost use Rattle.htl_taken.specs.Gaps.{IsGaps};
 
-    /// The gaps of all processors, by processor and then by number: each longest unbroken run of missing
-    /// numbers below one that was taken, and each processor of which none was.
+    /// The gaps of all processors, by processor and then by number: each longest unbroken run of
+    /// missing numbers below one that was taken, and each processor of which none was.
     pub fn gaps(&self, alloc: Global) -> Result<Vec<Gap>, NoMemory>
-        ensures { IfOk result (λ gaps. IsGaps (λ p n. has_key self.now p n ≡ true) (length self.now) gaps.items) }
+        ensures { IfOk result (λ gaps.
+            IsGaps (λ p n. has_key self.now p n ≡ true) (length self.now) gaps.items) }
     {
         let mut gaps = Vec::new(alloc);
         for processor in 0..self.processors() {

@@ -8,6 +8,7 @@ use htl_event::Slot;
 /// Which slots are asked for.
 #[derive(Clone, Copy)]
 pub enum Slots {
+    /// Every slot.
     All,
     One(Slot),
     /// References and dereferences of the object, under whatever tag.

@@ -145,7 +145,7 @@ module _ (events : List Event) (sums : List Sum) (listed : ListsSlotSums events 
       total-amount nat_cmp key whole both_objects g adds object of_slots
       ∙ sum_filter_map (λ (row : ObjectRow). amount g (one_at nat_cmp key whole object row)) (λ (sum : Sum). tag_of sum.0 sum.1) sums
       ∙ sum_same (λ (sum : Sum). amount (λ (row : ObjectRow). amount g (one_at nat_cmp key whole object row)) (tag_of sum.0 sum.1))
-          (λ (sum : Sum). amount f (row_of object sum)) sums (λ sum h. tag_share g f same object sum.0 sum.1)
+      (λ (sum : Sum). amount f (row_of object sum)) sums (λ sum h. tag_share g f same object sum.0 sum.1)
       ∙ sym (sum_filter_map f (row_of object) sums)
 
   pub tags_are : amount tags_number (object_at object sums) ≡ length balances

@@ -172,7 +172,7 @@ module _ (events : List Event) (sums : List Sum) (listed : ListsSlotSums events 
       ∙ sum_same (share field process) (λ (sum : Sum). cond (passes sum.0) (side sign sum.1) 0) sums (λ sum h. shares sum.0 sum.1)
       ∙ sums_are_events passes sign events sums listed
       ∙ sum_same (λ (e : Event). cond (hits passes sign (slot_of e)) 1 0) (λ (e : Event). cond (is_kind e.kind && process == e.process) 1 0) events
-          (λ e h. ap (λ (b : Bool). cond b 1 0) (tests e.kind e))
+      (λ e h. ap (λ (b : Bool). cond b 1 0) (tests e.kind e))
 
   opens_are : amount opens (usage_at process sums) ≡ how_many is_open events process
   opens_are = number opens (λ x y. refl) (is_handles process) Plus (share_opens process) is_open (open_test process)

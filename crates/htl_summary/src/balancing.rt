@@ -1,6 +1,6 @@
 //! Whether the references of objects balance.
 
-ghost use Rattle.std.specs.Prelude.{◌≡◌, ◌<◌, ◌^◌, ◌↔◌, List, Contains, filter, map, nat_eq, nat_lt, IfOk};
+ghost use Rattle.std.specs.Prelude.{◌≡◌, ◌<◌, ◌^◌, ◌↔◌, List, Contains, filter, length, map, nat_eq, nat_lt, IfOk};
 ghost use Rattle.std.specs.List.{IsDistinct};
 ghost use Rattle.htl_event.specs.Events.{Event};
 ghost use Rattle.htl_event.specs.Members.{IsRising};
@@ -37,13 +37,19 @@ pub fn balances<P: Part>(
 {
     let sums = slot_sums(alloc, tree_alloc, parts)?;
     let mut rows = object_rows(alloc, &sums)?;
-    let number = rows.len() as u64;
+    let number = number_of(&rows);
     keep_unbalanced(&mut rows);
     put_in_order(&mut rows);
     Ok(Objects {
         number,
         unbalanced: rows,
     })
+}
+
+fn number_of(rows: &[ObjectRow]) -> u64
+    ensures { result ≡ length rows.now }
+{
+    rows.len() as u64
 }
 
 /// Keeps the rows of objects with an unbalanced tag.

@@ -63,7 +63,10 @@ fn tables_of_part<P: Part>(alloc: &P::Alloc, part: &P) -> Result<Tables<P::Alloc
 }
 
 /// The tables of the events of the runs.
-fn tables_of_runs<A: Allocator + Clone, R: Run>(alloc: &A, runs: &[R]) -> Result<Tables<A>, NoMemory>
+fn tables_of_runs<A: Allocator + Clone, R: Run>(
+    alloc: &A,
+    runs: &[R],
+) -> Result<Tables<A>, NoMemory>
     ensures { IfOk result (λ tables. AreTablesOf (flat_map R.events_of runs.now) tables.latest tables.marks tables.exits) }
 {
     Ok(Tables {

@@ -61,10 +61,7 @@ impl Joined for ByObject {
 }
 
 /// The rows of all objects, by object, from the sums of slots.
-pub(crate) fn object_rows(
-    alloc: Global,
-    sums: &[(Slot, Count)],
-) -> Result<Vec<ObjectRow>, NoMemory>
+pub(crate) fn object_rows(alloc: Global, sums: &[(Slot, Count)]) -> Result<Vec<ObjectRow>, NoMemory>
     requires fits { sum_by (λ (sum : Slot × Count). total_of sum.1) sums.now < 2 ^ 64 }
     requires positive { (sum : Slot × Count) → Contains sums.now sum → IsPositive sum.1 }
     ensures sorted { IfOk result (λ rows. IsSorted nat_cmp (by_object rows.items)) }

@@ -69,10 +69,7 @@ impl Joined for ByProcess {
 }
 
 /// How often each process opened, closed and misused handles, by process, from the sums of slots.
-pub(crate) fn used_by_process(
-    alloc: Global,
-    sums: &[(Slot, Count)],
-) -> Result<Vec<Usage>, NoMemory>
+pub(crate) fn used_by_process(alloc: Global, sums: &[(Slot, Count)]) -> Result<Vec<Usage>, NoMemory>
     requires { sum_by (λ (sum : Slot × Count). total_of sum.1) sums.now < 2 ^ 64 }
     ensures sorted { IfOk result (λ used. IsSorted nat_cmp (by_process used.items)) }
     ensures values { IfOk result (λ used. (process : ℕ) → find nat_cmp process (by_process used.items)

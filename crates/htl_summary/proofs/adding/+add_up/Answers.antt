@@ -14,10 +14,10 @@ add_up-requires-2 g t c κs within =
     let front = c.split_at.result.0.now in
     let back = c.split_at.result.1.now in
     let fits : (before left right after : List g.row.L-Row.Denot) (k : g.row.L-Key.Denot) (x y : g.row.L-Value.Denot)
-        → back ≡ before ++ (left ++ (right ++ after))
-        → total_at g.L.Key.Ord.cmp g.L.Keyed.key_of g.L.Keyed.value_of g.L.Joined.joined k left ≡ Some x
-        → total_at g.L.Key.Ord.cmp g.L.Keyed.key_of g.L.Keyed.value_of g.L.Joined.joined k right ≡ Some y
-        → g.L.Joined.can_join x y =
+    → back ≡ before ++ (left ++ (right ++ after))
+    → total_at g.L.Key.Ord.cmp g.L.Keyed.key_of g.L.Keyed.value_of g.L.Joined.joined k left ≡ Some x
+    → total_at g.L.Key.Ord.cmp g.L.Keyed.key_of g.L.Keyed.value_of g.L.Joined.joined k right ≡ Some y
+    → g.L.Joined.can_join x y =
     (λ before left right after k x y is one two.
     let cut : rows ≡ (front ++ before) ++ (left ++ (right ++ after)) = sym (take-append-drop half rows)
     ∙ ap (λ l. l ++ drop half rows) (sym c.split_at.ensures.front) ∙ ap (λ l. front ++ l) (sym c.split_at.ensures.back ∙ is)

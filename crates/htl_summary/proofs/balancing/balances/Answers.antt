@@ -22,7 +22,7 @@ returns-clause-number g c = λ events are.
     let rows = c.in_ok-rows.rows.items in
     let listed : ListsSlotSums events sums = rw c.deref.ensures.value (c.in_ok-sums.ensures.sums events are) in
     let all = are_objects events sums rows listed c.in_ok-rows.ensures.sorted c.in_ok-rows.ensures.values in
-    (all.0, all.1, c.len-number.ensures ∙ all.2)
+    (all.0, all.1, c.number_of-number.ensures ∙ ap length c.deref-2.ensures.value ∙ all.2)
 
 pub returns-clause-unbalanced : goal.returns-clause-unbalanced
 returns-clause-unbalanced g c = λ events are.

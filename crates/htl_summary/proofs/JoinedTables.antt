@@ -1,6 +1,7 @@
 -- Tables of events that are put together, and of no events.
-use Rattle.std.proofs.Common.{◌≡◌, ℕ, max, List, [], ◌∷◌, ◌++◌, Option, None, refl, sym, ap, ◌∙◌, subst, inl, inr, ◌⊎◌}
+use Rattle.std.proofs.Common.{◌≡◌, ℕ, max, map, take, drop, List, [], ◌∷◌, ◌++◌, Option, None, refl, sym, ap, ◌∙◌, subst, inl, inr, ◌⊎◌}
 use Rattle.std.specs.Prelude.{Contains, ◌↔◌}
+use Rattle.std.proofs.lemmas.List.{map-append, take-append-drop}
 use Rattle.std.proofs.lemmas.List.Elements.{Contains-append_cases, Contains-append_left, Contains-append_right}
 use Rattle.htl_event.specs.Events.{Event}
 use Rattle.htl_event.specs.declared.kind.Kind.TheVariants.{Snapshot, Exited}
@@ -61,6 +62,11 @@ tables_none = record {
 -- the tables of a part are those of what it folded
 pub tables_folded : (part : Contents) (folded : List Event) → IsFoldOf part folded → AreTablesOf folded part.latest part.marks part.exits
 tables_folded part folded fold = record { latest_at = fold.latest; mark_at = fold.mark; exit_at = fold.last_exit }
+
+-- a list cut in two
+pub halves : {X : Type 0} (contents : X → Contents) (n : ℕ) (parts : List X)
+    → map contents parts ≡ map contents (take n parts) ++ map contents (drop n parts)
+halves contents n parts = ap (map contents) (sym (take-append-drop n parts)) ∙ map-append contents (take n parts) (drop n parts)
 
 module _ (latest : List Event) (marks exits : Sequences) where
   -- the parts of a list cut in two

@@ -22,6 +22,7 @@ mod folded;
 pub mod laws;
 mod merging;
 mod part;
+mod summary;
 mod taking;
 
 pub use analyst::Analyst;

@@ -60,7 +60,7 @@ Contains-from_filter_map {X} {Y} f (z ∷ xs) y h = go (Contains-from_filter_map
 
 module _ {X Y : Type 0} (before : X → X → Type 0) (after : Y → Y → Type 0) (f : X → Option Y)
     (into : (x z : X) (y w : Y) → before x z → f x ≡ Some y → f z ≡ Some w → after y w) where
-  IsRising-filter_map : (xs : List X) → IsRising before xs → IsRising after (filter_map f xs)
+  pub IsRising-filter_map : (xs : List X) → IsRising before xs → IsRising after (filter_map f xs)
   IsRising-filter_map [] rising = tt
   IsRising-filter_map (z ∷ xs) rising = go (f z) refl (IsRising-filter_map xs rising.1)
     where
@@ -78,11 +78,11 @@ module _ {X Y : Type 0} (before : X → X → Type 0) (after : Y → Y → Type 
 abbrev pub row_of : ℕ → Slot × Count → Option (List ℕ × Count)
 row_of object sum = tag_row object sum.0 sum.1
 
-record IsRowOf (object : ℕ) (slot : Slot) (count : Count) (row : List ℕ × Count) : Type 0 where
-  slot_is : slot ≡ Tagged object row.0
-  count_is : row.1 ≡ count
+pub record IsRowOf (object : ℕ) (slot : Slot) (count : Count) (row : List ℕ × Count) : Type 0 where
+  pub slot_is : slot ≡ Tagged object row.0
+  pub count_is : row.1 ≡ count
 
-row_is : (object : ℕ) (slot : Slot) (count : Count) (row : List ℕ × Count) → tag_row object slot count ≡ Some row
+pub row_is : (object : ℕ) (slot : Slot) (count : Count) (row : List ℕ × Count) → tag_row object slot count ≡ Some row
     → IsRowOf object slot count row
 row_is object (Tagged its tag) count row e = go (its == object) refl e
   where
@@ -98,10 +98,10 @@ row_is object (Tagged its tag) count row e = go (its == object) refl e
 row_is object (Handles process) count row e = absurd cc
 row_is object (Bad process handle) count row e = absurd cc
 
-row_at : (object : ℕ) (row : List ℕ × Count) → tag_row object (Tagged object row.0) row.1 ≡ Some row
+pub row_at : (object : ℕ) (row : List ℕ × Count) → tag_row object (Tagged object row.0) row.1 ≡ Some row
 row_at object row = rw ((Decides-eqb object object).1 refl) refl
 
-tags_rise : (object : ℕ) (s t : Slot × Count) (x y : List ℕ × Count) → BySlot s.0 t.0 → row_of object s ≡ Some x
+pub tags_rise : (object : ℕ) (s t : Slot × Count) (x y : List ℕ × Count) → BySlot s.0 t.0 → row_of object s ≡ Some x
     → row_of object t ≡ Some y → ByTag x y
 tags_rise object s t x y less at_s at_t =
     let one = row_is object s.0 s.1 x at_s in

@@ -11,3 +11,4 @@ pub mod RowsHandles
 pub mod RowsCounts
 pub mod EventsEqual
 pub mod Sums
+pub mod Summarized

@@ -6,6 +6,7 @@ ghost use Rattle.htl_event.specs.Events.{Event};
 ghost use Rattle.htl_event.specs.Laws.{HaveSame, HandlesAreDetermined};
 ghost use Rattle.htl_event.specs.Laws.{CountsAreDetermined, CountsAddUp, IsUnion};
 ghost use Rattle.htl_event.specs.Laws.{LaterOfBoth, PrefixTallyIsSum, BalanceIsSum};
+ghost use Rattle.htl_event.specs.Summaries.{SummariesAreDetermined};
 
 /// Each answer about handles is the only one, and depends on which events there are and not on
 /// their order. (The latest event where no two have one sequence; an outstanding handle's event has
@@ -18,6 +19,12 @@ pub fn handles_are_determined()
 /// on their order.
 pub fn counts_are_determined()
     ensures { (xs ys : List Event) → IsPermutation xs ys → CountsAreDetermined xs ys }
+{}
+
+/// Each answer of a summary is the only one, and depends on how often each event is there, and not
+/// on their order.
+pub fn summaries_are_determined()
+    ensures { (xs ys : List Event) → IsPermutation xs ys → SummariesAreDetermined xs ys }
 {}
 
 /// Counts over two lists put together are the sums of the counts over each.

@@ -15,6 +15,7 @@ mod run;
 mod shared_stack;
 mod slot;
 mod stack;
+mod summary;
 #[cfg(test)]
 mod tests;
 
@@ -28,6 +29,7 @@ pub use run::Run;
 pub use shared_stack::SharedStack;
 pub use slot::{Count, Sign, Slot};
 pub use stack::{MAX_FRAMES, Stack};
+pub use summary::{ObjectRow, ProcessRow};
 
 /// A handle with its low two bits cleared: the entry of the handle table that it names. That
 /// Windows ignores the low two bits of a handle is this project's own rule for traces.

@@ -26,3 +26,5 @@ mod moments;
 mod plain;
 #[cfg(test)]
 mod refusals;
+#[cfg(test)]
+mod summary;

@@ -7,3 +7,5 @@ pub mod Numbers
 pub mod Keys
 pub mod NumberSets
 pub mod SetLaws
+pub mod Gaps
+pub mod GapLists

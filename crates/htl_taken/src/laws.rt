@@ -3,6 +3,7 @@
 
 ghost use Rattle.htl_taken.specs.Laws.{UnitesKeys, IsCommutative, IsAssociative, IsIdempotent};
 ghost use Rattle.htl_taken.specs.Laws.{SettlesOnce, IsDetermined, CountsNumbers};
+ghost use Rattle.htl_taken.specs.Gaps.{GapsAreDetermined};
 
 /// `a.union(b)` has the segments of `a` and of `b`, and no other.
 pub fn union_unites_keys()
@@ -37,4 +38,9 @@ pub fn settled_sets_are_determined()
 /// A processor's size is the number of its taken numbers.
 pub fn size_counts_numbers()
     ensures { CountsNumbers }
+{}
+
+/// The gaps of a set are one list, and depend on its segments alone.
+pub fn gaps_are_determined()
+    ensures { GapsAreDetermined }
 {}

@@ -5,13 +5,16 @@
 //! lists of `Rising`), and which laws sets of them have (`Laws`).
 #![tactic(auto)]
 
+mod gap;
 pub mod laws;
+mod missing;
 mod number_set;
 mod sorted_numbers;
 mod taken;
 #[cfg(test)]
 mod tests;
 
+pub use gap::Gap;
 pub use taken::Taken;
 
 /// The greatest front. Segment numbers are below it.

@@ -1,7 +1,7 @@
 //! Tests of what no clause says: worked rows, and refused growths, each call under heaps of its
 //! own.
 
-use crate::{MAX_FRONT, Taken};
+use crate::{Gap, MAX_FRONT, Taken};
 use htl_event::NoMemory;
 use linked_list_allocator::LocalHeap;
 use std::alloc::Allocator;
@@ -156,5 +156,25 @@ fn each_call_is_refused_until_its_heap_is_large_enough(rt: HostRuntime) -> Resul
         }
         assert!(rt; refused && answered, "{call:?}");
     }
+    Ok(())
+}
+
+#[test]
+fn gaps_of_two_processors(rt: HostRuntime) -> Result<(), Fail> {
+    let mut taken = filled(&rt, rt.alloc(), &[(0, 0), (0, 1), (0, 3), (0, 4), (0, 7)])?;
+    taken.settle(0);
+    let gaps = taken.gaps(rt.alloc())?;
+    let between = Gap::Between {
+        processor: 0,
+        from: 2,
+        to: 2,
+    };
+    let later = Gap::Between {
+        processor: 0,
+        from: 5,
+        to: 6,
+    };
+    let absent = Gap::Absent { processor: 1 };
+    assert_eq!(rt; gaps.as_slice(), [between, later, absent].as_slice());
     Ok(())
 }

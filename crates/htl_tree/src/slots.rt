@@ -8,6 +8,8 @@ use htl_event::Slot;
 /// Which slots are asked for.
 #[derive(Clone, Copy)]
 pub enum Slots {
+    /// Every slot.
+    All,
     One(Slot),
     /// References and dereferences of the object, under whatever tag.
     OfObject(u64),
@@ -20,6 +22,7 @@ impl Slots {
         ensures { result ≡ has_slot self.now slot }
     {
         match (*self, slot) {
+            (Slots::All, _) => true,
             (Slots::One(one), _) => one == slot,
             (Slots::OfObject(object), Slot::Tagged { object: its, .. }) => its == object,
             (Slots::BadOf(process), Slot::Bad { process: its, .. }) => its == process,

@@ -1,0 +1,7 @@
+pub mod Totals
+pub mod JoinedTables
+pub mod SlotSums
+pub mod Sorted
+pub mod ProcessRows
+pub mod ObjectRows
+pub mod Fitting

@@ -1,0 +1,254 @@
+-- Sums over the slots of a list that has each slot once: of a tree's counts, and of how often events came.
+use Rattle.std.proofs.Common.{◌≡◌, ◌≢◌, ℕ, ◌+◌, ◌<◌, ◌≤◌, Bool, true, false, cond, ◌&&◌, List, [], ◌∷◌, Option, Some, None, refl, sym, ap, subst, ◌∙◌, arith, inl, inr}
+use Rattle.std.specs.Prelude.{Contains, count_by, nat_eq, reverse}
+use Rattle.std.specs.List.{sum_by, starts_with}
+use Rattle.std.proofs.lemmas.Bool.{cases_Bool}
+use Rattle.std.proofs.lemmas.Bool.Decides.{Decides-eqb}
+use Rattle.std.proofs.lemmas.List.Sums.{sum_by-cons, sum_by-le-sum_by}
+use Rattle.htl_event.specs.Events.{Event}
+use Rattle.htl_event.specs.declared.slot.Slot.{Slot}
+use Rattle.htl_event.specs.declared.slot.Sign.{Sign}
+use Rattle.htl_event.specs.declared.slot.Sign.TheVariants.{Plus, Minus}
+use Rattle.htl_event.specs.declared.slot.Count.{Count}
+use Rattle.htl_event.specs.Slots.{slot_of, same_slot, same_sign, is_slot, is_counted}
+use Rattle.htl_event.specs.OrderLaws.{slot_total}
+use Rattle.htl_event.specs.Members.{IsRising, IsStrictOrder, Lists}
+use Rattle.htl_event.specs.Stacks.{outer}
+use Rattle.htl_event.specs.Tallies.{total_of, plus_count, times, count_where, IsPositive}
+use Rattle.htl_event.proofs.Members.{Contains-here, Contains-there, Contains-cases, Contains-nil, at_member}
+use Rattle.htl_event.proofs.Orders.{strict_from_total}
+use Rattle.htl_tree.specs.Trees.{Tree, IsTree, HasTally, BySlot, ListsSums, count_under, sum_where, total_count}
+use Rattle.htl_tree.specs.declared.slots.Slots.{Slots}
+use Rattle.htl_tree.specs.declared.slots.Slots.TheVariants.{All}
+use Rattle.htl_tree.proofs.Under.{same_slot_Decides}
+use Rattle.htl_tree.proofs.Events.{under_events}
+use Rattle.htl_summary.specs.Sums.{times_of, ListsSlotSums}
+use Rattle.htl_summary.proofs.Totals.{sum_same, sum_upto, sum_zero, sum_swap}
+
+abbrev Sum : Type 0
+Sum = Slot × Count
+
+abbrev AreRising : List Sum → Type 0
+AreRising sums = IsRising (λ (a b : Sum). BySlot a.0 b.0) sums
+
+-- ---- a slot stands once
+
+BySlot-strict : IsStrictOrder BySlot
+BySlot-strict = strict_from_total slot_total
+
+not_same : (s t : Slot) → s ≢ t → same_slot s t ≡ false
+not_same s t apart = elim (cases_Bool (same_slot s t)) [
+  | inl is ↦ absurd (apart ((same_slot_Decides s t).0 is))
+  | inr not ↦ not
+]
+
+-- what slots that are this one have
+abbrev here : (Slot → ℕ) → Slot → Sum → ℕ
+here f t sum = cond (same_slot sum.0 t) (f sum.0) 0
+
+module _ (f : Slot → ℕ) (t : Slot) where
+  elsewhere : (sums : List Sum) → ((sum : Sum) → Contains sums sum → sum.0 ≢ t) → sum_by (here f t) sums ≡ 0
+  elsewhere [] apart = refl
+  elsewhere (s ∷ sums) apart =
+      let rest = elsewhere sums (λ x h. apart x (Contains-there s sums x h)) in
+      let none : here f t s ≡ 0 = ap (λ b. cond b (f s.0) 0) (not_same s.0 t (apart s (Contains-here s sums))) in
+      let both = sum_by-cons (here f t) s sums in
+      omega (arith, rest, none, both)
+
+  after_it : (s : Sum) (sums : List Sum) → AreRising (s ∷ sums) → s.0 ≡ t → (sum : Sum) → Contains sums sum → sum.0 ≢ t
+  after_it s sums rising is sum h same =
+      let before : BySlot s.0 sum.0 = at_member (λ (x : Sum). BySlot s.0 x.0) sums sum rising.0 h in
+      BySlot-strict.irreflexive s.0 (subst (BySlot s.0) (same ∙ sym is) before)
+
+  pub upto_once : (sums : List Sum) → AreRising sums → sum_by (here f t) sums ≤ f t
+  upto_once [] rising = omega arith
+  upto_once (s ∷ sums) rising =
+      let both = sum_by-cons (here f t) s sums in
+      elim (cases_Bool (same_slot s.0 t)) [
+        | inl is ↦
+            let same = (same_slot_Decides s.0 t).0 is in
+            let rest = elsewhere sums (after_it s sums rising same) in
+            let one : here f t s ≡ f t = ap (λ b. cond b (f s.0) 0) is ∙ ap f same in
+            omega (arith, both, rest, one)
+        | inr not ↦
+            let rest = upto_once sums rising.1 in
+            let none : here f t s ≡ 0 = ap (λ b. cond b (f s.0) 0) not in
+            omega (arith, both, rest, none)
+      ]
+
+  pub once : (sums : List Sum) → AreRising sums → (count : Count) → Contains sums (t, count) → sum_by (here f t) sums ≡ f t
+  once [] rising count h = absurd (Contains-nil (t, count) h)
+  once (s ∷ sums) rising count h =
+      let both = sum_by-cons (here f t) s sums in
+      elim (Contains-cases s sums (t, count) h) [
+        | inl at ↦
+            let same : s.0 ≡ t = ap (λ (x : Sum). x.0) at in
+            let rest = elsewhere sums (after_it s sums rising same) in
+            let one : here f t s ≡ f t = ap (λ b. cond b (f s.0) 0) ((same_slot_Decides s.0 t).1 same) ∙ ap f same in
+            omega (arith, both, rest, one)
+        | inr there ↦
+            let rest = once sums rising.1 count there in
+            let apart : s.0 ≢ t = (λ same. after_it s sums rising same (t, count) there refl) in
+            let none : here f t s ≡ 0 = ap (λ b. cond b (f s.0) 0) (not_same s.0 t apart) in
+            omega (arith, both, rest, none)
+      ]
+
+-- ---- the counts of a tree
+
+abbrev At : Type 0
+At = (List ℕ × Slot) × Count
+
+any_stack : (stack : List ℕ) → starts_with nat_eq (outer stack) [] ≡ true
+any_stack stack = refl
+
+total_under : (tree : Tree) (s : Slot)
+    → total_of (count_under tree [] s) ≡ sum_by (λ (row : At). cond (same_slot s row.0.1) (total_of row.1) 0) tree
+total_under [] s = refl
+total_under (row ∷ tree) s =
+    let rest = total_under tree s in
+    let both = sum_by-cons (λ (r : At). cond (same_slot s r.0.1) (total_of r.1) 0) row tree in
+    let f = count_under tree [] s in
+    let one : total_of (cond (same_slot s row.0.1 && true) (plus_count row.1 f) f) ≡ cond (same_slot s row.0.1) (total_of row.1) 0 + total_of f =
+    elim (same_slot s row.0.1) as (λ b. total_of (cond (b && true) (plus_count row.1 f) f) ≡ cond b (total_of row.1) 0 + total_of f)
+    [ true ↦ omega arith | false ↦ omega arith ] in
+    omega (arith, rest, both, one)
+
+-- the sums of different slots come to no more than the tree counts
+pub sums_upto_total : (tree : Tree) (sums : List Sum) → ListsSums tree All sums → sum_by (λ sum. total_of sum.1) sums ≤ total_count tree
+sums_upto_total tree sums listed =
+    let w : Sum → At → ℕ = λ sum row. cond (same_slot sum.0 row.0.1) (total_of row.1) 0 in
+    let each = sum_same (λ (sum : Sum). total_of sum.1) (λ (sum : Sum). sum_by (w sum) tree) sums
+    (λ sum h. ap total_of ((listed.members sum).0 h).0 ∙ total_under tree sum.0) in
+    let swapped = sum_swap w sums tree in
+    let upto = sum_by-le-sum_by (λ (row : At). sum_by (λ sum. w sum row) sums) (λ (row : At). total_of row.1) tree
+    (λ row. upto_once (λ s. total_of row.1) row.0.1 sums listed.rising) in
+    omega (arith, each, swapped, upto)
+
+-- the sums of a tree that is the tally of events are theirs
+pub sums_listed : (tree : Tree) (events : List Event) (sums : List Sum) → IsTree tree → HasTally tree events → ListsSums tree All sums
+    → ListsSlotSums events sums
+sums_listed tree events sums is tallied listed = record {
+  rising = listed.rising;
+  members = λ sum. (
+    (λ h. let at = (listed.members sum).0 h in (at.0 ∙ under_events tree is events tallied [] sum.0, at.1)),
+    (λ h. (listed.members sum).1 (h.0 ∙ sym (under_events tree is events tallied [] sum.0), h.1, refl)),
+  );
+}
+
+-- ---- how often events came
+
+abbrev pub side : Sign → Count → ℕ
+side Plus count = count.plus
+side Minus count = count.minus
+
+-- the event is counted on this side under a slot that passes
+abbrev pub hits : (Slot → Bool) → Sign → Option (Slot × Sign) → Bool
+hits passes sign None = false
+hits passes sign (Some counted) = passes counted.0 && same_sign sign counted.1
+
+abbrev one_if : Bool → ℕ
+one_if b = cond b 1 0
+
+and_true : (b : Bool) → (b && true) ≡ b
+and_true true = refl
+and_true false = refl
+
+and_false : (b : Bool) → (b && false) ≡ false
+and_false true = refl
+and_false false = refl
+
+positive_somewhere : {X : Type 0} (p : X → Bool) (xs : List X) (x : X) → Contains xs x → p x ≡ true → 0 < count_by p xs
+positive_somewhere p [] x h holds = absurd (Contains-nil x h)
+positive_somewhere {X} p (y ∷ xs) x h holds =
+    let both = sum_by-cons (λ (z : X). one_if (p z)) y xs in
+    elim (Contains-cases y xs x h) [
+      | inl is ↦
+          let one : one_if (p y) ≡ 1 = ap (λ b. one_if b) (ap p is ∙ holds) in
+          omega (arith, both, one)
+      | inr there ↦
+          let rest = positive_somewhere p xs x there holds in
+          omega (arith, both, rest)
+    ]
+
+-- a slot that an event is counted under came
+pub came : (events : List Event) (e : Event) (slot : Slot) (sign : Sign) → Contains events e → slot_of e ≡ Some (slot, sign)
+    → IsPositive (times_of events slot)
+came events e slot sign h is = go sign is
+  where
+    counted : (s : Sign) → slot_of e ≡ Some (slot, s) → (is_counted slot s e && true) ≡ true
+    counted s at = and_true (is_counted slot s e) ∙ ap (is_slot slot s) at
+        ∙ ap (λ b. b && same_sign s s) ((same_slot_Decides slot slot).1 refl) ∙ own s
+      where
+        own : (s : Sign) → (true && same_sign s s) ≡ true
+        own Plus = refl
+        own Minus = refl
+
+    go : (s : Sign) → slot_of e ≡ Some (slot, s) → IsPositive (times_of events slot)
+    go Plus at =
+        let some = positive_somewhere (λ x. is_counted slot Plus x && true) events e h (counted Plus at) in
+        omega (arith, some)
+    go Minus at =
+        let some = positive_somewhere (λ x. is_counted slot Minus x && true) events e h (counted Minus at) in
+        omega (arith, some)
+
+side_is : (sign : Sign) (events : List Event) (slot : Slot)
+    → side sign (times_of events slot) ≡ sum_by (λ e. one_if (is_counted slot sign e && true)) events
+side_is Plus events slot = refl
+side_is Minus events slot = refl
+
+cond_sum : {X : Type 0} (b : Bool) (f : X → ℕ) (xs : List X) → cond b (sum_by f xs) 0 ≡ sum_by (λ x. cond b (f x) 0) xs
+cond_sum true f xs = refl
+cond_sum false f xs = sym (sum_zero xs)
+
+module _ (passes : Slot → Bool) (sign : Sign) (events : List Event) (sums : List Sum) (listed : ListsSlotSums events sums) where
+  abbrev w : Sum → Event → ℕ
+  w sum e = cond (passes sum.0) (one_if (is_counted sum.0 sign e && true)) 0
+
+  -- one event is counted under one slot at most
+  one_event : (e : Event) → Contains events e → sum_by (λ sum. w sum e) sums ≡ one_if (hits passes sign (slot_of e))
+  one_event e h = go (slot_of e) refl
+    where
+      go : (o : Option (Slot × Sign)) → slot_of e ≡ o → sum_by (λ sum. w sum e) sums ≡ one_if (hits passes sign o)
+      go None at = sum_same (λ (sum : Sum). w sum e) (λ (sum : Sum). 0) sums (λ sum k. nothing sum) ∙ sum_zero sums
+        where
+          nothing : (sum : Sum) → w sum e ≡ 0
+          nothing sum =
+              let not : is_counted sum.0 sign e ≡ false = ap (is_slot sum.0 sign) at in
+              ap (λ b. cond (passes sum.0) (one_if (b && true)) 0) not ∙ both (passes sum.0)
+            where
+              both : (b : Bool) → ◌≡◌ {A = ℕ} (cond b 0 0) 0
+              both true = refl
+              both false = refl
+      go (Some counted) at =
+          sum_same (λ (sum : Sum). w sum e) (here f counted.0) sums (λ sum k. as_here sum)
+          ∙ once f counted.0 sums listed.rising (times_of events counted.0)
+          ((listed.members (counted.0, times_of events counted.0)).1 (refl, came events e counted.0 counted.1 h at))
+        where
+          f : Slot → ℕ
+          f slot = one_if (passes slot && same_sign sign counted.1)
+
+          table : (a b c : Bool) → cond a (one_if ((b && c) && true)) 0 ≡ cond b (one_if (a && c)) 0
+          table true true true = refl
+          table true true false = refl
+          table true false true = refl
+          table true false false = refl
+          table false true true = refl
+          table false true false = refl
+          table false false true = refl
+          table false false false = refl
+
+          as_here : (sum : Sum) → w sum e ≡ here f counted.0 sum
+          as_here sum =
+              ap (λ o. cond (passes sum.0) (one_if (is_slot sum.0 sign o && true)) 0) at
+              ∙ table (passes sum.0) (same_slot sum.0 counted.0) (same_sign sign counted.1)
+
+  -- the counts of the slots that pass, on one side, are those of the events that are counted so
+  pub sums_are_events : sum_by (λ sum. cond (passes sum.0) (side sign sum.1) 0) sums ≡ count_by (λ e. hits passes sign (slot_of e)) events
+  sums_are_events =
+      let spread : (sum : Sum) → Contains sums sum → cond (passes sum.0) (side sign sum.1) 0 ≡ sum_by (w sum) events =
+      (λ sum h. ap (λ c. cond (passes sum.0) (side sign c) 0) ((listed.members sum).0 h).0
+      ∙ ap (λ n. cond (passes sum.0) n 0) (side_is sign events sum.0)
+      ∙ cond_sum (passes sum.0) (λ e. one_if (is_counted sum.0 sign e && true)) events) in
+      sum_same (λ (sum : Sum). cond (passes sum.0) (side sign sum.1) 0) (λ (sum : Sum). sum_by (w sum) events) sums spread
+      ∙ sum_swap w sums events
+      ∙ sum_same (λ (e : Event). sum_by (λ sum. w sum e) sums) (λ (e : Event). one_if (hits passes sign (slot_of e))) events one_event

@@ -1,0 +1,117 @@
+-- Rows that a sort by a key put in order rise strictly, where their keys differ.
+use Rattle.std.proofs.Common.{◌≡◌, ◌≢◌, ℕ, zero, suc, ◌+◌, ◌<◌, get_or, Bool, true, false, List, [], ◌∷◌, map, T, refl, sym, ap, subst, ◌∙◌, arith, inl, inr, nat_eq}
+use Rattle.std.specs.Prelude.{Contains, filter}
+use Rattle.std.specs.List.{IsDistinct, AllByRecursion}
+use Rattle.std.specs.List.Sorted.{IsSortedBy, IsPermutation}
+use Rattle.std.specs.Ordering.{nat_cmp, is_lt}
+use Rattle.std.specs.Cmp.{IsTotalOrder}
+use Rattle.std.specs.FinMap.Entries.{below_all}
+use Rattle.std.specs.declared.cmp.Ordering.{Ordering}
+use Rattle.std.specs.declared.cmp.Ordering.TheVariants.{Less, Equal, Greater}
+use Rattle.std.proofs.lemmas.Bool.{cases_Bool, false≢true, ne_eqb, eq-eqb, both_ways}
+use Rattle.std.proofs.lemmas.Bool.Decides.{nat_tests}
+use Rattle.std.proofs.lemmas.Cmp.{nat_eq_equiv}
+use Rattle.std.proofs.lemmas.Map.Keys.{IsDistinct-IsPermutation}
+use Rattle.std.proofs.lemmas.List.Sorted.{ranks_by, sorted_far, IsPermutation-map}
+use Rattle.htl_event.specs.Members.{IsRising}
+use Rattle.htl_event.proofs.Members.{Contains-map, Contains-from_map, Contains-from_filter, each_member, at_member, filter-pass, filter-skip}
+use Rattle.htl_sorted.specs.Entries.{IsSorted, entries}
+use Rattle.htl_sorted.proofs.Bools.{both_left, both_right, less}
+use Rattle.htl_sorted.proofs.Places.{turn}
+
+-- ---- keys that differ
+
+pub below : (x y : ℕ) → nat_cmp x y ≡ Less → x < y
+below x y e = grind (arith, nat_tests)
+
+module _ {Row X : Type 0} (key : Row → ℕ) (value : Row → X) where
+  apart_from : (k : ℕ) (rows : List Row) → T (below_all nat_cmp k (entries key value rows))
+      → AllByRecursion (λ y. nat_eq k y ≡ false) (map key rows)
+  apart_from k [] h = tt
+  apart_from k (row ∷ rows) h =
+      let lt = below k (key row) (less (nat_cmp k (key row)) (both_left _ _ h)) in
+      (ne_eqb k (key row) (λ e. omega (arith, lt, e)), apart_from k rows (both_right _ _ h))
+
+  -- the keys of a table differ
+  pub distinct_keys : (rows : List Row) → IsSorted nat_cmp (entries key value rows) → IsDistinct nat_eq (map key rows)
+  unfolding IsDistinct
+  distinct_keys [] sorted = tt
+  distinct_keys (row ∷ rows) sorted = (apart_from (key row) rows (both_left _ _ sorted), distinct_keys rows (both_right _ _ sorted))
+
+pub distinct_moved : {X : Type 0} (n : X → ℕ) (xs ys : List X) → IsPermutation xs ys → IsDistinct nat_eq (map n xs)
+    → IsDistinct nat_eq (map n ys)
+distinct_moved n xs ys moved =
+    IsDistinct-IsPermutation nat_eq nat_eq_equiv.symm (map n xs) (map n ys) (IsPermutation-map n xs ys moved)
+
+-- of rows whose keys differ, those with one key are one
+pub one_of_key : {X : Type 0} (n : X → ℕ) (xs : List X) → IsDistinct nat_eq (map n xs) → (x y : X) → Contains xs x → Contains xs y
+    → n x ≡ n y → x ≡ y
+unfolding IsDistinct
+one_of_key n [] distinct x y h k e = absurd (omega (arith, h.1))
+one_of_key n (z ∷ xs) distinct x y (zero, lt, is) (zero, lu, at) e = sym is ∙ at
+one_of_key n (z ∷ xs) distinct x y (zero, lt, is) (suc j, lu, at) e =
+    let there : Contains xs y = (j, omega (arith, lu), at) in
+    let not : nat_eq (n z) (n y) ≡ false = at_member (λ k. nat_eq (n z) k ≡ false) (map n xs) (n y) distinct.0 (Contains-map n xs y there) in
+    absurd (both_ways (nat_eq (n z) (n y)) not (eq-eqb (n z) (n y) (ap n is ∙ e)))
+one_of_key n (z ∷ xs) distinct x y (suc i, lt, is) (zero, lu, at) e =
+    let there : Contains xs x = (i, omega (arith, lt), is) in
+    let not : nat_eq (n z) (n x) ≡ false = at_member (λ k. nat_eq (n z) k ≡ false) (map n xs) (n x) distinct.0 (Contains-map n xs x there) in
+    absurd (both_ways (nat_eq (n z) (n x)) not (eq-eqb (n z) (n x) (ap n at ∙ sym e)))
+one_of_key n (z ∷ xs) distinct x y (suc i, lt, is) (suc j, lu, at) e =
+    one_of_key n xs distinct.1 x y (i, omega (arith, lt), is) (j, omega (arith, lu), at) e
+
+-- ---- in order
+
+module _ {X K : Type 0} (key : X → K) (R : K → K → Ordering) (o : IsTotalOrder R) (n : X → ℕ)
+    (ties : (x y : X) → R (key x) (key y) ≡ Equal → n x ≡ n y) where
+  abbrev lt : X → X → Bool
+  lt x y = is_lt (R (key x) (key y))
+
+  strictly : (x y : X) → lt y x ≡ false → n x ≢ n y → R (key x) (key y) ≡ Less
+  strictly x y not apart = go (R (key x) (key y)) refl
+    where
+      go : (r : Ordering) → R (key x) (key y) ≡ r → r ≡ Less
+      go Less e = refl
+      go Equal e = absurd (apart (ties x y e))
+      go Greater e = absurd (false≢true (sym not ∙ ap is_lt (turn o (key x) (key y) Greater e)))
+
+  head_first : (x : X) (xs : List X) → IsSortedBy lt (x ∷ xs) → (y : X) → Contains xs y → lt y x ≡ false
+  head_first x xs up y (i, within, is) =
+      let far = sorted_far lt (ranks_by o key) (x ∷ xs) up 0 (suc i) y (omega arith) (omega (arith, within)) in
+      ap (λ z. lt z x) (sym is) ∙ far
+
+  pub rising_from_sorted : (xs : List X) → IsSortedBy lt xs → IsDistinct nat_eq (map n xs) → IsRising (λ a b. R (key a) (key b) ≡ Less) xs
+  unfolding IsDistinct
+  rising_from_sorted [] up distinct = tt
+  rising_from_sorted (x ∷ xs) up distinct = (
+    each_member (λ y. R (key x) (key y) ≡ Less) xs (λ y h. strictly x y (head_first x xs up y h) (apart y h)),
+    rising_from_sorted xs rest distinct.1,
+  )
+    where
+      rest : IsSortedBy lt xs
+      rest k d low high =
+          let next : suc k + 1 ≡ suc (k + 1) = omega arith in
+          subst (λ (j : ℕ). lt (get_or (x ∷ xs) j d) (get_or xs k d) ≡ false) next (up (suc k) d (omega arith) (omega (arith, high)))
+
+      apart : (y : X) → Contains xs y → n x ≢ n y
+      apart y h e =
+          let not : nat_eq (n x) (n y) ≡ false = at_member (λ k. nat_eq (n x) k ≡ false) (map n xs) (n y) distinct.0 (Contains-map n xs y h) in
+          both_ways (nat_eq (n x) (n y)) not (eq-eqb (n x) (n y) e)
+
+-- rows that pass a test have keys that differ too
+pub distinct_filter : {X : Type 0} (n : X → ℕ) (p : X → Bool) (xs : List X) → IsDistinct nat_eq (map n xs)
+    → IsDistinct nat_eq (map n (filter p xs))
+unfolding IsDistinct
+distinct_filter n p [] distinct = tt
+distinct_filter {X} n p (x ∷ xs) distinct =
+    let rest = distinct_filter n p xs distinct.1 in
+    elim (cases_Bool (p x)) [
+      | inl passes ↦ subst (λ (l : List X). IsDistinct nat_eq (map n l)) (sym (filter-pass p x xs passes)) (
+        each_member (λ k. nat_eq (n x) k ≡ false) (map n (filter p xs)) (λ k h.
+            let from = Contains-from_map n (filter p xs) k h in
+            at_member (λ k. nat_eq (n x) k ≡ false) (map n xs) k distinct.0
+            (subst (Contains (map n xs)) from.2 (Contains-map n xs from.0 (Contains-from_filter p xs from.0 from.1).0))),
+        rest,
+      )
+      | inr fails ↦ subst (λ (l : List X). IsDistinct nat_eq (map n l)) (sym (filter-skip p x xs fails)) rest
+    ]

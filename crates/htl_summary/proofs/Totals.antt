@@ -1,0 +1,191 @@
+-- Rows of one key made one: over two lists, of one row, and what their numbers add up to.
+use Rattle.std.proofs.Common.{◌≡◌, ℕ, ◌+◌, ◌<◌, ◌≤◌, Bool, true, false, cond, List, [], ◌∷◌, ◌++◌, Option, Some, None, refl, sym, ap, subst, ◌∙◌, arith, inl, inr}
+use Rattle.std.specs.Prelude.{Contains}
+use Rattle.std.specs.List.{sum_by, filter_map, cons_option}
+use Rattle.std.specs.Ordering.{is_eq}
+use Rattle.std.specs.Cmp.{IsTotalOrder}
+use Rattle.std.specs.FinMap.Entries.{find}
+use Rattle.std.specs.declared.cmp.Ordering.{Ordering}
+use Rattle.std.proofs.lemmas.Bool.{cases_Bool}
+use Rattle.std.proofs.lemmas.List.Sums.{sum_by-cons, sum_by-append, sum_by-le-sum_by}
+use Rattle.std.proofs.lemmas.Option.{same_Some, none-some}
+use Rattle.htl_event.proofs.Members.{Contains-here, Contains-there, Contains-nil}
+use Rattle.htl_sorted.specs.Entries.{IsSorted, entries, joined_at}
+use Rattle.htl_sorted.proofs.Rows.{row_found}
+use Rattle.htl_summary.specs.Totals.{one_at, total_at}
+
+-- ---- sums
+
+-- equal terms at each member
+pub sum_same : {X : Type 0} (f g : X → ℕ) (xs : List X) → ((x : X) → Contains xs x → f x ≡ g x) → sum_by f xs ≡ sum_by g xs
+sum_same f g [] same = refl
+sum_same f g (x ∷ xs) same =
+    let head = same x (Contains-here x xs) in
+    let rest = sum_same f g xs (λ y h. same y (Contains-there x xs y h)) in
+    let left = sum_by-cons f x xs in
+    let right = sum_by-cons g x xs in
+    omega (arith, head, rest, left, right)
+
+pub sum_upto : {X : Type 0} (f g : X → ℕ) (xs : List X) → ((x : X) → Contains xs x → f x ≤ g x) → sum_by f xs ≤ sum_by g xs
+sum_upto f g [] upto = omega arith
+sum_upto f g (x ∷ xs) upto =
+    let head = upto x (Contains-here x xs) in
+    let rest = sum_upto f g xs (λ y h. upto y (Contains-there x xs y h)) in
+    let left = sum_by-cons f x xs in
+    let right = sum_by-cons g x xs in
+    omega (arith, head, rest, left, right)
+
+pub sum_zero : {X : Type 0} (xs : List X) → sum_by (λ (x : X). 0) xs ≡ 0
+sum_zero [] = refl
+sum_zero {X} (x ∷ xs) = let rest = sum_zero xs in let both = sum_by-cons (λ (y : X). 0) x xs in omega (arith, rest, both)
+
+pub sum_plus : {X : Type 0} (f g : X → ℕ) (xs : List X) → sum_by (λ x. f x + g x) xs ≡ sum_by f xs + sum_by g xs
+sum_plus f g [] = refl
+sum_plus {X} f g (x ∷ xs) =
+    let rest = sum_plus f g xs in
+    let both = sum_by-cons (λ (y : X). f y + g y) x xs in
+    let left = sum_by-cons f x xs in
+    let right = sum_by-cons g x xs in
+    omega (arith, rest, both, left, right)
+
+-- sums of sums, either way round
+pub sum_swap : {X Y : Type 0} (w : X → Y → ℕ) (xs : List X) (ys : List Y)
+    → sum_by (λ x. sum_by (w x) ys) xs ≡ sum_by (λ y. sum_by (λ x. w x y) xs) ys
+sum_swap {X} {Y} w [] ys = sym (sum_zero ys)
+sum_swap {X} {Y} w (x ∷ xs) ys =
+    let left = sum_by-cons (λ (z : X). sum_by (w z) ys) x xs in
+    let rest = sum_swap w xs ys in
+    let each = sum_same (λ (y : Y). sum_by (λ z. w z y) (x ∷ xs)) (λ (y : Y). w x y + sum_by (λ z. w z y) xs) ys
+    (λ y h. sum_by-cons (λ z. w z y) x xs) in
+    let both = sum_plus (w x) (λ (y : Y). sum_by (λ z. w z y) xs) ys in
+    omega (arith, left, rest, each, both)
+
+-- ---- numbers of what may be there
+
+abbrev pub amount : {X : Type 0} → (X → ℕ) → Option X → ℕ
+amount field None = 0
+amount field (Some x) = field x
+
+pub sum_filter_map : {X Y : Type 0} (f : Y → ℕ) (g : X → Option Y) (xs : List X)
+    → sum_by f (filter_map g xs) ≡ sum_by (λ x. amount f (g x)) xs
+sum_filter_map f g [] = refl
+sum_filter_map {X} {Y} f g (x ∷ xs) =
+    let rest = sum_filter_map f g xs in
+    let right = sum_by-cons (λ (z : X). amount f (g z)) x xs in
+    one (g x) (filter_map g xs) ∙ ap (λ n. amount f (g x) + n) rest ∙ sym right
+  where
+    one : (o : Option Y) (ys : List Y) → sum_by f (cons_option o ys) ≡ amount f o + sum_by f ys
+    one None ys = omega arith
+    one (Some y) ys = sum_by-cons f y ys
+
+-- ---- totals
+
+module _ {Row K X : Type 0} (cmp : K → K → Ordering) (key : Row → K) (value : Row → X) where
+  -- what is found at a key is what a row with that key has
+  pub found_row : (k : K) (v : X) (rows : List Row) → find cmp k (entries key value rows) ≡ Some v
+      → (row : Row) × Contains rows row × (value row ≡ v)
+  found_row k v [] e = absurd (none-some v e)
+  found_row k v (row ∷ rows) e =
+      elim (cases_Bool (is_eq (cmp k (key row)))) [
+        | inl t ↦ (row, Contains-here row rows, same_Some (value row) v (rw t at e))
+        | inr f ↦ let there = found_row k v rows (rw f at e) in (there.0, Contains-there row rows there.0 there.1, there.2)
+      ]
+
+  pub row_there : IsTotalOrder cmp → (rows : List Row) → IsSorted cmp (entries key value rows) → (row : Row) → Contains rows row
+      → find cmp (key row) (entries key value rows) ≡ Some (value row)
+  row_there total rows sorted row (i, lt, is) = row_found key value total rows sorted i row lt (sym is)
+
+  module _ (join : X → X → X) where
+    abbrev total : K → List Row → Option X
+    total k rows = total_at cmp key value join k rows
+
+    joined_assoc : ((x y z : X) → join (join x y) z ≡ join x (join y z)) → (a b c : Option X)
+        → joined_at join (joined_at join a b) c ≡ joined_at join a (joined_at join b c)
+    joined_assoc assoc None b c = refl
+    joined_assoc assoc (Some x) None c = refl
+    joined_assoc assoc (Some x) (Some y) None = refl
+    joined_assoc assoc (Some x) (Some y) (Some z) = ap (λ (w : X). Some w) (assoc x y z)
+
+    pub total-append : ((x y z : X) → join (join x y) z ≡ join x (join y z)) → (k : K) (xs ys : List Row)
+        → total_at cmp key value join k (xs ++ ys) ≡ joined_at join (total_at cmp key value join k xs) (total_at cmp key value join k ys)
+    total-append assoc k [] ys = refl
+    total-append assoc k (x ∷ xs) ys =
+        ap (joined_at join (one_at cmp key value k x)) (total-append assoc k xs ys)
+        ∙ sym (joined_assoc assoc (one_at cmp key value k x) (total k xs) (total k ys))
+
+    -- one row is found where its key is asked for
+    pub total-one : (k : K) (row : Row)
+        → find cmp k (entries key value (row ∷ [])) ≡ total_at cmp key value join k (row ∷ [])
+    total-one k row = elim (is_eq (cmp k (key row)))
+        as (λ b. cond b (Some (value row)) None ≡ joined_at join (cond b (Some (value row)) None) None)
+        [ true ↦ refl | false ↦ refl ]
+
+    -- what holds of the value of each row with the key, and of two that are joined, holds of the total
+    abbrev pub Holds : (X → Type 0) → Option X → Type 0
+    Holds P None = Unit {0}
+    Holds P (Some x) = P x
+
+    module _ (P : X → Type 0) (closed : (x y : X) → P x → P y → P (join x y)) (k : K) where
+      holds_joined : (a b : Option X) → Holds P a → Holds P b → Holds P (joined_at join a b)
+      holds_joined None b h l = l
+      holds_joined (Some x) None h l = h
+      holds_joined (Some x) (Some y) h l = closed x y h l
+
+      holds_one : (row : Row) → (is_eq (cmp k (key row)) ≡ true → P (value row)) → Holds P (one_at cmp key value k row)
+      holds_one row f = (elim (is_eq (cmp k (key row)))
+          as (λ b. (b ≡ true → P (value row)) → Holds P (cond b (Some (value row)) None))
+          [ true ↦ λ g. g refl | false ↦ λ g. tt ]) f
+
+      holds_total : (rows : List Row) → ((row : Row) → Contains rows row → is_eq (cmp k (key row)) ≡ true → P (value row))
+          → Holds P (total k rows)
+      holds_total [] each = tt
+      holds_total (row ∷ rows) each =
+          holds_joined (one_at cmp key value k row) (total k rows) (holds_one row (each row (Contains-here row rows)))
+          (holds_total rows (λ r h. each r (Contains-there row rows r h)))
+
+      pub total-keeps : (rows : List Row) → ((row : Row) → Contains rows row → is_eq (cmp k (key row)) ≡ true → P (value row))
+          → (x : X) → total_at cmp key value join k rows ≡ Some x → P x
+      total-keeps rows each x e = subst (Holds P) e (holds_total rows each)
+
+    -- a number that adds up where values are joined
+    module _ (field : X → ℕ) (adds : (x y : X) → field (join x y) ≡ field x + field y) where
+      amount-joined : (a b : Option X) → amount field (joined_at join a b) ≡ amount field a + amount field b
+      amount-joined None b = omega arith
+      amount-joined (Some x) None = omega arith
+      amount-joined (Some x) (Some y) = adds x y
+
+      pub total-amount : (k : K) (rows : List Row)
+          → amount field (total_at cmp key value join k rows) ≡ sum_by (λ row. amount field (one_at cmp key value k row)) rows
+      total-amount k [] = refl
+      total-amount k (row ∷ rows) =
+          let head = amount-joined (one_at cmp key value k row) (total k rows) in
+          let rest = total-amount k rows in
+          let sum = sum_by-cons (λ (r : Row). amount field (one_at cmp key value k r)) row rows in
+          omega (arith, head, rest, sum)
+
+      one-upto : (k : K) (row : Row) → amount field (one_at cmp key value k row) ≤ field (value row)
+      one-upto k row = elim (is_eq (cmp k (key row))) as (λ b. amount field (cond b (Some (value row)) None) ≤ field (value row))
+          [ true ↦ omega arith | false ↦ omega arith ]
+
+      pub total-upto : (k : K) (rows : List Row) (x : X) → total_at cmp key value join k rows ≡ Some x
+          → field x ≤ sum_by (λ row. field (value row)) rows
+      total-upto k rows x e =
+          let is = ap (amount field) e in
+          let sum = total-amount k rows in
+          let upto = sum_by-le-sum_by (λ (r : Row). amount field (one_at cmp key value k r)) (λ (r : Row). field (value r)) rows
+          (λ r. one-upto k r) in
+          omega (arith, is, sum, upto)
+
+      -- totals of parts that stand side by side add up to a number within the sum of all
+      pub total-fits : (bound : ℕ) (rows before left right after : List Row) (k : K) (x y : X)
+          → sum_by (λ row. field (value row)) rows < bound → rows ≡ before ++ (left ++ (right ++ after))
+          → total_at cmp key value join k left ≡ Some x → total_at cmp key value join k right ≡ Some y → field x + field y < bound
+      total-fits bound rows before left right after k x y lt is one two =
+          let f : Row → ℕ = λ row. field (value row) in
+          let all = ap (sum_by f) is in
+          let first = sum_by-append f before (left ++ (right ++ after)) in
+          let second = sum_by-append f left (right ++ after) in
+          let third = sum_by-append f right after in
+          let at_left = total-upto k left x one in
+          let at_right = total-upto k right y two in
+          omega (arith, lt, all, first, second, third, at_left, at_right)

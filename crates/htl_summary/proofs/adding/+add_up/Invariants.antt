@@ -1,0 +1,6 @@
+-- Half as many rows.
+use Rattle.std.proofs.Common.{length}
+use Rattle.htl_summary.proofs.adding.+add_up.Given as goal
+
+abbrev pub decreases-add_up : goal.decreases-add_up
+decreases-add_up g l = length l.rows.now

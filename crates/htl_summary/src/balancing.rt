@@ -1,0 +1,69 @@
+//! Whether the references of objects balance.
+
+ghost use Rattle.std.specs.Prelude.{◌≡◌, ◌<◌, ◌^◌, ◌↔◌, List, Contains, filter, length, map, nat_eq, nat_lt, IfOk};
+ghost use Rattle.std.specs.List.{IsDistinct};
+ghost use Rattle.htl_event.specs.Events.{Event};
+ghost use Rattle.htl_event.specs.Members.{IsRising};
+ghost use Rattle.htl_event.specs.Summaries.{IsUnbalanced, IsNumberOfObjects, MostUnbalancedFirst};
+ghost use Rattle.htl_answers.specs.Parts.{AreEventsOf, size_of_all};
+
+use crate::sums::slot_sums;
+use crate::tags::object_rows;
+use htl_answers::Part;
+use htl_event::{NoMemory, ObjectRow};
+use std::alloc::Global;
+use std::cmp::Reverse;
+
+/// What a summary tells of objects.
+#[derive(Drop)]
+pub struct Objects {
+    /// How many objects have an event.
+    pub number: u64,
+    /// Those with an unbalanced tag, the most unbalanced tags first and then by object.
+    pub unbalanced: Vec<ObjectRow>,
+}
+
+/// Which objects were referenced or dereferenced, and whether their tags balance.
+pub fn balances<P: Part>(
+    alloc: Global,
+    tree_alloc: &P::Alloc,
+    parts: &[P],
+) -> Result<Objects, NoMemory>
+    requires { size_of_all (map P.contents parts.now) < 2 ^ 64 }
+    ensures number { IfOk result (λ objects. (events : List Event)
+        → AreEventsOf (map P.contents parts.now) events → IsNumberOfObjects events objects.number) }
+    ensures unbalanced { IfOk result (λ objects. (events : List Event)
+        → AreEventsOf (map P.contents parts.now) events → IsUnbalanced events objects.unbalanced.items) }
+{
+    let sums = slot_sums(alloc, tree_alloc, parts)?;
+    let mut rows = object_rows(alloc, &sums)?;
+    let number = number_of(&rows);
+    keep_unbalanced(&mut rows);
+    put_in_order(&mut rows);
+    Ok(Objects {
+        number,
+        unbalanced: rows,
+    })
+}
+
+fn number_of(rows: &[ObjectRow]) -> u64
+    ensures { result ≡ length rows.now }
+{
+    rows.len() as u64
+}
+
+/// Keeps the rows of objects with an unbalanced tag.
+fn keep_unbalanced(rows: &mut Vec<ObjectRow>)
+    ensures { rows.new.items ≡ filter (λ (row : ObjectRow). nat_lt 0 row.unbalanced) rows.old.items }
+{
+    rows.retain(|row| row.unbalanced > 0);
+}
+
+/// Puts rows of different objects in order.
+fn put_in_order(rows: &mut Vec<ObjectRow>)
+    requires { IsDistinct nat_eq (map (λ (row : ObjectRow). row.object) rows.old.items) }
+    ensures rising { IsRising MostUnbalancedFirst rows.new.items }
+    ensures members { (row : ObjectRow) → Contains rows.new.items row ↔ Contains rows.old.items row }
+{
+    rows.sort_unstable_by_key(|row| (Reverse(row.unbalanced), row.object));
+}

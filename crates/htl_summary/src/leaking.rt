@@ -1,0 +1,100 @@
+//! What processes did with handles.
+
+ghost use Rattle.std.specs.Prelude.{◌≡◌, ◌<◌, ◌^◌, ◌↔◌, List, Contains, filter, length, map, nat_eq, IfOk};
+ghost use Rattle.std.specs.List.{IsDistinct};
+ghost use Rattle.htl_event.specs.Events.{Event};
+ghost use Rattle.htl_event.specs.Members.{IsRising};
+ghost use Rattle.htl_event.specs.Handles.{HaveOwnSequences};
+ghost use Rattle.htl_event.specs.Summaries.{IsProcesses, MostOutstandingFirst};
+ghost use Rattle.htl_answers.specs.Parts.{AreEventsOf, size_of_all};
+ghost use Rattle.htl_answers.specs.Candidates.{is_opened_after};
+ghost use Rattle.htl_summary.specs.Tables.{AreTablesOf};
+ghost use Rattle.htl_summary.specs.Rows.{IsRowOf, AreRowsOf};
+
+use crate::sums::slot_sums;
+use crate::tables::{Tables, tables_of};
+use crate::usage::{Usage, used_by_process};
+use htl_answers::Part;
+use htl_event::{Kind, NoMemory, ProcessRow, SharedEvent};
+use std::alloc::{Allocator, Global};
+use std::cmp::Reverse;
+
+/// Each process with an open, a close or a bad reference, the most outstanding handles first and then by
+/// process.
+pub fn processes<P: Part>(
+    alloc: Global,
+    tree_alloc: &P::Alloc,
+    parts: &[P],
+) -> Result<Vec<ProcessRow>, NoMemory>
+    requires { size_of_all (map P.contents parts.now) < 2 ^ 64 }
+    ensures { IfOk result (λ rows. (events : List Event) → AreEventsOf (map P.contents parts.now) events
+        → HaveOwnSequences events → IsProcesses events rows.items) }
+{
+    let sums = slot_sums(alloc, tree_alloc, parts)?;
+    let tables = tables_of(tree_alloc, parts)?;
+    let used = used_by_process(alloc, &sums)?;
+    let mut rows = process_rows(alloc, &used, &tables)?;
+    put_in_order(&mut rows);
+    Ok(rows)
+}
+
+/// The row of each process.
+fn process_rows<A: Allocator>(
+    alloc: Global,
+    used: &[Usage],
+    tables: &Tables<A>,
+) -> Result<Vec<ProcessRow>, NoMemory>
+    ensures owners { IfOk result (λ rows. map (λ (row : ProcessRow). row.process) rows.items
+        ≡ map (λ (usage : Usage). usage.process) used.now) }
+    ensures rows { IfOk result (λ rows. (events : List Event) → HaveOwnSequences events
+        → AreTablesOf events tables.now.latest tables.now.marks tables.now.exits
+        → AreRowsOf events used.now rows.items) }
+{
+    let mut rows = Vec::with_capacity(alloc, used.len())?;
+    for usage in used {
+        rows.push(process_row(*usage, tables))?;
+    }
+    Ok(rows)
+}
+
+/// The row of a process.
+fn process_row<A: Allocator>(usage: Usage, tables: &Tables<A>) -> ProcessRow
+    ensures owner { result.process ≡ usage.process }
+    ensures row { (events : List Event) → HaveOwnSequences events
+        → AreTablesOf events tables.now.latest tables.now.marks tables.now.exits
+        → IsRowOf events usage result }
+{
+    let exit = tables.exits.get(usage.process);
+    let latest = tables.latest.rows_of(usage.process);
+    ProcessRow {
+        process: usage.process,
+        outstanding: opened_after(latest, exit),
+        opens: usage.opens,
+        closes: usage.closes,
+        bad: usage.bad,
+        mark: tables.marks.get(usage.process),
+        exit,
+    }
+}
+
+/// How many of the events are opens that came after a moment.
+fn opened_after(latest: &[SharedEvent], moment: u64) -> u64
+    ensures { result ≡ length (filter (is_opened_after moment) latest.now) }
+{
+    let mut opens = 0;
+    for event in latest {
+        if event.kind == Kind::Opened && event.sequence > moment {
+            opens += 1;
+        }
+    }
+    opens
+}
+
+/// Puts rows of different processes in order.
+fn put_in_order(rows: &mut Vec<ProcessRow>)
+    requires { IsDistinct nat_eq (map (λ (row : ProcessRow). row.process) rows.old.items) }
+    ensures rising { IsRising MostOutstandingFirst rows.new.items }
+    ensures members { (row : ProcessRow) → Contains rows.new.items row ↔ Contains rows.old.items row }
+{
+    rows.sort_unstable_by_key(|row| (Reverse(row.outstanding), row.process));
+}

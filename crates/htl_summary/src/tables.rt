@@ -1,0 +1,91 @@
+//! The tables of all parts as one table of each kind.
+
+ghost use Rattle.std.specs.Prelude.{List, [], ◌++◌, map, flat_map, IfOk};
+ghost use Rattle.htl_event.specs.Events.{Event};
+ghost use Rattle.htl_answers.specs.Parts.{AreEventsOf, IsFoldOf};
+ghost use Rattle.htl_summary.specs.Tables.{AreTablesOf};
+
+use htl_answers::Part;
+use htl_event::{NoMemory, Run};
+use htl_tables::{Exits, Latest, Marks};
+use std::alloc::Allocator;
+
+/// The latest event of each handle, the mark and the last exit of each process.
+#[derive(Drop)]
+pub(crate) struct Tables<A: Allocator> {
+    pub latest: Latest<A>,
+    pub marks: Marks<A>,
+    pub exits: Exits<A>,
+}
+
+/// The tables of all parts. They are joined in pairs, and those in pairs again.
+pub(crate) fn tables_of<P: Part>(
+    alloc: &P::Alloc,
+    parts: &[P],
+) -> Result<Tables<P::Alloc>, NoMemory>
+    ensures { IfOk result (λ tables. (events : List Event) → AreEventsOf (map P.contents parts.now) events
+        → AreTablesOf events tables.latest tables.marks tables.exits) }
+{
+    if parts.len() < 2 {
+        return match parts.first() {
+            None => no_tables(alloc),
+            Some(part) => tables_of_part(alloc, part),
+        };
+    }
+    let (front, back) = parts.split_at(parts.len() / 2);
+    let left = tables_of(alloc, front)?;
+    let right = tables_of(alloc, back)?;
+    joined(&left, &right)
+}
+
+/// The tables of no events.
+fn no_tables<A: Allocator + Clone>(alloc: &A) -> Result<Tables<A>, NoMemory>
+    ensures { IfOk result (λ tables. AreTablesOf [] tables.latest tables.marks tables.exits) }
+{
+    Ok(Tables {
+        latest: Latest::new(alloc.clone()?),
+        marks: Marks::new(alloc.clone()?),
+        exits: Exits::new(alloc.clone()?),
+    })
+}
+
+/// The tables of one part: what it folded and what it holds.
+fn tables_of_part<P: Part>(alloc: &P::Alloc, part: &P) -> Result<Tables<P::Alloc>, NoMemory>
+    ensures { IfOk result (λ tables. (folded : List Event) → IsFoldOf (P.contents part.now) folded
+        → AreTablesOf (folded ++ (P.contents part.now).held) tables.latest tables.marks tables.exits) }
+{
+    let held = tables_of_runs(alloc, part.held())?;
+    Ok(Tables {
+        latest: part.latest().join(&held.latest)?,
+        marks: part.marks().join(&held.marks)?,
+        exits: part.exits().join(&held.exits)?,
+    })
+}
+
+/// The tables of the events of the runs.
+fn tables_of_runs<A: Allocator + Clone, R: Run>(
+    alloc: &A,
+    runs: &[R],
+) -> Result<Tables<A>, NoMemory>
+    ensures { IfOk result (λ tables. AreTablesOf (flat_map R.events_of runs.now) tables.latest tables.marks tables.exits) }
+{
+    Ok(Tables {
+        latest: Latest::of(alloc.clone()?, runs)?,
+        marks: Marks::of(alloc.clone()?, runs)?,
+        exits: Exits::of(alloc.clone()?, runs)?,
+    })
+}
+
+/// The tables of the events of both sides.
+fn joined<A: Allocator + Clone>(left: &Tables<A>, right: &Tables<A>) -> Result<Tables<A>, NoMemory>
+    ensures { IfOk result (λ tables. (events more : List Event)
+        → AreTablesOf events left.now.latest left.now.marks left.now.exits
+        → AreTablesOf more right.now.latest right.now.marks right.now.exits
+        → AreTablesOf (events ++ more) tables.latest tables.marks tables.exits) }
+{
+    Ok(Tables {
+        latest: left.latest.join(&right.latest)?,
+        marks: left.marks.join(&right.marks)?,
+        exits: left.exits.join(&right.exits)?,
+    })
+}

@@ -3,3 +3,5 @@ pub mod InputLaws
 pub mod SplitLaws
 pub mod SourceLaws
 pub mod WholeLaws
+pub mod OneTable
+pub mod OneOutcome

@@ -2,3 +2,5 @@ pub mod InputLaws
 pub mod SplitLaws
 pub mod SourceLaws
 pub mod WholeLaws
+pub mod OneTable
+pub mod OneOutcome

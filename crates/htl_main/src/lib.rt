@@ -4,12 +4,14 @@
 //! `Printed` (the lines of the answer, or the first fault in the order of a run), `Causes` and `Sources` (how a run
 //! ends for want of memory or by a failing device). `printing.rt` and `streaming.rt` put the steps of the two runs in
 //! order: `inputs.rt` decodes what lies in memory and `sources.rt` what comes in reads, and `answering.rt` lets workers
-//! take in the case and answers. `fault.rt` has the faults with their lines and statuses.
+//! take in the case and answers. `fault.rt` has the faults with their lines and statuses. `laws.rt` says that a run has
+//! one outcome.
 #![tactic(auto)]
 
 mod answering;
 mod fault;
 mod inputs;
+pub mod laws;
 mod printing;
 mod sources;
 mod streaming;

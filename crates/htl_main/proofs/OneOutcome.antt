@@ -1,0 +1,307 @@
+-- Inputs and a symbol table come to one outcome: one text, or one first fault, and never both.
+use Rattle.std.proofs.Common.{◌≡◌, ◌≢◌, ◌⊎◌, ◌<◌, ℕ, zero, suc, Bool, true, false, List, [], ◌∷◌, ◌++◌, length, take, Option, Some, None}
+use Rattle.std.proofs.Common.{refl, sym, ap, ◌∙◌, subst, inl, inr, arith}
+use Rattle.std.specs.Prelude.{Result, Ok, Err, Contains, slice_get}
+use Rattle.std.proofs.lemmas.Bool.{cases_order}
+use Rattle.std.proofs.lemmas.List.Sorted.{IsPermutation-refl}
+use Rattle.htl_event.specs.Events.{Event}
+use Rattle.htl_event.specs.Handles.{IsDiff}
+use Rattle.htl_event.specs.Laws.{HandlesAreDetermined, CountsAreDetermined}
+use Rattle.htl_event.proofs.Determined.{handles_are_determined}
+use Rattle.htl_event.proofs.Counts.{counts_are_determined}
+use Rattle.htl_segment.specs.Content.{Content}
+use Rattle.htl_segment.specs.Traces.{Trace, all_events}
+use Rattle.htl_segment.specs.Bundles.{bundle, Splits, BundleFault}
+use Rattle.htl_segment.specs.Faults.{first_fault}
+use Rattle.htl_segment.specs.declared.fault.Fault.{Fault}
+use Rattle.htl_segment.specs.declared.hexadecimal.HexFault.{HexFault}
+use Rattle.htl_segment.proofs.BundleLaws.{split_in_one_way, nothing_short}
+use Rattle.htl_segment.proofs.PassedTests.{some_is}
+use Rattle.htl_case.specs.Cases.{IsCaseOf}
+use Rattle.htl_case.specs.Faults.{IsOutcome}
+use Rattle.htl_case.specs.declared.fault.CaseFault.{CaseFault}
+use Rattle.htl_case.specs.declared.fault.CaseFault.TheVariants as case_faults
+use Rattle.htl_case.proofs.Outcomes.{one_case, exact_case, exact_fault}
+use Rattle.htl_symbols.specs.Ranges.{Range}
+use Rattle.htl_symbols.specs.Reading.{records_of}
+use Rattle.htl_symbols.specs.declared.fault.SymbolFault.{SymbolFault}
+use Rattle.htl_report.specs.Opens.{outstanding_text, diff_text}
+use Rattle.htl_report.specs.TagBalances.{tags_text}
+use Rattle.htl_report.specs.BadReferences.{bad_text}
+use Rattle.htl_report.specs.Leaks.{leaks_text}
+use Rattle.htl_report.specs.ReferenceStacks.{stacks_text}
+use Rattle.htl_report.specs.Listings.{trace_text}
+use Rattle.htl_command.specs.declared.question.Job.{Job}
+use Rattle.htl_command.specs.declared.question.Question.{Question}
+use Rattle.htl_command.specs.declared.question.Question.TheVariants as asked
+use Rattle.htl_main.specs.Inputs.{HasBytes, Decodes, DecodeAll, HasBundleFault, HasHexFault, IsTold, StopsAt}
+use Rattle.htl_main.specs.Printed.{IsText, HasSymbols, HasSymbolFault, Answers, IsPrinted, WorkersFit, Printed}
+use Rattle.htl_main.specs.declared.fault.RunFault.{RunFault}
+use Rattle.htl_main.specs.declared.fault.RunFault.TheVariants.{Workers, Segment, Hex, Case, Symbols, Memory}
+use Rattle.htl_main.proofs.OneTable.{one_table, one_symbol_fault, table_has_no_fault}
+
+-- ---- one input
+
+one_bytes : (hex : Bool) (input a b : List ℕ) → HasBytes hex input a → HasBytes hex input b → a ≡ b
+one_bytes false input a b p q = p ∙ sym q
+one_bytes true input a b p q = let same = sym p.1 ∙ q.1 in cc
+
+one_content : (hex : Bool) (input : List ℕ) (ss ts : List Content) → Decodes hex input ss → Decodes hex input ts → ss ≡ ts
+one_content hex input ss ts p q =
+    let same = one_bytes hex input p.bytes q.bytes p.has q.has in
+    (split_in_one_way p.bytes [] [] ss ts _ _ p.splits (subst (λ (b : List ℕ). Splits b ts []) (sym same) q.splits)
+    nothing_short nothing_short).0
+
+-- what is decoded has no fault
+not_faulty : (hex : Bool) (input : List ℕ) (ss : List Content) (offset : ℕ) (fault : Fault) → Decodes hex input ss
+    → HasBundleFault hex input offset fault → ⊥
+not_faulty hex input ss offset fault p q =
+    let same = one_bytes hex input p.bytes q.bytes p.has q.has in
+    let found = subst (λ (b : List ℕ). BundleFault b offset fault) (sym same) q.is in
+    let both = split_in_one_way p.bytes [] found.rest ss found.before _ fault p.splits found.splits nothing_short found.fault_is in
+    omega (arith, ap length both.1, found.some)
+
+one_bundle_fault : (hex : Bool) (input : List ℕ) (m n : ℕ) (f g : Fault) → HasBundleFault hex input m f → HasBundleFault hex input n g
+    → (m ≡ n) × (f ≡ g)
+one_bundle_fault hex input m n f g p q =
+    let same = one_bytes hex input p.bytes q.bytes p.has q.has in
+    let a = p.is in
+    let b = subst (λ (l : List ℕ). BundleFault l n g) (sym same) q.is in
+    let both = split_in_one_way p.bytes a.rest b.rest a.before b.before f g a.splits b.splits a.fault_is b.fault_is in (
+      omega (arith, a.offset_is, b.offset_is, ap (λ (ss : List Content). length (bundle ss)) both.0),
+      some_is f g (sym a.fault_is ∙ ap first_fault both.1 ∙ b.fault_is),
+    )
+
+no_hex_fault : (hex : Bool) (input bytes : List ℕ) (fault : HexFault) → HasHexFault hex input fault → HasBytes hex input bytes → ⊥
+no_hex_fault false input bytes fault p has = let no = p.0 in cc
+no_hex_fault true input bytes fault p has = let none = has.0 in let some = p.1 in cc
+
+-- what is told of an input, but for want of memory
+abbrev Told : Bool → ℕ → List ℕ → RunFault → Type 0
+Told hex place input fault =
+    ((offset : ℕ) × (f : Fault) × HasBundleFault hex input offset f × (fault ≡ Segment place offset f))
+    ⊎ ((f : HexFault) × HasHexFault hex input f × (fault ≡ Hex place f))
+
+cases_told : (hex : Bool) (place : ℕ) (input : List ℕ) (fault : RunFault) → fault ≢ Memory → IsTold hex place input fault
+    → Told hex place input fault
+cases_told hex place input (Segment at offset f) told is = inl (offset, f, is.1, ap (λ (p : ℕ). Segment p offset f) is.0)
+cases_told hex place input (Hex at f) told is = inr (f, is.1, ap (λ (p : ℕ). Hex p f) is.0)
+cases_told hex place input Memory told is = absurd (told refl)
+cases_told hex place input other told is = absurd is
+
+one_told : (hex : Bool) (place : ℕ) (input : List ℕ) (f g : RunFault) → Told hex place input f → Told hex place input g → f ≡ g
+one_told hex place input f g (inl p) (inl q) =
+    let both = one_bundle_fault hex input p.0 q.0 p.1 q.1 p.2 q.2 in
+    p.3 ∙ ap (λ (n : ℕ). Segment place n p.1) both.0 ∙ ap (λ (x : Fault). Segment place q.0 x) both.1 ∙ sym q.3
+one_told hex place input f g (inl p) (inr q) = absurd (no_hex_fault hex input p.2.bytes q.0 q.1 p.2.has)
+one_told hex place input f g (inr p) (inl q) = absurd (no_hex_fault hex input q.2.bytes p.0 p.1 q.2.has)
+one_told hex place input f g (inr p) (inr q) =
+    let same = sym p.1.1 ∙ q.1.1 in
+    let one : p.0 ≡ q.0 = cc in
+    p.2 ∙ ap (λ (x : HexFault). Hex place x) one ∙ sym q.2
+
+decoded_not_told : (hex : Bool) (place : ℕ) (input : List ℕ) (ss : List Content) (fault : RunFault) → Decodes hex input ss
+    → Told hex place input fault → ⊥
+decoded_not_told hex place input ss fault is (inl p) = not_faulty hex input ss p.0 p.1 is p.2
+decoded_not_told hex place input ss fault is (inr p) = no_hex_fault hex input is.bytes p.0 p.1 is.has
+
+-- ---- all inputs
+
+one_decoding : (hex : Bool) (inputs : List (List ℕ)) (ss ts : List Content) → DecodeAll hex inputs ss → DecodeAll hex inputs ts → ss ≡ ts
+one_decoding hex [] ss ts p q = p ∙ sym q
+one_decoding hex (input ∷ inputs) ss ts p q =
+    p.4 ∙ ap (λ (l : List Content). l ++ p.1) (one_content hex input p.0 q.0 p.2 q.2)
+    ∙ ap (λ (l : List Content). q.0 ++ l) (one_decoding hex inputs p.1 q.1 p.3 q.3) ∙ sym q.4
+
+decoded_at : (hex : Bool) (inputs : List (List ℕ)) (place : ℕ) (input : List ℕ) (ss : List Content) → DecodeAll hex inputs ss
+    → slice_get inputs place ≡ Some input → (ts : List Content) × Decodes hex input ts
+decoded_at hex [] place input ss all here = absurd cc
+decoded_at hex (x ∷ inputs) zero input ss all here =
+    let is : x ≡ input = some_is x input here in (all.0, subst (λ (i : List ℕ). Decodes hex i all.0) is all.2)
+decoded_at hex (x ∷ inputs) (suc place) input ss all here = decoded_at hex inputs place input all.1 all.3 here
+
+taken_at : (inputs : List (List ℕ)) (n place : ℕ) (input : List ℕ) → place < n → slice_get inputs place ≡ Some input
+    → slice_get (take n inputs) place ≡ Some input
+taken_at [] n place input lt here = absurd cc
+taken_at (x ∷ inputs) zero place input lt here = absurd (omega (arith, lt))
+taken_at (x ∷ inputs) (suc n) zero input lt here = here
+taken_at (x ∷ inputs) (suc n) (suc place) input lt here = taken_at inputs n place input (omega (arith, lt)) here
+
+abbrev Stops : Bool → List (List ℕ) → RunFault → Type 0
+Stops hex inputs fault = StopsAt hex (IsTold hex) inputs fault
+
+-- of two inputs that are refused the first one would be decoded
+none_before : (hex : Bool) (inputs : List (List ℕ)) (f g : RunFault) (p : Stops hex inputs f) (q : Stops hex inputs g) → f ≢ Memory
+    → p.place < q.place → ⊥
+none_before hex inputs f g p q told lt =
+    let at = decoded_at hex (take q.place inputs) p.place p.input q.segments q.before
+    (taken_at inputs q.place p.place p.input lt p.here) in
+    decoded_not_told hex p.place p.input at.0 f at.1 (cases_told hex p.place p.input f told p.told)
+
+same_input : (hex : Bool) (inputs : List (List ℕ)) (f g : RunFault) (p : Stops hex inputs f) (q : Stops hex inputs g) → f ≢ Memory
+    → g ≢ Memory → p.place ≡ q.place → f ≡ g
+same_input hex inputs f g p q told told_too same =
+    let there = subst (λ (n : ℕ). slice_get inputs n ≡ Some q.input) (sym same) q.here in
+    let input : q.input ≡ p.input = some_is q.input p.input (sym there ∙ p.here) in
+    one_told hex p.place p.input f g (cases_told hex p.place p.input f told p.told)
+    (cases_told hex p.place p.input g told_too
+    (subst (λ (i : List ℕ). IsTold hex p.place i g) input (subst (λ (n : ℕ). IsTold hex n q.input g) (sym same) q.told)))
+
+one_stop : (hex : Bool) (inputs : List (List ℕ)) (f g : RunFault) → Stops hex inputs f → Stops hex inputs g → f ≢ Memory → g ≢ Memory
+    → f ≡ g
+one_stop hex inputs f g p q told told_too =
+    elim (cases_order p.place q.place) [
+      | inl same ↦ same_input hex inputs f g p q told told_too same
+      | inr (inl lt) ↦ absurd (none_before hex inputs f g p q told lt)
+      | inr (inr gt) ↦ absurd (none_before hex inputs g f q p told_too gt)
+    ]
+
+not_decoded : (hex : Bool) (inputs : List (List ℕ)) (fault : RunFault) (ss : List Content) → Stops hex inputs fault → fault ≢ Memory
+    → DecodeAll hex inputs ss → ⊥
+not_decoded hex inputs fault ss p told all =
+    let at = decoded_at hex inputs p.place p.input ss all p.here in
+    decoded_not_told hex p.place p.input at.0 fault at.1 (cases_told hex p.place p.input fault told p.told)
+
+-- ---- one answer
+
+handles : (events : List Event) → HandlesAreDetermined events events
+handles events = handles_are_determined events events (λ e. ((λ h. h), (λ h. h)))
+
+counts : (events : List Event) → CountsAreDetermined events events
+counts events = counts_are_determined events events (IsPermutation-refl events)
+
+one_text : (events : List Event) (table : List Range) (question : Question) (a b : List ℕ) → IsText events table question a
+    → IsText events table question b → a ≡ b
+one_text events table (asked.Outstanding process) a b p q =
+    p.2 ∙ ap (outstanding_text table process) ((handles events).outstanding process p.0 q.0 p.1 q.1) ∙ sym q.2
+one_text events table (asked.Diff process (Some since)) a b p q =
+    p.2 ∙ ap (diff_text table process since) ((handles events).diff process since p.0 q.0 p.1 q.1) ∙ sym q.2
+one_text events table (asked.Diff process None) a b p q =
+    let mark : p.0 ≡ q.0 = (handles events).mark process p.0 q.0 p.2 q.2 in
+    let rows = (handles events).diff process q.0 p.1 q.1
+    (subst (λ (n : ℕ). IsDiff (Contains events) process n p.1) mark p.3) q.3 in
+    p.4 ∙ ap (λ (n : ℕ). diff_text table process n p.1) mark ∙ ap (diff_text table process q.0) rows ∙ sym q.4
+one_text events table (asked.Tags object) a b p q =
+    p.2 ∙ ap (tags_text object) ((counts events).tags object p.0 q.0 p.1 q.1) ∙ sym q.2
+one_text events table (asked.Bad process) a b p q =
+    p.2 ∙ ap (bad_text table process) ((counts events).bad process p.0 q.0 p.1 q.1) ∙ sym q.2
+one_text events table (asked.Leaks process) a b p q =
+    p.2 ∙ ap (leaks_text table process) ((handles events).leaks process p.0 q.0 p.1 q.1) ∙ sym q.2
+one_text events table (asked.Stacks object tag) a b p q =
+    p.2 ∙ ap (stacks_text table object tag) ((counts events).stacks object tag p.0 q.0 p.1 q.1) ∙ sym q.2
+one_text events table (asked.Trace process handle) a b p q =
+    p.2 ∙ ap (trace_text table process handle) ((handles events).listing process handle p.0 q.0 p.1 q.1) ∙ sym q.2
+
+-- ---- what decoded segments come to
+
+one_symbols : (symbols : Option (List ℕ)) (a b : List Range) → HasSymbols symbols a → HasSymbols symbols b → a ≡ b
+one_symbols None a b p q = p ∙ sym q
+one_symbols (Some bytes) a b p q = one_table (records_of bytes) a b p q
+
+one_fault_of_symbols : (symbols : Option (List ℕ)) (f g : SymbolFault) → HasSymbolFault symbols f → HasSymbolFault symbols g → f ≡ g
+one_fault_of_symbols None f g p q = absurd p
+one_fault_of_symbols (Some bytes) f g p q = one_symbol_fault (records_of bytes) f g p.0 q.0 p.1 q.1
+
+symbols_or_fault : (symbols : Option (List ℕ)) (table : List Range) (fault : SymbolFault) → HasSymbols symbols table
+    → HasSymbolFault symbols fault → ⊥
+symbols_or_fault None table fault p q = q
+symbols_or_fault (Some bytes) table fault p q = table_has_no_fault (records_of bytes) p.0 fault p.1 q.0 q.1
+
+case_or_fault : (segments : List Content) (T : Trace) (fault : CaseFault) → IsCaseOf segments T → IsOutcome segments (Err fault) → ⊥
+case_or_fault segments T fault p q = elim (exact_case segments T (Err fault) p q) [ inl same ↦ cc | inr same ↦ cc ]
+
+one_case_fault : (segments : List Content) (f g : CaseFault) → IsOutcome segments (Err f) → IsOutcome segments (Err g) → f ≡ g
+one_case_fault segments f g p q = elim (exact_fault segments f (Err g) p.1 q) [
+  | inl same ↦ fault_is f g same
+  | inr same ↦ absurd (p.0 (fault_is f case_faults.NoMemory same))
+]
+  where
+    fault_is : (x y : CaseFault) → ◌≡◌ {A = Result Trace CaseFault} (Err x) (Err y) → x ≡ y
+    fault_is x y e = cc
+
+one_answer : (segments : List Content) (symbols : Option (List ℕ)) (question : Question) (a b : List ℕ)
+    → Answers segments symbols question a → Answers segments symbols question b → a ≡ b
+one_answer segments symbols question a b p q =
+    let trace = one_case segments p.trace q.trace p.of_case q.of_case in
+    let table = one_symbols symbols p.table q.table p.named q.named in
+    one_text (all_events q.trace.segments) q.table question a b
+    (subst (λ (t : List Range). IsText (all_events q.trace.segments) t question a) table
+    (subst (λ (T : Trace). IsText (all_events T.segments) p.table question a) trace p.is)) q.is
+
+abbrev done : List ℕ → Result (List ℕ) RunFault
+done lines = Ok lines
+
+abbrev failed : RunFault → Result (List ℕ) RunFault
+failed fault = Err fault
+
+one_printed : (segments : List Content) (symbols : Option (List ℕ)) (question : Question) (a b : Result (List ℕ) RunFault)
+    → IsPrinted segments symbols question a → IsPrinted segments symbols question b → a ≡ b
+one_printed segments symbols question (Ok a) (Ok b) p q = ap done (one_answer segments symbols question a b p q)
+one_printed segments symbols question (Ok a) (Err (Case f)) p q = absurd (case_or_fault segments p.trace f p.of_case q)
+one_printed segments symbols question (Ok a) (Err (Symbols f)) p q = absurd (symbols_or_fault symbols p.table f p.named q.2)
+one_printed segments symbols question (Ok a) (Err other) p q = absurd q
+one_printed segments symbols question (Err (Case f)) (Ok b) p q = absurd (case_or_fault segments q.trace f q.of_case p)
+one_printed segments symbols question (Err (Case f)) (Err (Case g)) p q =
+    ap (λ (x : CaseFault). failed (Case x)) (one_case_fault segments f g p q)
+one_printed segments symbols question (Err (Case f)) (Err (Symbols g)) p q = absurd (case_or_fault segments q.0 f q.1 p)
+one_printed segments symbols question (Err (Case f)) (Err other) p q = absurd q
+one_printed segments symbols question (Err (Symbols f)) (Ok b) p q = absurd (symbols_or_fault symbols q.table f q.named p.2)
+one_printed segments symbols question (Err (Symbols f)) (Err (Case g)) p q = absurd (case_or_fault segments p.0 g p.1 q)
+one_printed segments symbols question (Err (Symbols f)) (Err (Symbols g)) p q =
+    ap (λ (x : SymbolFault). failed (Symbols x)) (one_fault_of_symbols symbols f g p.2 q.2)
+one_printed segments symbols question (Err (Symbols f)) (Err other) p q = absurd q
+one_printed segments symbols question (Err other) b p q = absurd p
+
+-- ---- the outcome
+
+-- what a run comes to where the number of workers is allowed
+abbrev Comes : Bool → Question → List (List ℕ) → Option (List ℕ) → Result (List ℕ) RunFault → Type 0
+Comes hex question inputs symbols outcome =
+    ((fault : RunFault) × (outcome ≡ failed fault) × (fault ≢ Memory) × Stops hex inputs fault)
+    ⊎ ((segments : List Content) × DecodeAll hex inputs segments × IsPrinted segments symbols question outcome)
+
+one_coming : (hex : Bool) (question : Question) (inputs : List (List ℕ)) (symbols : Option (List ℕ)) (a b : Result (List ℕ) RunFault)
+    → Comes hex question inputs symbols a → Comes hex question inputs symbols b → a ≡ b
+one_coming hex question inputs symbols a b (inl p) (inl q) =
+    p.1 ∙ ap failed (one_stop hex inputs p.0 q.0 p.3 q.3 p.2 q.2) ∙ sym q.1
+one_coming hex question inputs symbols a b (inl p) (inr q) = absurd (not_decoded hex inputs p.0 q.0 p.3 p.2 q.1)
+one_coming hex question inputs symbols a b (inr p) (inl q) = absurd (not_decoded hex inputs q.0 p.0 q.3 q.2 p.1)
+one_coming hex question inputs symbols a b (inr p) (inr q) =
+    let same = one_decoding hex inputs p.0 q.0 p.1 q.1 in
+    one_printed q.0 symbols question a b (subst (λ (ss : List Content). IsPrinted ss symbols question a) same p.2) q.2
+
+cases_printed : (job : Job) (inputs : List (List ℕ)) (symbols : Option (List ℕ)) (outcome : Result (List ℕ) RunFault)
+    → Printed job inputs symbols outcome
+    → ((outcome ≡ failed Workers) × (WorkersFit job.workers → ⊥))
+    ⊎ (WorkersFit job.workers × Comes job.hex job.question inputs symbols outcome)
+cases_printed job inputs symbols (Err Workers) is = inl (refl, is)
+cases_printed job inputs symbols (Err (Segment at offset fault)) is =
+    inr (is.0, inl (Segment at offset fault, refl, (λ same. cc), is.1))
+cases_printed job inputs symbols (Err (Hex at fault)) is = inr (is.0, inl (Hex at fault, refl, (λ same. cc), is.1))
+cases_printed job inputs symbols outcome is = inr (is.0, inr (is.1, is.2, is.3))
+
+pub one_outcome : (job : Job) (inputs : List (List ℕ)) (symbols : Option (List ℕ)) (a b : Result (List ℕ) RunFault)
+    → Printed job inputs symbols a → Printed job inputs symbols b → a ≡ b
+one_outcome job inputs symbols a b p q =
+    elim (cases_printed job inputs symbols a p) [
+      | inl x ↦ elim (cases_printed job inputs symbols b q) [ inl y ↦ x.0 ∙ sym y.0 | inr y ↦ absurd (x.1 y.0) ]
+      | inr x ↦ elim (cases_printed job inputs symbols b q) [
+        | inl y ↦ absurd (y.1 x.0)
+        | inr y ↦ one_coming job.hex job.question inputs symbols a b x.1 y.1
+      ]
+    ]
+
+-- and the number of workers is no part of it
+pub for_all_workers : (job other : Job) (inputs : List (List ℕ)) (symbols : Option (List ℕ)) (a b : Result (List ℕ) RunFault)
+    → job.hex ≡ other.hex → job.question ≡ other.question → WorkersFit job.workers → WorkersFit other.workers
+    → Printed job inputs symbols a → Printed other inputs symbols b → a ≡ b
+for_all_workers job other inputs symbols a b hex question few few_too p q =
+    elim (cases_printed job inputs symbols a p) [
+      | inl x ↦ absurd (x.1 few)
+      | inr x ↦ elim (cases_printed other inputs symbols b q) [
+        | inl y ↦ absurd (y.1 few_too)
+        | inr y ↦ one_coming other.hex other.question inputs symbols a b
+            (subst (λ (asked_too : Question). Comes other.hex asked_too inputs symbols a) question
+            (subst (λ (h : Bool). Comes h job.question inputs symbols a) hex x.1)) y.1
+      ]
+    ]

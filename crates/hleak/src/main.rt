@@ -1,17 +1,27 @@
 //! The program: answers one question over trace segments in files, or from standard input.
 //!
-//! The words ask for a job (`htl_command`). The files are opened in order, the symbol table is read, and the job
-//! is run (`htl_main`). A fault's line goes to standard error, and the program ends with its status.
+//! The words ask for a job (`htl_command`). The files are opened in order, the symbol table is read, and
+//! the job is run (`htl_main`). A fault's line goes to standard error, and the program ends with its status.
+//!
+//! Where standard error is a terminal, a person is told more: `progress.rt` shows how much was read, and
+//! `explanation.rt` and `meaning.rt` say a fault in words.
 #![tactic(auto)]
 
 ghost use Rattle.std.specs.Prelude.{◌≡◌, All, IfOk, false};
 
+mod explanation;
 mod input;
+mod meaning;
+mod progress;
 
+use explanation::Explanation;
 use htl_command::{Asked, ParseFault, parse};
 use htl_main::{Reading, RunFault, Source, Writing, run_from};
 use input::Input;
+use progress::Progress;
+use std::alloc::Global;
 use std::fs::File;
+use std::io::IsTerminal;
 use std::process::ExitCode;
 use std::sync::Wait;
 use std::thread::Threads;
@@ -26,10 +36,15 @@ fn main(rt: HostRuntime) -> ExitCode {
         Ok(asked) => asked,
         Err(fault) => return refused(&rt, &fault),
     };
-    match answered(&rt, &rt, &asked) {
+    let is_watched = rt.stderr().is_terminal();
+    match answered(&rt, &rt, &asked, is_watched) {
         Ok(()) => ExitCode::SUCCESS,
         Err(fault) => {
             let _ = eprintln!(rt; "{fault}");
+            if is_watched {
+                let asked = &asked;
+                let _ = eprintln!(rt; "{}", Explanation { fault, asked });
+            }
             ExitCode::from(fault.status())
         }
     }
@@ -39,7 +54,17 @@ fn main(rt: HostRuntime) -> ExitCode {
 fn words(rt: &HostRuntime) -> Result<Vec<String>, ParseFault> {
     match env::args(rt) {
         Ok(words) => Ok(words.skip(1).collect(rt.alloc())?),
+        Err(error) if error.kind() == io::ErrorKind::InvalidData => Err(no_text(rt.alloc())),
         Err(_) => Err(ParseFault::Memory),
+    }
+}
+
+/// The fault of a word that is no text.
+fn no_text(alloc: Global) -> ParseFault {
+    let text = "error: a word is no text in UTF-8\n\nFor more information, try 'hleak --help'.\n";
+    match String::from_str(alloc, text) {
+        Ok(text) => ParseFault::Usage(text),
+        Err(_) => ParseFault::Memory,
     }
 }
 
@@ -61,22 +86,36 @@ fn answered(
     host: &HostRuntime,
     rt: &(impl Threads + Wait + Sync),
     asked: &Asked,
+    is_watched: bool,
 ) -> Result<(), RunFault> {
-    let mut inputs = opened(host, &asked.files)?;
+    let progress = if is_watched {
+        Progress::begin(*host).ok()
+    } else {
+        None
+    };
+    let mut inputs = opened(host, &asked.files, progress.as_ref())?;
     let symbols = symbols(host, asked.symbols.as_ref())?;
     let symbols = symbols.as_ref().map(|bytes| bytes.as_slice());
     let mut out = Writing::new(io::writer(host));
-    run_from(rt, host.alloc(), &asked.job, &mut inputs, symbols, &mut out)
+    let ended = run_from(rt, host.alloc(), &asked.job, &mut inputs, symbols, &mut out);
+    if let Some(progress) = &progress {
+        progress.clear();
+    }
+    ended
 }
 
 /// The files in order, or standard input where there is none.
-fn opened(rt: &HostRuntime, files: &[String]) -> Result<Vec<Reading<Input>>, RunFault>
+fn opened<'a>(
+    rt: &HostRuntime,
+    files: &[String],
+    progress: Option<&'a Progress>,
+) -> Result<Vec<Reading<Input<'a>>>, RunFault>
     ensures { IfOk result (λ inputs.
-        All (λ input. ⟦<Reading<Input> as Source>⟧.has_failed input ≡ false) inputs.items) }
+        All (λ input. ⟦<Reading<Input<'a>> as Source>⟧.has_failed input ≡ false) inputs.items) }
 {
     let mut inputs = Vec::new(rt.alloc());
     if files.is_empty() {
-        inputs.push(Reading::new(Input::Standard(rt.stdin())))?;
+        inputs.push(Reading::new(Input::standard(rt, progress)))?;
     }
     for (place, name) in files.iter().enumerate() {
         let Ok(file) = File::open(rt, name) else {
@@ -84,7 +123,7 @@ fn opened(rt: &HostRuntime, files: &[String]) -> Result<Vec<Reading<Input>>, Run
                 input: place as u64,
             });
         };
-        inputs.push(Reading::new(Input::File(file)))?;
+        inputs.push(Reading::new(Input::file(file, progress)))?;
     }
     Ok(inputs)
 }

@@ -1,5 +1,6 @@
 -- The events of the slots that are asked for count under these slots what all events count.
-use Rattle.std.proofs.Common.{◌≡◌, ℕ, ◌+◌, ◌<◌, ◌≤◌, Bool, true, false, cond, List, [], ◌∷◌, ◌++◌, length, map, Option, Some, None, refl, sym, ap, subst, ◌∙◌, arith, inl, inr, ◌&&◌}
+use Rattle.std.proofs.Common.{◌≡◌, ℕ, ◌+◌, ◌<◌, ◌≤◌, Bool, true, false, cond, List, [], ◌∷◌, ◌++◌, length, map, Option, Some}
+use Rattle.std.proofs.Common.{None, refl, sym, ap, subst, ◌∙◌, arith, inl, inr, ◌&&◌}
 use Rattle.std.specs.Prelude.{◌⊎◌, filter, count_by}
 use Rattle.std.proofs.lemmas.List.Elements.{filter-append}
 use Rattle.std.proofs.lemmas.List.Sums.{sum_by-cons}
@@ -18,7 +19,7 @@ use Rattle.htl_tree.specs.Trees.{Tree, HasTally, IsSumTally, IsTallyOf, ListsRow
 use Rattle.htl_tree.proofs.Under.{same_slot_Decides}
 use Rattle.htl_answers.specs.Parts.{Contents, AreEventsOf}
 use Rattle.htl_answers.specs.Asked.{has_counted, is_asked}
-use Rattle.htl_answers.proofs.PartLemmas.{split_parts, last_part}
+use Rattle.htl_answers.proofs.PartLemmas.{last_part}
 use Rattle.htl_answers.proofs.WholeLemmas.{tally_append}
 
 module _ (slots : Slots) where
@@ -97,15 +98,6 @@ module _ (slots : Slots) where
   asked_append sum left right xs ys is of_left of_right =
       subst (λ (es : List Event). HasTally sum es) (sym (filter-append (is_asked slots) xs ys))
       (tally_append sum left right (asked xs) (asked ys) is of_left of_right)
-
-  pub asked_halves : (sum left right : Tree) (front back : List Contents) → IsSumTally sum left right
-      → ((events : List Event) → AreEventsOf front events → HasTally left (asked events))
-      → ((events : List Event) → AreEventsOf back events → HasTally right (asked events))
-      → (events : List Event) → AreEventsOf (front ++ back) events → HasTally sum (asked events)
-  asked_halves sum left right front back is of_left of_right events are =
-      let joins = split_parts front back events are in
-      subst (λ (es : List Event). HasTally sum (asked es)) (sym joins.is)
-      (asked_append sum left right joins.first joins.second is (of_left joins.first joins.of_front) (of_right joins.second joins.of_back))
 
   pub asked_one : (tree : Tree) (part : Contents)
       → ((folded : List Event) → HasTally part.tree folded → HasTally tree (asked (folded ++ part.held)))

@@ -1,6 +1,7 @@
 //! The one tree of the slots that are asked for, over all parts.
 
-ghost use Rattle.std.specs.Prelude.{◌≡◌, ◌+◌, ◌<◌, ◌≤◌, ◌^◌, ◌++◌, List, map, flat_map, filter, IfOk, OnOk};
+ghost use Rattle.std.specs.Prelude.{◌≡◌, ◌+◌, ◌<◌, ◌≤◌, ◌^◌, ◌++◌, List, map, flat_map, filter};
+ghost use Rattle.std.specs.Prelude.{IfOk, OnOk};
 ghost use Rattle.htl_event.specs.Events.{Event};
 ghost use Rattle.htl_tree.specs.Trees.{HasTally, total_count};
 ghost use Rattle.htl_answers.specs.Parts.{AreEventsOf, size_of, size_of_all};
@@ -11,8 +12,8 @@ use htl_event::{NoMemory, Run, SharedEvent};
 use htl_tree::{Slots, StackTree};
 use std::alloc::Global;
 
-/// How often each of these slots came with each stack, over all parts. Of the parts' trees the counts of these
-/// slots alone are copied, and they are put together in pairs.
+/// How often each of these slots came with each stack, over all parts. Of the parts' trees the
+/// counts of these slots alone are copied, and they are put together in pairs.
 pub fn tree_of_slots<P: Part>(
     alloc: Global,
     tree_alloc: &P::Alloc,
@@ -20,9 +21,11 @@ pub fn tree_of_slots<P: Part>(
     slots: Slots,
 ) -> Result<StackTree<P::Alloc>, NoMemory>
     requires { size_of_all (map P.contents parts.now) < 2 ^ 64 }
-    ensures tally { IfOk result (λ tree. (events : List Event) → AreEventsOf (map P.contents parts.now) events
+    ensures tally { IfOk result (λ tree. (events : List Event)
+        → AreEventsOf (map P.contents parts.now) events
         → HasTally tree (filter (is_asked slots) events)) }
-    ensures total { IfOk result (λ tree. total_count tree ≤ size_of_all (map P.contents parts.now)) }
+    ensures total { IfOk result (λ tree.
+        total_count tree ≤ size_of_all (map P.contents parts.now)) }
 {
     if parts.len() < 2 {
         return match parts.first() {
@@ -44,7 +47,8 @@ fn slots_of_part<P: Part>(
     slots: Slots,
 ) -> Result<StackTree<P::Alloc>, NoMemory>
     requires { size_of (P.contents part.now) < 2 ^ 64 }
-    ensures tally { IfOk result (λ tree. (folded : List Event) → HasTally (P.contents part.now).tree folded
+    ensures tally { IfOk result (λ tree. (folded : List Event)
+        → HasTally (P.contents part.now).tree folded
         → HasTally tree (filter (is_asked slots) (folded ++ (P.contents part.now).held))) }
     ensures total { IfOk result (λ tree. total_count tree ≤ size_of (P.contents part.now)) }
 {
@@ -56,7 +60,8 @@ fn slots_of_part<P: Part>(
 
 /// The events of the runs that are counted under these slots.
 fn asked_held<R: Run>(alloc: Global, runs: &[R], slots: Slots) -> Result<Vec<SharedEvent>, NoMemory>
-    ensures { IfOk result (λ asked. asked.items ≡ filter (is_asked slots) (flat_map R.events_of runs.now)) }
+    ensures { IfOk result (λ asked. asked.items
+        ≡ filter (is_asked slots) (flat_map R.events_of runs.now)) }
 {
     let mut asked = Vec::new(alloc);
     for run in runs {
@@ -71,7 +76,8 @@ fn add_asked(
     events: &[SharedEvent],
     slots: Slots,
 ) -> Result<(), NoMemory>
-    ensures { OnOk result (asked.new.items ≡ asked.old.items ++ filter (is_asked slots) events.now) }
+    ensures { OnOk result (asked.new.items
+        ≡ asked.old.items ++ filter (is_asked slots) events.now) }
 {
     for event in events {
         if is_asked(event, slots) {

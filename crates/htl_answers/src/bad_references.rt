@@ -17,8 +17,8 @@ use htl_event::{Count, NoMemory, SharedStack, Slot};
 use htl_tree::Slots;
 use std::alloc::Global;
 
-/// Each handle as written and each stack with a bad reference of the process, and how often it came, by
-/// handle and then in stack order.
+/// Each handle as written and each stack with a bad reference of the process, and how often it
+/// came, by handle and then in stack order.
 pub fn bad<P: Part>(
     alloc: Global,
     tree_alloc: &P::Alloc,
@@ -26,7 +26,8 @@ pub fn bad<P: Part>(
     process: u32,
 ) -> Result<Vec<(u32, SharedStack, u64)>, NoMemory>
     requires { size_of_all (map P.contents parts.now) < 2 ^ 64 }
-    ensures { IfOk result (λ rows. (events : List Event) → AreEventsOf (map P.contents parts.now) events
+    ensures { IfOk result (λ rows. (events : List Event)
+        → AreEventsOf (map P.contents parts.now) events
         → IsBad events process rows.items) }
 {
     let slots = Slots::BadOf(process);
@@ -43,8 +44,8 @@ fn bad_rows(
     counts: &[((Slot, SharedStack), Count)],
     process: u32,
 ) -> Result<Vec<(u32, SharedStack, u64)>, NoMemory>
-    ensures { IfOk result (λ rows. rows.items
-        ≡ filter_map (λ (row : (Slot × List ℕ) × Count). bad_row process row.0.0 row.0.1 row.1) counts.now) }
+    ensures { IfOk result (λ rows. rows.items ≡ filter_map
+        (λ (row : (Slot × List ℕ) × Count). bad_row process row.0.0 row.0.1 row.1) counts.now) }
 {
     let mut rows = Vec::new(alloc);
     for ((slot, stack), count) in counts {

@@ -11,8 +11,8 @@ use crate::held::{greatest_held, later_of, latest_held};
 use crate::part::Part;
 use htl_event::{Kind, SharedEvent, base};
 
-/// The latest open or close of the handle's base in the process. Base 0 names no entry of a handle table,
-/// so there is none for it.
+/// The latest open or close of the handle's base in the process. Base 0 names no entry of a handle
+/// table, so there is none for it.
 pub fn latest<P: Part>(parts: &[P], process: u32, handle: u32) -> Option<&SharedEvent>
     ensures value { base_of handle ≢ 0
         → (events : List Event) → AreEventsOf (map P.contents parts.now) events
@@ -32,7 +32,8 @@ pub fn latest<P: Part>(parts: &[P], process: u32, handle: u32) -> Option<&Shared
     latest
 }
 
-/// The snapshot mark of the process: the greatest sequence of its snapshots, 0 where there are none.
+/// The snapshot mark of the process: the greatest sequence of its snapshots, 0 where there are
+/// none.
 pub fn mark<P: Part>(parts: &[P], process: u32) -> u64
     ensures { (events : List Event) → AreEventsOf (map P.contents parts.now) events
         → IsMark (Contains events) process result }

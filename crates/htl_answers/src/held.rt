@@ -56,7 +56,8 @@ fn latest_of_events(events: &[SharedEvent], process: u32, base: u32) -> Option<&
 
 /// The latest open or close of the base handle of the process among the events of the runs.
 pub fn latest_held<R: Run>(runs: &[R], process: u32, base: u32) -> Option<&SharedEvent>
-    ensures { LatestIs (Contains (flat_map R.events_of runs.now)) process base (option_copied result) }
+    ensures { LatestIs (Contains (flat_map R.events_of runs.now)) process base
+        (option_copied result) }
 {
     let mut latest = None;
     for run in runs {
@@ -85,10 +86,11 @@ fn greatest_of_events(events: &[SharedEvent], kind: Kind, process: u32) -> u64
     greatest
 }
 
-/// The greatest sequence of the kind's events of the process among the events of the runs, 0 where there
-/// are none.
+/// The greatest sequence of the kind's events of the process among the events of the runs, 0 where
+/// there are none.
 pub fn greatest_held<R: Run>(runs: &[R], kind: Kind, process: u32) -> u64
-    ensures { IsGreatestSequence (λ e. Contains (flat_map R.events_of runs.now) e × IsOf kind process e) result }
+    ensures { IsGreatestSequence
+        (λ e. Contains (flat_map R.events_of runs.now) e × IsOf kind process e) result }
 {
     let mut greatest = 0;
     for run in runs {

@@ -16,14 +16,15 @@ use htl_tree::StackTree;
 use std::alloc::Global;
 use std::cmp::Reverse;
 
-/// The stacks that opened outstanding handles of the process, each with their number, the greatest number
-/// first and then in stack order.
+/// The stacks that opened outstanding handles of the process, each with their number, the greatest
+/// number first and then in stack order.
 pub fn leaks<P: Part>(
     alloc: Global,
     parts: &[P],
     process: u32,
 ) -> Result<Vec<(SharedStack, u64)>, NoMemory>
-    ensures { IfOk result (λ rows. (events : List Event) → AreEventsOf (map P.contents parts.now) events
+    ensures { IfOk result (λ rows. (events : List Event)
+        → AreEventsOf (map P.contents parts.now) events
         → HaveOwnSequences events → IsLeaks (Contains events) process rows.items) }
 {
     let opens = outstanding(alloc, parts, process)?;

@@ -1,9 +1,10 @@
-//! Answers to questions over several parts: what each part folded, and the runs of events that it still
-//! holds.
+//! Answers to questions over several parts: what each part folded, and the runs of events that it
+//! still holds.
 //!
-//! `specs/Parts` says which events parts stand for. Each answer is that of htl_event's definitions over
-//! these events, whatever was folded and whatever is held. Handles are answered from the tables' rows of
-//! one process; what is counted is listed of one tree over all parts, which has the slots that are asked for.
+//! `specs/Parts` says which events parts stand for. Each answer is that of htl_event's definitions
+//! over these events, whatever was folded and whatever is held. Handles are answered from the
+//! tables' rows of one process; what is counted is listed of one tree over all parts, which has the
+//! slots that are asked for.
 #![tactic(auto)]
 
 mod asked;

@@ -1,11 +1,13 @@
 //! Handles that were opened and are still open, and the stacks that opened them.
 
-ghost use Rattle.std.specs.Prelude.{◌≡◌, ◌==◌, ◌&&◌, ◌++◌, List, Contains, IfOk, OnOk, map, flat_map, filter, nat_lt};
+ghost use Rattle.std.specs.Prelude.{◌≡◌, ◌==◌, ◌&&◌, ◌++◌, List, Contains, IfOk, OnOk, map};
+ghost use Rattle.std.specs.Prelude.{flat_map, filter, nat_lt};
 ghost use Rattle.htl_event.specs.Events.{Event};
 ghost use Rattle.htl_event.specs.Handles.{IsOutstanding, IsDiff, HaveOwnSequences};
 ghost use Rattle.htl_tables.specs.Latest.{event_at};
 ghost use Rattle.htl_answers.specs.Parts.{AreEventsOf};
-ghost use Rattle.htl_answers.specs.Candidates.{AreCandidates, AreLatestOf, touches, is_opened_after};
+ghost use Rattle.htl_answers.specs.Candidates.{AreCandidates, AreLatestOf, touches};
+ghost use Rattle.htl_answers.specs.Candidates.{is_opened_after};
 
 use crate::handles::last_exit;
 use crate::part::Part;
@@ -19,21 +21,23 @@ pub fn outstanding<P: Part>(
     parts: &[P],
     process: u32,
 ) -> Result<Vec<SharedEvent>, NoMemory>
-    ensures { IfOk result (λ rows. (events : List Event) → AreEventsOf (map P.contents parts.now) events
+    ensures { IfOk result (λ rows. (events : List Event)
+        → AreEventsOf (map P.contents parts.now) events
         → HaveOwnSequences events → IsOutstanding (Contains events) process rows.items) }
 {
     diff(alloc, parts, process, 0)
 }
 
-/// The outstanding handles of the process that were opened after a moment: the events that opened them, by
-/// base handle.
+/// The outstanding handles of the process that were opened after a moment: the events that opened
+/// them, by base handle.
 pub fn diff<P: Part>(
     alloc: Global,
     parts: &[P],
     process: u32,
     since: u64,
 ) -> Result<Vec<SharedEvent>, NoMemory>
-    ensures { IfOk result (λ rows. (events : List Event) → AreEventsOf (map P.contents parts.now) events
+    ensures { IfOk result (λ rows. (events : List Event)
+        → AreEventsOf (map P.contents parts.now) events
         → HaveOwnSequences events → IsDiff (Contains events) process since rows.items) }
 {
     let exit = last_exit(parts, process);
@@ -47,21 +51,23 @@ fn latest_of_process<P: Part>(
     parts: &[P],
     process: u32,
 ) -> Result<Latest<Global>, NoMemory>
-    ensures { IfOk result (λ latest. (events : List Event) → AreEventsOf (map P.contents parts.now) events
+    ensures { IfOk result (λ latest. (events : List Event)
+        → AreEventsOf (map P.contents parts.now) events
         → AreLatestOf events process latest) }
 {
     let candidates = candidates(alloc, parts, process)?;
     Latest::of(alloc, &[candidates])
 }
 
-/// What each part has of the process's handles: the latest of those that it folded, and all opens and
-/// closes that it holds.
+/// What each part has of the process's handles: the latest of those that it folded, and all opens
+/// and closes that it holds.
 fn candidates<P: Part>(
     alloc: Global,
     parts: &[P],
     process: u32,
 ) -> Result<Vec<SharedEvent>, NoMemory>
-    ensures { IfOk result (λ rows. (events : List Event) → AreEventsOf (map P.contents parts.now) events
+    ensures { IfOk result (λ rows. (events : List Event)
+        → AreEventsOf (map P.contents parts.now) events
         → AreCandidates events process rows.items) }
 {
     let mut rows = Vec::new(alloc);

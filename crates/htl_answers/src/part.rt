@@ -7,8 +7,8 @@ use htl_tables::{Exits, Latest, Marks};
 use htl_tree::StackTree;
 use std::alloc::Allocator;
 
-/// A part of what is known: what was folded of some events, and the runs of events that were not folded
-/// yet.
+/// A part of what is known: what was folded of some events, and the runs of events that were not
+/// folded yet.
 pub trait Part {
     ghost use Rattle.htl_answers.specs.Parts.{Contents};
 

@@ -24,7 +24,8 @@ pub fn tags<P: Part>(
     object: u64,
 ) -> Result<Vec<([u8; 4], Count)>, NoMemory>
     requires { size_of_all (map P.contents parts.now) < 2 ^ 64 }
-    ensures { IfOk result (λ rows. (events : List Event) → AreEventsOf (map P.contents parts.now) events
+    ensures { IfOk result (λ rows. (events : List Event)
+        → AreEventsOf (map P.contents parts.now) events
         → IsTags events object rows.items) }
 {
     let slots = Slots::OfObject(object);
@@ -76,7 +77,8 @@ pub fn stacks<P: Part>(
     tag: [u8; 4],
 ) -> Result<Vec<(SharedStack, Count)>, NoMemory>
     requires { size_of_all (map P.contents parts.now) < 2 ^ 64 }
-    ensures { IfOk result (λ rows. (events : List Event) → AreEventsOf (map P.contents parts.now) events
+    ensures { IfOk result (λ rows. (events : List Event)
+        → AreEventsOf (map P.contents parts.now) events
         → IsStacks events object tag rows.items) }
 {
     let slot = Slot::Tagged { object, tag };

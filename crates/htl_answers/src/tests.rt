@@ -104,8 +104,8 @@ fn sequences(alloc: Global, events: &[SharedEvent]) -> Result<Vec<u64>, NoMemory
     Ok(sequences)
 }
 
-// Opens at 7, 8, 12 and 13, a snapshot at 10 and a close at 11, of which one part folded the first three
-// and another holds the rest, one by one.
+// Opens at 7, 8, 12 and 13, a snapshot at 10 and a close at 11, of which one part folded the first
+// three and another holds the rest, one by one.
 #[test]
 fn snapshot_and_difference(rt: HostRuntime) -> Result<(), Fail> {
     let alloc = rt.alloc();
@@ -132,8 +132,8 @@ fn snapshot_and_difference(rt: HostRuntime) -> Result<(), Fail> {
     Ok(())
 }
 
-// An exit of sequence 5 ends the handle that was opened at 4 and not the one opened at 6, nor that of
-// another process.
+// An exit of sequence 5 ends the handle that was opened at 4 and not the one opened at 6, nor that
+// of another process.
 #[test]
 fn process_exit(rt: HostRuntime) -> Result<(), Fail> {
     let alloc = rt.alloc();
@@ -244,7 +244,8 @@ fn count(plus: u64, minus: u64) -> Count {
     Count { plus, minus }
 }
 
-// References under two tags and two bad references, of which one part folded some and another holds the rest.
+// References under two tags and two bad references, of which one part folded some and another holds
+// the rest.
 #[test]
 fn counted_events(rt: HostRuntime) -> Result<(), Fail> {
     let alloc = rt.alloc();

@@ -1,6 +1,6 @@
 //! The one tree of all parts.
 
-ghost use Rattle.std.specs.Prelude.{◌≡◌, ◌<◌, ◌≤◌, ◌^◌, ◌++◌, List, map, IfOk};
+ghost use Rattle.std.specs.Prelude.{◌≡◌, ◌+◌, ◌<◌, ◌≤◌, ◌^◌, ◌++◌, List, map, IfOk};
 ghost use Rattle.htl_event.specs.Events.{Event};
 ghost use Rattle.htl_tree.specs.Trees.{HasTally, total_count};
 ghost use Rattle.htl_answers.specs.Parts.{AreEventsOf, size_of, size_of_all};
@@ -9,13 +9,15 @@ use crate::part::Part;
 use htl_event::NoMemory;
 use htl_tree::StackTree;
 
-/// How often each slot came with each stack, over all parts. The parts' trees are put together in pairs,
-/// and those in pairs again.
+/// How often each slot came with each stack, over all parts. The parts' trees are put together in
+/// pairs, and those in pairs again.
 pub fn whole_tree<P: Part>(alloc: &P::Alloc, parts: &[P]) -> Result<StackTree<P::Alloc>, NoMemory>
     requires { size_of_all (map P.contents parts.now) < 2 ^ 64 }
-    ensures tally { IfOk result (λ tree. (events : List Event) → AreEventsOf (map P.contents parts.now) events
+    ensures tally { IfOk result (λ tree. (events : List Event)
+        → AreEventsOf (map P.contents parts.now) events
         → HasTally tree events) }
-    ensures total { IfOk result (λ tree. total_count tree ≤ size_of_all (map P.contents parts.now)) }
+    ensures total { IfOk result (λ tree.
+        total_count tree ≤ size_of_all (map P.contents parts.now)) }
 {
     if parts.len() < 2 {
         return match parts.first() {
@@ -23,16 +25,43 @@ pub fn whole_tree<P: Part>(alloc: &P::Alloc, parts: &[P]) -> Result<StackTree<P:
             Some(part) => tree_of_part(alloc, part),
         };
     }
+    if parts.len() == 2 {
+        return tree_of_two(alloc, &parts[0], &parts[1]);
+    }
     let (front, back) = parts.split_at(parts.len() / 2);
     let left = whole_tree(alloc, front)?;
     let right = whole_tree(alloc, back)?;
     left.plus(&right)
 }
 
+/// The same of two parts. Trees of parts that hold nothing are added as they are: no copy of either
+/// is made first.
+fn tree_of_two<P: Part>(
+    alloc: &P::Alloc,
+    one: &P,
+    other: &P,
+) -> Result<StackTree<P::Alloc>, NoMemory>
+    requires { size_of (P.contents one.now) + size_of (P.contents other.now) < 2 ^ 64 }
+    ensures tally { IfOk result (λ tree. (first second : List Event)
+        → HasTally (P.contents one.now).tree first → HasTally (P.contents other.now).tree second
+        → HasTally tree ((first ++ (P.contents one.now).held)
+        ++ (second ++ (P.contents other.now).held))) }
+    ensures total { IfOk result (λ tree.
+        total_count tree ≤ size_of (P.contents one.now) + size_of (P.contents other.now)) }
+{
+    if one.held().is_empty() && other.held().is_empty() {
+        return one.tree().plus(other.tree());
+    }
+    let left = tree_of_part(alloc, one)?;
+    let right = tree_of_part(alloc, other)?;
+    left.plus(&right)
+}
+
 /// The same of one part: what it folded and what it holds.
 fn tree_of_part<P: Part>(alloc: &P::Alloc, part: &P) -> Result<StackTree<P::Alloc>, NoMemory>
     requires { size_of (P.contents part.now) < 2 ^ 64 }
-    ensures tally { IfOk result (λ tree. (folded : List Event) → HasTally (P.contents part.now).tree folded
+    ensures tally { IfOk result (λ tree. (folded : List Event)
+        → HasTally (P.contents part.now).tree folded
         → HasTally tree (folded ++ (P.contents part.now).held)) }
     ensures total { IfOk result (λ tree. total_count tree ≤ size_of (P.contents part.now)) }
 {

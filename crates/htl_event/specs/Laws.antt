@@ -10,7 +10,8 @@ use Rattle.htl_event.specs.declared.slot.Count.{Count}
 use Rattle.htl_event.specs.Slots.{is_counted}
 use Rattle.htl_event.specs.Stacks.{outer}
 use Rattle.htl_event.specs.Members.{IsRising}
-use Rattle.htl_event.specs.Handles.{LatestIs, later, IsGreatestSequence, IsMark, IsLastExit, IsOutstanding, IsDiff, IsListing, HaveOwnSequences}
+use Rattle.htl_event.specs.Handles.{LatestIs, later, IsGreatestSequence, IsMark, IsLastExit}
+use Rattle.htl_event.specs.Handles.{IsOutstanding, IsDiff, IsListing, HaveOwnSequences}
 use Rattle.htl_event.specs.Tallies.{zero_count, plus_count, count_where, tally, under, balance, IsTags, IsStacks, IsBad, IsLeaks}
 
 -- the same events are in both lists, in whatever order
@@ -23,13 +24,15 @@ IsUnion xs ys zs = (e : Event) → Contains zs e ↔ (Contains xs e ⊎ Contains
 
 -- of two lists with the same events, each answer about handles is one
 pub record HandlesAreDetermined (xs ys : List Event) : Type 0 where
-  pub latest : (process handle : ℕ) (a b : Option Event) → HaveOwnSequences xs → LatestIs (Contains xs) process handle a → LatestIs (Contains ys) process handle b → a ≡ b
+  pub latest : (process handle : ℕ) (a b : Option Event) → HaveOwnSequences xs
+      → LatestIs (Contains xs) process handle a → LatestIs (Contains ys) process handle b → a ≡ b
   pub greatest : (a b : ℕ) → IsGreatestSequence (Contains xs) a → IsGreatestSequence (Contains ys) b → a ≡ b
   pub mark : (process a b : ℕ) → IsMark (Contains xs) process a → IsMark (Contains ys) process b → a ≡ b
   pub last_exit : (process a b : ℕ) → IsLastExit (Contains xs) process a → IsLastExit (Contains ys) process b → a ≡ b
   pub outstanding : (process : ℕ) (a b : List Event) → IsOutstanding (Contains xs) process a → IsOutstanding (Contains ys) process b → a ≡ b
   pub diff : (process since : ℕ) (a b : List Event) → IsDiff (Contains xs) process since a → IsDiff (Contains ys) process since b → a ≡ b
-  pub listing : (process handle : ℕ) (a b : List Event) → IsListing (Contains xs) process handle a → IsListing (Contains ys) process handle b → a ≡ b
+  pub listing : (process handle : ℕ) (a b : List Event)
+      → IsListing (Contains xs) process handle a → IsListing (Contains ys) process handle b → a ≡ b
   pub leaks : (process : ℕ) (a b : List (List ℕ × ℕ)) → IsLeaks (Contains xs) process a → IsLeaks (Contains ys) process b → a ≡ b
 
 -- of two lists with the same events at other places, each count is one, and so is each answer about counts
@@ -47,10 +50,13 @@ pub record CountsAddUp (xs ys : List Event) : Type 0 where
 
 -- the latest event and the greatest sequence over a union are the later and the greater of both
 pub record LaterOfBoth (xs ys zs : List Event) : Type 0 where
-  pub latest : (process handle : ℕ) (a b : Option Event) → LatestIs (Contains xs) process handle a → LatestIs (Contains ys) process handle b → LatestIs (Contains zs) process handle (later a b)
-  pub greatest : (a b : ℕ) → IsGreatestSequence (Contains xs) a → IsGreatestSequence (Contains ys) b → IsGreatestSequence (Contains zs) (max a b)
+  pub latest : (process handle : ℕ) (a b : Option Event) → LatestIs (Contains xs) process handle a
+      → LatestIs (Contains ys) process handle b → LatestIs (Contains zs) process handle (later a b)
+  pub greatest : (a b : ℕ) → IsGreatestSequence (Contains xs) a → IsGreatestSequence (Contains ys) b
+      → IsGreatestSequence (Contains zs) (max a b)
   pub mark : (process a b : ℕ) → IsMark (Contains xs) process a → IsMark (Contains ys) process b → IsMark (Contains zs) process (max a b)
-  pub last_exit : (process a b : ℕ) → IsLastExit (Contains xs) process a → IsLastExit (Contains ys) process b → IsLastExit (Contains zs) process (max a b)
+  pub last_exit : (process a b : ℕ) → IsLastExit (Contains xs) process a → IsLastExit (Contains ys) process b
+      → IsLastExit (Contains zs) process (max a b)
 
 -- the sum of the tallies of a slot over some stacks
 abbrev pub sum_of_tallies : List Event → Slot → List (List ℕ) → Count

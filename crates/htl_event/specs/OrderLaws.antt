@@ -2,7 +2,8 @@
 use Rattle.std.specs.Prelude.{◌≡◌, ◌==◌, ◌&&◌, ℕ, List, reverse, nat_eq, Bool, false, true}
 use Rattle.std.specs.Bool.{Decides}
 use Rattle.std.specs.Ordering.{nat_cmp, eq_by_cmp, is_eq, as_partial_cmp}
-use Rattle.std.specs.Cmp.{IsTotalOrder, IsPartialOrder, on_total, partial_order_from_total, partial_order_from_own_ties, unsigned_Decides, unsigned_ties}
+use Rattle.std.specs.Cmp.{IsTotalOrder, IsPartialOrder, on_total, partial_order_from_total}
+use Rattle.std.specs.Cmp.{partial_order_from_own_ties, unsigned_Decides, unsigned_ties}
 use Rattle.std.specs.Cmp.Lexicographic.{nat_list_cmp_total, lists_ties, texts_ties, pointwise, pointwise_decides}
 use Rattle.std.specs.declared.cmp.Ordering.TheVariants.{Equal}
 use Rattle.std.proofs.Common.{refl, sym, ap, ◌∙◌}
@@ -77,4 +78,5 @@ key_determines (Bad a g) (Handles b) e = cc
 -- slots that tie are equal
 pub slot_same : (s t : Slot) → slot_cmp s t ≡ Equal → s ≡ t
 slot_same s t e =
-    key_determines s t ((pointwise_decides unsigned_Decides (slot_key s) (slot_key t)).0 (texts_ties (slot_key s) (slot_key t) ∙ ap is_eq e))
+    key_determines s t
+    ((pointwise_decides unsigned_Decides (slot_key s) (slot_key t)).0 (texts_ties (slot_key s) (slot_key t) ∙ ap is_eq e))

@@ -11,8 +11,8 @@ use std::alloc::AllocError;
 
 /// One event of a trace.
 ///
-/// An `Event` has a stack of its own and is for building. A `SharedEvent` shares its stack with all events
-/// that have the same one. Both have one value, so every definition speaks of both.
+/// An `Event` has a stack of its own and is for building. A `SharedEvent` shares its stack with all
+/// events that have the same one. Both have one value, so every definition speaks of both.
 #[derive(Debug, PartialEq, Eq, Drop)]
 pub struct Event<S = Stack> {
     pub sequence: u64,
@@ -99,8 +99,8 @@ impl Event {
 impl SharedEvent {
     ghost use Rattle.std.specs.Prelude.{◌≡◌, IfOk};
 
-    /// An equal event that shares the stack. It takes no memory, and refuses only where the stack has as
-    /// many owners as can be counted.
+    /// An equal event that shares the stack. It takes no memory, and refuses only where the stack
+    /// has as many owners as can be counted.
     pub fn copy(&self) -> Result<SharedEvent, AllocError>
         ensures { IfOk result (λ copy. copy ≡ self.now) }
     {

@@ -5,8 +5,8 @@ ghost use Rattle.std.specs.Prelude.{◌≡◌};
 use crate::event::SharedEvent;
 use std::alloc::Allocator;
 
-/// A run of events, as a segment has one. What is made of the events of several runs takes these as they
-/// are, so nobody puts events side by side first.
+/// A run of events, as a segment has one. What is made of the events of several runs takes these as
+/// they are, so nobody puts events side by side first.
 pub trait Run {
     ghost use Rattle.std.specs.Prelude.{List};
     ghost use Rattle.htl_event.specs.Events.{Event};

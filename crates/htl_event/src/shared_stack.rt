@@ -36,8 +36,9 @@ impl Model for SharedStack {
 impl SharedStack {
     ghost use Rattle.std.specs.Prelude.{◌≡◌, ◌≤◌, length, IfOk};
 
-    /// A stack of these addresses, the innermost call first. The fingerprint is a hint by which a table
-    /// finds equal stacks sooner: it is no part of the stack's value, and nothing depends on it.
+    /// A stack of these addresses, the innermost call first. The fingerprint is a hint by which a
+    /// table finds equal stacks sooner: it is no part of the stack's value, and nothing depends on
+    /// it.
     pub fn of(alloc: Global, addresses: Vec<u64>, fingerprint: u64) -> Result<SharedStack, NoMemory>
         requires { length addresses.items ≤ MAX_FRAMES }
         ensures { IfOk result (λ stack. stack ≡ addresses.items) }
@@ -59,13 +60,14 @@ impl SharedStack {
         self.frames.addresses.as_slice()
     }
 
-    /// The hint that the stack was made with. Equal stacks may have other ones, and other stacks the same.
+    /// The hint that the stack was made with. Equal stacks may have other ones, and other stacks
+    /// the same.
     pub fn fingerprint(&self) -> u64 {
         self.frames.fingerprint
     }
 
-    /// An equal stack, in the same memory. It refuses only where the memory has as many owners as can be
-    /// counted.
+    /// An equal stack, in the same memory. It refuses only where the memory has as many owners as
+    /// can be counted.
     pub fn copy(&self) -> Result<SharedStack, AllocError>
         ensures { IfOk result (λ copy. copy ≡ self.now) }
     {

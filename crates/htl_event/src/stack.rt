@@ -1,6 +1,7 @@
 //! A call stack in place.
 
-ghost use Rattle.std.specs.Prelude.{◌≡◌, ◌≤◌, ◌<◌, ◌^◌, [], ◌∷◌, ◌++◌, length, nat_lt, if◌then◌else◌, All};
+ghost use Rattle.std.specs.Prelude.{◌≡◌, ◌≤◌, ◌<◌, ◌^◌, [], ◌∷◌, ◌++◌};
+ghost use Rattle.std.specs.Prelude.{length, nat_lt, if◌then◌else◌, All};
 ghost use Rattle.htl_event.specs.Stacks.{stack_cmp};
 
 use arrayvec::ArrayVec;

@@ -1,23 +1,25 @@
 -- Filling the queue, one run after another.
-use Rattle.std.proofs.Common.{◌≡◌, ◌≢◌, ℕ, ◌+◌, ◌<◌, ◌≤◌, Bool, true, false, true≢false, not, ◌&&◌, eqb, leb, List, [], ◌∷◌, IsPermutation, length, sym, refl, ap, ◌∙◌, subst, inl, inr, ⊎_elim, arith}
-use Rattle.std.specs.Prelude.{Contains, ◌↔◌, filter}
+use Rattle.std.proofs.Common.{◌≡◌, ◌≢◌, ℕ, zero, suc, ◌+◌, ◌<◌, ◌≤◌, Bool, true, false, true≢false, not, ◌&&◌, ◌||◌, eqb, leb}
+use Rattle.std.proofs.Common.{List, [], ◌∷◌, IsPermutation, length, add-one, sym, refl, ap, ◌∙◌, subst, inl, inr, ⊎_elim, arith}
+use Rattle.std.specs.Prelude.{Contains, ◌↔◌, filter, if◌then◌else◌}
+use Rattle.std.specs.List.{list_any}
 use Rattle.std.proofs.lemmas.Bool.{eqb-true, eq-eqb, cases_Bool}
 use Rattle.std.proofs.Math.Dec.{leb-zero}
 use Rattle.std.proofs.lemmas.Bool.Decides.{eqb_tells, nat_tests}
 use Rattle.std.proofs.lemmas.List.Sorted.{Contains-permutation, IsPermutation-sym}
-use Rattle.crossbeam_queue.specs.Fifo.{Pushes}
+use Rattle.crossbeam_queue.specs.Fifo.{Pushes, Held}
 use Rattle.htl_event.proofs.Members.{at_member, Contains-here, Contains-filter, Contains-from_filter, Contains-nil}
 use Rattle.htl_segment.specs.Content.{Content, Fits}
 use Rattle.htl_segment.specs.Traces.{Trace, HasKey}
 use Rattle.htl_case.specs.Cases.{IsCase}
 use Rattle.htl_exchange.specs.declared.pass.Known.{Known}
 use Rattle.htl_exchange.specs.declared.parcel.Parcel.{Parcel}
-use Rattle.htl_exchange.specs.Runs.{has, one, without, runs_of, is_of, IsRunOf}
+use Rattle.htl_exchange.specs.Runs.{has, union, one, without, runs_of, is_of, IsRunOf}
 use Rattle.htl_exchange.specs.Parcels.{trace_of, runs_in, HasSegment, IsParcelOf}
 use Rattle.htl_exchange.specs.Rule.{known, blank, MakesUp}
-use Rattle.htl_exchange.specs.Moves.{left_of, Filled}
-use Rattle.htl_exchange.specs.Filling.{FillsTo, IsIdle}
-use Rattle.htl_exchange.proofs.Sets.{has-without, one-same, one-only, one_run, run_of_member, member_of_run}
+use Rattle.htl_exchange.specs.Moves.{left_of, Filled, CountsPushes}
+use Rattle.htl_exchange.specs.Filling.{FillsTo, IsIdle, runs_below}
+use Rattle.htl_exchange.proofs.Sets.{has-union, has-one, has-without, one-same, one-only, one_run, run_of_member, member_of_run}
 use Rattle.htl_exchange.proofs.Keeping.{fills}
 
 -- ---- a run as a parcel
@@ -26,7 +28,8 @@ pub turned_run : (T : Trace) (p : ℕ) (segments made run : List Content) → se
     → IsRunOf T p run
 turned_run T p segments made run of made_is turned s = (
   (λ h.
-      let k = Contains-from_filter (is_of p) segments s (subst (λ l. Contains l s) made_is (Contains-permutation run made s (IsPermutation-sym made run turned) h)) in
+      let h' : Contains made s = Contains-permutation run made s (IsPermutation-sym made run turned) h in
+      let k = Contains-from_filter (is_of p) segments s (subst (λ l. Contains l s) made_is h') in
       (subst (λ l. Contains l s) of k.0, eqb-true s.processor p k.1)),
   (λ h. Contains-permutation made run s turned
       (subst (λ l. Contains l s) (sym made_is) (Contains-filter (is_of p) segments s (subst (λ l. Contains l s) (sym of) h.0) (eq-eqb s.processor p h.1)))),
@@ -106,17 +109,65 @@ without_run b p q none = ⊎_elim
     (λ (x : (eqb p q ≡ false) × (p ≢ q)). ap (λ t. b q && t) (next_other p q x.1))
     (eqb_tells p q)
 
+-- ---- how many runs there are
+
+-- a run is there where one of the segments is of its processor
+pub any_of_run : (ss : List Content) (p : ℕ) → list_any (is_of p) ss ≡ has (runs_of ss) p
+any_of_run [] p = refl
+any_of_run (s ∷ ss) p =
+    (λ i. sym (has-one s.processor p) i || any_of_run ss p i) ∙ sym (has-union (one s.processor) (runs_of ss) p)
+
+there_below : (runs : List Bool) (p : ℕ) → has runs p ≡ true → runs_below runs (suc p) ≡ runs_below runs p + 1
+there_below runs p is = ap (λ b. runs_below runs p + (if b then 1 else 0)) is
+
+none_below : (runs : List Bool) (p : ℕ) → has runs p ≡ false → runs_below runs (suc p) ≡ runs_below runs p + 0
+none_below runs p is = ap (λ b. runs_below runs p + (if b then 1 else 0)) is
+
+pub runs_below-there : (runs : List Bool) (p : ℕ) → has runs p ≡ true → runs_below runs (p + 1) ≡ runs_below runs p + 1
+runs_below-there runs p is = rw add-one (there_below runs p is)
+
+pub runs_below-none : (runs : List Bool) (p : ℕ) → has runs p ≡ false → runs_below runs (p + 1) ≡ runs_below runs p
+runs_below-none runs p is =
+    let e : runs_below runs (p + 1) ≡ runs_below runs p + 0 = rw add-one (none_below runs p is) in
+    omega (arith, e)
+
+next_below : (runs : List Bool) (p : ℕ) → runs_below runs p ≤ runs_below runs (suc p)
+next_below runs p = elim (cases_Bool (has runs p)) [
+  | inl is ↦ omega (arith, there_below runs p is)
+  | inr is ↦ omega (arith, none_below runs p is)
+]
+
+pub runs_below-rises : (runs : List Bool) (p n : ℕ) → p ≤ n → runs_below runs p ≤ runs_below runs n
+runs_below-rises runs p zero le =
+    let none : p ≡ 0 = omega (arith, le) in
+    let e : runs_below runs p ≡ runs_below runs 0 = ap (runs_below runs) none in
+    omega (arith, e)
+runs_below-rises runs p (suc n) le = ⊎_elim
+    (λ (x : (eqb p (suc n) ≡ true) × (p ≡ suc n)). let e : runs_below runs p ≡ runs_below runs (suc n) = ap (runs_below runs) x.1 in omega (arith, e))
+    (λ (x : (eqb p (suc n) ≡ false) × (p ≢ suc n)).
+    let other : p ≢ suc n = x.1 in
+    let less : runs_below runs p ≤ runs_below runs n = runs_below-rises runs p n (omega (arith, le, other)) in
+    omega (arith, less, next_below runs n))
+    (eqb_tells p (suc n))
+
 -- ---- the steps of the filling
 
 pub nothing_put : (T : Trace) (v : Known) → v ≡ blank → FillsTo T 0 v
 nothing_put T v is = subst (FillsTo T 0) (sym is)
-    (record { parts = refl; log = refl; trace = inl refl; left = λ q. sym (and_true (has (runs_of T.segments) q)) ∙ ap (λ t. has (runs_of T.segments) q && t) (sym (leb-zero q)) })
+    (record {
+      parts = refl;
+      log = refl;
+      trace = inl refl;
+      pushes = refl;
+      left = λ q. sym (and_true (has (runs_of T.segments) q)) ∙ ap (λ t. has (runs_of T.segments) q && t) (sym (leb-zero q));
+    })
 
 pub skips : (T : Trace) (p : ℕ) (run : List Content) (v : Known) → IsRunOf T p run → run ≡ [] → FillsTo T p v → FillsTo T (p + 1) v
 skips T p run v of_run none f = record {
   parts = f.parts;
   log = f.log;
   trace = f.trace;
+  pushes = f.pushes ∙ sym (runs_below-none (runs_of T.segments) p no_run);
   left = λ q. f.left q ∙ without_run (λ k. has (runs_of T.segments) k) p q no_run;
 } where
   no_run : has (runs_of T.segments) p ≡ false
@@ -142,12 +193,13 @@ may_fill n i T p v x some_segment of parcel only there f =
     inside q same = subst (λ k. (has (runs_of T.segments) k && leb p k) ≡ true) same
         (ap (λ t. t && leb p p) there ∙ here p)
 
-pub filled : (T : Trace) (p : ℕ) (v w : Known) (x : Parcel) → T.segments ≢ [] → trace_of x ≡ T → runs_in x ≡ one p → Filled v x w → FillsTo T p v
-    → FillsTo T (p + 1) w
-filled T p v w x some_segment of only is f = subst (FillsTo T (p + 1)) (sym now) (record {
+pub filled : (T : Trace) (p : ℕ) (v w : Known) (x : Parcel) → T.segments ≢ [] → trace_of x ≡ T → runs_in x ≡ one p
+    → has (runs_of T.segments) p ≡ true → Filled v x w → FillsTo T p v → FillsTo T (p + 1) w
+filled T p v w x some_segment of only there is f = subst (FillsTo T (p + 1)) (sym now) (record {
   parts = f.parts;
   log = f.log;
   trace = inr refl;
+  pushes = ap (λ n. n + 1) f.pushes ∙ sym (runs_below-there (runs_of T.segments) p there);
   left = λ q. ap (λ l. has l q) (left_of-known T T.segments got some_segment) ∙ has-without left (one p) q
       ∙ ap (λ t. t && not (has (one p) q)) (f.left q) ∙ next (λ k. has (runs_of T.segments) k) p q;
 }) where
@@ -157,8 +209,18 @@ filled T p v w x some_segment of only is f = subst (FillsTo T (p + 1)) (sym now)
   got : List Bool
   got = without left (one p)
 
-  now : w ≡ known T v.parts got v.log
-  now = is ∙ (λ i. known (of i) v.parts (without (left_of (of i) v.trace.segments v.got) (only i)) v.log)
+  now : w ≡ known T v.parts got v.log (v.pushes + 1)
+  now = is ∙ (λ i. known (of i) v.parts (without (left_of (of i) v.trace.segments v.got) (only i)) v.log (v.pushes + 1))
+
+-- a queue with room for every run isn't full before the last run is in it
+pub never_full : (T : Trace) (p room : ℕ) (v : Known) → p < T.processors → runs_below (runs_of T.segments) T.processors < room
+    → FillsTo T p v → Held room (CountsPushes v) → ⊥
+never_full T p room v there enough f held =
+    let len = held.1 in
+    let few = held.2 f.parts in
+    let put = f.pushes in
+    let rises = runs_below-rises (runs_of T.segments) p T.processors (omega (arith, there)) in
+    omega (arith, len, few, put, rises, enough)
 
 below : (n q : ℕ) (b : Bool) → (b ≡ true → q < n) → (b && leb n q) ≡ false
 below n q true h = over (h refl)

@@ -1,5 +1,6 @@
 -- A desk follows the rule of its exchange, whatever step is made with its pass or on its analyst.
-use Rattle.std.proofs.Common.{◌≡◌, ◌≢◌, ◌⊎◌, ℕ, ◌<◌, true, false, true≢false, List, [], ◌∷◌, length, Some, None, Option, Result, Ok, Err, MatchOption, sym, refl, ap, ◌∙◌, subst, inl, inr, arith}
+use Rattle.std.proofs.Common.{◌≡◌, ◌≢◌, ◌⊎◌, ℕ, ◌<◌, true, false, true≢false, Bool, List, [], ◌∷◌, length}
+use Rattle.std.proofs.Common.{Some, None, Option, Result, Ok, Err, MatchOption, sym, refl, ap, ◌∙◌, subst, inl, inr, arith}
 use Rattle.std.specs.Prelude.{◌↔◌}
 use Rattle.crossbeam_queue.specs.Fifo.{Pushes, Held}
 use Rattle.htl_event.specs.declared.memory.NoMemory.{NoMemory}
@@ -204,14 +205,18 @@ has_whole v a T same every follows rest standing = record {
 
 -- ---- what calls tell
 
--- what was got stays, and the trace and the parts
-pub collects_keeps : (hand : Option Parcel) (result : Result Collected NoMemory) (v w : Known) → CollectsAs hand result v w → KeepsGot v w
+pop_keeps : (v w : Known) (runs : List Bool) (p : ℕ) → w ≡ popped v runs → has v.got p ≡ true → has w.got p ≡ true
+pop_keeps v w runs p is h = ap (λ (u : Known). has u.got p) is ∙ has-union v.got runs p ∙ or_left (has v.got p) (has runs p) h
+
+-- what was got is got still
+pub collects_keeps : (hand : Option Parcel) (result : Result Collected NoMemory) (v w : Known) → CollectsAs hand result v w
+    → KeepsGot v w
 collects_keeps (Some x) (Ok c) v w is p h = ap (λ (u : Known). has u.got p) is.1 ∙ h
 collects_keeps (Some x) (Err e) v w is p h = ap (λ (u : Known). has u.got p) is ∙ h
-collects_keeps None (Ok collected.Run) v w is p h = ap (λ (u : Known). has u.got p) is.1 ∙ has-union v.got (one is.0) p ∙ or_left (has v.got p) (has (one is.0) p) h
-collects_keeps None (Ok collected.State) v w is p h = ap (λ (u : Known). has u.got p) is.1 ∙ has-union v.got is.0 p ∙ or_left (has v.got p) (has is.0 p) h
+collects_keeps None (Ok collected.Run) v w is p h = pop_keeps v w (one is.0) p is.1 h
+collects_keeps None (Ok collected.State) v w is p h = pop_keeps v w is.0 p is.1 h
 collects_keeps None (Ok collected.Nothing) v w is p h = ap (λ (u : Known). has u.got p) is ∙ h
-collects_keeps None (Err e) v w is p h = ap (λ (u : Known). has u.got p) is.1 ∙ has-union v.got is.0 p ∙ or_left (has v.got p) (has is.0 p) h
+collects_keeps None (Err e) v w is p h = pop_keeps v w is.0 p is.1 h
 
 -- a parcel that is popped, and the hand that it comes into
 pub pops_into : (v w : Known) (a : State) (hand : Option Parcel) → Follows v a None
@@ -230,7 +235,8 @@ nothing_left v [] none rest every p = rest every p
 nothing_left v (x ∷ items) none rest every p = absurd (omega (arith, none))
 
 -- want of memory after a pop, or with something in hand
-pub refused_as : (hand : Option Parcel) (c : Collected) (e : NoMemory) (v w : Known) → c ≢ collected.Nothing → CollectsAs hand (Ok c) v w → CollectsAs hand (Err e) v w
+pub refused_as : (hand : Option Parcel) (c : Collected) (e : NoMemory) (v w : Known) → c ≢ collected.Nothing
+    → CollectsAs hand (Ok c) v w → CollectsAs hand (Err e) v w
 refused_as (Some x) c e v w some_parcel is = is.1
 refused_as None collected.Run e v w some_parcel is = (one is.0, is.1)
 refused_as None collected.State e v w some_parcel is = is

@@ -1,5 +1,8 @@
 -- Each atomic step keeps the rule of the exchange.
-use Rattle.std.proofs.Common.{◌≡◌, ◌≢◌, ◌⊎◌, ℕ, zero, suc, ◌+◌, ◌-◌, ◌<◌, ◌≤◌, Bool, true, false, true≢false, not, ◌&&◌, ◌||◌, List, [], ◌∷◌, ◌++◌, set, sym, refl, ap, ◌∙◌, subst, ⊎_elim, arith}
+use Rattle.std.proofs.Common.{◌≡◌, ◌≢◌, ◌⊎◌, ℕ, zero, suc, ◌+◌, ◌-◌, ◌<◌, ◌≤◌}
+use Rattle.std.proofs.Common.{Bool, true, false, true≢false, not, ◌&&◌, ◌||◌, List, [], ◌∷◌, ◌++◌, set, length}
+use Rattle.std.proofs.Common.{sym, refl, ap, ◌∙◌, subst, ⊎_elim, arith}
+use Rattle.std.proofs.lemmas.List.{length-append}
 use mathlib.Core.Option.{some, some-injective, some-ne-none}
 use lib.ListN.{get_elem?}
 use Rattle.crossbeam_queue.specs.Fifo.{Pushes, Pops, Forks, Merges, Learns}
@@ -10,15 +13,20 @@ use Rattle.htl_exchange.specs.declared.pass.Known.{Known}
 use Rattle.htl_exchange.specs.declared.parcel.Parcel.{Parcel}
 use Rattle.htl_exchange.specs.Runs.{has, without, runs_of}
 use Rattle.htl_exchange.specs.Parcels.{no_trace, trace_of, runs_in, IsParcelOf}
-use Rattle.htl_exchange.specs.Rule.{known, blank, parts_of, any_got, any_in, IsPassAbout, MakesUp}
-use Rattle.htl_exchange.specs.Moves.{left_of, Filled, pushed, Pushed, popped, Popped, split, part, joined, spent, KnowsRest}
+use Rattle.htl_exchange.specs.Rule.{known, blank, parts_of, pushes_of, any_got, any_in, IsPassAbout, MakesUp}
+use Rattle.htl_exchange.specs.Moves.{left_of, Filled, pushed, Pushed, popped, Popped, split, part, joined, spent, KnowsRest, CountsPushes}
 use Rattle.htl_exchange.proofs.Sets.{or_false, has-union, has-without}
-use Rattle.htl_exchange.proofs.Passes.{others, any_got-set, any_got-at, any_got-last, any_in-last, parts-set, parts-last, parts-two, any_got-join, others-none}
+use Rattle.htl_exchange.proofs.Passes.{others, any_got-set, any_got-at, any_got-last, any_in-last, any_got-join, others-none}
+use Rattle.htl_exchange.proofs.Passes.{total-set, total-last, total-alone, parts-two}
 
 -- ---- passes about one trace
 
 has_part : (T : Trace) (v : Known) → 0 < v.parts → v.trace ≡ T → IsPassAbout T v
-has_part T v part same = record { trace = λ _. same; spent = λ z. absurd (omega (arith, part, z)) }
+has_part T v part same = record {
+  trace = λ _. same;
+  spent = λ z. absurd (omega (arith, part, z));
+  idle = λ z. absurd (omega (arith, part, z));
+}
 
 -- the other passes stay as they are
 about-set : (T : Trace) (vs : List Known) (i : ℕ) (w : Known) → IsPassAbout T w
@@ -32,6 +40,18 @@ about-last : (T : Trace) (vs : List Known) (w : Known) → ((k : ℕ) (v : Known
 about-last T vs w theirs mine k v e =
     ⊎_elim (λ (was : get_elem? vs k ≡ some v). theirs k v was) (λ (is : w ≡ v). subst (IsPassAbout T) is mine) (at_snoc vs w v k e)
 
+-- ---- the number of parcels
+
+one_more : (items : List Parcel) (x : Parcel) → length (items ++ x ∷ []) ≡ length items + 1
+one_more items x = length-append items (x ∷ [])
+
+pushed_once : (items : List Parcel) (views : List Known) (i : ℕ) (v w : Known) (x : Parcel) → get_elem? views i ≡ some v
+    → length items ≤ pushes_of views → w.pushes ≡ v.pushes + 1 → length (items ++ x ∷ []) ≤ pushes_of (set views i w)
+pushed_once items views i v w x at few more =
+    let sum : pushes_of (set views i w) + v.pushes ≡ pushes_of views + w.pushes = total-set (λ u. u.pushes) views i v w at in
+    let len = one_more items x in
+    omega (arith, few, more, sum, len)
+
 -- ---- the steps
 
 pub begins : MakesUp [] (blank ∷ [])
@@ -41,10 +61,15 @@ begins = record {
   parcels = λ k x e. absurd (some-ne-none x (sym e));
   about = only;
   runs = λ p. refl;
+  few = omega arith;
   begins = λ _. refl;
 } where
   only : (k : ℕ) (v : Known) → get_elem? (blank ∷ []) k ≡ some v → IsPassAbout no_trace v
-  only zero v e = subst (IsPassAbout no_trace) (some-injective _ _ e) (record { trace = λ _. refl; spent = λ z. absurd (omega (arith, z)) })
+  only zero v e = subst (IsPassAbout no_trace) (some-injective _ _ e) (record {
+    trace = λ _. refl;
+    spent = λ z. absurd (omega (arith, z));
+    idle = λ z. absurd (omega (arith, z));
+  })
   only (suc k) v e = absurd (some-ne-none v (sym e))
 
 pop_truth : (x i v r : Bool) → (i || ((v || x) || r)) ≡ ((x || i) || (v || r))
@@ -60,8 +85,10 @@ pops i v has_one x items views h at =
     let same : v.trace ≡ T = (h.about i v at).trace has_one in
     let parcel : IsParcelOf T x = h.parcels 0 x refl in
     let w : Known = popped v (runs_in x) in
-    let sum : parts_of (set views i w) + v.parts ≡ parts_of views + w.parts = parts-set views i v w at in
-    let all : parts_of views ≡ 8 = h.parts in (
+    let sum : parts_of (set views i w) + v.parts ≡ parts_of views + w.parts = total-set (λ u. u.parts) views i v w at in
+    let count : pushes_of (set views i w) + v.pushes ≡ pushes_of views + w.pushes = total-set (λ u. u.pushes) views i v w at in
+    let all : parts_of views ≡ 8 = h.parts in
+    let few : length (x ∷ items) ≤ pushes_of views = h.few in (
       w,
       record {
         trace = T;
@@ -69,6 +96,7 @@ pops i v has_one x items views h at =
         parcels = λ k y e. h.parcels (suc k) y e;
         about = about-set T views i w (has_part T w has_one same) (λ k u _ e. h.about k u e);
         runs = runs;
+        few = omega (arith, count, few);
         begins = λ z. absurd (filled (h.begins z));
       },
       (subst (λ t. IsParcelOf t x) (sym same) parcel, refl),
@@ -100,7 +128,7 @@ pushes n i v x has_one some_segment parcel own items views _ h at =
     let T : Trace = h.trace in
     let same : v.trace ≡ T = (h.about i v at).trace has_one in
     let w : Known = pushed v in
-    let sum : parts_of (set views i w) + v.parts ≡ parts_of views + w.parts = parts-set views i v w at in
+    let sum : parts_of (set views i w) + v.parts ≡ parts_of views + w.parts = total-set (λ u. u.parts) views i v w at in
     let all : parts_of views ≡ 8 = h.parts in (
       w,
       record {
@@ -109,9 +137,10 @@ pushes n i v x has_one some_segment parcel own items views _ h at =
         parcels = parcels-last T items x h.parcels (subst (λ t. IsParcelOf t x) same parcel);
         about = about-set T views i w (has_part T w has_one same) (λ k u _ e. h.about k u e);
         runs = runs;
+        few = pushed_once items views i v w x at h.few refl;
         begins = λ z. absurd (some_segment (ap (λ (t : Trace). t.segments) same ∙ z));
       },
-      refl,
+      (refl, own),
     )
   where
     runs : (p : ℕ) → (any_in p (items ++ x ∷ []) || any_got p (set views i (pushed v))) ≡ has (runs_of h.trace.segments) p
@@ -132,6 +161,15 @@ learns_rest i v items views h at whole p =
     (sym (or_false (has v.got p)) ∙ ap (λ b. has v.got p || b) (sym alone) ∙ sym (any_got-at p views i v at))
     ∙ h.runs p ∙ ap (λ (t : Trace). has (runs_of t.segments) p) (sym same)
 
+-- and counts every push
+pub counts_pushes : (i : ℕ) (v : Known) → Learns MakesUp i v (CountsPushes v)
+counts_pushes i v items views h at whole =
+    let all : parts_of views ≡ 8 = h.parts in
+    let few : length items ≤ pushes_of views = h.few in
+    let mine : pushes_of views ≡ v.pushes =
+    total-alone (λ u. u.pushes) views i v at (omega (arith, all, whole)) (λ k u e z. (h.about k u e).idle z) in
+    omega (arith, few, mine)
+
 pub learns_nothing : (i : ℕ) (v : Known) → Learns MakesUp i v (λ (items : List Parcel). Unit {0})
 learns_nothing i v items views h at = tt
 
@@ -140,10 +178,13 @@ splits i v has_two items views h at =
     let T : Trace = h.trace in
     let same : v.trace ≡ T = (h.about i v at).trace (omega (arith, has_two)) in
     let vs : List Known = set views i (split v) in
-    let sum : parts_of vs + v.parts ≡ parts_of views + (v.parts - 1) = parts-set views i v (split v) at in
-    let more : parts_of (vs ++ part v ∷ []) ≡ parts_of vs + 1 = parts-last vs (part v) in
+    let sum : parts_of vs + v.parts ≡ parts_of views + (v.parts - 1) = total-set (λ u. u.parts) views i v (split v) at in
+    let more : parts_of (vs ++ part v ∷ []) ≡ parts_of vs + 1 = total-last (λ u. u.parts) vs (part v) in
     let all : parts_of views ≡ 8 = h.parts in
     let left : 0 < (split v).parts = omega (arith, has_two) in
+    let count : pushes_of vs + v.pushes ≡ pushes_of views + v.pushes = total-set (λ u. u.pushes) views i v (split v) at in
+    let last : pushes_of (vs ++ part v ∷ []) ≡ pushes_of vs + 0 = total-last (λ u. u.pushes) vs (part v) in
+    let few : length items ≤ pushes_of views = h.few in
     record {
       trace = T;
       parts = omega (arith, sum, more, all, has_two);
@@ -152,6 +193,7 @@ splits i v has_two items views h at =
           (has_part T (part v) (omega arith) same);
       runs = λ p. ap (λ b. any_in p items || b)
           (any_got-last p vs (part v) ∙ or_false (any_got p vs) ∙ any_got-set p views i v (split v) at ∙ sym (any_got-at p views i v at)) ∙ h.runs p;
+      few = omega (arith, few, count, last);
       begins = h.begins;
     }
 
@@ -163,17 +205,21 @@ joins i v j u has_one items views h at apart there =
     let vs : List Known = set views i w in
     let was : get_elem? views j ≡ some u =
     ⊎_elim (λ (x : (j ≡ i) × (w ≡ u)). absurd (apart x.0)) (λ (x : (j ≢ i) × (get_elem? views j ≡ some u)). x.1) (at_set views i j w u there) in
-    let one : parts_of vs + v.parts ≡ parts_of views + (v.parts + u.parts) = parts-set views i v w at in
-    let two : parts_of (set vs j spent) + u.parts ≡ parts_of vs + 0 = parts-set vs j u spent there in
+    let one : parts_of vs + v.parts ≡ parts_of views + (v.parts + u.parts) = total-set (λ u. u.parts) views i v w at in
+    let two : parts_of (set vs j spent) + u.parts ≡ parts_of vs + 0 = total-set (λ x. x.parts) vs j u spent there in
     let all : parts_of views ≡ 8 = h.parts in
+    let mine : pushes_of vs + v.pushes ≡ pushes_of views + (v.pushes + u.pushes) = total-set (λ x. x.pushes) views i v w at in
+    let its : pushes_of (set vs j spent) + u.pushes ≡ pushes_of vs + 0 = total-set (λ x. x.pushes) vs j u spent there in
+    let few : length items ≤ pushes_of views = h.few in
     record {
       trace = T;
       parts = omega (arith, one, two, all);
       parcels = h.parcels;
-      about = about-set T vs j spent (record { trace = λ z. absurd (omega (arith, z)); spent = λ z p. refl })
+      about = about-set T vs j spent (record { trace = λ z. absurd (omega (arith, z)); spent = λ z p. refl; idle = λ z. refl })
           (λ k x _ e. about-set T views i w (has_part T w (omega (arith, has_one)) same) (λ l y _ t. h.about l y t) k x e);
       runs = λ p. ap (λ b. any_in p items || b)
           (any_got-join p views i j v u w spent apart at was (has-union v.got u.got p) refl) ∙ h.runs p;
+      few = omega (arith, few, mine, its);
       begins = h.begins;
     }
 
@@ -198,7 +244,7 @@ pub fills : (n i : ℕ) (v : Known) (x : Parcel) → v.parts ≡ 8 → (trace_of
     → ((v.trace.segments ≡ []) ⊎ (v.trace ≡ trace_of x)) → IsParcelOf (trace_of x) x
     → ((p : ℕ) → has (runs_in x) p ≡ true → has (left_of (trace_of x) v.trace.segments v.got) p ≡ true) → Pushes MakesUp n i v x (Filled v x)
 fills n i v x every some_segment blank_or_known parcel inside items views _ h at =
-    let sum : parts_of (set views i w) + v.parts ≡ parts_of views + w.parts = parts-set views i v w at in
+    let sum : parts_of (set views i w) + v.parts ≡ parts_of views + w.parts = total-set (λ u. u.parts) views i v w at in
     let all : parts_of views ≡ 8 = h.parts in (
       w,
       record {
@@ -207,6 +253,7 @@ fills n i v x every some_segment blank_or_known parcel inside items views _ h at
         parcels = parcels-last N items x those parcel;
         about = about-set N views i w (has_part N w (omega (arith, every)) refl) spent_others;
         runs = runs;
+        few = pushed_once items views i v w x at h.few refl;
         begins = λ z. absurd (some_segment z);
       },
       refl,
@@ -225,7 +272,7 @@ fills n i v x every some_segment blank_or_known parcel inside items views _ h at
     left = left_of N v.trace.segments v.got
 
     w : Known
-    w = known N v.parts (without left (runs_in x)) v.log
+    w = known N v.parts (without left (runs_in x)) v.log (v.pushes + 1)
 
     alone : (p : ℕ) → others p views i ≡ false
     alone p = others-none p views i v at (let all : parts_of views ≡ 8 = h.parts in omega (arith, all, every)) (λ k u e z. (h.about k u e).spent z p)
@@ -243,7 +290,11 @@ fills n i v x every some_segment blank_or_known parcel inside items views _ h at
     spent_others k u other e =
         let two : v.parts + u.parts ≤ parts_of views = parts-two views i k v u other at e in
         let all : parts_of views ≡ 8 = h.parts in
-        record { trace = λ z. absurd (omega (arith, two, all, every, z)); spent = λ z. (h.about k u e).spent z }
+        record {
+          trace = λ z. absurd (omega (arith, two, all, every, z));
+          spent = λ z. (h.about k u e).spent z;
+          idle = λ z. (h.about k u e).idle z;
+        }
 
     before : (p : ℕ) → (any_in p items || (has left p || others p views i)) ≡ has (runs_of N.segments) p
     before p = ⊎_elim

@@ -6,7 +6,7 @@ use Rattle.htl_exchange.specs.declared.pass.Known.{Known}
 use Rattle.htl_exchange.specs.declared.parcel.Parcel.{Parcel}
 use Rattle.htl_exchange.specs.Runs.{has}
 use Rattle.htl_exchange.specs.Parcels.{runs_in}
-use Rattle.htl_exchange.specs.Rule.{parts_of, any_got, any_in}
+use Rattle.htl_exchange.specs.Rule.{total, parts_of, any_got, any_in}
 use Rattle.htl_exchange.proofs.Sets.{or_false, or_assoc, or_swap, or_left}
 
 -- what the passes but one have got
@@ -33,19 +33,20 @@ pub any_in-last : (p : ℕ) (xs : List Parcel) (x : Parcel) → any_in p (xs ++ 
 any_in-last p [] x = or_false (has (runs_in x) p)
 any_in-last p (y ∷ xs) x = ap (λ b. has (runs_in y) p || b) (any_in-last p xs x) ∙ sym (or_assoc (has (runs_in y) p) (any_in p xs) (has (runs_in x) p))
 
-pub parts-set : (vs : List Known) (i : ℕ) (v w : Known) → get_elem? vs i ≡ some v → parts_of (set vs i w) + v.parts ≡ parts_of vs + w.parts
-parts-set [] i v w e = absurd (some-ne-none v (sym e))
-parts-set (u ∷ vs) zero v w e = let h : u.parts ≡ v.parts = ap (λ (x : Known). x.parts) (some-injective u v e) in omega arith
-parts-set (u ∷ vs) (suc i) v w e = omega (arith, parts-set vs i v w e)
+pub total-set : (f : Known → ℕ) (vs : List Known) (i : ℕ) (v w : Known) → get_elem? vs i ≡ some v
+    → total f (set vs i w) + f v ≡ total f vs + f w
+total-set f [] i v w e = absurd (some-ne-none v (sym e))
+total-set f (u ∷ vs) zero v w e = let h : f u ≡ f v = ap f (some-injective u v e) in omega (arith, h)
+total-set f (u ∷ vs) (suc i) v w e = omega (arith, total-set f vs i v w e)
 
 pub parts-at : (vs : List Known) (i : ℕ) (v : Known) → get_elem? vs i ≡ some v → v.parts ≤ parts_of vs
 parts-at [] i v e = absurd (some-ne-none v (sym e))
 parts-at (u ∷ vs) zero v e = let h : u.parts ≡ v.parts = ap (λ (x : Known). x.parts) (some-injective u v e) in omega arith
 parts-at (u ∷ vs) (suc i) v e = omega (arith, parts-at vs i v e)
 
-pub parts-last : (vs : List Known) (u : Known) → parts_of (vs ++ u ∷ []) ≡ parts_of vs + u.parts
-parts-last [] u = omega arith
-parts-last (v ∷ vs) u = omega (arith, parts-last vs u)
+pub total-last : (f : Known → ℕ) (vs : List Known) (u : Known) → total f (vs ++ u ∷ []) ≡ total f vs + f u
+total-last f [] u = omega arith
+total-last f (v ∷ vs) u = omega (arith, total-last f vs u)
 
 pub parts-two : (vs : List Known) (i j : ℕ) (v u : Known) → j ≢ i → get_elem? vs i ≡ some v → get_elem? vs j ≡ some u → v.parts + u.parts ≤ parts_of vs
 parts-two [] i j v u n e f = absurd (some-ne-none v (sym e))
@@ -61,6 +62,29 @@ parts-two (x ∷ vs) (suc i) zero v u n e f =
 parts-two (x ∷ vs) (suc i) (suc j) v u n e f =
     let k : v.parts + u.parts ≤ parts_of vs = parts-two vs i j v u (λ q. n (ap suc q)) e f in
     omega arith
+
+-- where the others have no part, and who has no part adds nothing, they add nothing
+total-none : (f : Known → ℕ) (vs : List Known) → parts_of vs ≡ 0
+    → ((k : ℕ) (u : Known) → get_elem? vs k ≡ some u → u.parts ≡ 0 → f u ≡ 0) → total f vs ≡ 0
+total-none f [] z idle = refl
+total-none f (v ∷ vs) z idle =
+    let here : f v ≡ 0 = idle 0 v refl (omega (arith, z)) in
+    let rest : total f vs ≡ 0 = total-none f vs (omega (arith, z)) (λ k u e. idle (suc k) u e) in
+    omega (arith, here, rest)
+
+pub total-alone : (f : Known → ℕ) (vs : List Known) (i : ℕ) (v : Known) → get_elem? vs i ≡ some v → parts_of vs ≤ v.parts
+    → ((k : ℕ) (u : Known) → get_elem? vs k ≡ some u → u.parts ≡ 0 → f u ≡ 0) → total f vs ≡ f v
+total-alone f [] i v e all idle = absurd (some-ne-none v (sym e))
+total-alone f (u ∷ vs) zero v e all idle =
+    let same : u.parts ≡ v.parts = ap (λ (x : Known). x.parts) (some-injective u v e) in
+    let here : f u ≡ f v = ap f (some-injective u v e) in
+    let rest : total f vs ≡ 0 = total-none f vs (omega (arith, same, all)) (λ k w t. idle (suc k) w t) in
+    omega (arith, here, rest)
+total-alone f (u ∷ vs) (suc i) v e all idle =
+    let some_part : v.parts ≤ parts_of vs = parts-at vs i v e in
+    let here : f u ≡ 0 = idle 0 u refl (omega (arith, some_part, all)) in
+    let rest : total f vs ≡ f v = total-alone f vs i v e (omega (arith, all)) (λ k w t. idle (suc k) w t) in
+    omega (arith, here, rest)
 
 -- where the others have no part they have got nothing
 none_got : (p : ℕ) (vs : List Known) → parts_of vs ≡ 0

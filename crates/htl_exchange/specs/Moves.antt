@@ -1,5 +1,5 @@
 -- The five atomic steps of an exchange: what each makes of what a pass knows.
-use Rattle.std.specs.Prelude.{◌≡◌, ℕ, ◌+◌, ◌-◌, Bool, ◌||◌, List, [], ◌∷◌, ◌++◌}
+use Rattle.std.specs.Prelude.{◌≡◌, ℕ, ◌+◌, ◌-◌, ◌≤◌, Bool, ◌||◌, List, [], ◌∷◌, ◌++◌, length}
 use Rattle.crossbeam_queue.specs.Passes.{Pass, view}
 use Rattle.htl_segment.specs.Content.{Content}
 use Rattle.htl_segment.specs.Traces.{Trace}
@@ -21,36 +21,41 @@ left_of T (s ∷ ss) got = got
 
 -- 1. A filling push: the pass loses the parcel's run. The first one brings the trace.
 abbrev pub Filled : Known → Parcel → Known → Type 0
-Filled v x w = w ≡ known (trace_of x) v.parts (without (left_of (trace_of x) v.trace.segments v.got) (runs_in x)) v.log
+Filled v x w =
+    w ≡ known (trace_of x) v.parts (without (left_of (trace_of x) v.trace.segments v.got) (runs_in x)) v.log (v.pushes + 1)
 
--- 2. A push: the log gains it.
+-- 2. A push of a parcel with just the runs that the pass has got: the log gains it.
 abbrev pub pushed : Known → Known
-pushed v = known v.trace v.parts v.got (v.log ++ Push v.got ∷ [])
+pushed v = known v.trace v.parts v.got (v.log ++ Push v.got ∷ []) (v.pushes + 1)
 
 abbrev pub Pushed : Known → Parcel → Known → Type 0
-Pushed v x w = w ≡ pushed v
+Pushed v x w = (w ≡ pushed v) × ((p : ℕ) → has (runs_in x) p ≡ has v.got p)
 
 -- 3. A pop: the pass gets the parcel's runs, and the log gains it.
 abbrev pub popped : Known → List Bool → Known
-popped v runs = known v.trace v.parts (union v.got runs) (v.log ++ Pop runs ∷ [])
+popped v runs = known v.trace v.parts (union v.got runs) (v.log ++ Pop runs ∷ []) v.pushes
 
 abbrev pub Popped : Known → Parcel → Known → Type 0
 Popped v x w = IsParcelOf v.trace x × (w ≡ popped v (runs_in x))
 
 -- 4. Splitting: the new pass has one part, and has got nothing. (The first pass is made blank.)
 abbrev pub split : Known → Known
-split v = known v.trace (v.parts - 1) v.got v.log
+split v = known v.trace (v.parts - 1) v.got v.log v.pushes
 
 abbrev pub part : Known → Known
-part v = known v.trace 1 [] []
+part v = known v.trace 1 [] [] 0
 
--- 5. Joining: the pass gets the other's runs and parts, and the other is spent.
+-- 5. Joining: the pass gets the other's runs and parts, its pushes are counted here, and the other is spent.
 abbrev pub joined : Known → Known → Known
-joined v u = known v.trace (v.parts + u.parts) (union v.got u.got) v.log
+joined v u = known v.trace (v.parts + u.parts) (union v.got u.got) v.log (v.pushes + u.pushes)
 
 abbrev pub spent : Known
-spent = known no_trace 0 [] []
+spent = known no_trace 0 [] [] 0
 
 -- Who has every part knows that what it has got and what the queue holds make up the trace.
 abbrev pub KnowsRest : Known → List Parcel → Type 0
 KnowsRest v items = v.parts ≡ all_parts → (p : ℕ) → (any_in p items || has v.got p) ≡ has (runs_of v.trace.segments) p
+
+-- Who has every part counts every push.
+abbrev pub CountsPushes : Known → List Parcel → Type 0
+CountsPushes v items = v.parts ≡ all_parts → length items ≤ v.pushes

@@ -13,9 +13,9 @@ use std::alloc::Global;
 use std::sync::Wait;
 
 impl Exchange {
-    /// Puts all desks together, and takes in what the queue still holds. The answer is the compacted state of the
-    /// whole case. Where memory is refused, the desks that are left come back with all that those handed in had,
-    /// and are all that are out.
+    /// Puts all desks together, and takes in what the queue still holds. The answer is the
+    /// compacted state of the whole case. Where memory is refused, the desks that are left come
+    /// back with all that those handed in had, and are all that are out.
     pub fn close<R: Wait>(self, rt: &R, desks: Vec<Desk>) -> Result<Analyst<Global>, CloseFault>
         requires { AreDesksOf self desks.items }
         ensures whole { IfOk result (λ analyst. IsWholeStanding self.trace analyst) }

@@ -31,8 +31,8 @@ pub enum Posted {
     Full,
 }
 
-/// One analyst of an exchange, which collects parcels from the others and posts its own state to them. It belongs
-/// to the exchange that gave it out.
+/// One analyst of an exchange, which collects parcels from the others and posts its own state to
+/// them. It belongs to the exchange that gave it out.
 #[derive(Drop)]
 pub struct Desk {
     analyst: Analyst<Global>,
@@ -98,8 +98,9 @@ impl Desk {
         self.hand.is_some()
     }
 
-    /// Takes in what is in hand, or pops one parcel and takes that in, and compacts the analyst. What isn't taken
-    /// in when memory is refused stays in hand. It may wait for other threads that are at the queue.
+    /// Takes in what is in hand, or pops one parcel and takes that in, and compacts the analyst.
+    /// What isn't taken in when memory is refused stays in hand. It may wait for other threads that
+    /// are at the queue.
     pub fn collect<R: Wait>(&mut self, rt: &R, exchange: &Exchange) -> Result<Collected, NoMemory>
         requires { IsDeskOf exchange.now self.old }
         ensures of { IsDeskOf exchange.now self.new × (self.new.known.parts ≡ self.old.known.parts) }
@@ -122,8 +123,8 @@ impl Desk {
         Ok(collected)
     }
 
-    /// Takes in what is in hand, without compacting, and pushes a copy of the analyst. It may wait for other
-    /// threads that are at the queue.
+    /// Takes in what is in hand, without compacting, and pushes a copy of the analyst. It may wait
+    /// for other threads that are at the queue.
     pub fn post<R: Wait>(&mut self, rt: &R, exchange: &Exchange) -> Result<Posted, NoMemory>
         requires { IsDeskOf exchange.now self.old }
         ensures of { IsDeskOf exchange.now self.new × (self.new.known.parts ≡ self.old.known.parts) }
@@ -213,8 +214,9 @@ impl Desk {
         self.analyst.compact()
     }
 
-    /// Takes in another desk of the exchange, with what is in its hand and what its pass has. What is in this
-    /// desk's own hand is taken in first. A refusal hands the other back; both have got what they had.
+    /// Takes in another desk of the exchange, with what is in its hand and what its pass has. What
+    /// is in this desk's own hand is taken in first. A refusal hands the other back; both have got
+    /// what they had.
     pub(crate) fn adopt(&mut self, exchange: &Exchange, other: Desk) -> Result<(), Desk>
         requires this { IsDeskOf exchange.now self.old }
         requires other { IsDeskOf exchange.now other }

@@ -3,7 +3,8 @@
 use htl_analyst::Analyst;
 use std::alloc::Global;
 
-/// Is called by each worker before each of its turns, in the worker's thread. A turn is one `collect`.
+/// Is called by each worker before each of its turns, in the worker's thread. A turn is one
+/// `collect`.
 pub trait Gate {
     /// Workers are counted from 0, and a worker's turns from 1. The analyst is the worker's own.
     fn before(&self, worker: u32, turn: u32, analyst: &Analyst<Global>);

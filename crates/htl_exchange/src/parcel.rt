@@ -7,7 +7,8 @@ use htl_segment::Segment;
 use std::alloc::Global;
 use std::snapshot::Snapshot;
 
-/// What desks pass on to each other: segments of one processor, of the highest number first, or a posted state.
+/// What desks pass on to each other: segments of one processor, of the highest number first, or a
+/// posted state.
 #[derive(Drop)]
 pub enum Parcel {
     /// The case of which the segments are is for contracts alone, and takes no memory.

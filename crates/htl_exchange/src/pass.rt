@@ -11,13 +11,15 @@ pub enum Move {
     Push(LinkedList<bool>),
 }
 
-/// The case, the pass's parts of the right to know the whole, the runs that its desk has got, and what was done
-/// with it. No value of it is made.
+/// The case, the pass's parts of the right to know the whole, the runs that its desk has got, what
+/// was done with it, and how many parcels were pushed with it and the passes that it took in. No
+/// value of it is made.
 pub struct Known {
     pub trace: Case,
     pub parts: u64,
     pub got: LinkedList<bool>,
     pub log: LinkedList<Move>,
+    pub pushes: u64,
 }
 
 /// The pass of one desk, which takes no memory.

@@ -26,9 +26,9 @@ impl Outcome<Parcel, Known> for Fills {
 }
 
 impl Lesson<Parcel, Known> for Fills {
-    ghost use Rattle.std.specs.Prelude.{⊤};
+    ghost use Rattle.htl_exchange.specs.Moves.{CountsPushes};
 
-    ghost fact = { λ v items. ⊤ };
+    ghost fact = { CountsPushes };
 }
 
 /// A push of a posted state.

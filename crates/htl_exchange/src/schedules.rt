@@ -118,7 +118,8 @@ fn play<R: Wait + Abort>(rt: &R, exchange: &Exchange, plan: Plan, place: usize, 
     desk
 }
 
-/// Each desk in a thread of its own, the last first, as the workers of a survey. None: a thread wasn't started.
+/// Each desk in a thread of its own, the last first, as the workers of a survey. None: a thread
+/// wasn't started.
 fn play_all<'s, E, R: Threads + Wait + Abort + Sync>(
     scope: &Scope<'s, E>,
     rt: &'s R,

@@ -1,15 +1,16 @@
 //! Starting an exchange: the queue is filled with the runs of a case, and the desks are seated.
 ghost use Rattle.std.specs.Prelude.{◌≡◌, ◌≢◌, ◌+◌, ◌*◌, ◌≤◌, ◌<◌, ◌↔◌, ◌⊎◌, ◌++◌, ℕ, [], filter, OnOk, IfOk, IfErr, length, vec_len, Err};
-ghost use Rattle.crossbeam_queue.specs.Passes.{IsPassOf, IsSamePass};
+ghost use Rattle.std.specs.List.{list_any};
+ghost use Rattle.crossbeam_queue.specs.Passes.{IsPassOf, IsSamePass, ruled_capacity};
 ghost use Rattle.htl_segment.specs.Content.{Content};
 ghost use Rattle.htl_segment.specs.Traces.{Trace};
 ghost use Rattle.htl_analyst.specs.Keys.{HasTaken};
 ghost use Rattle.htl_analyst.specs.Right.{IsRight};
 ghost use Rattle.htl_case.specs.Cases.{IsCase};
-ghost use Rattle.htl_exchange.specs.Runs.{is_of, IsRunOf};
+ghost use Rattle.htl_exchange.specs.Runs.{runs_of, is_of, IsRunOf};
 ghost use Rattle.htl_exchange.specs.Rule.{blank};
 ghost use Rattle.htl_exchange.specs.Moves.{known_of};
-ghost use Rattle.htl_exchange.specs.Filling.{FillsTo, IsIdle};
+ghost use Rattle.htl_exchange.specs.Filling.{FillsTo, IsIdle, runs_below};
 ghost use Rattle.htl_exchange.specs.Desks.{AreDesksOf, AreSeatedAt, AreFresh, parts_at};
 
 use crate::MAX_DESKS;
@@ -28,9 +29,9 @@ use std::snapshot::Snapshot;
 use std::sync::Wait;
 
 impl Exchange {
-    /// An exchange whose queue holds each run of the case, by processor, and so many desks, which have got
-    /// nothing. The segments in the queue share their events with the case. Besides the runs the queue has room
-    /// for two posted states a desk.
+    /// An exchange whose queue holds each run of the case, by processor, and so many desks, which
+    /// have got nothing. The segments in the queue share their events with the case. Besides the
+    /// runs the queue has room for two posted states a desk.
     pub fn start<R: Wait>(
         rt: &R,
         alloc: Global,
@@ -74,8 +75,10 @@ fn open<R: Wait>(
 }
 
 // How many processors have a segment.
+#[tactic(auto, using(crate::proofs::Fillings::any_of_run))]
 fn run_count(case: &Case) -> usize
-    ensures { result ≤ 65536 }
+    ensures runs { result ≡ runs_below (runs_of case.now.segments) case.now.processors }
+    ensures few { result ≤ 65536 }
 {
     let mut runs = 0;
     for processor in 0..case.processors() {
@@ -86,13 +89,15 @@ fn run_count(case: &Case) -> usize
     runs
 }
 
-fn has_run(case: &Case, processor: u16) -> bool {
+fn has_run(case: &Case, processor: u16) -> bool
+    ensures { result ≡ list_any (is_of processor) case.now.segments }
+{
     case.segments()
         .iter()
         .any(|segment| segment.processor() == processor)
 }
 
-// Puts the runs into the queue, by processor.
+// Puts the runs into the queue, by processor. It has room for all.
 fn fill<R: Wait>(
     rt: &R,
     alloc: Global,
@@ -101,6 +106,7 @@ fn fill<R: Wait>(
     pass: &mut DeskPass,
 ) -> Result<(), NoMemory>
     requires pass { IsPassOf queue.now pass.old × (known_of pass.old ≡ blank) }
+    requires room { runs_below (runs_of case.now.segments) case.now.processors < ruled_capacity queue.now }
     ensures pass { IsSamePass pass.old pass.new }
     ensures ok { OnOk result (IsIdle case.now 8 (known_of pass.new)) }
 {
@@ -122,6 +128,8 @@ fn put_run<R: Wait>(
 ) -> Result<(), NoMemory>
     requires pass { IsPassOf queue.now pass.old }
     requires fills { FillsTo case.now processor (known_of pass.old) }
+    requires there { processor < case.now.processors }
+    requires room { runs_below (runs_of case.now.segments) case.now.processors < ruled_capacity queue.now }
     ensures pass { IsSamePass pass.old pass.new }
     ensures ok { OnOk result (FillsTo case.now (processor + 1) (known_of pass.new)) }
 {
@@ -131,10 +139,11 @@ fn put_run<R: Wait>(
         return Ok(());
     }
     let parcel = Parcel::Run(run, Snapshot::of(case));
-    let Ok(()) = queue.push_as::<Fills, R>(rt, pass, parcel) else {
-        return Err(NoMemory);
-    };
-    Ok(())
+    match queue.push_as::<Fills, R>(rt, pass, parcel) {
+        Ok(()) => Ok(()),
+        // No more parcels are in the queue than runs were put there.
+        Err(_) => unreachable!(),
+    }
 }
 
 // Copies of the segments of one processor, that of the highest number first.
@@ -159,7 +168,8 @@ fn push_run(run: &mut Vec<Segment>, segments: &[Segment], processor: u16) -> Res
     Ok(())
 }
 
-// A desk for each of so many parts of the pass. The last has the first pass, with what is left of it.
+// A desk for each of so many parts of the pass. The last has the first pass, with what is left of
+// it.
 fn seat(
     alloc: Global,
     case: &Case,
@@ -186,7 +196,8 @@ fn seat(
     Ok(desks)
 }
 
-// An analyst of the case that has taken nothing. Every case has a number of processors that it takes.
+// An analyst of the case that has taken nothing. Every case has a number of processors that it
+// takes.
 fn new_analyst(alloc: Global, case: &Case) -> Result<Analyst<Global>, NoMemory>
     ensures right { IfOk result (λ analyst. IsRight analyst case.now) }
     ensures none { IfOk result (λ analyst. (p n : ℕ) → HasTaken analyst p n → ⊥) }

@@ -13,10 +13,11 @@ use std::sync::Wait;
 use std::thread;
 use std::thread::{Promise, Scope, Threads};
 
-/// The compacted state of the whole case, taken in by so many workers at once, 1 to 8. Each worker is a started
-/// thread with a desk of its own, which calls the gate before each of its turns; a turn is one `collect`. A worker
-/// stops at the first turn that finds nothing or is refused memory, or after one turn more than there are
-/// processors. What a refused turn left is taken in at the end.
+/// The compacted state of the whole case, taken in by so many workers at once, 1 to 8. Each worker
+/// is a started thread with a desk of its own, which calls the gate before each of its turns; a
+/// turn is one `collect`. A worker stops at the first turn that finds nothing or is refused memory,
+/// or after one turn more than there are processors. What a refused turn left is taken in at the
+/// end.
 pub fn survey<G: Gate + Sync, R: Threads + Wait + Sync>(
     rt: &R,
     alloc: Global,

@@ -11,8 +11,8 @@ use htl_analyst::{Analyst, MergeFault, TakeFault};
 use htl_segment::Segment;
 use std::alloc::Global;
 
-/// Takes in a parcel of the trace that the analyst is right about. What of it isn't taken in when memory is refused
-/// comes back.
+/// Takes in a parcel of the trace that the analyst is right about. What of it isn't taken in when
+/// memory is refused comes back.
 pub(crate) fn take_parcel(analyst: &mut Analyst<Global>, parcel: Parcel) -> Result<(), Parcel>
     requires { (T : Trace) × IsRight analyst.old T × IsOf T parcel }
     ensures right { (T : Trace) → IsRight analyst.old T → IsOf T parcel → IsRight analyst.new T }

@@ -22,7 +22,8 @@ const EIGHT_PROCESSORS: Trace = Trace {
     ..TRACE
 };
 
-/// How often a worker looks for the others before it gives up. A count of turns, so that no clock decides.
+/// How often a worker looks for the others before it gives up. A count of turns, so that no clock
+/// decides.
 const PATIENCE: u64 = 10_000_000;
 
 const ONE_RUN: [&str; 3] = [
@@ -126,8 +127,8 @@ fn refused_after_a_pop(rt: HostRuntime) -> Result<(), Fail> {
     Ok(())
 }
 
-/// Two workers, of which the first doesn't begin before the second is there, nor the second before the first, and
-/// the second goes on from its first turn to its second.
+/// Two workers, of which the first doesn't begin before the second is there, nor the second before
+/// the first, and the second goes on from its first turn to its second.
 #[derive(Drop)]
 struct TwoFlags {
     first: AtomicU64,
@@ -196,8 +197,8 @@ fn two_workers_at_a_gate(rt: HostRuntime) -> Result<(), Fail> {
     Ok(())
 }
 
-/// Eight workers who wait for each other before their second turns. Each then has one whole run, which no other has:
-/// the processors of their runs are noted as digits.
+/// Eight workers who wait for each other before their second turns. Each then has one whole run,
+/// which no other has: the processors of their runs are noted as digits.
 #[derive(Drop)]
 struct EightTogether {
     there: AtomicU64,

@@ -10,13 +10,13 @@ use Rattle.htl_segment.specs.Spelling.{spelling}
 use Rattle.htl_segment.specs.Faults.{first_fault}
 use Rattle.htl_segment.specs.Bundles.{bundle, BundleFault, SegmentAt}
 use Rattle.htl_segment.proofs.SegmentLaws.{segment_again}
+use Rattle.htl_segment.proofs.BundleLaws.{first_fault-no_memory}
 use Rattle.htl_segment.specs.Pieces.{is_memory}
 use Rattle.htl_segment.specs.declared.fault.Fault.{Fault}
 use Rattle.htl_segment.specs.declared.fault.Fault.TheVariants as faults
 use Rattle.htl_main.specs.declared.fault.RunFault.TheVariants.{Segment}
 use Rattle.htl_main.specs.Faults.{of_segment}
 use Rattle.htl_main.specs.Inputs.{AsksMemory, Decodes, DecodeAll, IsTold}
-use Rattle.htl_main.proofs.NoMemoryFault.{first_fault-no_memory}
 
 -- want of memory is told as itself, and every other fault by its input and offset
 pub segment_fault : (input offset : ℕ) (fault : Fault) → is_memory fault ≡ false

@@ -1,4 +1,3 @@
-pub mod NoMemoryFault
 pub mod InputLaws
 pub mod SplitLaws
 pub mod SourceLaws

@@ -9,12 +9,11 @@ use Rattle.htl_segment.specs.Content.{Content, Fits}
 use Rattle.htl_segment.specs.Bundles.{bundle, Splits, BundleFault, IsRest, cut_off}
 use Rattle.htl_segment.specs.Pieces.{SplitterState, Refuses, start_of}
 use Rattle.htl_segment.specs.declared.fault.Fault.{Fault}
-use Rattle.htl_segment.proofs.BundleLaws.{first_fault-rest}
+use Rattle.htl_segment.proofs.BundleLaws.{first_fault-rest, first_fault-no_memory}
 use Rattle.htl_segment.proofs.PiecesLaws.{Brought, brought, splits_next}
 use Rattle.htl_main.specs.declared.fault.RunFault.{RunFault}
 use Rattle.htl_main.specs.Faults.{of_segment}
 use Rattle.htl_main.specs.Sources.{IsToldOfSource}
-use Rattle.htl_main.proofs.NoMemoryFault.{first_fault-no_memory}
 use Rattle.htl_main.proofs.InputLaws.{segment_fault}
 
 -- the bytes that were taken in: those of the segments, and the rest

@@ -7,13 +7,14 @@
 ghost use Rattle.std.specs.Prelude.{◌≡◌, ◌≤◌, ◌⊎◌, IfSome};
 ghost use Rattle.std.specs.List.{list_all};
 ghost use Rattle.std.specs.Char.{is_digit};
-ghost use Rattle.htl_numbers.specs.Numbers.{decimal_number, hexadecimal_number, number_of, without_0x};
+ghost use Rattle.htl_numbers.specs.Numbers.{decimal_number, hexadecimal_number};
+ghost use Rattle.htl_numbers.specs.Numbers.{number_of, without_0x};
 
 /// How many digits a hexadecimal number has at most.
 const MAX_HEX_DIGITS: usize = 16;
 
-/// The number of a text of decimal digits, of any length, if it is at most `most`. None for any other
-/// text: an empty one, a sign, a blank, a digit of another radix, a greater number.
+/// The number of a text of decimal digits, of any length, if it is at most `most`. None for any
+/// other text: an empty one, a sign, a blank, a digit of another radix, a greater number.
 pub fn decimal(text: &str, most: u64) -> Option<u64>
     ensures value { result ≡ decimal_number most text.now }
     ensures bound { IfSome result (λ n. n ≤ most) }
@@ -21,9 +22,9 @@ pub fn decimal(text: &str, most: u64) -> Option<u64>
     number(text, 10, most)
 }
 
-/// The number of a text of 1 to 16 hexadecimal digits of either case, with or without `0x` before them,
-/// if it is at most `most`. None for any other text: `0x` alone, `0X`, a seventeenth digit, a sign, a blank, a
-/// greater number.
+/// The number of a text of 1 to 16 hexadecimal digits of either case, with or without `0x` before
+/// them, if it is at most `most`. None for any other text: `0x` alone, `0X`, a seventeenth digit, a
+/// sign, a blank, a greater number.
 #[tactic(auto, unfolding(crate::specs::Numbers::hexadecimal_number))]
 pub fn hexadecimal(text: &str, most: u64) -> Option<u64>
     ensures value { result ≡ hexadecimal_number most text.now }

@@ -6,8 +6,8 @@ use htl_segment::StackCache;
 use std::alloc::Global;
 use std::str::SplitWhitespace;
 
-/// The event that a line writes: a letter for its kind, its sequence, what its kind asks for, and frames in
-/// brackets, the innermost first.
+/// The event that a line writes: a letter for its kind, its sequence, what its kind asks for, and
+/// frames in brackets, the innermost first.
 ///
 /// | Line | Event |
 /// |---|---|
@@ -19,7 +19,8 @@ use std::str::SplitWhitespace;
 /// | `D 6 0x1000 Lky8` | a dereference |
 /// | `exit 7` | a process exit |
 ///
-/// It is of process 4 and thread 12, or of another process where `process=5` stands behind the fields.
+/// It is of process 4 and thread 12, or of another process where `process=5` stands behind the
+/// fields.
 pub fn event(line: &str) -> Result<Event, SampleFault> {
     let (fields, frames) = line.split_once('[').unwrap_or((line, "]"));
     let mut words = fields.split_whitespace();

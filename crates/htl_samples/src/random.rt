@@ -30,8 +30,9 @@ const TAGS: [[u8; 4]; 3] = [*b"Dflt", *b"Lky8", [1, 0x41, 0x42, 0x43]];
 
 /// A made-up trace in version 2.
 ///
-/// Each event follows from the seed and its place alone, so segments can be made in any order. Sequences
-/// are distinct and rise along each processor, and those of the processors lie between one another.
+/// Each event follows from the seed and its place alone, so segments can be made in any order.
+/// Sequences are distinct and rise along each processor, and those of the processors lie between
+/// one another.
 #[derive(Clone, Copy, Debug, PartialEq, Eq)]
 pub struct RandomTrace {
     pub seed: u64,
@@ -51,7 +52,8 @@ pub struct RandomTrace {
     pub most_frames: u32,
 }
 
-/// A trace for tests: two processors with three segments each, and several events of each handle and stack.
+/// A trace for tests: two processors with three segments each, and several events of each handle
+/// and stack.
 pub const SMALL: RandomTrace = RandomTrace {
     seed: 1,
     processors: 2,
@@ -66,6 +68,7 @@ pub const SMALL: RandomTrace = RandomTrace {
 
 impl RandomTrace {
     ghost use Rattle.std.specs.Prelude.{◌≡◌, IfOk};
+    ghost use Rattle.htl_samples.specs.Samples.{IsOfTrace};
 
     /// The event at a place of a segment.
     pub fn event(&self, processor: u16, number: u32, place: u32) -> Event {
@@ -104,8 +107,9 @@ impl RandomTrace {
         processor: u16,
         number: u32,
     ) -> Result<Segment, SampleFault>
-        ensures { IfOk result (λ s. (s.processors ≡ self.now.processors)
-            × (s.processor ≡ processor) × (s.number ≡ number)) }
+        ensures trace { IfOk result
+            (IsOfTrace (record TRACE { processors = self.now.processors })) }
+        ensures key { IfOk result (λ s. (s.processor ≡ processor) × (s.number ≡ number)) }
     {
         let mut events = Vec::with_capacity(alloc, self.events as usize)?;
         for place in 0..self.events {
@@ -159,8 +163,8 @@ impl RandomTrace {
     }
 }
 
-/// The address of a stack at so many frames from the outermost. Four stacks in a row have other outermost
-/// frames, 16 other next ones, and so on.
+/// The address of a stack at so many frames from the outermost. Four stacks in a row have other
+/// outermost frames, 16 other next ones, and so on.
 fn address(stack: u32, frame: u32) -> u64 {
     let branches = 4u32.saturating_pow(frame.saturating_add(1));
     mix(u64::from(stack % branches.max(1)) << 6 | u64::from(frame))

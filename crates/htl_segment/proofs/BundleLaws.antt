@@ -18,6 +18,7 @@ use Rattle.htl_segment.specs.Reading.{version_of, frames_in, after_record, versi
 use Rattle.htl_segment.specs.Faults.{or_else, header_fault, record_fault, records_fault, first_fault}
 use Rattle.htl_segment.specs.Bundles.{bundle, Splits, BundleFault, SegmentAt, IsBoundary, cut_off, IsRest, IsRefused, is_early_end}
 use Rattle.htl_segment.specs.Feeding.{SplitsMore}
+use Rattle.htl_segment.specs.Pieces.{is_memory}
 use Rattle.htl_segment.proofs.PassedTests.{some_is}
 use Rattle.htl_segment.proofs.HeaderLaws.{length-header_bytes}
 use Rattle.htl_segment.proofs.SegmentLaws.{first_fault-header, first_fault-cut, first_fault-records, begins, segment_again, one_spelling}
@@ -25,12 +26,21 @@ use Rattle.htl_segment.proofs.MoreBytes.{header_fault-append, first_fault-append
 
 -- ---- which faults are early ends
 
--- no fault, or one that more bytes can't mend
+-- a rule that more bytes can't mend, and not want of memory
+abbrev is_late : Fault → Bool
+is_late fault = not (is_early_end fault || is_memory fault)
+
+-- no fault, or a late one
 abbrev IsLate : Option Fault → Type 0
 IsLate None = Unit {0}
-IsLate (Some fault) = is_early_end fault ≡ false
+IsLate (Some fault) = is_late fault ≡ true
 
-late_test : (t : Bool) (fault : Fault) (next : Option Fault) → is_early_end fault ≡ false → IsLate next → IsLate (cond t (Some fault) next)
+neither : (a b : Bool) → not (a || b) ≡ true → (a ≡ false) × (b ≡ false)
+neither false false e = (refl, refl)
+neither false true e = cc
+neither true b e = cc
+
+late_test : (t : Bool) (fault : Fault) (next : Option Fault) → is_late fault ≡ true → IsLate next → IsLate (cond t (Some fault) next)
 late_test true fault next late others = late
 late_test false fault next late others = others
 
@@ -76,7 +86,7 @@ is_mended : (first : Option Fault) (fault : Fault) → IsLate first → first �
 is_mended None fault late is early = cc is
 is_mended (Some other) fault late is early =
     let same : other ≡ fault = some_is other fault is in
-    cc (sym late ∙ ap is_early_end same ∙ early)
+    cc (sym (neither _ _ late).0 ∙ ap is_early_end same ∙ early)
 
 cut_off-long : (b : List ℕ) → 32 ≤ length b → cut_off b ≡ faults.Cut
 cut_off-long b long = let t : nat_lt (length b) 32 ≡ false = le-ltb _ _ long in rw t refl
@@ -116,6 +126,35 @@ first_fault-rest b rest =
         | inl short ↦ short_end b short
         | inr cut ↦ first_fault-cut b cut.0 cut.1 ∙ ap Some (sym (cut_off-long b long))
       ]
+    ]
+
+-- ---- want of memory is no first fault
+
+late_no_memory : (first : Option Fault) (fault : Fault) → IsLate first → first ≡ Some fault → is_memory fault ≡ false
+late_no_memory None fault late is = absurd cc
+late_no_memory (Some other) fault late is = sym (ap is_memory (some_is other fault is)) ∙ (neither _ _ late).1
+
+long_no_memory : (b : List ℕ) (fault : Fault) (head : Option Fault) → 32 ≤ length b → header_fault b ≡ head → first_fault b ≡ Some fault
+    → is_memory fault ≡ false
+long_no_memory b fault (Some other) long head is =
+    let late : IsLate (Some other) = rw head at (late_header b long) in
+    late_no_memory (Some other) fault late (sym (first_fault-header b other head) ∙ is)
+long_no_memory b fault None long head is =
+    elim (cases_lt (length b) (length_in b)) [
+      | inl cut ↦ sym (ap is_memory (some_is faults.Cut fault (sym (first_fault-cut b head cut) ∙ is)))
+      | inr whole ↦
+          late_no_memory _ fault (late_records (version_in b) (number 24 4 b) 0 0 (body_in b))
+          (sym (first_fault-records b head whole) ∙ is)
+    ]
+
+pub first_fault-no_memory : (b : List ℕ) (fault : Fault) → first_fault b ≡ Some fault → is_memory fault ≡ false
+first_fault-no_memory b fault is =
+    elim (cases_lt (length b) 32) [
+      | inl short ↦
+          let t : nat_lt (length b) 32 ≡ true = lt-ltb _ _ short in
+          let none : is_memory (cut_off b) ≡ false = rw t refl in
+          sym (ap is_memory (some_is (cut_off b) fault (sym (short_end b short) ∙ is))) ∙ none
+      | inr long ↦ long_no_memory b fault (header_fault b) long refl is
     ]
 
 -- ---- splitting one segment after the other
@@ -242,7 +281,7 @@ bundle_cut b old new rest split is_rest some = record {
 
 whole_late : (first : Option Fault) (fault : Fault) → IsLate first → first ≡ Some fault → is_early_end fault ≡ false
 whole_late None fault late is = absurd cc
-whole_late (Some other) fault late is = sym (ap is_early_end (some_is other fault is)) ∙ late
+whole_late (Some other) fault late is = sym (ap is_early_end (some_is other fault is)) ∙ (neither _ _ late).0
 
 -- a header and all that it tells have no fault that more bytes may mend
 pub whole_fault : (b : List ℕ) (fault : Fault) → 32 ≤ length b → header_fault b ≡ None → length_in b ≤ length b

@@ -19,7 +19,7 @@ use Rattle.htl_segment.specs.Pieces.{SplitterState, Refuses, AsksMemory, joined,
 use Rattle.htl_segment.specs.Feeding.{Extends, HasRoom}
 use Rattle.htl_segment.proofs.SegmentLaws.{segment_again, begins}
 use Rattle.htl_segment.proofs.MoreBytes.{number-append, header_fault-append, first_fault-append}
-use Rattle.htl_segment.proofs.BundleLaws.{refused_boundary, late_stays, whole_fault, first_fault-rest}
+use Rattle.htl_segment.proofs.BundleLaws.{early_end, refused_boundary, late_stays, whole_fault, first_fault-rest}
 
 bundle-append : (ss ts : List Content) → bundle (ss ++ ts) ≡ bundle ss ++ bundle ts
 bundle-append ss ts = flat_map-append spelling ss ts
@@ -267,6 +267,26 @@ rest_cut b rest long =
       | inl short ↦ absurd (omega arith)
       | inr cut ↦ cut
     ]
+
+-- bytes that may become a segment, which has so many
+pub record IsPartOf (bytes : List ℕ) (len : ℕ) : Type 0 where
+  pub fewer : length bytes < len
+  pub is_rest : IsRest bytes
+  pub room : (c : ℕ) → len ≤ c → HasRoom bytes c
+
+-- a header, and fewer bytes behind it than it tells
+pub header_cut : (head left : List ℕ) (fault : Fault) → length head ≡ 32 → first_fault (head ++ left) ≡ Some fault
+    → is_early_end fault ≡ true → IsPartOf (head ++ left) (length_in head)
+header_cut head left fault size is early =
+    let is_rest = early_end (head ++ left) fault is early in
+    let long : length (head ++ left) ≡ 32 + length left = length-append head left ∙ ap (λ n. n + length left) size in
+    let cut = rest_cut (head ++ left) is_rest (omega (arith, long)) in
+    let told = length_in-append head left (omega (arith, size)) in
+    record {
+      fewer = omega (arith, cut.1, told);
+      is_rest = is_rest;
+      room = λ c le. cut_has_room head left c (omega (arith, size)) (omega (arith, cut.1, told, long)) le;
+    }
 
 -- the rest is no longer than what was fed
 pub rest_inside : (held piece rest : List ℕ) (segments : List Content) (fed : ℕ) → Splits (held ++ piece) segments rest

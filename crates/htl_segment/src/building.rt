@@ -21,9 +21,9 @@ impl Segment {
     ghost use Rattle.htl_segment.specs.Content.{content};
     ghost use Rattle.htl_segment.specs.Building.{Builds};
 
-    /// A version 1 segment of these parts, or their first fault: of the processors, the processor, the
-    /// number, more than 4,096 events; then event by event of its sequence, its kind, its frames and its
-    /// other fields; and last `NoMemory`. Every refusal hands the events back.
+    /// A version 1 segment of these parts, or their first fault: of the processors, the processor,
+    /// the number, more than 4,096 events; then event by event of its sequence, its kind, its
+    /// frames and its other fields; and last `NoMemory`. Every refusal hands the events back.
     pub fn build(
         alloc: Global,
         trace_id: u64,
@@ -46,8 +46,8 @@ impl Segment {
         )
     }
 
-    /// A version 2 segment of these parts, or their first fault by that version's limits, in the same
-    /// order. Every refusal hands the events back.
+    /// A version 2 segment of these parts, or their first fault by that version's limits, in the
+    /// same order. Every refusal hands the events back.
     pub fn build2(
         alloc: Global,
         trace_id: u64,

@@ -12,9 +12,9 @@ use std::alloc::Global;
 
 /// The segment that `bytes` begin with, and how many bytes it has.
 ///
-/// Of bytes that begin with none it tells the first rule that they break, before it asks for memory.
-/// Faults come in this order: those of the header from left to right, `Cut`, then those of one record
-/// after the other, each in the order of their codes, `Excess`, and last `NoMemory`.
+/// Of bytes that begin with none it tells the first rule that they break, before it asks for
+/// memory. Faults come in this order: those of the header from left to right, `Cut`, then those of
+/// one record after the other, each in the order of their codes, `Excess`, and last `NoMemory`.
 pub fn decode(alloc: Global, bytes: &[u8]) -> Result<(Segment, usize), Fault>
     // What is read is spelled by the first bytes.
     ensures found { IfOk result (λ x. BeginsWith bytes.now x.1 x.0) }

@@ -1,7 +1,7 @@
 //! How a piece is taken in behind the bytes that make no segment yet.
 //!
-//! Where those hold a header, they have room for the whole segment; so the bytes that complete it need no
-//! memory, and memory is asked for only where no fault stands.
+//! Where those hold a header, they have room for the whole segment; so the bytes that complete it
+//! need no memory, and memory is asked for only where no fault stands.
 ghost use Rattle.std.specs.Prelude.{◌≡◌, ℕ, ◌+◌, ◌<◌, ◌≤◌, ◌^◌, ◌++◌, length, vec_capacity};
 ghost use Rattle.std.specs.Prelude.{None, IsOk, OnOk, MatchResult};
 ghost use Rattle.htl_segment.specs.Spelling.{spelling};
@@ -20,9 +20,9 @@ use crate::stack_cache::StackCache;
 use htl_event::NoMemory;
 use std::alloc::{AllocError, Global};
 
-/// Takes a piece in behind `rest`: gives the segments that it completes, and leaves the bytes after them
-/// in `rest`. A refusal tells the offset of the refused segment, and may leave bytes of the piece behind
-/// those that `rest` held.
+/// Takes a piece in behind `rest`: gives the segments that it completes, and leaves the bytes after
+/// them in `rest`. A refusal tells the offset of the refused segment, and may leave bytes of the
+/// piece behind those that `rest` held.
 pub fn absorb(
     alloc: Global,
     cache: &mut StackCache,
@@ -67,8 +67,7 @@ fn complete_header(
     if piece.len() < HEADER_LEN - rest.len() {
         return keep_piece(alloc, rest, piece, HEADER_LEN);
     }
-    let (taken, left) = piece.split_at(HEADER_LEN - rest.len());
-    let header = header_of(rest, taken);
+    let (header, left) = header_and_after(rest, piece);
     match SegmentBytes::check_parts(&header, left) {
         Ok(found) => match found.to_segment_with(alloc, cache) {
             Ok(first) => {
@@ -82,16 +81,19 @@ fn complete_header(
     }
 }
 
-/// The header that these parts make.
-fn header_of(front: &[u8], back: &[u8]) -> [u8; HEADER_LEN]
-    requires { length front.now + length back.now ≡ HEADER_LEN }
-    ensures { result ≡ front.now ++ back.now }
+/// The header that `rest` begins and `piece` completes, and what follows it.
+fn header_and_after<'a>(rest: &[u8], piece: &'a [u8]) -> ([u8; HEADER_LEN], &'a [u8])
+    requires part { length rest.now < HEADER_LEN }
+    requires enough { HEADER_LEN ≤ length rest.now + length piece.now }
+    ensures bytes { result.0 ++ result.1.now ≡ rest.now ++ piece.now }
+    ensures size { length result.0 ≡ HEADER_LEN }
 {
+    let (taken, after) = piece.split_at(HEADER_LEN - rest.len());
     let mut header = [0; HEADER_LEN];
-    let (start, end) = header.split_at_mut(front.len());
-    start.copy_from_slice(front);
-    end.copy_from_slice(back);
-    header
+    let (start, end) = header.split_at_mut(rest.len());
+    start.copy_from_slice(rest);
+    end.copy_from_slice(taken);
+    (header, after)
 }
 
 /// Does so where `rest` has a header.

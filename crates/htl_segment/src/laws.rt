@@ -1,6 +1,6 @@
-//! The laws of the format, and of the events of key sets. Each function's contract is the law; none does
-//! anything when it runs.
-ghost use Rattle.std.specs.Prelude.{◌≡◌, ◌↔◌, ℕ, Bool, List, [], ◌++◌, length, None};
+//! The laws of the format, and of the events of key sets. Each function's contract is the law; none
+//! does anything when it runs.
+ghost use Rattle.std.specs.Prelude.{◌≡◌, ◌≢◌, ◌↔◌, ℕ, Bool, List, [], ◌++◌, length, None, Some};
 ghost use Rattle.byteorder.specs.Endian.{little_number};
 ghost use Rattle.htl_segment.specs.Numbers.{IsBytes};
 ghost use Rattle.htl_segment.specs.Content.{Content, Fits};
@@ -10,9 +10,10 @@ ghost use Rattle.htl_segment.specs.Bundles.{Splits, BundleFault, IsRest};
 ghost use Rattle.htl_segment.specs.TraceLaws.{RunsGrow, MembersAgree, ApartCountsAddUp};
 ghost use Rattle.htl_segment.specs.TraceLaws.{LaterOfBothSets, SequencesStayApart};
 ghost use Rattle.htl_segment.specs.declared.fault.Fault.{Fault};
+ghost use Rattle.htl_segment.specs.declared.fault.Fault.TheVariants.{NoMemory};
 
-/// What was written is read again, whatever follows it: `decode` answers a segment that the bytes begin
-/// with, and that is the one that was written.
+/// What was written is read again, whatever follows it: `decode` answers a segment that the bytes
+/// begin with, and that is the one that was written.
 pub fn written_is_read_again()
     ensures read { (bytes rest : List ℕ) (s : Content) → Spells bytes s
         → BeginsWith (bytes ++ rest) (length bytes) s }
@@ -41,14 +42,19 @@ pub fn faults_where_nothing_is_spelled()
         → (first_fault bytes ≡ None) ↔ ((n : ℕ) × (s : Content) × BeginsWith bytes n s) }
 {}
 
+/// Want of memory is no fault of bytes, so whoever is told it knows that no rule was broken.
+pub fn want_of_memory_breaks_no_rule()
+    ensures { (bytes : List ℕ) → first_fault bytes ≢ Some NoMemory }
+{}
+
 /// Two lists of bytes of one length with one number, the lowest byte first, are equal.
 pub fn one_number_one_bytes()
     ensures { (a b : List ℕ) → IsBytes a → IsBytes b → length a ≡ length b
         → little_number (length a) a ≡ little_number (length b) b → a ≡ b }
 {}
 
-/// Bytes are the bundle of one list of segments or have one first fault, and never both. What a splitter
-/// hands out and what it keeps depend on the bytes alone, and not on how they were cut.
+/// Bytes are the bundle of one list of segments or have one first fault, and never both. What a
+/// splitter hands out and what it keeps depend on the bytes alone, and not on how they were cut.
 pub fn a_bundle_is_read_in_one_way()
     ensures segments { (bytes : List ℕ) (ss ts : List Content) → Splits bytes ss []
         → Splits bytes ts [] → ss ≡ ts }
@@ -76,8 +82,8 @@ pub fn apart_counts_add_up()
     ensures { ApartCountsAddUp }
 {}
 
-/// The latest event, mark, last exit and greatest sequence over two key sets are the later and the greater
-/// of those over each, also where the sets have keys in common.
+/// The latest event, mark, last exit and greatest sequence over two key sets are the later and the
+/// greater of those over each, also where the sets have keys in common.
 pub fn later_of_both_sets()
     ensures { (S R : ℕ → ℕ → Bool) (segments : List Content) → LaterOfBothSets S R segments }
 {}

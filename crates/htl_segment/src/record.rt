@@ -26,7 +26,8 @@ pub struct Record<'a> {
     pub object: u64,
     /// The tag in display order.
     pub tag: [u8; 4],
-    /// The addresses of the stack, eight bytes each, the lowest byte first, and the innermost call first.
+    /// The addresses of the stack, eight bytes each, the lowest byte first, and the innermost call
+    /// first.
     pub frames: &'a [u8],
     ghost few: { length frames.now ≤ 8 * 64 },
 }
@@ -109,8 +110,8 @@ impl Record<'_> {
     }
 }
 
-/// Tests the record at the front of `bytes`, which has this place in its segment and follows a record
-/// with the sequence `last`.
+/// Tests the record at the front of `bytes`, which has this place in its segment and follows a
+/// record with the sequence `last`.
 #[tactic(auto, unfolding(crate::specs::Faults::record_fault))]
 pub fn check_record(version: Version, place: u64, last: u64, bytes: &[u8]) -> Result<(), Fault>
     ensures { MatchResult result

@@ -72,10 +72,11 @@ impl Splitter {
 
     /// The segments that this piece completes.
     ///
-    /// A fault of the header is told by the call that completes the header, and one of the records by the
-    /// call that completes the segment; its offset is that at which the segment begins. It is told again
-    /// by each later call, and segments that the same piece completed before it are not handed out. After
-    /// want of memory the splitter is as before; that is told only where no fault stands at its offset.
+    /// A fault of the header is told by the call that completes the header, and one of the records
+    /// by the call that completes the segment; its offset is that at which the segment begins. It
+    /// is told again by each later call, and segments that the same piece completed before it are
+    /// not handed out. After want of memory the splitter is as before; that is told only where no
+    /// fault stands at its offset.
     pub fn feed(&mut self, alloc: Global, piece: &[u8]) -> Result<Vec<Segment>, (u64, Fault)>
         requires { self.old.fed + length piece.now < 2 ^ 64 }
         ensures again { (fault : ℕ × Fault) → self.old.fault ≡ Some fault
@@ -126,7 +127,8 @@ impl Splitter {
 }
 
 /// The segments of a bundle that lies in pieces, by a splitter that is fed one after the other. The
-/// answer is that of `decode_bundle` on the pieces put together, so it doesn't matter how they were cut.
+/// answer is that of `decode_bundle` on the pieces put together, so it doesn't matter how they were
+/// cut.
 pub fn decode_pieces(alloc: Global, pieces: &[&[u8]]) -> Result<Vec<Segment>, (u64, Fault)>
     requires { length (joined pieces.now) < 2 ^ 64 }
     ensures found { IfOk result (λ segments. Splits (joined pieces.now) segments.items []) }

@@ -28,10 +28,10 @@ struct Cell {
 
 /// Stacks that were met lately, so that equal ones share their memory.
 ///
-/// What it has only saves memory and time: a stack that it gives has the asked addresses, whichever it
-/// kept. Two cells side by side may have a stack, which its fingerprint tells; where more stacks meet, the
-/// one that was met first goes. It begins small and grows with the number of stacks that it met, and where
-/// it is refused memory it stays as small as it is.
+/// What it has only saves memory and time: a stack that it gives has the asked addresses, whichever
+/// it kept. Two cells side by side may have a stack, which its fingerprint tells; where more stacks
+/// meet, the one that was met first goes. It begins small and grows with the number of stacks that
+/// it met, and where it is refused memory it stays as small as it is.
 #[derive(Debug, Drop)]
 pub struct StackCache {
     cells: Vec<Cell>,
@@ -95,8 +95,8 @@ impl StackCache {
         Ok(stack)
     }
 
-    /// Looks at the stacks of these fingerprints all at once, so that their memory is near when they are
-    /// shared.
+    /// Looks at the stacks of these fingerprints all at once, so that their memory is near when
+    /// they are shared.
     pub(crate) fn look_at(&mut self, fingerprints: &[u64]) {
         let mut seen = 0;
         for fingerprint in fingerprints {

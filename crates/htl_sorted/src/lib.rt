@@ -1,7 +1,7 @@
 //! Lists in the order of their keys: search by halves, and the merge of two lists in one pass.
 //!
-//! A list in order has each key once. Its contracts speak of its entries, the keys with their values, in
-//! the words `find` and `put` of std's `FinMap.Entries`.
+//! A list in order has each key once. Its contracts speak of its entries, the keys with their
+//! values, in the words `find` and `put` of std's `FinMap.Entries`.
 #![tactic(auto)]
 
 mod merging;

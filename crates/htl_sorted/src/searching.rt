@@ -25,8 +25,8 @@ pub trait Keyed {
     ghost proper: { (x y : Self.Key) → Self.Key.cmp x y ≡ Equal → x ≡ y };
 }
 
-/// The place of the key's row, or else the place where it would go. A key at or above the last row's is placed
-/// without a search, as each key is where rows come in order.
+/// The place of the key's row, or else the place where it would go. A key at or above the last
+/// row's is placed without a search, as each key is where rows come in order.
 pub fn search<L: Keyed>(rows: &[L::Row], key: L::Key) -> Result<usize, usize>
     requires { IsSorted L.Key.cmp (entries L.key_of L.value_of rows.now) }
     ensures found { IfOk result (IsPlace L.Key.cmp (entries L.key_of L.value_of rows.now) key) }

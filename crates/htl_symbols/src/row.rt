@@ -1,6 +1,7 @@
 //! What the records of a table write.
 
-ghost use Rattle.std.specs.Prelude.{◌≡◌, ◌≢◌, ◌∷◌, [], ◌↔◌, ◌<◌, Err, IfOk, IsTrue, MatchOption, MatchResult, Ok, length};
+ghost use Rattle.std.specs.Prelude.{◌≡◌, ◌≢◌, ◌∷◌, [], ◌↔◌, ◌<◌, Err, IfOk, IsTrue};
+ghost use Rattle.std.specs.Prelude.{MatchOption, MatchResult, Ok, length};
 ghost use Rattle.csv.specs.Records.{fields_of};
 ghost use Rattle.htl_symbols.specs.Rows.{header, range_of_row};
 ghost use Rattle.htl_symbols.specs.Steps.{columns_eq};

@@ -1,6 +1,7 @@
 //! A symbol table in memory.
 
-ghost use Rattle.std.specs.Prelude.{◌≡◌, ◌<◌, ◌≤◌, ◌∷◌, [], All, false, IsPermutation, MatchOption, OnErr, OnOk, option_map};
+ghost use Rattle.std.specs.Prelude.{◌≡◌, ◌<◌, ◌≤◌, ◌∷◌, [], All, false, IsPermutation};
+ghost use Rattle.std.specs.Prelude.{MatchOption, OnErr, OnOk, option_map};
 ghost use Rattle.std.specs.List.{list_any};
 ghost use Rattle.htl_symbols.specs.Ranges.{IsTable, meets, resolved};
 ghost use Rattle.htl_symbols.specs.Symbols.{IsLastBegun, range_of};
@@ -46,8 +47,8 @@ impl Symbols {
         }
     }
 
-    /// The module and the name of the range that has the address, and how many bytes behind the range's
-    /// start the address is. None where no range has it.
+    /// The module and the name of the range that has the address, and how many bytes behind the
+    /// range's start the address is. None where no range has it.
     pub fn resolve(&self, address: u64) -> Option<(&str, &str, u64)>
         ensures value { option_map (λ s. (s.0.now, s.1.now, s.2)) result
             ≡ resolved self.now address }

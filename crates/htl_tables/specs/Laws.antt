@@ -17,5 +17,7 @@ IsGreatestOf events kind process n = IsGreatestSequence (λ e. Contains events e
 
 -- the greatest sequence rises to that of one more event, where this is of the kind and of the process
 pub record KeepsGreatest (events : List Event) (e : Event) : Type 0 where
-  pub noted : (kind : Kind) (process old : ℕ) → IsGreatestOf events kind process old → IsOf kind process e → IsGreatestOf (events ++ e ∷ []) kind process (max old e.sequence)
-  pub others : (kind : Kind) (process old : ℕ) → IsGreatestOf events kind process old → (IsOf kind process e → ⊥) → IsGreatestOf (events ++ e ∷ []) kind process old
+  pub noted : (kind : Kind) (process old : ℕ) → IsGreatestOf events kind process old → IsOf kind process e
+      → IsGreatestOf (events ++ e ∷ []) kind process (max old e.sequence)
+  pub others : (kind : Kind) (process old : ℕ) → IsGreatestOf events kind process old → (IsOf kind process e → ⊥)
+      → IsGreatestOf (events ++ e ∷ []) kind process old

@@ -15,7 +15,8 @@ struct Candidates<A: Allocator> {
     hints: Hints<A>,
 }
 
-/// Sort keys of the runs' opens and closes, in order. The latest event of each handle is among them.
+/// Sort keys of the runs' opens and closes, in order. The latest event of each handle is among
+/// them.
 pub(crate) fn candidates_in<R: Run, A: Allocator + Clone>(
     alloc: A,
     runs: &[R],

@@ -96,8 +96,8 @@ impl<K: EventKind, A: Allocator> Greatest<K, A> {
         }
     }
 
-    /// Raises the process's sequence to the event's, where that is of the table's kind. A sequence of 0, which
-    /// no event of a segment has, makes no row, so that "no row" and 0 are one answer.
+    /// Raises the process's sequence to the event's, where that is of the table's kind. A sequence
+    /// of 0, which no event of a segment has, makes no row, so that "no row" and 0 are one answer.
     pub fn note(&mut self, event: &SharedEvent) -> Result<(), NoMemory>
         ensures noted { OnOk result (event.now.kind ≡ K.kind
             → sequence_at self.new event.now.process
@@ -155,7 +155,8 @@ impl<K: EventKind, A: Allocator + Clone> Greatest<K, A> {
     ghost use Rattle.htl_event.specs.Handles.{IsGreatestSequence, IsOf};
     ghost use Rattle.htl_tables.specs.Greatest.{sequence_at};
 
-    /// The greater sequence of both tables for each process, under a clone of this table's allocator.
+    /// The greater sequence of both tables for each process, under a clone of this table's
+    /// allocator.
     pub fn join(&self, other: &Greatest<K, A>) -> Result<Greatest<K, A>, NoMemory>
         ensures { IfOk result (λ t. (process : ℕ) → sequence_at t process
             ≡ max (sequence_at self.now process) (sequence_at other.now process)) }
@@ -193,8 +194,8 @@ impl<K: EventKind, A: Allocator + Clone> Greatest<K, A> {
     }
 }
 
-/// Whether a table of this kind has a row for the event's process once the event was noted. No event of
-/// a segment has the sequence 0.
+/// Whether a table of this kind has a row for the event's process once the event was noted. No
+/// event of a segment has the sequence 0.
 fn has_row<K: EventKind>(event: &SharedEvent) -> bool
     ensures { IsTrue result ↔ ((event.now.kind ≡ K.kind) × (0 < event.now.sequence)) }
 {

@@ -1,5 +1,5 @@
-//! Hints where the sort key of a handle stands among others. A hint that is wrong or lost costs a further key,
-//! and no promise rests on one.
+//! Hints where the sort key of a handle stands among others. A hint that is wrong or lost costs a
+//! further key, and no promise rests on one.
 
 use std::alloc::{AllocError, Allocator};
 
@@ -17,15 +17,16 @@ const PROCESS_FACTOR: u64 = 0x9e37_79b9_7f4a_7c15;
 
 const BASE_FACTOR: u64 = 0xc2b2_ae3d_27d4_eb4f;
 
-/// A fixed number of cells, each of which may tell the place of a key. Where two handles meet in all their
-/// cells, the later hint stays.
+/// A fixed number of cells, each of which may tell the place of a key. Where two handles meet in
+/// all their cells, the later hint stays.
 #[derive(Drop)]
 pub(crate) struct Hints<A: Allocator> {
     cells: Vec<u32, A>,
 }
 
 impl<A: Allocator> Hints<A> {
-    /// Hints for the handles of this many events: two cells for each event, and no more than are of use.
+    /// Hints for the handles of this many events: two cells for each event, and no more than are of
+    /// use.
     pub fn new(alloc: A, events: usize) -> Result<Hints<A>, AllocError> {
         let cells = events.min(MAX_CELLS / 2) * 2;
         Ok(Hints {

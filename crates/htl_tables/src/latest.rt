@@ -29,7 +29,8 @@ impl<A: Allocator> Model for Latest<A> {
 }
 
 impl<A: Allocator> Latest<A> {
-    ghost use Rattle.std.specs.Prelude.{◌≡◌, ◌≢◌, ◌==◌, ◌↔◌, ℕ, [], filter, IsNone, OnOk, OnErr, IsTrue};
+    ghost use Rattle.std.specs.Prelude.{◌≡◌, ◌≢◌, ◌==◌, ◌↔◌, ℕ, [], filter};
+    ghost use Rattle.std.specs.Prelude.{IsNone, OnOk, OnErr, IsTrue};
     ghost use Rattle.htl_event.specs.Handles.{ByBase};
     ghost use Rattle.std.specs.Option.{option_copied};
     ghost use Rattle.htl_event.specs.Slots.{base_of};
@@ -46,8 +47,9 @@ impl<A: Allocator> Latest<A> {
         }
     }
 
-    /// Puts the event in its handle's row, where it opens or closes a handle and none with its sequence or a
-    /// greater one is there. An event of base handle 0, which no segment has, gets a row like any other.
+    /// Puts the event in its handle's row, where it opens or closes a handle and none with its
+    /// sequence or a greater one is there. An event of base handle 0, which no segment has, gets a
+    /// row like any other.
     pub fn note(&mut self, event: &SharedEvent) -> Result<(), NoMemory>
         ensures ok { OnOk result ((process base : ℕ) → event_at self.new process base
             ≡ with_event process base (event_at self.old process base) event.now) }
@@ -69,8 +71,8 @@ impl<A: Allocator> Latest<A> {
         Ok(())
     }
 
-    /// The event at the handle's base in the process. Base 0 names no entry of a handle table, so there
-    /// is none for it, whatever was noted.
+    /// The event at the handle's base in the process. Base 0 names no entry of a handle table, so
+    /// there is none for it, whatever was noted.
     pub fn get(&self, process: u32, handle: u32) -> Option<&SharedEvent>
         ensures value { base_of handle ≢ 0
             → option_copied result ≡ event_at self.now process (base_of handle) }
@@ -117,8 +119,8 @@ impl<A: Allocator + Clone> Latest<A> {
     ghost use Rattle.htl_event.specs.Handles.{LatestIs, later};
     ghost use Rattle.htl_tables.specs.Latest.{event_at, noted};
 
-    /// The later event of both tables for each handle, this table's where their sequences are equal, under a
-    /// clone of this table's allocator.
+    /// The later event of both tables for each handle, this table's where their sequences are
+    /// equal, under a clone of this table's allocator.
     pub fn join(&self, other: &Latest<A>) -> Result<Latest<A>, NoMemory>
         ensures { IfOk result (λ t. (process base : ℕ) → event_at t process base
             ≡ later (event_at self.now process base) (event_at other.now process base)) }
@@ -141,8 +143,8 @@ impl<A: Allocator + Clone> Latest<A> {
         Ok(Latest { rows })
     }
 
-    /// The latest event of each handle among those of the runs, in any order. Of events with one sequence
-    /// the first stays, as if the events were noted one after the other, run by run.
+    /// The latest event of each handle among those of the runs, in any order. Of events with one
+    /// sequence the first stays, as if the events were noted one after the other, run by run.
     pub fn of<R: Run>(alloc: A, runs: &[R]) -> Result<Latest<A>, NoMemory>
         ensures noted { IfOk result (λ t. (process base : ℕ)
             → event_at t process base ≡ noted (flat_map R.events_of runs.now) process base) }

@@ -10,13 +10,14 @@ use crate::greatest::{Exits, Marks};
 use htl_event::{NoMemory, Run};
 use std::alloc::Allocator;
 
-/// What `Latest::note` makes of the latest events of a list are those of the list with the noted event.
+/// What `Latest::note` makes of the latest events of a list are those of the list with the noted
+/// event.
 pub fn noting_keeps_the_latest()
     ensures { (events : List Event) (e : Event) → KeepsLatest events e }
 {}
 
-/// What `Greatest::note` makes of the greatest sequences of a list are those of the list with the noted
-/// event.
+/// What `Greatest::note` makes of the greatest sequences of a list are those of the list with the
+/// noted event.
 pub fn noting_keeps_the_greatest()
     ensures { (events : List Event) (e : Event) → KeepsGreatest events e }
 {}

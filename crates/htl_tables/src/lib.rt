@@ -1,9 +1,9 @@
-//! Tables that keep the greatest sequence of each key: the latest open or close of a handle, the latest
-//! snapshot of a process and its last exit.
+//! Tables that keep the greatest sequence of each key: the latest open or close of a handle, the
+//! latest snapshot of a process and its last exit.
 //!
 //! `specs/` says what a table has at a key (`Latest`, `Greatest`), in which order its rows stand
-//! (`Keys`) and what noting one more event keeps (`Laws`). What the latest event, the mark and the last
-//! exit of a set of events are is said in htl_event's `Handles`.
+//! (`Keys`) and what noting one more event keeps (`Laws`). What the latest event, the mark and the
+//! last exit of a set of events are is said in htl_event's `Handles`.
 #![tactic(auto)]
 
 mod by_handle;

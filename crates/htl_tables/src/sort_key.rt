@@ -1,12 +1,13 @@
-//! Small keys of events, by which the latest of a handle are found: they are sorted in place of the events.
+//! Small keys of events, by which the latest of a handle are found: they are sorted in place of the
+//! events.
 
 ghost use Rattle.std.specs.Prelude.{◌≤◌, length};
 
 use htl_event::{Run, SharedEvent, base};
 use std::cmp::Reverse;
 
-/// The sort key of an event that opens or closes a handle: by handle, of one handle the latest first, and
-/// of one sequence the first of the list.
+/// The sort key of an event that opens or closes a handle: by handle, of one handle the latest
+/// first, and of one sequence the first of the list.
 #[derive(Clone, Copy, PartialEq, Eq, PartialOrd, Ord)]
 pub(crate) struct SortKey {
     pub process: u32,

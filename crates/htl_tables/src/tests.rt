@@ -1,4 +1,5 @@
-//! Tests of what no clause says: worked rows, many runs, and refused growths, each call under heaps of its own.
+//! Tests of what no clause says: worked rows, many runs, and refused growths, each call under heaps
+//! of its own.
 
 use crate::{Exits, Latest, Marks};
 use htl_event::{NoMemory, SharedEvent};
@@ -243,8 +244,8 @@ fn note_is_refused<'a, T: Table<&'a LocalHeap>>(
     Ok(false)
 }
 
-// Whether the call was refused. It takes its memory from the small heap alone, and where that doesn't hold the
-// table that is called, there is no answer.
+// Whether the call was refused. It takes its memory from the small heap alone, and where that
+// doesn't hold the table that is called, there is no answer.
 fn is_refused<'a, T: Table<&'a LocalHeap>>(
     rt: &impl Abort,
     call: Call,

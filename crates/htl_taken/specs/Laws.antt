@@ -39,8 +39,10 @@ SettlesOnce = (q : Numbers) → IsProper q → reach_of (settled q) ≡ (settled
 
 -- settled sets with the same segments are equal
 abbrev pub IsDetermined : Type 0
-IsDetermined = (a b : List Numbers) → length a ≡ length b → AreProper a → AreProper b → AreSettled a → AreSettled b → IsWithin a b → IsWithin b a → a ≡ b
+IsDetermined = (a b : List Numbers) → length a ≡ length b → AreProper a → AreProper b → AreSettled a → AreSettled b
+    → IsWithin a b → IsWithin b a → a ≡ b
 
 -- a processor's size is the length of a rising list of its taken numbers
 abbrev pub CountsNumbers : Type 0
-CountsNumbers = (q : Numbers) → IsProper q → (ns : List ℕ) × (high : ℕ) × Rises 0 high ns × (length ns ≡ size_of q) × ((n : ℕ) → Contains ns n ↔ (has_number q n ≡ true))
+CountsNumbers = (q : Numbers) → IsProper q
+    → (ns : List ℕ) × (high : ℕ) × Rises 0 high ns × (length ns ≡ size_of q) × ((n : ℕ) → Contains ns n ↔ (has_number q n ≡ true))

@@ -1,5 +1,6 @@
 -- The taken segment numbers of each processor: all below a front, and loose ones at or above it.
-use Rattle.std.specs.Prelude.{◌≡◌, ◌↔◌, ◌⊎◌, ◌+◌, ◌==◌, ◌||◌, ℕ, Bool, ◌≤◌, nat_lt, nat_le, max, List, [], length, filter, insert, Contains, slice_index_or}
+use Rattle.std.specs.Prelude.{◌≡◌, ◌↔◌, ◌⊎◌, ◌+◌, ◌==◌, ◌||◌, ℕ, Bool, ◌≤◌, nat_lt, nat_le, max}
+use Rattle.std.specs.Prelude.{List, [], length, filter, insert, Contains, slice_index_or}
 use Rattle.std.specs.List.{list_any}
 use Rattle.htl_taken.specs.declared.TheConstants.{MAX_FRONT}
 use Rattle.htl_taken.specs.Rising.{Rises, gap_of, reach_from}

@@ -1,6 +1,8 @@
-//! Laws of sets of taken segments. Each function's contract is the law; none does anything when it runs.
+//! Laws of sets of taken segments. Each function's contract is the law; none does anything when it
+//! runs.
 
-ghost use Rattle.htl_taken.specs.Laws.{UnitesKeys, IsCommutative, IsAssociative, IsIdempotent, SettlesOnce, IsDetermined, CountsNumbers};
+ghost use Rattle.htl_taken.specs.Laws.{UnitesKeys, IsCommutative, IsAssociative, IsIdempotent};
+ghost use Rattle.htl_taken.specs.Laws.{SettlesOnce, IsDetermined, CountsNumbers};
 
 /// `a.union(b)` has the segments of `a` and of `b`, and no other.
 pub fn union_unites_keys()

@@ -1,8 +1,8 @@
 //! Sets of segments that were taken: numbers of each processor.
 //!
 //! Of one processor all numbers below a *front* are taken, and *loose* ones at or above it.
-//! `specs/` says what these numbers are and which keys they stand for (`Numbers`, over the rising lists of
-//! `Rising`), and which laws sets of them have (`Laws`).
+//! `specs/` says what these numbers are and which keys they stand for (`Numbers`, over the rising
+//! lists of `Rising`), and which laws sets of them have (`Laws`).
 #![tactic(auto)]
 
 pub mod laws;

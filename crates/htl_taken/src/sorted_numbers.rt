@@ -1,6 +1,7 @@
 //! Rising lists of numbers.
 
-ghost use Rattle.std.specs.Prelude.{◌≡◌, ◌≤◌, ◌<◌, ◌+◌, ℕ, ◌++◌, ◌↔◌, drop, length, IsTrue, IfOk, IfErr, OnOk, MatchResult, Contains, slice_index};
+ghost use Rattle.std.specs.Prelude.{◌≡◌, ◌≤◌, ◌<◌, ◌+◌, ℕ, ◌++◌, ◌↔◌, drop, length, IsTrue};
+ghost use Rattle.std.specs.Prelude.{IfOk, IfErr, OnOk, MatchResult, Contains, slice_index};
 ghost use Rattle.htl_taken.specs.Rising.{Rises, gap_of, reach_from};
 ghost use Rattle.htl_taken.specs.Merging.{without_head, merged};
 

@@ -28,9 +28,13 @@ impl<A: Allocator> Model for Taken<A> {
 }
 
 impl<A: Allocator> Taken<A> {
-    ghost use Rattle.std.specs.Prelude.{◌≡◌, ◌≤◌, ◌<◌, ◌↔◌, ◌==◌, ◌&&◌, ◌||◌, ℕ, Bool, true, false, length, sum_by, not, IsTrue, IfOk, IfErr, OnOk, OnErr, MatchResult, Contains, slice_index, slice_set, if◌then◌else◌};
+    ghost use Rattle.std.specs.Prelude.{◌≡◌, ◌≤◌, ◌<◌, ◌↔◌, ◌==◌, ◌&&◌, ◌||◌, ℕ, Bool};
+    ghost use Rattle.std.specs.Prelude.{true, false, length, sum_by, not, IsTrue};
+    ghost use Rattle.std.specs.Prelude.{IfOk, IfErr, OnOk, OnErr, MatchResult, Contains};
+    ghost use Rattle.std.specs.Prelude.{slice_index, slice_set, if◌then◌else◌};
     ghost use Rattle.htl_taken.specs.Rising.{gap_of};
-    ghost use Rattle.htl_taken.specs.Numbers.{numbers_at, front_at, loose_at, has_key, IsProper, size_of, reach_of, with_loose, settled};
+    ghost use Rattle.htl_taken.specs.Numbers.{numbers_at, front_at, loose_at, has_key, IsProper};
+    ghost use Rattle.htl_taken.specs.Numbers.{size_of, reach_of, with_loose, settled};
     ghost use Rattle.htl_taken.specs.NumberSets.{numbers_of, Has};
 
     /// How many processors there are.
@@ -51,7 +55,8 @@ impl<A: Allocator> Taken<A> {
         }
     }
 
-    /// The processor's front: all numbers below it are taken. It is 0 for a processor that isn't there.
+    /// The processor's front: all numbers below it are taken. It is 0 for a processor that isn't
+    /// there.
     pub fn front(&self, processor: u16) -> u32
         ensures value { result ≡ front_at self.now processor }
         ensures proper { IsProper (numbers_at self.now processor) }
@@ -62,8 +67,8 @@ impl<A: Allocator> Taken<A> {
         }
     }
 
-    /// The processor's loose numbers in rising order: those that are taken, at or above the front. There are
-    /// none of a processor that isn't there.
+    /// The processor's loose numbers in rising order: those that are taken, at or above the front.
+    /// There are none of a processor that isn't there.
     pub fn loose(&self, processor: u16) -> &[u32]
         ensures value { result.now ≡ loose_at self.now processor }
         ensures proper { IsProper (numbers_at self.now processor) }
@@ -74,7 +79,8 @@ impl<A: Allocator> Taken<A> {
         }
     }
 
-    /// Where a number stands among the processor's loose ones, or else the gap where it would stand.
+    /// Where a number stands among the processor's loose ones, or else the gap where it would
+    /// stand.
     pub fn search(&self, processor: u16, number: u32) -> Result<usize, usize>
         ensures found { IfOk result (λ i. (i < length (loose_at self.now processor))
             × (slice_index (loose_at self.now processor) i ≡ number)) }
@@ -108,7 +114,8 @@ impl<A: Allocator> Taken<A> {
         self.len() == 0
     }
 
-    /// The least number of the processor that isn't taken. It is 0 for a processor that isn't there.
+    /// The least number of the processor that isn't taken. It is 0 for a processor that isn't
+    /// there.
     pub fn reach(&self, processor: u16) -> u32
         ensures value { result ≡ reach_of (numbers_at self.now processor) }
         ensures ahead { front_at self.now processor ≤ result }
@@ -144,8 +151,8 @@ impl<A: Allocator> Taken<A> {
         }
     }
 
-    /// Whether both sets have the same fronts and the same loose numbers. Whether they have the same segments
-    /// is `covers` both ways; of settled sets the two are one question.
+    /// Whether both sets have the same fronts and the same loose numbers. Whether they have the
+    /// same segments is `covers` both ways; of settled sets the two are one question.
     pub fn same(&self, other: &Taken<A>) -> bool
         ensures { IsTrue result ↔ (self.now ≡ other.now) }
     {
@@ -160,8 +167,8 @@ impl<A: Allocator> Taken<A> {
         true
     }
 
-    /// Takes a segment, and tells whether it is new. The number of a new one becomes loose, also where it is
-    /// the front.
+    /// Takes a segment, and tells whether it is new. The number of a new one becomes loose, also
+    /// where it is the front.
     pub fn insert(&mut self, processor: u16, number: u32) -> Result<bool, NoMemory>
         requires processor { processor < length self.old }
         requires number { number < MAX_FRONT }
@@ -177,8 +184,8 @@ impl<A: Allocator> Taken<A> {
         numbers.insert(number)
     }
 
-    /// Moves the processor's front to its reach and keeps the loose numbers at or above it. The segments stay
-    /// the same. It changes nothing for a processor that isn't there.
+    /// Moves the processor's front to its reach and keeps the loose numbers at or above it. The
+    /// segments stay the same. It changes nothing for a processor that isn't there.
     pub fn settle(&mut self, processor: u16)
         ensures value { self.new
             ≡ slice_set self.old processor (settled (numbers_at self.old processor)) }
@@ -217,8 +224,8 @@ impl<A: Allocator + Clone> Taken<A> {
         Ok(Taken { sets })
     }
 
-    /// The segments of both sets, under clones of this one's allocator: for each processor the greater front,
-    /// and the loose numbers of both at or above it.
+    /// The segments of both sets, under clones of this one's allocator: for each processor the
+    /// greater front, and the loose numbers of both at or above it.
     pub fn union(&self, other: &Taken<A>) -> Result<Taken<A>, NoMemory>
         requires { length self.now ≡ length other.now }
         ensures len { IfOk result (λ t. length t ≡ length self.now) }

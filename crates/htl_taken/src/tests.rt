@@ -1,4 +1,5 @@
-//! Tests of what no clause says: worked rows, and refused growths, each call under heaps of its own.
+//! Tests of what no clause says: worked rows, and refused growths, each call under heaps of its
+//! own.
 
 use crate::{MAX_FRONT, Taken};
 use htl_event::NoMemory;
@@ -109,8 +110,8 @@ fn insertion_is_refused(
     Ok(false)
 }
 
-// Whether the call was refused. It takes its memory from the small heap alone, and where that doesn't hold the
-// set that is called, there is no answer.
+// Whether the call was refused. It takes its memory from the small heap alone, and where that
+// doesn't hold the set that is called, there is no answer.
 fn is_refused(
     rt: &impl Abort,
     call: Call,

@@ -82,4 +82,5 @@ pub record IsChain {A : Type 0} (path : List ℕ) (rows : List Row) (node : Node
 
 -- a tree with the rows counted too
 abbrev pub WithRows : Tree → Tree → List Row → Type 0
-WithRows new old rows = (slot : Slot) (stack : List ℕ) → count_at new slot stack ≡ plus_count (count_at old slot stack) (sum_at (entries_of rows) slot stack)
+WithRows new old rows = (slot : Slot) (stack : List ℕ)
+    → count_at new slot stack ≡ plus_count (count_at old slot stack) (sum_at (entries_of rows) slot stack)

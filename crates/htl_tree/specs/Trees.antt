@@ -1,5 +1,6 @@
 -- A tree as its tally: the counts that aren't zero, by stack and then by slot.
-use Rattle.std.specs.Prelude.{◌≡◌, ℕ, ◌+◌, ◌≤◌, List, [], ◌∷◌, Bool, true, ◌&&◌, if◌then◌else◌, nat_eq, Option, Some, None, unwrap_or, length}
+use Rattle.std.specs.Prelude.{◌≡◌, ℕ, ◌+◌, ◌≤◌, List, [], ◌∷◌, Bool, true, ◌&&◌}
+use Rattle.std.specs.Prelude.{if◌then◌else◌, nat_eq, Option, Some, None, unwrap_or, length}
 use Rattle.std.specs.List.{sum_by, starts_with, AllByRecursion}
 use Rattle.std.specs.Ordering.{on, then_cmp}
 use Rattle.std.specs.FinMap.Entries.{find, put}
@@ -76,7 +77,8 @@ IsSameTally tree other = (slot : Slot) (stack : List ℕ) → count_at tree slot
 
 -- the tally of the second and that of the third add up to that of the first
 abbrev pub IsSumTally : Tree → Tree → Tree → Type 0
-IsSumTally sum tree other = (slot : Slot) (stack : List ℕ) → count_at sum slot stack ≡ plus_count (count_at tree slot stack) (count_at other slot stack)
+IsSumTally sum tree other = (slot : Slot) (stack : List ℕ)
+    → count_at sum slot stack ≡ plus_count (count_at tree slot stack) (count_at other slot stack)
 
 -- the tree is the tally of the events
 abbrev pub HasTally : Tree → List Event → Type 0
@@ -84,7 +86,8 @@ HasTally tree events = (slot : Slot) (stack : List ℕ) → count_at tree slot s
 
 -- what the tree counts of these slots, and nothing else
 abbrev pub IsTallyOf : Slots → Tree → Tree → Type 0
-IsTallyOf slots tree part = (slot : Slot) (stack : List ℕ) → count_at part slot stack ≡ (if has_slot slots slot then count_at tree slot stack else zero_count)
+IsTallyOf slots tree part = (slot : Slot) (stack : List ℕ)
+    → count_at part slot stack ≡ (if has_slot slots slot then count_at tree slot stack else zero_count)
 
 -- ---- lists of what a tree counts
 

@@ -1,6 +1,8 @@
-//! The tree of rows. They are gathered by stack, and each stack is put into the tree by one descent.
+//! The tree of rows. They are gathered by stack, and each stack is put into the tree by one
+//! descent.
 
-ghost use Rattle.std.specs.Prelude.{◌≡◌, ℕ, List, ◌+◌, ◌<◌, ◌≤◌, ◌^◌, length, take, true, IfOk, OnOk};
+ghost use Rattle.std.specs.Prelude.{◌≡◌, ℕ, List, ◌+◌, ◌<◌, ◌≤◌, ◌^◌};
+ghost use Rattle.std.specs.Prelude.{length, take, true, IfOk, OnOk};
 ghost use Rattle.std.specs.Borrow.{Bor};
 ghost use Rattle.std.specs.List.{flat_map, AllByRecursion};
 ghost use Rattle.htl_event.specs.declared.slot.Slot.{Slot};
@@ -16,8 +18,8 @@ use htl_event::{Count, NoMemory, SharedStack, Slot};
 use std::alloc::Allocator;
 use std::cmp::Ordering;
 
-/// The counts as rows, and how many they count in all. Each has its place as its fingerprint, so that they
-/// stay in their order, in which those of one stack stand together.
+/// The counts as rows, and how many they count in all. Each has its place as its fingerprint, so
+/// that they stay in their order, in which those of one stack stand together.
 pub fn rows_in<'a, A: Allocator>(
     alloc: A,
     counts: &'a [((Slot, SharedStack), Count)],
@@ -40,8 +42,8 @@ pub fn rows_in<'a, A: Allocator>(
     Ok((rows, total))
 }
 
-/// The root of the tree that counts what the rows count. Rows of one stack come together by their fingerprints,
-/// and stacks are compared once for each of these groups.
+/// The root of the tree that counts what the rows count. Rows of one stack come together by their
+/// fingerprints, and stacks are compared once for each of these groups.
 pub fn root_of<A: Allocator + Clone>(
     alloc: &A,
     rows: &mut Vec<Row<'_>, A>,
@@ -115,7 +117,8 @@ fn alike(rows: &[Row<'_>]) -> usize
     len
 }
 
-/// Whether two rows have one stack, where equal ones have one fingerprint. Others needn't be fetched from memory.
+/// Whether two rows have one stack, where equal ones have one fingerprint. Others needn't be
+/// fetched from memory.
 fn have_one_stack(one: &Row<'_>, other: &Row<'_>) -> bool
     ensures { result ≡ true → other.now.stack.now ≡ one.now.stack.now }
 {

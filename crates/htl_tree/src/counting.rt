@@ -1,6 +1,7 @@
 //! Events counted in rows. Hints find the row that counts an event's slot and stack.
 
-ghost use Rattle.std.specs.Prelude.{◌≡◌, List, ◌+◌, ◌<◌, ◌≤◌, ◌^◌, [], ◌∷◌, ◌++◌, length, true, false, IfOk, IfSome, OnOk};
+ghost use Rattle.std.specs.Prelude.{◌≡◌, List, ◌+◌, ◌<◌, ◌≤◌, ◌^◌, [], ◌∷◌, ◌++◌};
+ghost use Rattle.std.specs.Prelude.{length, true, false, IfOk, IfSome, OnOk};
 ghost use Rattle.std.specs.List.{flat_map};
 ghost use Rattle.htl_event.specs.Events.{Event};
 ghost use Rattle.htl_tree.specs.Trees.{total_count};
@@ -61,7 +62,8 @@ impl<'a, A: Allocator> Counting<'a, A> {
         (self.rows, self.total)
     }
 
-    /// Counts one more event, whose row is likely to be at this place. One that is counted nowhere changes nothing.
+    /// Counts one more event, whose row is likely to be at this place. One that is counted nowhere
+    /// changes nothing.
     fn count(&mut self, event: &'a SharedEvent, place: usize) -> Result<(), NoMemory>
         requires rows { AreRows self.old.rows.items self.old.total }
         requires room { self.old.total + 1 < 2 ^ 64 }
@@ -106,8 +108,8 @@ pub fn number_of_events<R: Run>(runs: &[R]) -> Option<usize>
     Some(number)
 }
 
-/// Counts one more of the slot with the stack: in the row at this place, where that counts these, else in a row of
-/// its own.
+/// Counts one more of the slot with the stack: in the row at this place, where that counts these,
+/// else in a row of its own.
 fn count_in<'a, A: Allocator>(
     rows: &mut Vec<Row<'a>, A>,
     hints: &mut Hints<A>,

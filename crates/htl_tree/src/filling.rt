@@ -15,7 +15,8 @@ use htl_event::{Count, NoMemory, Slot};
 use std::alloc::Allocator;
 
 impl<A: Allocator + Clone> Node<A> {
-    /// A node that counts the rows at the end of the stack, and nothing else. Its vectors have no room to spare.
+    /// A node that counts the rows at the end of the stack, and nothing else. Its vectors have no
+    /// room to spare.
     pub fn chain(alloc: &A, stack: &[u64], rows: &[Row<'_>]) -> Result<Self, NoMemory>
         requires some { 0 < length rows.now }
         requires positive { Each IsPositive (entries_of rows.now) }

@@ -1,5 +1,5 @@
-//! Hints: where the row of a slot and a stack may be. Nothing is promised of them, so whoever takes one compares
-//! what is there. A hint that was overwritten costs a further row.
+//! Hints: where the row of a slot and a stack may be. Nothing is promised of them, so whoever takes
+//! one compares what is there. A hint that was overwritten costs a further row.
 
 use crate::row::Row;
 use htl_event::{NoMemory, SharedEvent, Slot};
@@ -17,7 +17,8 @@ pub struct Hints<A: Allocator> {
     block: [usize; BLOCK],
 }
 
-/// How many cells there are at most: with more, looking at one takes longer than a further row now and then.
+/// How many cells there are at most: with more, looking at one takes longer than a further row now
+/// and then.
 const MAX_CELLS: usize = 0x10_0000;
 
 /// A place that no row has.
@@ -59,8 +60,8 @@ impl<A: Allocator> Hints<A> {
 
     /// The place of the row that is likely to count the event at this index.
     ///
-    /// The events are asked for one after the other. They are looked for a block at a time, so that the memory of
-    /// many rows is fetched at once.
+    /// The events are asked for one after the other. They are looked for a block at a time, so that
+    /// the memory of many rows is fetched at once.
     pub fn likely_row(&mut self, rows: &[Row<'_>], events: &[SharedEvent], index: usize) -> usize {
         let within = index % BLOCK;
         if within == 0 {

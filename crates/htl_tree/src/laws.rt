@@ -13,7 +13,8 @@ pub fn equal_tallies_have_one_tree()
         → IsSameTally tree other → tree ≡ other }
 {}
 
-/// The sum of a slot of references over all stacks is the balance of its tag over the tree's events.
+/// The sum of a slot of references over all stacks is the balance of its tag over the tree's
+/// events.
 pub fn sums_are_balances()
     ensures { (tree : Tree) (events : List Event) → IsTree tree → HasTally tree events
         → (object : ℕ) (tag : List ℕ)

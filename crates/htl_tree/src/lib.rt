@@ -1,7 +1,8 @@
 //! A counted stack tree: how often each slot came with each call stack.
 //!
-//! A tree is its tally (`specs/Trees.antt`): the counts that aren't zero, in the order of their stacks and
-//! slots. Equal tallies have one tree, so `StackTree::same` walks two trees side by side.
+//! A tree is its tally (`specs/Trees.antt`): the counts that aren't zero, in the order of their
+//! stacks and slots. Equal tallies have one tree, so `StackTree::same` walks two trees side by
+//! side.
 #![tactic(auto)]
 
 mod building;

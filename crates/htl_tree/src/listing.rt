@@ -1,6 +1,7 @@
 //! Lists of what a node counts.
 
-ghost use Rattle.std.specs.Prelude.{◌≡◌, ℕ, ◌<◌, ◌≤◌, ◌^◌, List, [], ◌++◌, ◌↔◌, length, map, reverse, false, Contains, IfOk, OnOk};
+ghost use Rattle.std.specs.Prelude.{◌≡◌, ℕ, ◌<◌, ◌≤◌, ◌^◌, List, [], ◌++◌, ◌↔◌, length};
+ghost use Rattle.std.specs.Prelude.{map, reverse, false, Contains, IfOk, OnOk};
 ghost use Rattle.htl_event.specs.declared.slot.Slot.{Slot};
 ghost use Rattle.htl_event.specs.declared.slot.Count.{Count};
 ghost use Rattle.htl_event.specs.Members.{IsRising};
@@ -8,7 +9,8 @@ ghost use Rattle.htl_event.specs.Tallies.{IsPositive};
 ghost use Rattle.htl_sorted.specs.Entries.{Each};
 ghost use Rattle.htl_tree.specs.Trees.{BySlot, total_count};
 ghost use Rattle.htl_tree.specs.Asked.{has_slot};
-ghost use Rattle.htl_tree.specs.Nodes.{rows, rows_at, own_at, entries_at, AreSums, IsShortFrom, slots_of};
+ghost use Rattle.htl_tree.specs.Nodes.{rows, rows_at, own_at, entries_at};
+ghost use Rattle.htl_tree.specs.Nodes.{AreSums, IsShortFrom, slots_of};
 
 use crate::filling::add_count;
 use crate::node::Node;
@@ -18,8 +20,8 @@ use std::alloc::{Allocator, Global};
 use std::cmp::Ordering;
 
 impl<A: Allocator> Node<A> {
-    /// Adds the counts of these slots, at this node and below, by stack and then by
-    /// slot. The path leads to this node from the outermost frame, and is there again at the return.
+    /// Adds the counts of these slots, at this node and below, by stack and then by slot. The path
+    /// leads to this node from the outermost frame, and is there again at the return.
     pub fn list_rows(
         &self,
         alloc: Global,

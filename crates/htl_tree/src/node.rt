@@ -1,20 +1,22 @@
 //! A node: the counts of one stack, and the nodes one frame further in.
 
-ghost use Rattle.std.specs.Prelude.{◌≡◌, ◌+◌, ◌<◌, ◌^◌, reverse, IfOk, IfErr, OnOk, OnErr, MatchResult};
+ghost use Rattle.std.specs.Prelude.{◌≡◌, ◌+◌, ◌<◌, ◌^◌, reverse, IfOk};
+ghost use Rattle.std.specs.Prelude.{IfErr, OnOk, OnErr, MatchResult};
 ghost use Rattle.std.specs.Ordering.{nat_cmp};
 ghost use Rattle.htl_event.specs.Tallies.{total_of, plus_count};
 ghost use Rattle.htl_sorted.specs.Entries.{IsSorted, IsPlace, IsGap};
 ghost use Rattle.htl_event.specs.SlotOrder.{slot_cmp};
 ghost use Rattle.htl_tree.specs.Trees.{bump};
-ghost use Rattle.htl_tree.specs.Nodes.{tally, count_in, IsNormal, counted, IsBranch, IsAdded, IsKept};
+ghost use Rattle.htl_tree.specs.Nodes.{tally, count_in, IsNormal, counted};
+ghost use Rattle.htl_tree.specs.Nodes.{IsBranch, IsAdded, IsKept};
 
 use crate::order::{ByFrame, BySlot};
 use htl_event::{Count, NoMemory, Sign, Slot};
 use htl_sorted::search;
 use std::alloc::Allocator;
 
-/// The root stands for the outermost end of all stacks. No count is zero, and no node below the root is
-/// empty, so that equal tallies have one tree.
+/// The root stands for the outermost end of all stacks. No count is zero, and no node below the
+/// root is empty, so that equal tallies have one tree.
 #[derive(Drop)]
 pub struct Node<A: Allocator> {
     pub counts: Vec<(Slot, Count), A>,
@@ -75,7 +77,8 @@ impl<A: Allocator> Node<A> {
         }
     }
 
-    /// Counts one more at the end of the stack. A missing branch is built apart and attached by one growth.
+    /// Counts one more at the end of the stack. A missing branch is built apart and attached by one
+    /// growth.
     pub fn add(&mut self, slot: Slot, sign: Sign, stack: &[u64]) -> Result<(), NoMemory>
     where
         A: Clone,

@@ -1,8 +1,10 @@
 //! The root of a tree. It is made by the first count.
 
-ghost use Rattle.std.specs.Prelude.{◌≡◌, ◌+◌, ◌<◌, ◌≤◌, ◌^◌, ◌↔◌, length, IsTrue, IfOk, MatchResult};
+ghost use Rattle.std.specs.Prelude.{◌≡◌, ◌+◌, ◌<◌, ◌≤◌, ◌^◌, ◌↔◌};
+ghost use Rattle.std.specs.Prelude.{length, IsTrue, IfOk, MatchResult};
 ghost use Rattle.htl_event.specs.Tallies.{total_of};
-ghost use Rattle.htl_tree.specs.Trees.{count_at, count_under, total_count, with_one, IsSameTally, IsSumTally, ListsSlots};
+ghost use Rattle.htl_tree.specs.Trees.{count_at, count_under, total_count, with_one};
+ghost use Rattle.htl_tree.specs.Trees.{IsSameTally, IsSumTally, ListsSlots};
 ghost use Rattle.htl_tree.specs.Asked.{has_slot};
 ghost use Rattle.htl_tree.specs.Nodes.{tree_of, picked, IsNormalRoot};
 

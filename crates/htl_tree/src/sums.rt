@@ -6,7 +6,8 @@ ghost use Rattle.htl_event.specs.declared.slot.Slot.{Slot};
 ghost use Rattle.htl_event.specs.Tallies.{plus_count, total_of};
 ghost use Rattle.htl_sorted.specs.Entries.{IsSorted, joined_at};
 ghost use Rattle.htl_event.specs.SlotOrder.{slot_cmp};
-ghost use Rattle.htl_tree.specs.Nodes.{IsNormal, IsCopy, EachNormal, AppendsCopies, IsSum, FitsSum, count_in};
+ghost use Rattle.htl_tree.specs.Nodes.{IsNormal, IsCopy, EachNormal};
+ghost use Rattle.htl_tree.specs.Nodes.{AppendsCopies, IsSum, FitsSum, count_in};
 
 use crate::node::Node;
 use crate::order::{ByFrame, BySlot};

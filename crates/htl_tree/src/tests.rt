@@ -214,8 +214,8 @@ enum Call {
     Of,
 }
 
-// Whether the call is done in this heap. A refused one leaves its tree as it was; a heap that doesn't hold
-// that is an error.
+// Whether the call is done in this heap. A refused one leaves its tree as it was; a heap that
+// doesn't hold that is an error.
 fn is_done(
     rt: &impl Abort,
     call: Call,

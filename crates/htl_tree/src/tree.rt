@@ -34,7 +34,8 @@ impl<A: Allocator> Model for StackTree<A> {
     ghost invariant = { λ t. IsRoot t.root t.total };
 }
 
-/// Whether the number of all events of these runs is a `u64`, as it is wherever they came from bytes.
+/// Whether the number of all events of these runs is a `u64`, as it is wherever they came from
+/// bytes.
 pub fn fits_events<R: Run>(runs: &[R]) -> bool
     ensures { IsTrue result ↔ (length (flat_map R.events_of runs.now) < 2 ^ 64) }
 {
@@ -42,8 +43,12 @@ pub fn fits_events<R: Run>(runs: &[R]) -> bool
 }
 
 impl<A: Allocator> StackTree<A> {
-    ghost use Rattle.std.specs.Prelude.{◌≡◌, List, ◌+◌, ◌<◌, ◌≤◌, ◌^◌, [], ◌∷◌, ◌++◌, ◌↔◌, length, IsTrue, IfOk, OnOk, OnErr};
-    ghost use Rattle.htl_tree.specs.Trees.{count_at, count_under, total_count, with_one, with_event, IsTree, IsSameTally, IsSumTally, HasTally, ListsRows, ListsRowsOf, ListsSums, IsTallyOf, ListsSlots};
+    ghost use Rattle.std.specs.Prelude.{◌≡◌, List, ◌+◌, ◌<◌, ◌≤◌, ◌^◌, [], ◌∷◌, ◌++◌};
+    ghost use Rattle.std.specs.Prelude.{◌↔◌, length, IsTrue, IfOk, OnOk, OnErr};
+    ghost use Rattle.htl_tree.specs.Trees.{count_at, count_under, total_count};
+    ghost use Rattle.htl_tree.specs.Trees.{with_one, with_event, IsTree, IsSameTally};
+    ghost use Rattle.htl_tree.specs.Trees.{IsSumTally, HasTally, ListsRows, ListsRowsOf};
+    ghost use Rattle.htl_tree.specs.Trees.{ListsSums, IsTallyOf, ListsSlots};
     ghost use Rattle.std.specs.List.{flat_map};
     ghost use Rattle.htl_event.specs.Events.{Event};
     ghost use Rattle.htl_event.specs.Tallies.{under};
@@ -102,7 +107,8 @@ impl<A: Allocator> StackTree<A> {
         }
     }
 
-    /// How often the slot came with a stack that begins with the path, read from the outermost frame.
+    /// How often the slot came with a stack that begins with the path, read from the outermost
+    /// frame.
     pub fn under(&self, path: &[u64], slot: Slot) -> Count
         ensures value { result ≡ count_under self.now path.now slot }
         // It is the prefix tally of any events that the tree is the tally of.
@@ -134,8 +140,8 @@ impl<A: Allocator> StackTree<A> {
         })
     }
 
-    /// The tree that counts what both trees count, under a clone of this one's allocator. It is made in
-    /// one pass over both.
+    /// The tree that counts what both trees count, under a clone of this one's allocator. It is
+    /// made in one pass over both.
     pub fn plus(&self, other: &Self) -> Result<Self, NoMemory>
     where
         A: Clone,
@@ -203,8 +209,8 @@ impl<A: Allocator> StackTree<A> {
         without_slot(alloc, &rows)
     }
 
-    /// The counts of these slots that aren't zero, by stack and then by slot. They are found by one walk over
-    /// the tree.
+    /// The counts of these slots that aren't zero, by stack and then by slot. They are found by one
+    /// walk over the tree.
     pub fn rows_of(
         &self,
         alloc: Global,
@@ -215,8 +221,8 @@ impl<A: Allocator> StackTree<A> {
         list_root_rows(&self.root, alloc, slots)
     }
 
-    /// How often each of these slots came, with whatever stack, in slot order. The sums are found by one walk
-    /// over the tree.
+    /// How often each of these slots came, with whatever stack, in slot order. The sums are found
+    /// by one walk over the tree.
     pub fn sums_of(&self, alloc: Global, slots: Slots) -> Result<Vec<(Slot, Count)>, NoMemory>
         ensures sums { IfOk result (λ sums. ListsSums self.now slots sums.items) }
         ensures tree { IsTree self.now }
@@ -225,8 +231,8 @@ impl<A: Allocator> StackTree<A> {
         sums_of(alloc, &mut rows)
     }
 
-    /// The tree that counts what this one counts of these slots, and nothing else, under a clone of this one's
-    /// allocator. It is made of the rows of these slots.
+    /// The tree that counts what this one counts of these slots, and nothing else, under a clone of
+    /// this one's allocator. It is made of the rows of these slots.
     pub fn of_slots(&self, alloc: Global, slots: Slots) -> Result<Self, NoMemory>
     where
         A: Clone,

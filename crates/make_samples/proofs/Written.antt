@@ -55,9 +55,9 @@ keys-both trace ks js old mid new a b = (
   map-append key_of a.0 b.0 ∙ rw (a.2, b.2) refl,
 )
 
-pub keys-one : (trace : Trace) (s : Content) (key : ℕ × ℕ) (old new : Option (List ℕ)) → key_of s ≡ key
-    → Writes trace (s ∷ []) old new → WritesKeys trace (key ∷ []) old new
-keys-one trace s key old new e w = (s ∷ [], w, ap (λ (k : ℕ × ℕ). k ∷ []) e)
+pub keys-one : (trace : Trace) (s : Content) (p n : ℕ) (old new : Option (List ℕ)) → s.processor ≡ p → s.number ≡ n
+    → Writes trace (s ∷ []) old new → WritesKeys trace ((p, n) ∷ []) old new
+keys-one trace s p n old new is_p is_n w = (s ∷ [], w, ap (λ (q : ℕ). (q, s.number) ∷ []) is_p ∙ ap (λ (m : ℕ). (p, m) ∷ []) is_n)
 
 pub turn-more : (p n : ℕ) → turn (p + 1) n ≡ turn p n ++ (p, n) ∷ []
 turn-more p n = rw add-one refl

@@ -1,7 +1,7 @@
 //! Segments as they are made, one after the other into a sink.
-ghost use Rattle.std.specs.Prelude.{◌≡◌, [], ◌∷◌, false, true, length, IfOk, OnOk};
+ghost use Rattle.std.specs.Prelude.{◌≡◌, [], ◌∷◌, false, true, length, OnOk};
 ghost use Rattle.htl_samples.specs.Samples.{IsOfTrace};
-ghost use Rattle.make_samples.specs.Writing.{Writes, WritesCount, WritesKeys, key_of, turn, turns};
+ghost use Rattle.make_samples.specs.Writing.{Writes, WritesCount, WritesKeys, turn, turns};
 
 use crate::fault::MakeFault;
 use htl_device::{Sink, write_whole};
@@ -70,27 +70,10 @@ fn write_turn<W: Sink>(
         ..TRACE
     };
     for processor in 0..made_up.processors {
-        let segment = make_up(alloc, trace, made_up, processor, number)?;
+        let segment = made_up.segment(alloc, processor, number)?;
         write_segment(alloc, trace, &segment, out)?;
     }
     Ok(())
-}
-
-/// The segment of a key, of made-up events.
-fn make_up(
-    alloc: Global,
-    trace: Trace,
-    made_up: &RandomTrace,
-    processor: u16,
-    number: u32,
-) -> Result<Segment, SampleFault>
-    ensures { IfOk result (λ s. IsOfTrace trace s × (key_of s ≡ (processor, number))) }
-{
-    let mut events = Vec::with_capacity(alloc, made_up.events as usize)?;
-    for place in 0..made_up.events {
-        events.push(made_up.event(processor, number, place))?;
-    }
-    Ok(Segment::build2(alloc, trace.id, trace.processors, processor, number, events)?)
 }
 
 /// Writes one segment.

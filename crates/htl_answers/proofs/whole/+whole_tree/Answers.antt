@@ -1,36 +1,44 @@
 -- Both halves together.
-use Rattle.std.proofs.Common.{◌≡◌, ◌+◌, ◌≤◌, ◌/◌, List, map, length, take, drop, sym, ap, subst, ◌∙◌, arith}
+use Rattle.std.proofs.Common.{rules, ◌≡◌, ◌+◌, ◌-◌, ◌<◌, ◌^◌, ◌/◌, List, length, length-drop, map, ap, ◌∙◌, arith}
 use Rattle.std.proofs.lemmas.Result.{IfOk-weaker}
-use Rattle.htl_event.specs.Events.{Event}
 use Rattle.htl_tree.specs.Trees.{HasTally, total_count}
-use Rattle.htl_answers.specs.Parts.{AreEventsOf, size_of_all}
-use Rattle.htl_answers.proofs.WholeLemmas.{tally_halves, halves, size_halves}
+use Rattle.htl_answers.specs.Parts.{size_of_all}
+use Rattle.htl_answers.proofs.WholeLemmas.{tally_append, tally_two, size_halves, counts_halves, total_halves}
 use Rattle.htl_answers.proofs.whole.+whole_tree.Goals as goal
+
+pub returns-then-parts-eq2-clause-tally : goal.returns-then-parts-eq2-clause-tally
+returns-then-parts-eq2-clause-tally g t c = IfOk-weaker c.tree_of_two.result _ _ (λ tree of_parts.
+    tally_two g.P.Part.contents c.args.parts.now c.index-parts-0.result c.index-parts-1.result c.if-parts-eq2.true c.index-parts-0.is
+    c.index-parts-1.is tree of_parts) c.tree_of_two.ensures.tally
+
+pub whole_tree-requires-2 : goal.whole_tree-requires-2
+whole_tree-requires-2 g t c κs within =
+    let contents = g.P.Part.contents in
+    let parts = c.args.parts.now in
+    let back = c.split_at.result.1.now in
+    let rest = ap length c.split_at.ensures.back ∙ length-drop (length parts / 2) parts in
+    let sizes = size_halves contents (length parts / 2) parts _ _ c.split_at.ensures.front c.split_at.ensures.back in
+    let fewer : length back < length parts = omega (arith, rest, c.if-parts-lt2.false) in
+    let room : size_of_all (map contents back) < 2 ^ 64 = omega (arith, sizes, c.requires) in
+    search rules
+
+pub plus-requires : goal.plus-requires
+plus-requires g t c =
+    let parts = c.args.parts.now in
+    let sizes = size_halves g.P.Part.contents (length parts / 2) parts _ _ c.split_at.ensures.front c.split_at.ensures.back in
+    omega (arith, sizes, c.requires, c.in_ok-left.ensures.total, c.in_ok-right.ensures.total)
 
 pub returns-clause-tally : goal.returns-clause-tally
 returns-clause-tally g t c =
-    let contents = g.P.Part.contents in
     let parts = c.args.parts.now in
-    let half = length parts / 2 in
-    let left = c.in_ok-left.left in
-    let right = c.in_ok-right.right in
-    let front = c.split_at.ensures.front in
-    let back = c.split_at.ensures.back in
-    let of_left = λ (events : List Event) (are : AreEventsOf (map contents (take half parts)) events).
-    c.in_ok-left.ensures.tally events (subst (λ ps. AreEventsOf (map contents ps) events) (sym front) are) in
-    let of_right = λ (events : List Event) (are : AreEventsOf (map contents (drop half parts)) events).
-    c.in_ok-right.ensures.tally events (subst (λ ps. AreEventsOf (map contents ps) events) (sym back) are) in
-    IfOk-weaker c.plus.result _ _ (λ sum is events are.
-    tally_halves sum left right (map contents (take half parts)) (map contents (drop half parts)) is of_left of_right events
-    (subst (λ ps. AreEventsOf ps events) (halves contents half parts) are)) c.plus.ensures.tally
+    IfOk-weaker c.plus.result _ _ (λ sum is.
+    counts_halves g.P.Part.contents (length parts / 2) parts _ _ c.split_at.ensures.front c.split_at.ensures.back HasTally
+    tally_append sum c.in_ok-left.left c.in_ok-right.right is c.in_ok-left.ensures.tally c.in_ok-right.ensures.tally) c.plus.ensures.tally
 
 pub returns-clause-total : goal.returns-clause-total
 returns-clause-total g t c =
-    let contents = g.P.Part.contents in
     let parts = c.args.parts.now in
-    let half = length parts / 2 in
-    let sizes = size_halves contents half parts in
-    let front = ap (λ ps. size_of_all (map contents ps)) c.split_at.ensures.front in
-    let back = ap (λ ps. size_of_all (map contents ps)) c.split_at.ensures.back in
     IfOk-weaker c.plus.result _ _ (λ sum is.
-    omega (arith, is, sizes, front, back, c.in_ok-left.ensures.total, c.in_ok-right.ensures.total)) c.plus.ensures.total
+    total_halves g.P.Part.contents (length parts / 2) parts _ _ c.split_at.ensures.front c.split_at.ensures.back (total_count sum)
+    (total_count c.in_ok-left.left) (total_count c.in_ok-right.right) is c.in_ok-left.ensures.total c.in_ok-right.ensures.total)
+    c.plus.ensures.total

@@ -10,7 +10,8 @@ loop-other-init c = (c.requires.first, c.requires.others, c.requires.parts, refl
 
 pub adopt-requires-clause-other : goal.adopt-requires-clause-other
 adopt-requires-clause-other c =
-    desks-last c.args.exchange.now c.pop.new.self.items c.in-Some.other (subst (AreDesksOf c.args.exchange.now) c.in-Some.ensures.items c.loop-other.invariant.1)
+    desks-last c.args.exchange.now c.pop.new.self.items c.in-Some.other
+    (subst (AreDesksOf c.args.exchange.now) c.in-Some.ensures.items c.loop-other.invariant.1)
 
 pub adopt-requires-clause-parts : goal.adopt-requires-clause-parts
 adopt-requires-clause-parts c =
@@ -39,10 +40,13 @@ returns-in-Err-clause-parts c =
 
 pub returns-in-Err-clause-kept : goal.returns-in-Err-clause-kept
 returns-in-Err-clause-kept c =
-    keeps-through (c.args.first.now ∷ c.args.desks.now.items) (c.loop-other.first ∷ c.loop-other.desks.items)
-    (c.adopt.new.self ∷ c.push_reserved.new.self.items) c.loop-other.invariant.5
-    (subst (λ (l : List Seated). KeepAll (c.loop-other.first ∷ l) (c.adopt.new.self ∷ c.push_reserved.new.self.items)) (sym c.in-Some.ensures.items)
-    (subst (λ (l : List Seated). KeepAll (c.loop-other.first ∷ c.pop.new.self.items ++ c.in-Some.other ∷ []) (c.adopt.new.self ∷ l)) (sym c.push_reserved.ensures.items)
+    let first = c.loop-other.first in
+    let others : List Seated = c.pop.new.self.items in
+    let now = c.adopt.new.self in
+    keeps-through (c.args.first.now ∷ c.args.desks.now.items) (first ∷ c.loop-other.desks.items)
+    (now ∷ c.push_reserved.new.self.items) c.loop-other.invariant.5
+    (subst (λ (l : List Seated). KeepAll (first ∷ l) (now ∷ c.push_reserved.new.self.items)) (sym c.in-Some.ensures.items)
+    (subst (λ (l : List Seated). KeepAll (first ∷ others ++ c.in-Some.other ∷ []) (now ∷ l)) (sym c.push_reserved.ensures.items)
     (keeps-refused c.loop-other.first c.adopt.new.self c.in-Some.other c.in-Err.other c.pop.new.self.items c.in-Err.ensures.err.0 c.in-Err.ensures.err.1)))
 
 pub loop-other-preserved : goal.loop-other-preserved

@@ -16,7 +16,9 @@ spawn_with-started-requires-clause-runs g t c κs within =
 
 pub work_all-rest-requires-after_bounds : goal.work_all-rest-requires-after_bounds
 work_all-rest-requires-after_bounds g t c κs within =
-    (desks-front c.args.exchange.now c.pop.new.self.items c.in-Some.desk (subst (AreDesksOf c.args.exchange.now) c.in-Some.ensures.items c.requires.0), search rules)
+    let all : AreDesksOf c.args.exchange.now (c.pop.new.self.items ++ c.in-Some.desk ∷ []) =
+    subst (AreDesksOf c.args.exchange.now) c.in-Some.ensures.items c.requires.0 in
+    (desks-front c.args.exchange.now c.pop.new.self.items c.in-Some.desk all, search rules)
 
 pub spawn_with-started-requires-send-F : goal.spawn_with-started-requires-send-F
 spawn_with-started-requires-send-F g t c κs within = search (sendable, crosses, desk_send, exchange_sync) depth 30

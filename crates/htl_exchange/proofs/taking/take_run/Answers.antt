@@ -11,9 +11,12 @@ use Rattle.htl_exchange.proofs.taking.take_run.Goals as goal
 pub returns-in-Err-NoMemory-default-clause-left : goal.returns-in-Err-NoMemory-default-clause-left
 returns-in-Err-NoMemory-default-clause-left c =
     let same : c.take.new.self ≡ c.loop-segment.analyst = c.in-Err-NoMemory-default.ensures.err.1 in
+    let left = c.pop.new.self.items in
     let back : c.push_reserved.new.self.items ≡ c.loop-segment.rest.items =
-    c.push_reserved.ensures.items ∙ ap (λ (s : Content). c.pop.new.self.items ++ s ∷ []) c.in-Err-NoMemory-default.ensures.err.0 ∙ sym c.in-Some.ensures.items in
-    λ p n. subst (λ (z : State × List Content). (HasTaken z.0 p n ⊎ HasSegment z.1 p n) ↔ (HasTaken c.args.analyst.now p n ⊎ HasSegment c.args.segments.items p n))
+    c.push_reserved.ensures.items ∙ ap (λ (s : Content). left ++ s ∷ []) c.in-Err-NoMemory-default.ensures.err.0 ∙ sym c.in-Some.ensures.items in
+    λ p n.
+    subst
+    (λ (z : State × List Content). (HasTaken z.0 p n ⊎ HasSegment z.1 p n) ↔ (HasTaken c.args.analyst.now p n ⊎ HasSegment c.args.segments.items p n))
     (λ i. (sym same i, sym back i)) (c.loop-segment.invariant.1 p n)
 
 pub loop-segment-preserved : goal.loop-segment-preserved
@@ -21,10 +24,11 @@ loop-segment-preserved c =
     let inv = c.loop-segment.invariant in
     let was = c.loop-segment.rest.items in
     let left = c.pop.new.self.items in
-    let is : was ≡ left ++ c.in-Some.segment ∷ [] = c.in-Some.ensures.items in (
+    let is : was ≡ left ++ c.in-Some.segment ∷ [] = c.in-Some.ensures.items in
+    let from = inv.0 c.in-Some.segment (last_member was left c.in-Some.segment is) in (
       (λ s h. inv.0 s (front_member was left c.in-Some.segment s is h)),
       (λ p n. through (one_taken c.loop-segment.analyst c.take.new.self was left c.in-Some.segment is c.in-Ok.ensures.keys p n) (inv.1 p n)),
-      (λ T right within. c.in-Ok.ensures.right T (inv.2 T right within) (within c.in-Some.segment (inv.0 c.in-Some.segment (last_member was left c.in-Some.segment is)))),
+      (λ T right within. c.in-Ok.ensures.right T (inv.2 T right within) (within c.in-Some.segment from)),
     )
 
 pub returns-clause-taken : goal.returns-clause-taken

@@ -1,9 +1,9 @@
 -- A row more of the merged list is made of what is left on both sides.
-use Rattle.std.proofs.Common.{rules, ◌≡◌, ◌<◌, ◌≤◌, ◌++◌, length, drop, arith, ap, ◌∙◌}
+use Rattle.std.proofs.Common.{rules, ◌≡◌, ◌<◌, ◌≤◌, length, arith, ap, ◌∙◌}
 use Rattle.std.specs.FinMap.Entries.{find}
 use Rattle.std.specs.declared.cmp.Ordering.TheVariants.{Less, Equal, Greater}
 use Rattle.htl_sorted.specs.Entries.{entries}
-use Rattle.htl_sorted.proofs.Rows.{rest_is, row_found, made_less, made_greater, made_equal, merged_sorted, merged_value}
+use Rattle.htl_sorted.proofs.Rows.{rests_behind, row_found, made_less, made_greater, made_equal, merged_sorted, merged_value}
 use Rattle.htl_sorted.proofs.merging.merge.Goals as goal
 use Rattle.htl_sorted.proofs.merging.merge.Goals.{then-loop-i-test+else-j-right, else-loop-i-test}
 
@@ -56,10 +56,8 @@ returns-clause-sorted g c =
       | then-loop-i-test+else-j-right w ↦ omega arith
       | else-loop-i-test w ↦ omega arith
     ] in
-    let rest : c.append-2.new.rows.items ≡ (c.loop-i.rows.items ++ drop c.loop-i.i c.args.left.now) ++ drop c.loop-i.j c.args.right.now =
-    c.in_ok-append-2.ensures ∙ ap (λ l. c.append.new.rows.items ++ l) (rest_is c.args.right.now c.loop-i.j)
-    ∙ ap (λ l. l ++ drop c.loop-i.j c.args.right.now)
-    (c.in_ok-append.ensures ∙ ap (λ l. c.loop-i.rows.items ++ l) (rest_is c.args.left.now c.loop-i.i)) in
+    let rest = rests_behind c.loop-i.rows.items c.args.left.now c.args.right.now c.append.new.rows.items c.append-2.new.rows.items
+    c.loop-i.i c.loop-i.j c.in_ok-append.ensures c.in_ok-append-2.ensures in
     merged_sorted g.L.Keyed.key_of g.L.Keyed.value_of g.L.Key.Ord.cmp g.L.Joined.joined c.args.left.now c.args.right.now
     g.met.L.Key.Ord.total c.requires.left c.requires.right c.loop-i.i c.loop-i.j _ _ c.loop-i.invariant one rest
 
@@ -69,9 +67,7 @@ returns-clause-values g c =
       | then-loop-i-test+else-j-right w ↦ omega arith
       | else-loop-i-test w ↦ omega arith
     ] in
-    let rest : c.append-2.new.rows.items ≡ (c.loop-i.rows.items ++ drop c.loop-i.i c.args.left.now) ++ drop c.loop-i.j c.args.right.now =
-    c.in_ok-append-2.ensures ∙ ap (λ l. c.append.new.rows.items ++ l) (rest_is c.args.right.now c.loop-i.j)
-    ∙ ap (λ l. l ++ drop c.loop-i.j c.args.right.now)
-    (c.in_ok-append.ensures ∙ ap (λ l. c.loop-i.rows.items ++ l) (rest_is c.args.left.now c.loop-i.i)) in
+    let rest = rests_behind c.loop-i.rows.items c.args.left.now c.args.right.now c.append.new.rows.items c.append-2.new.rows.items
+    c.loop-i.i c.loop-i.j c.in_ok-append.ensures c.in_ok-append-2.ensures in
     merged_value g.L.Keyed.key_of g.L.Keyed.value_of g.L.Key.Ord.cmp g.L.Joined.joined c.args.left.now c.args.right.now
     g.met.L.Key.Ord.total c.requires.left c.requires.right c.loop-i.i c.loop-i.j _ _ c.loop-i.invariant one rest

@@ -16,6 +16,7 @@ loop-processor-preserved g c =
     record {
       written = rw (turn-more p n) (keys-both trace (turn p n) ((p, n) ∷ []) (g.W.Sink.contents c.args.out.now) mid new
           c.loop-processor.invariant.written
-          (keys-one trace c.in_ok-segment.segment (p, n) mid new c.in_ok-segment.ensures.1 c.in_ok-write_segment.ensures.ok));
+          (keys-one trace c.in_ok-segment.segment p n mid new c.in_ok-segment.ensures.key.0 c.in_ok-segment.ensures.key.1
+          c.in_ok-write_segment.ensures.ok));
       fine = c.in_ok-write_segment.ensures.fine;
     }

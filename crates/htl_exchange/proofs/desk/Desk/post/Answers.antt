@@ -10,15 +10,17 @@ use Rattle.htl_exchange.proofs.desk.Desk.post.Goals.{in-Ok, in-Err}
 
 pub push_as-requires-clause-rule : goal.push_as-requires-clause-rule
 push_as-requires-clause-rule g c =
+    let v = known_of c.self.inside.pass in
+    let a = c.self.inside.analyst in
     let none : c.self.inside.hand ≡ None = ap (λ d. d.hand) c.self.view_is ∙ c.in_ok-take_in.ensures.hand in
-    (may_post _ _ _ c.self.inside.analyst _ (subst (λ h. Follows (known_of c.self.inside.pass) c.self.inside.analyst h) none c.self.invariant.2) c.in_ok-copy.ensures, learns_nothing _ _)
+    (may_post _ _ _ a _ (subst (λ h. Follows v a h) none c.self.invariant.2) c.in_ok-copy.ensures, learns_nothing _ _)
 
 pub invariant_of-self : goal.invariant_of-self
 invariant_of-self g c =
     let v = known_of c.self.inside.pass in
     let w = known_of c.push_as.new.pass in
     let told : (w ≡ pushed v) ⊎ (w ≡ v) = elim c.match-push_as.branch [
-      | in-Ok b ↦ inl b.in-Ok.ensures.rule
+      | in-Ok b ↦ inl b.in-Ok.ensures.rule.0
       | in-Err b ↦ inr b.in-Err.ensures.rule.1
     ] in
     let parts : w.parts ≡ v.parts = elim told [ inl is ↦ ap (λ (u : Known). u.parts) is | inr is ↦ ap (λ (u : Known). u.parts) is ] in (
@@ -32,7 +34,7 @@ returns-clause-follows g c =
     let v = known_of c.self.inside.pass in
     let w = known_of c.push_as.new.pass in
     let told : (w ≡ pushed v) ⊎ (w ≡ v) = elim c.match-push_as.branch [
-      | in-Ok b ↦ inl b.in-Ok.ensures.rule
+      | in-Ok b ↦ inl b.in-Ok.ensures.rule.0
       | in-Err b ↦ inr b.in-Err.ensures.rule.1
     ] in
     posts_still v w c.self.inside.analyst c.self.inside.hand c.self.invariant.2 told

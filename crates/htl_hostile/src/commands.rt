@@ -1,0 +1,99 @@
+//! Each command's text over one trace.
+
+use htl_command::Question;
+use htl_samples::{SampleFault, TRACE};
+use htl_segment::encode;
+use std::alloc::Global;
+
+/// A trace in two inputs.
+pub const INPUTS: [&str; 2] = [
+    "0/0: O 1 0x44 [0x1004 0x20], S 2, O 3 0x48 [0x30]",
+    "0/1: C 4 0x44, B 5 0x45 [0x30], R 6 0x1000 Lky8 [0x1004], D 7 0x1000 Dflt",
+];
+
+pub const SYMBOLS: &str = "start,end,module,name\n1000,1010,app,main\n";
+
+/// The bytes of an input.
+pub fn bytes_of(alloc: Global, line: &str) -> Result<Vec<u8>, SampleFault> {
+    let segment = TRACE.segment(alloc, line)?;
+    Ok(encode(alloc, &segment)?)
+}
+
+/// A question, and the text that answers it.
+#[derive(Clone, Copy)]
+pub struct Command {
+    pub question: Question,
+    pub text: &'static str,
+}
+
+pub const COMMANDS: [Command; 7] = [
+    Command {
+        question: Question::Outstanding { process: 4 },
+        text: "\
+outstanding process=4 count=1
+OPEN handle=0x48 seq=3 thread=12
+  0x0000000000000030
+",
+    },
+    Command {
+        question: Question::Diff {
+            process: 4,
+            since: None,
+        },
+        text: "\
+diff process=4 since=2 count=1
+OPEN handle=0x48 seq=3 thread=12
+  0x0000000000000030
+",
+    },
+    Command {
+        question: Question::Tags { object: 0x1000 },
+        text: "\
+tags object=0x0000000000001000 count=2
+TAG Dflt refs=0 derefs=1 under=1
+TAG Lky8 refs=1 derefs=0 over=1
+",
+    },
+    Command {
+        question: Question::Bad { process: 4 },
+        text: "\
+bad process=4 count=1
+BAD REF handle=0x45 times=1
+  0x0000000000000030
+",
+    },
+    Command {
+        question: Question::Leaks { process: 4 },
+        text: "\
+leaks process=4 count=1
+LEAK handles=1
+  0x0000000000000030
+",
+    },
+    Command {
+        question: Question::Stacks {
+            object: 0x1000,
+            tag: *b"Lky8",
+        },
+        text: "\
+stacks object=0x0000000000001000 tag=Lky8 count=1
+STACK refs=1 derefs=0
+  app!main+0x4
+",
+    },
+    Command {
+        question: Question::Trace {
+            process: 4,
+            handle: 0x44,
+        },
+        text: "\
+trace process=4 handle=0x44 count=3
+BAD REF handle=0x45 seq=5 thread=12
+  0x0000000000000030
+CLOSE handle=0x44 seq=4 thread=12
+OPEN handle=0x44 seq=1 thread=12
+  app!main+0x4
+  0x0000000000000020
+",
+    },
+];

@@ -20,8 +20,8 @@ const OBJECT: u64 = 0x1010;
 
 const TAG: [u8; 4] = *b"Lky8";
 
-/// The segments that the analyst took, by processor and number: it folded the first of both processors and holds
-/// two, so that an answer needs both.
+/// The segments that the analyst took, by processor and number: it folded the first of both
+/// processors and holds two, so that an answer needs both.
 const FOLDED: [(u16, u32); 2] = [(0, 0), (1, 0)];
 
 const HELD: [(u16, u32); 2] = [(0, 1), (1, 2)];
@@ -59,7 +59,9 @@ fn new(alloc: Global, processors: &u16) -> Result<Own, Refusal> {
 fn take_all(alloc: Global, analyst: &mut Own, keys: &[(u16, u32)]) -> Result<(), Refusal> {
     for (processor, number) in keys {
         let segment = SMALL.segment(alloc, *processor, *number)?;
-        analyst.take(segment).map_err(|(fault, _)| Refusal::from(fault))?;
+        analyst
+            .take(segment)
+            .map_err(|(fault, _)| Refusal::from(fault))?;
     }
     Ok(())
 }
@@ -112,10 +114,7 @@ fn absorbing(alloc: Global) -> Result<(Own, Option<Own>), Refusal> {
     Ok((analyst(alloc)?, Some(other(alloc)?)))
 }
 
-fn absorb(
-    _alloc: Global,
-    (analyst, other): &mut (Own, Option<Own>),
-) -> Result<Equal<()>, Refusal> {
+fn absorb(_alloc: Global, (analyst, other): &mut (Own, Option<Own>)) -> Result<Equal<()>, Refusal> {
     let given = other.take().ok_or(Refusal::Other)?;
     match analyst.absorb(given) {
         Ok(()) => Ok(Equal(())),
@@ -126,7 +125,8 @@ fn absorb(
     }
 }
 
-/// An analyst that is compacted. Where memory is refused some fronts may have moved, and every answer is as before.
+/// An analyst that is compacted. Where memory is refused some fronts may have moved, and every
+/// answer is as before.
 #[derive(Drop)]
 struct Folding {
     analyst: Own,
@@ -186,18 +186,22 @@ fn whole_tree(_alloc: Global, analyst: &Own) -> Result<StackTree<Global>, Refusa
     Ok(analyst.whole_tree()?)
 }
 
-/// Whether two analysts took the same segments of the made-up trace and have the same answers, whatever each folded.
+/// Whether two analysts took the same segments of the made-up trace and have the same answers,
+/// whatever each folded.
 pub fn agree(alloc: Global, one: &Own, two: &Own) -> Result<bool, NoMemory> {
-    Ok(agree_on_keys(one, two)
-        && agree_without_memory(one, two)
-        && agree_on_handles(alloc, one, two)?
-        && agree_on_counts(alloc, one, two)?)
+    Ok(
+        agree_on_keys(one, two)
+            && agree_without_memory(one, two)
+            && agree_on_handles(alloc, one, two)?
+            && agree_on_counts(alloc, one, two)?,
+    )
 }
 
 fn agree_on_keys(one: &Own, two: &Own) -> bool {
     one.taken() == two.taken()
         && (0..SMALL.processors).all(|processor| {
-            (0..SMALL.segments).all(|number| one.has(processor, number) == two.has(processor, number))
+            (0..SMALL.segments).all(|number| one.has(processor, number)
+                == two.has(processor, number))
         })
 }
 
@@ -209,14 +213,18 @@ fn agree_without_memory(one: &Own, two: &Own) -> bool {
 }
 
 fn agree_on_handles(alloc: Global, one: &Own, two: &Own) -> Result<bool, NoMemory> {
-    Ok(one.outstanding(alloc, PROCESS)? == two.outstanding(alloc, PROCESS)?
-        && one.diff(alloc, PROCESS, 30)? == two.diff(alloc, PROCESS, 30)?
-        && one.leaks(alloc, PROCESS)? == two.leaks(alloc, PROCESS)?)
+    Ok(
+        one.outstanding(alloc, PROCESS)? == two.outstanding(alloc, PROCESS)?
+            && one.diff(alloc, PROCESS, 30)? == two.diff(alloc, PROCESS, 30)?
+            && one.leaks(alloc, PROCESS)? == two.leaks(alloc, PROCESS)?,
+    )
 }
 
 fn agree_on_counts(alloc: Global, one: &Own, two: &Own) -> Result<bool, NoMemory> {
-    Ok(one.tags(alloc, OBJECT)? == two.tags(alloc, OBJECT)?
-        && one.bad(alloc, PROCESS)? == two.bad(alloc, PROCESS)?
-        && one.stacks(alloc, OBJECT, TAG)? == two.stacks(alloc, OBJECT, TAG)?
-        && one.whole_tree()?.same(&two.whole_tree()?))
+    Ok(
+        one.tags(alloc, OBJECT)? == two.tags(alloc, OBJECT)?
+            && one.bad(alloc, PROCESS)? == two.bad(alloc, PROCESS)?
+            && one.stacks(alloc, OBJECT, TAG)? == two.stacks(alloc, OBJECT, TAG)?
+            && one.whole_tree()?.same(&two.whole_tree()?),
+    )
 }

@@ -13,14 +13,35 @@ use std::alloc::Global;
 
 /// Two analysts share the six segments, and the second takes over what the first has.
 const STEPS: [Step; 9] = [
-    Step::Take { analyst: 0, segment: 0 },
-    Step::Take { analyst: 0, segment: 1 },
-    Step::Take { analyst: 0, segment: 4 },
+    Step::Take {
+        analyst: 0,
+        segment: 0,
+    },
+    Step::Take {
+        analyst: 0,
+        segment: 1,
+    },
+    Step::Take {
+        analyst: 0,
+        segment: 4,
+    },
     Step::Compact { analyst: 0 },
-    Step::Take { analyst: 1, segment: 2 },
-    Step::Take { analyst: 1, segment: 3 },
-    Step::Take { analyst: 1, segment: 5 },
-    Step::Merge { target: 1, source: 0 },
+    Step::Take {
+        analyst: 1,
+        segment: 2,
+    },
+    Step::Take {
+        analyst: 1,
+        segment: 3,
+    },
+    Step::Take {
+        analyst: 1,
+        segment: 5,
+    },
+    Step::Merge {
+        target: 1,
+        source: 0,
+    },
     Step::Compact { analyst: 1 },
 ];
 

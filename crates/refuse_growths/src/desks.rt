@@ -62,7 +62,11 @@ pub fn try_all<R: Threads + Wait + Sync>(rt: &R, trials: &mut Trials<'_>) -> Res
         |alloc| desk_to_close(rt, hand, alloc),
         |_, seats: &mut Option<Seats>| close(rt, seats),
     )?;
-    trials.reads("survey by two workers", case, |alloc, case: &Case| surveyed(rt, alloc, case))
+    trials.reads(
+        "survey by two workers",
+        case,
+        |alloc, case: &Case| surveyed(rt, alloc, case),
+    )
 }
 
 /// An exchange and all its desks.
@@ -106,11 +110,7 @@ fn two_desks<R: Wait>(rt: &R, alloc: Global) -> Result<Option<Seats>, Refusal> {
 }
 
 /// An exchange whose one desk has a run in hand.
-fn desk_to_close<R: Wait>(
-    rt: &R,
-    hand: Hand<'_>,
-    alloc: Global,
-) -> Result<Option<Seats>, Refusal> {
+fn desk_to_close<R: Wait>(rt: &R, hand: Hand<'_>, alloc: Global) -> Result<Option<Seats>, Refusal> {
     let Seat { exchange, desk, .. } = desk_with_run_in_hand(rt, hand, alloc)?;
     let desks = vec![in alloc; desk]?;
     Ok(Some(Seats { exchange, desks }))
@@ -120,11 +120,12 @@ fn close<R: Wait>(rt: &R, given: &mut Option<Seats>) -> Result<Analyst<Global>, 
     let Seats { exchange, desks } = given.take().ok_or(Refusal::Other)?;
     match exchange.close(rt, desks) {
         Ok(analyst) => Ok(analyst),
-        Err(CloseFault {
-            why,
-            exchange,
-            desks,
-        }) => {
+        Err(fault) => {
+            let CloseFault {
+                why,
+                exchange,
+                desks,
+            } = fault;
             if why == Why::NoMemory {
                 *given = Some(Seats { exchange, desks });
             }
@@ -164,7 +165,11 @@ fn one_desk<R: Wait>(rt: &R, alloc: Global) -> Result<Seat, Refusal> {
     let case = Case::of(alloc, RUN.segments(alloc)?)?;
     let (exchange, mut desks) = Exchange::start(rt, alloc, &case, 1)?;
     let desk = desks.pop().ok_or(Refusal::Other)?;
-    Ok(Seat { exchange, desk, alloc })
+    Ok(Seat {
+        exchange,
+        desk,
+        alloc,
+    })
 }
 
 /// A desk that has the run. The next thing that it finds is a state of its own.
@@ -176,11 +181,7 @@ fn desk_with_state<R: Wait>(rt: &R, alloc: Global) -> Result<Seat, Refusal> {
 }
 
 /// A desk that popped the run and was refused its first growth.
-fn desk_with_run_in_hand<R: Wait>(
-    rt: &R,
-    hand: Hand<'_>,
-    alloc: Global,
-) -> Result<Seat, Refusal> {
+fn desk_with_run_in_hand<R: Wait>(rt: &R, hand: Hand<'_>, alloc: Global) -> Result<Seat, Refusal> {
     let mut seat = one_desk(rt, alloc)?;
     hand.refuse(1)?;
     let _ = collect(rt, &mut seat);
@@ -188,7 +189,8 @@ fn desk_with_run_in_hand<R: Wait>(
     Ok(seat)
 }
 
-/// What is found isn't compared: where only the compaction was refused, the next call finds nothing.
+/// What is found isn't compared: where only the compaction was refused, the next call finds
+/// nothing.
 fn collect<R: Wait>(rt: &R, seat: &mut Seat) -> Result<Equal<()>, Refusal> {
     let _: Collected = seat.desk.collect(rt, &seat.exchange)?;
     Ok(Equal(()))

@@ -1,7 +1,8 @@
-//! The hand that refuses growths: `.ci/refuse.c`, which stands between the program and the C library.
+//! The hand that refuses growths: `.ci/refuse.c`, which stands between the program and the C
+//! library.
 //!
-//! The program can't call it. What reaches it is each growth, and each variable of the environment that is asked for,
-//! so variables of two names tell it when a call begins and when it has ended.
+//! The program can't call it. What reaches it is each growth, and each variable of the environment
+//! that is asked for, so variables of two names tell it when a call begins and when it has ended.
 
 use crate::refusal::Refusal;
 use std::rt::Env;

@@ -1,14 +1,15 @@
 //! Refuses the growths of each call in turn.
 //!
-//! Each call is made with its first growth of memory refused, then with its second, and on, each time on what is made
-//! anew, until it meets no refusal. A call that meets one tells want of memory and leaves what it was made on as it
-//! was; made again, now with memory, it does what it does where nothing is refused. Where the call makes up for the
-//! growth, as for a cache's, it answers as ever. The program prints how many growths were refused in each call. It
-//! fails at a call that does anything else, and at one in which no growth was refused.
+//! Each call is made with its first growth of memory refused, then with its second, and on, each
+//! time on what is made anew, until it meets no refusal. A call that meets one tells want of memory
+//! and leaves what it was made on as it was; made again, now with memory, it does what it does
+//! where nothing is refused. Where the call makes up for the growth, as for a cache's, it answers
+//! as ever. The program prints how many growths were refused in each call. It fails at a call that
+//! does anything else, and at one in which no growth was refused.
 //!
-//! Growths are refused from outside (`hand`). Where nobody does it, as in the stored run, each call is made once.
-//! Each file of calls begins with their table; `trials` has the one loop that tries them, and `same` says what is
-//! compared.
+//! Growths are refused from outside (`hand`). Where nobody does it, as in the stored run, each call
+//! is made once. Each file of calls begins with their table; `trials` has the one loop that tries
+//! them, and `same` says what is compared.
 #![tactic(auto)]
 
 mod analysts;

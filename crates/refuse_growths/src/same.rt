@@ -14,8 +14,8 @@ pub trait Same {
     /// Whether nothing tells the two apart.
     fn same(&self, other: &Self) -> bool;
 
-    /// Whether a call that was refused left this as it has to. `before` is what the call was made on: mostly nothing
-    /// may have changed.
+    /// Whether a call that was refused left this as it has to. `before` is what the call was made
+    /// on: mostly nothing may have changed.
     fn is_kept(&self, before: &Self) -> bool {
         self.same(before)
     }
@@ -41,8 +41,8 @@ impl<T> Same for Lent<T> {
     }
 }
 
-/// What a call takes for good, one for each time that it is made: nothing of it is left to compare but their number,
-/// of which a second try takes one more.
+/// What a call takes for good, one for each time that it is made: nothing of it is left to compare
+/// but their number, of which a second try takes one more.
 #[derive(Drop)]
 pub struct Spent<T>(pub Vec<T>);
 
@@ -54,7 +54,11 @@ impl<T> Same for Spent<T> {
 
 impl<T: Same> Same for Vec<T> {
     fn same(&self, other: &Vec<T>) -> bool {
-        self.len() == other.len() && self.iter().zip(other.iter()).all(|(one, two)| one.same(two))
+        self.len() == other.len()
+            && self
+                .iter()
+                .zip(other.iter())
+                .all(|(one, two)| one.same(two))
     }
 }
 

@@ -79,7 +79,12 @@ fn half_fed(alloc: Global) -> Result<Feeding, Refusal> {
 }
 
 fn feed(alloc: Global, feeding: &mut Feeding) -> Result<Vec<Segment>, Refusal> {
-    if feeding.splitter.fed().checked_add(feeding.rest.len() as u64).is_none() {
+    if feeding
+        .splitter
+        .fed()
+        .checked_add(feeding.rest.len() as u64)
+        .is_none()
+    {
         return Err(Refusal::Other);
     }
     Ok(feeding.splitter.feed(alloc, &feeding.rest)?)

@@ -51,7 +51,10 @@ fn set(alloc: Global) -> Result<Set, Refusal> {
 }
 
 fn two_sets(alloc: Global) -> Result<(Set, Set), Refusal> {
-    Ok((set(alloc)?, set_of(alloc, &[(0, 2), (1, 0), (1, 7), (2, 5)])?))
+    Ok((
+        set(alloc)?,
+        set_of(alloc, &[(0, 2), (1, 0), (1, 7), (2, 5)])?,
+    ))
 }
 
 fn insert(_alloc: Global, set: &mut Set) -> Result<Equal<bool>, Refusal> {

@@ -54,37 +54,82 @@ fn shown(alloc: Global, answer: Answer) -> Result<Shown, Refusal> {
 
 fn outstanding(alloc: Global) -> Result<Shown, Refusal> {
     let rows = analyst(alloc)?.outstanding(alloc, PROCESS)?;
-    shown(alloc, Answer::Outstanding { process: PROCESS, rows })
+    shown(
+        alloc,
+        Answer::Outstanding {
+            process: PROCESS,
+            rows,
+        },
+    )
 }
 
 fn diff(alloc: Global) -> Result<Shown, Refusal> {
     let rows = analyst(alloc)?.diff(alloc, PROCESS, 30)?;
-    shown(alloc, Answer::Diff { process: PROCESS, since: 30, rows })
+    shown(
+        alloc,
+        Answer::Diff {
+            process: PROCESS,
+            since: 30,
+            rows,
+        },
+    )
 }
 
 fn tags(alloc: Global) -> Result<Shown, Refusal> {
     let rows = analyst(alloc)?.tags(alloc, OBJECT)?;
-    shown(alloc, Answer::Tags { object: OBJECT, rows })
+    shown(
+        alloc,
+        Answer::Tags {
+            object: OBJECT,
+            rows,
+        },
+    )
 }
 
 fn bad(alloc: Global) -> Result<Shown, Refusal> {
     let rows = analyst(alloc)?.bad(alloc, PROCESS)?;
-    shown(alloc, Answer::Bad { process: PROCESS, rows })
+    shown(
+        alloc,
+        Answer::Bad {
+            process: PROCESS,
+            rows,
+        },
+    )
 }
 
 fn leaks(alloc: Global) -> Result<Shown, Refusal> {
     let rows = analyst(alloc)?.leaks(alloc, PROCESS)?;
-    shown(alloc, Answer::Leaks { process: PROCESS, rows })
+    shown(
+        alloc,
+        Answer::Leaks {
+            process: PROCESS,
+            rows,
+        },
+    )
 }
 
 fn stacks(alloc: Global) -> Result<Shown, Refusal> {
     let rows = analyst(alloc)?.stacks(alloc, OBJECT, TAG)?;
-    shown(alloc, Answer::Stacks { object: OBJECT, tag: TAG, rows })
+    shown(
+        alloc,
+        Answer::Stacks {
+            object: OBJECT,
+            tag: TAG,
+            rows,
+        },
+    )
 }
 
 fn trace(alloc: Global) -> Result<Shown, Refusal> {
     let rows = case(alloc)?.trace(alloc, PROCESS, 8)?;
-    shown(alloc, Answer::Trace { process: PROCESS, handle: 8, rows })
+    shown(
+        alloc,
+        Answer::Trace {
+            process: PROCESS,
+            handle: 8,
+            rows,
+        },
+    )
 }
 
 fn text_of(alloc: Global, (answer, symbols): &Shown) -> Result<Equal<Vec<u8>>, Refusal> {

@@ -102,7 +102,10 @@ fn rows(alloc: Global, tree: &Tree) -> Result<Equal<Vec<(SharedStack, Count)>>, 
     Ok(Equal(tree.rows(alloc, SLOT)?))
 }
 
-fn rows_of(alloc: Global, tree: &Tree) -> Result<Equal<Vec<((Slot, SharedStack), Count)>>, Refusal> {
+fn rows_of(
+    alloc: Global,
+    tree: &Tree,
+) -> Result<Equal<Vec<((Slot, SharedStack), Count)>>, Refusal> {
     Ok(Equal(tree.rows_of(alloc, Slots::OfObject(OBJECT))?))
 }
 

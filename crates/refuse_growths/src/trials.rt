@@ -95,7 +95,10 @@ impl<'a> Trials<'a> {
             Err(wrong) => bail!("{name}: {wrong}"),
             Ok(None) => println!(rt; "{name}: answered")?,
             Ok(Some(counts)) => {
-                println!(rt; "{name}: {} refused, {} made up for", counts.refused, counts.made_up_for)?;
+                println!(rt;
+                    "{name}: {} refused, {} made up for",
+                    counts.refused, counts.made_up_for
+                )?;
                 self.refused = self.refused.saturating_add(counts.refused);
             }
         }
@@ -110,8 +113,8 @@ impl<'a> Trials<'a> {
     }
 }
 
-/// Makes a call with its first growth refused, then with its second, and on, each time on what is made anew, until it
-/// meets no refusal. None: nobody refuses growths.
+/// Makes a call with its first growth refused, then with its second, and on, each time on what is
+/// made anew, until it meets no refusal. None: nobody refuses growths.
 fn tried<G, A, M, C>(hand: Hand<'_>, make: M, call: C) -> Result<Option<Counts>, Wrong>
 where
     G: Same + Drop,

@@ -1,6 +1,6 @@
-//! How long an analyst takes to fold a trace, to be merged and to answer: `bench_analyst EVENTS` (16 by
-//! default, at most 4,096) in each of 256 segments, of 4 and of 64 processors. Counts go to standard output,
-//! times to standard error.
+//! How long an analyst takes to fold a trace, to be merged and to answer: `bench_analyst EVENTS`
+//! (16 by default, at most 4,096) in each of 256 segments, of 4 and of 64 processors. Counts go to
+//! standard output, times to standard error.
 #![tactic(auto)]
 
 mod answering;
@@ -12,8 +12,8 @@ use htl_samples::{RandomTrace, SMALL};
 
 const SEGMENTS: u32 = 256;
 
-/// A trace of 10,000 stacks and 16 processes, with 12 handles in each for every event of a segment (about 50,000
-/// at most), and as many objects.
+/// A trace of 10,000 stacks and 16 processes, with 12 handles in each for every event of a segment
+/// (about 50,000 at most), and as many objects.
 fn trace(processors: u16, events: u32) -> RandomTrace {
     RandomTrace {
         processors,

@@ -47,4 +47,5 @@ pub record IsMerge (a b c : State) : Type 0 where
   pub lanes : length c.lanes ≡ a.processors
   pub taken : (p : ℕ) → IsUnion (numbers_at a.taken p) (numbers_at b.taken p) (numbers_at c.taken p)
   pub each : (p : ℕ) → p < a.processors
-      → IsMergedLane (numbers_at a.taken p) (lane_at a.lanes p) (numbers_at b.taken p) (lane_at b.lanes p) (numbers_at c.taken p) (lane_at c.lanes p)
+      → IsMergedLane (numbers_at a.taken p) (lane_at a.lanes p) (numbers_at b.taken p) (lane_at b.lanes p)
+      (numbers_at c.taken p) (lane_at c.lanes p)

@@ -32,7 +32,8 @@ impl<A: Allocator> Model for Analyst<A> {
 }
 
 impl<A: Allocator> Analyst<A> {
-    ghost use Rattle.std.specs.Prelude.{◌≡◌, ◌↔◌, ◌<◌, ℕ, length, sum_by, IsTrue, IfSome, IfNone, Contains};
+    ghost use Rattle.std.specs.Prelude.{◌≡◌, ◌↔◌, ◌<◌, ℕ, length, sum_by, IsTrue, IfSome, IfNone};
+    ghost use Rattle.std.specs.Prelude.{Contains};
     ghost use Rattle.htl_taken.specs.Numbers.{numbers_at, front_at, size_of};
     ghost use Rattle.htl_analyst.specs.States.{lane_at, held_at};
     ghost use Rattle.htl_analyst.specs.Keys.{keys};
@@ -65,8 +66,8 @@ impl<A: Allocator> Analyst<A> {
         self.taken.has(processor, number)
     }
 
-    /// The front of the processor: the segments with numbers below it were folded. It is 0 where there is
-    /// no such processor.
+    /// The front of the processor: the segments with numbers below it were folded. It is 0 where
+    /// there is no such processor.
     pub fn front(&self, processor: u16) -> u32
         ensures { result ≡ front_at self.now.taken processor }
     {
@@ -91,7 +92,8 @@ impl<A: Allocator> Analyst<A> {
         self.taken.len()
     }
 
-    /// Whether both have the same fronts, hold the same segments and come to the same counts and tables.
+    /// Whether both have the same fronts, hold the same segments and come to the same counts and
+    /// tables.
     pub fn same(&self, other: &Analyst<A>) -> bool
         ensures { IsTrue result ↔ IsSame self.now other.now }
     {
@@ -104,8 +106,8 @@ impl<A: Allocator> Analyst<A> {
         self.parts_are_same(other)
     }
 
-    /// The moment up to which nothing of the trace is missing, where sequences rise along each processor: the
-    /// least, over all processors, of the greatest sequences that were folded.
+    /// The moment up to which nothing of the trace is missing, where sequences rise along each
+    /// processor: the least, over all processors, of the greatest sequences that were folded.
     pub fn complete_to(&self) -> u64
         ensures kept { IsLeastKept self.now result }
         ensures complete { (T : Trace) → IsRight self.now T → IsCompleteTo T self.now result }

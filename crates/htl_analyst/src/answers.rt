@@ -1,5 +1,5 @@
-//! Answers: those of `htl_answers` over the parts of all processors, which are the definitions' over the
-//! events of the taken keys.
+//! Answers: those of `htl_answers` over the parts of all processors, which are the definitions'
+//! over the events of the taken keys.
 use crate::analyst::Analyst;
 use crate::part::Part;
 use htl_answers as answers;
@@ -53,7 +53,8 @@ impl<A: Allocator + Clone> Analyst<A> {
     /// The latest open or close of the handle's base in the process.
     pub fn latest(&self, process: u32, handle: u32) -> Option<&SharedEvent>
         ensures { (T : Trace) → IsRight self.now T
-            → LatestIs (Contains (taken_events T self.now)) process (base_of handle) (option_copied result) }
+            → LatestIs (Contains (taken_events T self.now)) process (base_of handle)
+            (option_copied result) }
     {
         answers::latest(&self.parts, process, handle)
     }
@@ -66,7 +67,8 @@ impl<A: Allocator + Clone> Analyst<A> {
         answers::mark(&self.parts, process)
     }
 
-    /// How often the slot came with a stack that begins with the path, read from the outermost frame.
+    /// How often the slot came with a stack that begins with the path, read from the outermost
+    /// frame.
     pub fn under(&self, path: &[u64], slot: Slot) -> Count
         ensures { (T : Trace) → IsRight self.now T
             → result ≡ under (taken_events T self.now) path.now slot }
@@ -97,7 +99,8 @@ impl<A: Allocator + Clone> Analyst<A> {
         Ok(rows)
     }
 
-    /// Each tag with a reference or a dereference of the object, with their numbers, by the tag's bytes.
+    /// Each tag with a reference or a dereference of the object, with their numbers, by the tag's
+    /// bytes.
     pub fn tags(&self, alloc: Global, object: u64) -> Result<Vec<([u8; 4], Count)>, NoMemory>
         ensures { IfOk result (λ rows. (T : Trace) → IsRight self.now T
             → IsTags (taken_events T self.now) object rows.items) }
@@ -106,8 +109,8 @@ impl<A: Allocator + Clone> Analyst<A> {
         Ok(rows)
     }
 
-    /// Each handle as written and each stack with a bad reference of the process, and how often it came, by
-    /// handle and then in stack order.
+    /// Each handle as written and each stack with a bad reference of the process, and how often it
+    /// came, by handle and then in stack order.
     pub fn bad(&self, alloc: Global, process: u32) -> Result<Vec<(u32, SharedStack, u64)>, NoMemory>
         ensures { IfOk result (λ rows. (T : Trace) → IsRight self.now T
             → IsBad (taken_events T self.now) process rows.items) }
@@ -116,8 +119,8 @@ impl<A: Allocator + Clone> Analyst<A> {
         Ok(rows)
     }
 
-    /// The stacks that opened outstanding handles of the process, each with their number, the greatest number
-    /// first and then in stack order.
+    /// The stacks that opened outstanding handles of the process, each with their number, the
+    /// greatest number first and then in stack order.
     pub fn leaks(&self, alloc: Global, process: u32) -> Result<Vec<(SharedStack, u64)>, NoMemory>
         ensures { IfOk result (λ rows. (T : Trace) → IsRight self.now T
             → IsLeaks (Contains (taken_events T self.now)) process rows.items) }
@@ -126,8 +129,8 @@ impl<A: Allocator + Clone> Analyst<A> {
         Ok(rows)
     }
 
-    /// The stacks with a reference or a dereference of the object under the tag, each with its tally, in
-    /// stack order.
+    /// The stacks with a reference or a dereference of the object under the tag, each with its
+    /// tally, in stack order.
     pub fn stacks(
         &self,
         alloc: Global,

@@ -8,7 +8,8 @@ use htl_segment::Segment;
 use std::alloc::Allocator;
 
 impl<A: Allocator + Clone> Analyst<A> {
-    ghost use Rattle.std.specs.Prelude.{◌≡◌, ◌↔◌, ◌<◌, ◌≤◌, ◌+◌, ◌*◌, ◌++◌, ℕ, List, [], IfOk, OnOk, OnErr};
+    ghost use Rattle.std.specs.Prelude.{◌≡◌, ◌↔◌, ◌<◌, ◌≤◌, ◌+◌, ◌*◌, ◌++◌, ℕ, List, [], IfOk};
+    ghost use Rattle.std.specs.Prelude.{OnOk, OnErr};
     ghost use Rattle.htl_event.specs.Events.{Event};
     ghost use Rattle.htl_segment.specs.Traces.{Trace};
     ghost use Rattle.htl_tree.specs.Trees.{total_count};
@@ -19,11 +20,13 @@ impl<A: Allocator + Clone> Analyst<A> {
     ghost use Rattle.htl_analyst.specs.Moments.{NeverFalls};
     ghost use Rattle.htl_analyst.specs.StepParts.{IsCompactedAt, run_length, run_of, settled_with};
 
-    /// Moves every front to the least number that wasn't taken. The held segments below it are folded and
-    /// dropped. After want of memory some fronts may have moved, and the keys are as before.
+    /// Moves every front to the least number that wasn't taken. The held segments below it are
+    /// folded and dropped. After want of memory some fronts may have moved, and the keys are as
+    /// before.
     pub fn compact(&mut self) -> Result<(), NoMemory>
         ensures keys { (p n : ℕ) → HasTaken self.new p n ↔ HasTaken self.old p n }
-        ensures settled { OnOk result ((p : ℕ) → HasTaken self.new p (front_at self.new.taken p) → ⊥) }
+        ensures settled { OnOk result ((p : ℕ)
+            → HasTaken self.new p (front_at self.new.taken p) → ⊥) }
         ensures trace { (self.new.trace_id ≡ self.old.trace_id)
             × (self.new.processors ≡ self.old.processors) }
         ensures right { (T : Trace) → IsRight self.old T → IsRight self.new T }
@@ -60,7 +63,8 @@ impl<A: Allocator + Clone> Analyst<A> {
             → IsDigestOf (below_at self.now.lanes processor) events
             → IsDigestOf below (events ++ run_of self.now processor)) }
         ensures bounded { IfOk result (λ below. total_count below.tree
-            ≤ total_count (below_at self.now.lanes processor).tree + 4096 * run_length self.now processor) }
+            ≤ total_count (below_at self.now.lanes processor).tree
+            + 4096 * run_length self.now processor) }
     {
         let part = self.part(processor);
         let alloc = self.parts.allocator().clone()?;
@@ -77,7 +81,8 @@ impl<A: Allocator + Clone> Analyst<A> {
         requires here { processor < self.old.processors }
         requires run { run ≡ run_length self.old processor }
         requires bounded { total_count below.tree
-            ≤ total_count (below_at self.old.lanes processor).tree + 4096 * run_length self.old processor }
+            ≤ total_count (below_at self.old.lanes processor).tree
+            + 4096 * run_length self.old processor }
         ensures { self.new ≡ settled_with self.old processor below }
     {
         self.taken.settle(processor);

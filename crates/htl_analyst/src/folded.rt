@@ -1,5 +1,6 @@
 //! What is left of the segments of one processor that were folded.
-ghost use Rattle.std.specs.Prelude.{◌≡◌, ◌++◌, ◌≤◌, ◌<◌, ◌+◌, ◌*◌, ◌^◌, ◌↔◌, ℕ, List, length, Contains, IsTrue, IfOk, OnOk};
+ghost use Rattle.std.specs.Prelude.{◌≡◌, ◌++◌, ◌≤◌, ◌<◌, ◌+◌, ◌*◌, ◌^◌, ◌↔◌, ℕ, List, length};
+ghost use Rattle.std.specs.Prelude.{Contains, IsTrue, IfOk, OnOk};
 ghost use Rattle.htl_event.specs.Events.{Event};
 ghost use Rattle.htl_event.specs.Handles.{IsGreatestSequence};
 ghost use Rattle.htl_segment.specs.Traces.{all_events};
@@ -11,8 +12,8 @@ use htl_tree::StackTree;
 use std::alloc::Allocator;
 use std::marker::Model;
 
-/// Counts by stack, the latest event of each handle, the mark and the last exit of each process, and the
-/// greatest sequence.
+/// Counts by stack, the latest event of each handle, the mark and the last exit of each process,
+/// and the greatest sequence.
 #[derive(Drop)]
 pub(crate) struct Folded<A: Allocator> {
     tree: StackTree<A>,
@@ -130,7 +131,8 @@ impl<A: Allocator + Clone> Folded<A> {
     pub fn joined(&self, other: &Folded<A>) -> Result<Folded<A>, NoMemory>
         requires { total_count self.now.tree + total_count other.now.tree < 2 ^ 64 }
         ensures digest { IfOk result (λ f. (events more : List Event)
-            → IsDigestOf self.now events → IsDigestOf other.now more → IsDigestOf f (events ++ more)) }
+            → IsDigestOf self.now events → IsDigestOf other.now more
+            → IsDigestOf f (events ++ more)) }
         ensures bounded { IfOk result (λ f.
             total_count f.tree ≡ total_count self.now.tree + total_count other.now.tree) }
     {

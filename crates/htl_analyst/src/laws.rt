@@ -1,7 +1,8 @@
-//! Laws of analysts that are right about one trace. Each function's contract is the law; none does anything
-//! when it runs.
+//! Laws of analysts that are right about one trace. Each function's contract is the law; none does
+//! anything when it runs.
 
-ghost use Rattle.htl_analyst.specs.Laws.{IsDetermined, IsCommutative, IsAssociative, IsIdempotent, IsLeast, AreEqualOnceCompacted, Agree};
+ghost use Rattle.htl_analyst.specs.Laws.{IsDetermined, IsCommutative, IsAssociative, IsIdempotent};
+ghost use Rattle.htl_analyst.specs.Laws.{IsLeast, AreEqualOnceCompacted, Agree};
 
 /// Fronts and loose numbers determine what an analyst knows.
 pub fn states_are_determined()
@@ -33,7 +34,8 @@ pub fn equal_once_compacted()
     ensures { AreEqualOnceCompacted }
 {}
 
-/// Analysts that took the same segments agree: every answer is the definition's over the same events.
+/// Analysts that took the same segments agree: every answer is the definition's over the same
+/// events.
 pub fn analysts_agree()
     ensures { Agree }
 {}

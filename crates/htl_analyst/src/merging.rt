@@ -13,7 +13,8 @@ use htl_taken::Taken;
 use std::alloc::Allocator;
 
 impl<A: Allocator> Analyst<A> {
-    ghost use Rattle.std.specs.Prelude.{◌≡◌, ◌≢◌, ◌↔◌, ◌⊎◌, ◌<◌, ℕ, IsTrue, IfErr, IfSome, IfNone, OnOk, Contains};
+    ghost use Rattle.std.specs.Prelude.{◌≡◌, ◌≢◌, ◌↔◌, ◌⊎◌, ◌<◌, ℕ, IsTrue, IfErr, IfSome, IfNone};
+    ghost use Rattle.std.specs.Prelude.{OnOk, Contains};
     ghost use Rattle.htl_analyst.specs.States.{held_at};
     ghost use Rattle.htl_analyst.specs.Right.{IsState};
     ghost use Rattle.htl_analyst.specs.Refusals.{HoldsOther, HoldTwo, MergeRefused, MergeAccepted};
@@ -73,7 +74,8 @@ impl<A: Allocator> Analyst<A> {
 }
 
 impl<A: Allocator + Clone> Analyst<A> {
-    ghost use Rattle.std.specs.Prelude.{◌≡◌, ◌↔◌, ◌⊎◌, ◌<◌, ℕ, map, length, IfOk, IfErr, OnOk, OnErr, Contains};
+    ghost use Rattle.std.specs.Prelude.{◌≡◌, ◌↔◌, ◌⊎◌, ◌<◌, ℕ, map, length, IfOk, IfErr, OnOk};
+    ghost use Rattle.std.specs.Prelude.{OnErr, Contains};
     ghost use Rattle.std.specs.List.{AllByRecursion};
     ghost use Rattle.htl_segment.specs.Traces.{Trace};
     ghost use Rattle.htl_taken.specs.Numbers.{numbers_at, front_at, loose_at, IsUnion};
@@ -85,8 +87,8 @@ impl<A: Allocator + Clone> Analyst<A> {
     ghost use Rattle.htl_analyst.specs.Steps.{IsMerge};
     ghost use Rattle.htl_analyst.specs.StepParts.{IsHeldOfBoth, AreHeldOfBoth, AreGreaterOf};
 
-    /// Takes in all that the other analyst has taken. What that one has folded further is copied, and the
-    /// segments that it holds are shared. All growths come before the first change.
+    /// Takes in all that the other analyst has taken. What that one has folded further is copied,
+    /// and the segments that it holds are shared. All growths come before the first change.
     pub fn merge(&mut self, other: &Analyst<A>) -> Result<(), MergeFault>
         ensures merged { OnOk result (IsMerge self.old other.now self.new) }
         ensures keys { OnOk result ((p n : ℕ) → HasTaken self.new p n
@@ -99,7 +101,8 @@ impl<A: Allocator + Clone> Analyst<A> {
         // States that are right about one trace.
         ensures right { OnOk result ((T : Trace) → IsRight self.old T → IsRight other.now T
             → IsRight self.new T) }
-        ensures lawful { IfErr result (λ fault. (T : Trace) → IsRight self.old T → IsRight other.now T
+        ensures lawful { IfErr result (λ fault. (T : Trace)
+            → IsRight self.old T → IsRight other.now T
             → fault ≡ MergeFault.NoMemory) }
         ensures never_falls { OnOk result ((T : Trace) → IsRight self.old T → IsRight other.now T
             → NeverFalls self.old self.new) }
@@ -119,8 +122,8 @@ impl<A: Allocator + Clone> Analyst<A> {
         Ok(())
     }
 
-    /// Takes in all that the other analyst has taken, as `merge` does. What that one has folded is moved.
-    /// A refusal hands the other back.
+    /// Takes in all that the other analyst has taken, as `merge` does. What that one has folded is
+    /// moved. A refusal hands the other back.
     pub fn absorb(&mut self, other: Analyst<A>) -> Result<(), (MergeFault, Analyst<A>)>
         ensures merged { OnOk result (IsMerge self.old other self.new) }
         ensures keys { OnOk result ((p n : ℕ) → HasTaken self.new p n
@@ -158,12 +161,15 @@ impl<A: Allocator + Clone> Analyst<A> {
         }
     }
 
-    /// The keys of both, and parts that hold the segments of the loose ones and have nothing folded.
+    /// The keys of both, and parts that hold the segments of the loose ones and have nothing
+    /// folded.
     fn union_of(&self, other: &Analyst<A>) -> Result<(Taken<A>, Vec<Part<A>, A>), MergeFault>
         ensures len { IfOk result (λ r. length r.0 ≡ self.now.processors) }
         ensures union { IfOk result (λ r. (p : ℕ)
-            → IsUnion (numbers_at self.now.taken p) (numbers_at other.now.taken p) (numbers_at r.0 p)) }
-        ensures held { IfOk result (λ r. AreHeldOfBoth self.now other.now r.0 r.1.items self.now.processors) }
+            → IsUnion (numbers_at self.now.taken p) (numbers_at other.now.taken p)
+            (numbers_at r.0 p)) }
+        ensures held { IfOk result (λ r.
+            AreHeldOfBoth self.now other.now r.0 r.1.items self.now.processors) }
         ensures accepted { OnOk result (MergeAccepted self.now other.now) }
         ensures refused { IfErr result (λ fault. MergeRefused self.now other.now fault) }
         ensures state { IsState self.now }
@@ -183,7 +189,8 @@ impl<A: Allocator + Clone> Analyst<A> {
     ) -> Result<Vec<Part<A>, A>, NoMemory>
         requires same { self.now.processors ≡ other.now.processors }
         requires union { (p : ℕ)
-            → IsUnion (numbers_at self.now.taken p) (numbers_at other.now.taken p) (numbers_at taken.now p) }
+            → IsUnion (numbers_at self.now.taken p) (numbers_at other.now.taken p)
+            (numbers_at taken.now p) }
         ensures { IfOk result (λ parts.
             AreHeldOfBoth self.now other.now taken.now parts.items self.now.processors) }
     {
@@ -204,7 +211,8 @@ impl<A: Allocator + Clone> Analyst<A> {
     ) -> Result<Part<A>, NoMemory>
         requires here { processor < self.now.processors }
         requires there { processor < other.now.processors }
-        requires union { IsUnion (numbers_at self.now.taken processor) (numbers_at other.now.taken processor)
+        requires union { IsUnion (numbers_at self.now.taken processor)
+            (numbers_at other.now.taken processor)
             (numbers_at taken.now processor) }
         ensures { IfOk result (λ part. IsHeldOfBoth (lane_at self.now.lanes processor)
             (lane_at other.now.lanes processor) (numbers_at taken.now processor) part.held) }
@@ -245,7 +253,8 @@ impl<A: Allocator + Clone> Analyst<A> {
     /// Parts with copies of what the other has folded where its front is greater.
     fn greater_of(&self, other: &Analyst<A>) -> Result<Vec<Part<A>, A>, NoMemory>
         requires { self.now.processors ≡ other.now.processors }
-        ensures { IfOk result (λ parts. AreGreaterOf self.now other.now parts.items self.now.processors) }
+        ensures { IfOk result (λ parts.
+            AreGreaterOf self.now other.now parts.items self.now.processors) }
     {
         let alloc = self.parts.allocator().clone()?;
         let mut parts = Vec::with_capacity(alloc, self.parts.len())?;
@@ -255,11 +264,13 @@ impl<A: Allocator + Clone> Analyst<A> {
         Ok(parts)
     }
 
-    /// A part of one processor with a copy of what the other has folded, if the other's front is greater.
+    /// A part of one processor with a copy of what the other has folded, if the other's front is
+    /// greater.
     fn greater_at(&self, other: &Analyst<A>, processor: u16) -> Result<Part<A>, NoMemory>
         requires here { processor < self.now.processors }
         requires there { processor < other.now.processors }
-        ensures { IfOk result (λ part. front_at self.now.taken processor < front_at other.now.taken processor
+        ensures { IfOk result (λ part.
+            front_at self.now.taken processor < front_at other.now.taken processor
             → part.below ≡ below_at other.now.lanes processor) }
     {
         let alloc = self.parts.allocator().clone()?;
@@ -275,7 +286,8 @@ impl<A: Allocator + Clone> Analyst<A> {
     }
 }
 
-/// Puts what was folded of each processor into the incoming parts: theirs where their front is greater.
+/// Puts what was folded of each processor into the incoming parts: theirs where their front is
+/// greater.
 fn unite<A: Allocator>(
     own: &mut Vec<Part<A>, A>,
     theirs: &mut Vec<Part<A>, A>,
@@ -304,7 +316,8 @@ fn unite<A: Allocator>(
     }
 }
 
-/// Puts what one side has folded into the incoming part. It is moved: that side gets what stood there.
+/// Puts what one side has folded into the incoming part. It is moved: that side gets what stood
+/// there.
 fn unite_at<A: Allocator>(
     own: &mut Part<A>,
     theirs: &mut Part<A>,

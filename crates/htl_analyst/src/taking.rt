@@ -8,7 +8,8 @@ use htl_segment::Segment;
 use std::alloc::Allocator;
 
 impl<A: Allocator> Analyst<A> {
-    ghost use Rattle.std.specs.Prelude.{◌≡◌, ◌≢◌, ◌↔◌, ◌⊎◌, ◌<◌, ℕ, IsTrue, IfOk, IfErr, IfSome, IfNone, OnOk, OnErr, Contains};
+    ghost use Rattle.std.specs.Prelude.{◌≡◌, ◌≢◌, ◌↔◌, ◌⊎◌, ◌<◌, ℕ, IsTrue, IfOk, IfErr, IfSome};
+    ghost use Rattle.std.specs.Prelude.{IfNone, OnOk, OnErr, Contains};
     ghost use Rattle.htl_segment.specs.Content.{Content, Fits};
     ghost use Rattle.htl_segment.specs.Traces.{Trace};
     ghost use Rattle.htl_taken.specs.Numbers.{front_at, loose_at};
@@ -19,8 +20,9 @@ impl<A: Allocator> Analyst<A> {
     ghost use Rattle.htl_analyst.specs.Steps.{with_segment, taken_as};
     ghost use Rattle.htl_analyst.specs.Moments.{NeverFalls};
 
-    /// Takes a segment. One whose key was taken is a repeat, and one that is new is held, whatever its
-    /// number. A refusal hands the segment back. Memory is asked for where the segment is new alone.
+    /// Takes a segment. One whose key was taken is a repeat, and one that is new is held, whatever
+    /// its number. A refusal hands the segment back. Memory is asked for where the segment is new
+    /// alone.
     pub fn take(&mut self, segment: Segment) -> Result<Took, (TakeFault, Segment)>
         ensures keys { OnOk result ((p n : ℕ) → HasTaken self.new p n
             ↔ (HasTaken self.old p n ⊎ ((p ≡ segment.processor) × (n ≡ segment.number)))) }
@@ -37,7 +39,8 @@ impl<A: Allocator> Analyst<A> {
             → IsRight self.new T) }
         ensures lawful { IfErr result (λ e. (T : Trace) → IsRight self.old T
             → Contains T.segments segment → e.0 ≡ TakeFault.NoMemory) }
-        ensures never_falls { OnOk result ((T : Trace) → IsRight self.old T → Contains T.segments segment
+        ensures never_falls { OnOk result ((T : Trace) → IsRight self.old T
+            → Contains T.segments segment
             → NeverFalls self.old self.new) }
     {
         match self.check_take(&segment) {

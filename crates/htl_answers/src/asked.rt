@@ -52,9 +52,12 @@ fn slots_of_part<P: Part>(
         → HasTally tree (filter (is_asked slots) (folded ++ (P.contents part.now).held))) }
     ensures total { IfOk result (λ tree. total_count tree ≤ size_of (P.contents part.now)) }
 {
+    let folded = part.tree().of_slots(alloc, slots)?;
+    if part.held().is_empty() {
+        return Ok(folded);
+    }
     let events = asked_held(alloc, part.held(), slots)?;
     let held = StackTree::of(tree_alloc.clone()?, &[events])?;
-    let folded = part.tree().of_slots(alloc, slots)?;
     folded.plus(&held)
 }
 

@@ -1,15 +1,11 @@
 //! Bundles with a bit turned, and bundles that are cut.
 
 use crate::bundles::{BUNDLES, bundle};
-use crate::plain::{count_segments, segment_len};
+use crate::plain::{code, count_segments, segment_len};
 use htl_segment::{Fault, Splitter, decode, decode_bundle, encode};
 use std::alloc::Global;
 use std::process::Abort;
 use std::test::Fail;
-
-/// How many bytes have their bits turned: the header, and as much behind it as the first records have. Deep stacks
-/// are longer.
-const TURNED: usize = 256;
 
 /// What `decode` says of the bytes: the length of the segment at their front, which is written as it was read.
 fn check_first(rt: &impl Abort, alloc: Global, bytes: &[u8]) -> Result<(), Fail> {
@@ -42,56 +38,78 @@ fn count_in_pieces(
     Ok(count)
 }
 
+/// How many bytes were read so far, and which faults they had: a bit for each code.
+#[derive(Clone, Copy, Debug, PartialEq, Eq)]
+struct Seen {
+    inputs: u64,
+    codes: u32,
+}
+
+const NOTHING: Seen = Seen {
+    inputs: 0,
+    codes: 0,
+};
+
 /// Each reader says of the bytes what the plain one says.
-fn check(rt: &impl Abort, alloc: Global, bytes: &[u8], piece: usize) -> Result<(), Fail> {
+fn check(
+    rt: &impl Abort,
+    alloc: Global,
+    bytes: &[u8],
+    piece: usize,
+    seen: &mut Seen,
+) -> Result<(), Fail> {
     check_first(rt, alloc, bytes)?;
     let wanted = count_segments(bytes);
     let whole = decode_bundle(alloc, bytes).map(|segments| segments.len());
     assert_eq!(rt; whole, wanted);
     assert_eq!(rt; count_in_pieces(rt, alloc, bytes, piece), wanted);
+    seen.inputs = seen.inputs.wrapping_add(1);
+    if let Err((_, fault)) = wanted {
+        seen.codes |= 1 << code(fault);
+    }
     Ok(())
 }
 
-/// Turns each bit of the first bytes, and says how many.
-fn turn_bits(rt: &impl Abort, alloc: Global, number: u32) -> Result<u64, Fail> {
+/// Turns each bit of a bundle.
+fn turn_bits(rt: &impl Abort, alloc: Global, number: u32, seen: &mut Seen) -> Result<(), Fail> {
     let mut bytes = bundle(alloc, number)?;
-    let mut turned: u64 = 0;
-    for place in 0..bytes.len().min(TURNED) {
+    for place in 0..bytes.len() {
         for bit in 0..8u32 {
             bytes[place] ^= 1 << bit;
-            check(rt, alloc, &bytes, place % 67)?;
+            check(rt, alloc, &bytes, place % 67, seen)?;
             bytes[place] ^= 1 << bit;
-            turned = turned.wrapping_add(1);
         }
     }
-    Ok(turned)
-}
-
-#[test]
-fn turned_bits(rt: HostRuntime) -> Result<(), Fail> {
-    let mut turned: u64 = 0;
-    for number in 0..BUNDLES {
-        turned = turned.wrapping_add(turn_bits(&rt, rt.alloc(), number)?);
-    }
-    assert_eq!(rt; turned, 0);
     Ok(())
 }
 
-/// Cuts a bundle at each byte, and says how often.
-fn cut(rt: &impl Abort, alloc: Global, number: u32) -> Result<u64, Fail> {
-    let bytes = bundle(alloc, number)?;
-    for len in 0..=bytes.len() {
-        check(rt, alloc, &bytes[..len], len % 67)?;
+// Each fault is met but S1: no bit makes a bundle shorter.
+#[test]
+fn turned_bits(rt: HostRuntime) -> Result<(), Fail> {
+    let mut seen = NOTHING;
+    for number in 0..BUNDLES {
+        turn_bits(&rt, rt.alloc(), number, &mut seen)?;
     }
-    Ok(bytes.len() as u64)
+    assert_eq!(rt; (seen.inputs, seen.codes), (967_648, 0x1_fffc));
+    Ok(())
 }
 
+/// Cuts a bundle at each byte.
+fn cut(rt: &impl Abort, alloc: Global, number: u32, seen: &mut Seen) -> Result<(), Fail> {
+    let bytes = bundle(alloc, number)?;
+    for len in 0..=bytes.len() {
+        check(rt, alloc, &bytes[..len], len % 67, seen)?;
+    }
+    Ok(())
+}
+
+// Bytes that end too early have S1 or S10.
 #[test]
 fn cut_bundles(rt: HostRuntime) -> Result<(), Fail> {
-    let mut cuts: u64 = 0;
+    let mut seen = NOTHING;
     for number in 0..BUNDLES {
-        cuts = cuts.wrapping_add(cut(&rt, rt.alloc(), number)?);
+        cut(&rt, rt.alloc(), number, &mut seen)?;
     }
-    assert_eq!(rt; cuts, 0);
+    assert_eq!(rt; (seen.inputs, seen.codes), (121_456, 0x402));
     Ok(())
 }

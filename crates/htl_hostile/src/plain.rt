@@ -1,6 +1,8 @@
 //! A plain reader of the format, which only looks for faults. It was written from docs/FORMAT.md and shares no code
 //! with the readers that it is compared with.
 
+ghost use Rattle.std.specs.Prelude.{◌<◌};
+
 use htl_segment::Fault;
 
 const HEADER: usize = 32;
@@ -30,6 +32,31 @@ const SECOND_VERSION: Rules = Rules {
     kinds: 7,
     frames: 64,
 };
+
+/// The number of a fault's code.
+pub fn code(fault: Fault) -> u32
+    ensures { result < 32 }
+{
+    match fault {
+        Fault::Short => 1,
+        Fault::Magic => 2,
+        Fault::Version => 3,
+        Fault::Processors => 4,
+        Fault::Processor => 5,
+        Fault::Reserved => 6,
+        Fault::Number => 7,
+        Fault::Count => 8,
+        Fault::Length => 9,
+        Fault::Cut => 10,
+        Fault::RecordShort(_) => 11,
+        Fault::Sequence(_) => 12,
+        Fault::Kind(_) => 13,
+        Fault::Frames(_) => 14,
+        Fault::Field(_) => 15,
+        Fault::Excess => 16,
+        Fault::NoMemory => 17,
+    }
+}
 
 /// How many segments stand one after the other in the bytes, or the place and the fault of the first that is none.
 pub fn count_segments(bytes: &[u8]) -> Result<usize, (u64, Fault)> {

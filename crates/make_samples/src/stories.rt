@@ -1,6 +1,9 @@
 //! Small traces that tell a story. The table samples/symbols.csv has names for all their addresses. Numbers in
 //! parentheses are sequences of events.
 
+ghost use Rattle.std.specs.Prelude.{◌↔◌, IsSome};
+ghost use Rattle.make_samples.specs.Stories.{IsStory};
+
 use htl_samples::{TRACE, Trace};
 
 /// A small trace: a line for each of its segments, in the order in which they are written.
@@ -12,7 +15,9 @@ pub struct Story {
 
 impl Story {
     /// The story of this name.
-    pub fn named(name: &str) -> Option<Story> {
+    pub fn named(name: &str) -> Option<Story>
+        ensures { IsSome result ↔ IsStory name.now }
+    {
         match name {
             "driver" => Some(Story {
                 trace: TRACE,

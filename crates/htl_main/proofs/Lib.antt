@@ -2,3 +2,4 @@ pub mod InputLaws
 pub mod SplitLaws
 pub mod SourceLaws
 pub mod WholeLaws
+pub mod FewSegments

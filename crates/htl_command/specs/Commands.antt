@@ -2,15 +2,16 @@
 use Rattle.std.specs.Prelude.{ℕ, Bool, true, false, List, [], ◌∷◌, Option, codes, find}
 use Rattle.std.specs.Str.{bytes_eq}
 use Rattle.htl_command.specs.declared.commands.CommandName.{CommandName}
-use Rattle.htl_command.specs.declared.commands.CommandName.TheVariants.{Outstanding, Diff, Tags, Bad, Leaks, Stacks, Trace}
+use Rattle.htl_command.specs.declared.commands.CommandName.TheVariants.{Summary, Outstanding, Diff, Tags, Bad, Leaks, Stacks, Trace}
 use Rattle.htl_command.specs.declared.commands.CommandOption.{CommandOption}
 use Rattle.htl_command.specs.declared.commands.CommandOption.TheVariants.{Process, Since, Object, Tag, Handle, Symbols, Workers}
 
 abbrev pub commands : List CommandName
-commands = Outstanding ∷ Diff ∷ Tags ∷ Bad ∷ Leaks ∷ Stacks ∷ Trace ∷ []
+commands = Summary ∷ Outstanding ∷ Diff ∷ Tags ∷ Bad ∷ Leaks ∷ Stacks ∷ Trace ∷ []
 
 -- each command: its name, and the options that not every command has
 abbrev pub command_row : CommandName → List ℕ × List CommandOption
+command_row Summary = (codes "summary", [])
 command_row Outstanding = (codes "outstanding", Process ∷ [])
 command_row Diff = (codes "diff", Process ∷ Since ∷ [])
 command_row Tags = (codes "tags", Object ∷ [])

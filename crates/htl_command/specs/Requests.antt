@@ -13,7 +13,7 @@ use Rattle.htl_command.specs.declared.commands.CommandOption.{CommandOption}
 use Rattle.htl_command.specs.declared.commands.CommandOption.TheVariants.{Process, Since, Object, Tag, Handle, Symbols, Workers}
 use Rattle.htl_command.specs.declared.question.Job.{Job}
 use Rattle.htl_command.specs.declared.question.Question.{Question}
-use Rattle.htl_command.specs.declared.question.Question.TheVariants.{Outstanding, Diff, Tags, Bad, Leaks, Stacks, Trace}
+use Rattle.htl_command.specs.declared.question.Question.TheVariants.{Summary, Outstanding, Diff, Tags, Bad, Leaks, Stacks, Trace}
 
 -- the text that was given for an option
 abbrev pub given : CommandOption → List Row → Option Text
@@ -33,6 +33,7 @@ both make x y = option_and_then (λ a. option_map (make a) y) x
 
 -- the question of each command
 unfoldable pub question_of : CommandName → List Row → Option Question
+question_of command.Summary rows = Some Summary
 question_of command.Outstanding rows = option_map (λ p. Outstanding p) (value process_in Process rows)
 question_of command.Diff rows = both (λ p s. Diff p s) (value process_in Process rows) (optional sequence_in Since rows)
 question_of command.Tags rows = option_map (λ o. Tags o) (value object_in Object rows)

@@ -6,6 +6,7 @@ ghost use Rattle.htl_command.specs.Commands.{command_named, name_of, option_name
 /// A command: the question that it asks.
 #[derive(Clone, Copy, Debug, PartialEq, Eq)]
 pub(crate) enum CommandName {
+    Summary,
     Outstanding,
     Diff,
     Tags,
@@ -28,7 +29,8 @@ pub(crate) enum CommandOption {
 }
 
 /// All commands, as help lists them.
-pub(crate) const COMMANDS: [CommandName; 7] = [
+pub(crate) const COMMANDS: [CommandName; 8] = [
+    CommandName::Summary,
     CommandName::Outstanding,
     CommandName::Diff,
     CommandName::Tags,
@@ -45,6 +47,7 @@ impl CommandName {
         ensures { result.now ≡ name_of self }
     {
         match self {
+            CommandName::Summary => "summary",
             CommandName::Outstanding => "outstanding",
             CommandName::Diff => "diff",
             CommandName::Tags => "tags",
@@ -67,6 +70,7 @@ impl CommandName {
         ensures { result.now ≡ own_options self }
     {
         match self {
+            CommandName::Summary => &[],
             CommandName::Outstanding | CommandName::Bad | CommandName::Leaks => &[
                 CommandOption::Process,
             ],

@@ -23,6 +23,7 @@ Exit status:
                                  7  not a symbol table
 
 Examples:
+  hleak summary cpu0.hls cpu1.hls
   hleak outstanding --process 4 cpu0.hls cpu1.hls
   hleak tags --object 0xffffa00000001000 --symbols names.csv cpu0.hls cpu1.hls
 
@@ -37,6 +38,7 @@ impl CommandName {
     /// What the command answers, in one line.
     pub(crate) fn about<'a>(self) -> &'a str {
         match self {
+            CommandName::Summary => "What leaks at all: processes, objects, and missing segments",
             CommandName::Outstanding => "Handles that are open, each with the stack that opened it",
             CommandName::Diff => "Handles opened since a snapshot and still open (!htrace -diff)",
             CommandName::Tags => "References and dereferences of an object, by tag (!obtrace)",
@@ -50,6 +52,11 @@ impl CommandName {
     /// A command line to begin with, after what else is to be known.
     pub(crate) fn example<'a>(self) -> &'a str {
         match self {
+            CommandName::Summary => {
+                "\
+Example:
+  hleak summary cpu0.hls cpu1.hls"
+            }
             CommandName::Outstanding => {
                 "\
 Example:

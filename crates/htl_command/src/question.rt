@@ -3,6 +3,8 @@
 /// A question about the events of a trace.
 #[derive(Clone, Copy, Debug, PartialEq, Eq)]
 pub enum Question {
+    /// What leaks at all: each process, the objects with an unbalanced tag, and the segments that are missing.
+    Summary,
     /// The handles of a process that are open.
     Outstanding { process: u32 },
     /// The handles of a process that were opened after a sequence and are open. `None` stands for the sequence

@@ -121,6 +121,7 @@ fn question<'a>(command: CommandName, entries: &ArgMatches<'a>) -> Result<Questi
     ensures { result_ok result ≡ question_of command (entries_of entries.now) }
 {
     Ok(match command {
+        CommandName::Summary => Question::Summary,
         CommandName::Outstanding => Question::Outstanding {
             process: process(entries)?,
         },

@@ -35,9 +35,10 @@ use Rattle.htl_command.specs.declared.question.Job.{Job}
 use Rattle.htl_command.specs.declared.question.Question.{Question}
 use Rattle.htl_command.specs.declared.question.Question.TheVariants as asked
 use Rattle.htl_main.specs.Inputs.{HasBytes, Decodes, DecodeAll, HasBundleFault, HasHexFault, IsTold, StopsAt}
-use Rattle.htl_main.specs.Printed.{IsText, HasSymbols, HasSymbolFault, Answers, IsPrinted, WorkersFit, Printed}
+use Rattle.htl_main.specs.Printed.{IsText, IsTextOver, HasSymbols, HasSymbolFault, Answers, IsPrinted, WorkersFit, Printed}
 use Rattle.htl_main.specs.declared.fault.RunFault.{RunFault}
 use Rattle.htl_main.specs.declared.fault.RunFault.TheVariants.{Workers, Segment, Hex, Case, Symbols, Memory}
+use Rattle.htl_main.proofs.OneSummary.{one_summary}
 use Rattle.htl_main.proofs.OneTable.{one_table, one_symbol_fault, table_has_no_fault}
 
 -- ---- one input
@@ -170,8 +171,8 @@ handles events = handles_are_determined events events (λ e. ((λ h. h), (λ h. 
 counts : (events : List Event) → CountsAreDetermined events events
 counts events = counts_are_determined events events (IsPermutation-refl events)
 
-one_text : (events : List Event) (table : List Range) (question : Question) (a b : List ℕ) → IsText events table question a
-    → IsText events table question b → a ≡ b
+one_text : (events : List Event) (table : List Range) (question : Question) (a b : List ℕ) → IsTextOver events table question a
+    → IsTextOver events table question b → a ≡ b
 one_text events table (asked.Outstanding process) a b p q =
     p.2 ∙ ap (outstanding_text table process) ((handles events).outstanding process p.0 q.0 p.1 q.1) ∙ sym q.2
 one_text events table (asked.Diff process (Some since)) a b p q =
@@ -191,6 +192,18 @@ one_text events table (asked.Stacks object tag) a b p q =
     p.2 ∙ ap (stacks_text table object tag) ((counts events).stacks object tag p.0 q.0 p.1 q.1) ∙ sym q.2
 one_text events table (asked.Trace process handle) a b p q =
     p.2 ∙ ap (trace_text table process handle) ((handles events).listing process handle p.0 q.0 p.1 q.1) ∙ sym q.2
+one_text events table asked.Summary a b p q = absurd p
+
+one_answer_over : (T : Trace) (table : List Range) (question : Question) (a b : List ℕ) → IsText T table question a
+    → IsText T table question b → a ≡ b
+one_answer_over T table asked.Summary a b p q = one_summary T a b p q
+one_answer_over T table (asked.Outstanding process) a b p q = one_text (all_events T.segments) table (asked.Outstanding process) a b p q
+one_answer_over T table (asked.Diff process since) a b p q = one_text (all_events T.segments) table (asked.Diff process since) a b p q
+one_answer_over T table (asked.Tags object) a b p q = one_text (all_events T.segments) table (asked.Tags object) a b p q
+one_answer_over T table (asked.Bad process) a b p q = one_text (all_events T.segments) table (asked.Bad process) a b p q
+one_answer_over T table (asked.Leaks process) a b p q = one_text (all_events T.segments) table (asked.Leaks process) a b p q
+one_answer_over T table (asked.Stacks object tag) a b p q = one_text (all_events T.segments) table (asked.Stacks object tag) a b p q
+one_answer_over T table (asked.Trace process handle) a b p q = one_text (all_events T.segments) table (asked.Trace process handle) a b p q
 
 -- ---- what decoded segments come to
 
@@ -224,9 +237,8 @@ one_answer : (segments : List Content) (symbols : Option (List ℕ)) (question :
 one_answer segments symbols question a b p q =
     let trace = one_case segments p.trace q.trace p.of_case q.of_case in
     let table = one_symbols symbols p.table q.table p.named q.named in
-    one_text (all_events q.trace.segments) q.table question a b
-    (subst (λ (t : List Range). IsText (all_events q.trace.segments) t question a) table
-    (subst (λ (T : Trace). IsText (all_events T.segments) p.table question a) trace p.is)) q.is
+    one_answer_over q.trace q.table question a b (subst (λ (t : List Range). IsText q.trace t question a) table
+    (subst (λ (T : Trace). IsText T p.table question a) trace p.is)) q.is
 
 abbrev done : List ℕ → Result (List ℕ) RunFault
 done lines = Ok lines

@@ -1,12 +1,27 @@
--- Of an analyst that has taken a whole trace the taken events are the trace's.
-use Rattle.std.proofs.Common.{◌≡◌, suc, Bool, true, List, [], ◌∷◌, ap, refl, arith}
+-- An analyst that has taken a whole trace has the trace's events and keys, and is complete to where the trace is.
+use Rattle.std.proofs.Common.{◌≡◌, ◌<◌, ℕ, suc, Bool, true, List, [], ◌∷◌, ap, refl, sym, subst, arith, inl, inr}
 use Rattle.std.specs.Prelude.{Contains, filter}
-use Rattle.htl_segment.specs.Traces.{Trace, has_key, all_events}
-use Rattle.htl_analyst.specs.States.{State}
-use Rattle.htl_analyst.specs.Keys.{keys}
+use Rattle.std.proofs.lemmas.Bool.{cases_lt}
+use Rattle.htl_event.specs.Handles.{IsGreatestSequence}
+use Rattle.htl_event.proofs.Members.{Contains-from_map, at_member}
+use Rattle.htl_segment.specs.Traces.{Trace, HasKey, has_key, all_events}
+use Rattle.htl_taken.specs.Gaps.{IsGaps}
+use Rattle.htl_taken.specs.Numbers.{front_at}
+use Rattle.htl_taken.specs.declared.gap.Gap.{Gap}
+use Rattle.htl_taken.proofs.Gaps.{gaps_agree}
+use Rattle.htl_symbols.specs.Ranges.{Range}
+use Rattle.htl_command.specs.declared.question.Question.{Question}
+use Rattle.htl_command.specs.declared.question.Question.TheVariants as asked
+use Rattle.htl_analyst.specs.States.{State, held_at}
+use Rattle.htl_analyst.specs.Keys.{HasTaken, keys}
+use Rattle.htl_analyst.specs.Moments as moments
+use Rattle.htl_analyst.specs.Right.{IsOwned, IsRight, run_events}
 use Rattle.htl_analyst.specs.Answers.{taken_events}
 use Rattle.htl_analyst.proofs.KeyEvents.{taken_keys}
 use Rattle.htl_exchange.specs.Desks.{IsWholeStanding}
+use Rattle.htl_main.specs.Printed.{IsText, IsTextOver}
+use Rattle.htl_main.specs.Questions.{IsOfAnalyst}
+use Rattle.htl_main.specs.Summaries.{IsCompleteTo, IsFirstMissing}
 
 filter_whole : {X : Type 0} (p : X → Bool) (xs : List X) → ((x : X) → Contains xs x → p x ≡ true) → filter p xs ≡ xs
 filter_whole p [] all = refl
@@ -18,3 +33,62 @@ pub whole_events : (T : Trace) (a : State) → IsWholeStanding T a → taken_eve
 whole_events T a whole =
     ap all_events (filter_whole (has_key (keys a)) T.segments (λ s here. taken_keys a s.processor s.number
     (whole.keys s.processor s.number (s, here, refl, refl))))
+
+-- its fronts are the numbers of the first segments that the trace doesn't have
+first_missing : (T : Trace) (a : State) → IsWholeStanding T a → (p : ℕ) → p < a.processors → IsFirstMissing T p (front_at a.taken p)
+first_missing T a whole p lt = record {
+  below = (whole.standing.right.each p lt).complete;
+  missing = λ key. whole.standing.least p (whole.keys p (front_at a.taken p) key);
+}
+
+one_first : (T : Trace) (p n m : ℕ) → IsFirstMissing T p n → IsFirstMissing T p m → n ≡ m
+one_first T p n m a b =
+    elim (cases_lt n m) [
+      | inl lt ↦ absurd (a.missing (b.below n lt))
+      | inr le ↦ elim (cases_lt m n) [ inl lt ↦ absurd (b.missing (a.below m lt)) | inr ge ↦ omega (arith, le, ge) ]
+    ]
+
+pub complete : (T : Trace) (a : State) (n : ℕ) → IsWholeStanding T a → moments.IsCompleteTo T a n → IsCompleteTo T n
+complete T a n whole is =
+    let count = whole.standing.right.processors in
+    record {
+      bound = λ p m lt unbroken.
+          let within : p < a.processors = omega (arith, count, lt) in
+          let same = one_first T p unbroken.0 (front_at a.taken p) unbroken.1 (first_missing T a whole p within) in
+          is.bound p m within (subst (λ (front : ℕ). IsGreatestSequence (Contains (run_events T p front)) m) same unbroken.2);
+      processor = is.processor;
+      within = let within = is.within in omega (arith, count, within);
+      reached = (front_at a.taken is.processor, first_missing T a whole is.processor is.within, is.reached);
+    }
+
+-- its taken keys are the trace's
+taken_there : (T : Trace) (a : State) → IsRight a T → (p n : ℕ) → p < a.processors → HasTaken a p n → HasKey T p n
+taken_there T a right p n lt (inl low) = (right.each p lt).complete n low
+taken_there T a right p n lt (inr loose) =
+    let lane = right.state.each p lt in
+    let held = Contains-from_map (λ s. s.number) (held_at a.lanes p) n
+    (subst (λ (ns : List ℕ). Contains ns n) (sym lane.numbers) loose) in (
+      held.0,
+      at_member (Contains T.segments) (held_at a.lanes p) held.0 (right.each p lt).held held.1,
+      (at_member (IsOwned a.trace_id a.processors p) (held_at a.lanes p) held.0 lane.owned held.1).processor,
+      held.2,
+    )
+
+pub whole_gaps : (T : Trace) (a : State) (gaps : List Gap) → IsWholeStanding T a → IsGaps (HasTaken a) a.processors gaps
+    → IsGaps (HasKey T) T.processors gaps
+whole_gaps T a gaps whole is =
+    let right = whole.standing.right in
+    subst (λ (n : ℕ). IsGaps (HasKey T) n gaps) (sym right.processors) (gaps_agree (HasTaken a) (HasKey T) a.processors gaps
+    (λ p n lt. (taken_there T a right p n lt, whole.keys p n)) is)
+
+-- the answer to a question about events is one over the trace
+pub over_events : (T : Trace) (table : List Range) (question : Question) (lines : List ℕ) → IsOfAnalyst question
+    → IsTextOver (all_events T.segments) table question lines → IsText T table question lines
+over_events T table (asked.Outstanding process) lines of is = is
+over_events T table (asked.Diff process since) lines of is = is
+over_events T table (asked.Tags object) lines of is = is
+over_events T table (asked.Bad process) lines of is = is
+over_events T table (asked.Leaks process) lines of is = is
+over_events T table (asked.Stacks object tag) lines of is = is
+over_events T table (asked.Trace process handle) lines of is = absurd of
+over_events T table asked.Summary lines of is = absurd of

@@ -1,5 +1,6 @@
 -- What public contracts cite.
 pub mod Inputs
+pub mod Summaries
 pub mod Printed
 pub mod Causes
 pub mod Sources

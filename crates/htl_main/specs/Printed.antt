@@ -22,28 +22,35 @@ use Rattle.htl_command.specs.declared.question.Job.{Job}
 use Rattle.htl_command.specs.declared.question.Question.{Question}
 use Rattle.htl_command.specs.declared.question.Question.TheVariants as asked
 use Rattle.htl_main.specs.Inputs.{DecodeAll, IsTold, StopsAt}
+use Rattle.htl_main.specs.Summaries.{IsSummaryText}
 use Rattle.htl_main.specs.declared.fault.RunFault.{RunFault}
 use Rattle.htl_main.specs.declared.fault.RunFault.TheVariants.{Workers, Segment, Hex, Case, Symbols}
 
--- The lines of the answer to a question over these events. Without a moment a difference is since the mark.
-abbrev pub IsText : List Event → List Range → Question → List ℕ → Type 0
-IsText events table (asked.Outstanding process) lines =
+-- The lines of the answer to a question about the events of a trace. Without a moment a difference is since the mark.
+abbrev pub IsTextOver : List Event → List Range → Question → List ℕ → Type 0
+IsTextOver events table (asked.Outstanding process) lines =
     (rows : List Event) × IsOutstanding (Contains events) process rows × (lines ≡ outstanding_text table process rows)
-IsText events table (asked.Diff process (Some since)) lines =
+IsTextOver events table (asked.Diff process (Some since)) lines =
     (rows : List Event) × IsDiff (Contains events) process since rows × (lines ≡ diff_text table process since rows)
-IsText events table (asked.Diff process None) lines =
+IsTextOver events table (asked.Diff process None) lines =
     (since : ℕ) × (rows : List Event) × IsMark (Contains events) process since × IsDiff (Contains events) process since rows
     × (lines ≡ diff_text table process since rows)
-IsText events table (asked.Tags object) lines =
+IsTextOver events table (asked.Tags object) lines =
     (rows : List (List ℕ × Count)) × IsTags events object rows × (lines ≡ tags_text object rows)
-IsText events table (asked.Bad process) lines =
+IsTextOver events table (asked.Bad process) lines =
     (rows : List (ℕ × List ℕ × ℕ)) × IsBad events process rows × (lines ≡ bad_text table process rows)
-IsText events table (asked.Leaks process) lines =
+IsTextOver events table (asked.Leaks process) lines =
     (rows : List (List ℕ × ℕ)) × IsLeaks (Contains events) process rows × (lines ≡ leaks_text table process rows)
-IsText events table (asked.Stacks object tag) lines =
+IsTextOver events table (asked.Stacks object tag) lines =
     (rows : List (List ℕ × Count)) × IsStacks events object tag rows × (lines ≡ stacks_text table object tag rows)
-IsText events table (asked.Trace process handle) lines =
+IsTextOver events table (asked.Trace process handle) lines =
     (rows : List Event) × IsListing (Contains events) process handle rows × (lines ≡ trace_text table process handle rows)
+IsTextOver events table asked.Summary lines = ⊥
+
+-- The lines of the answer to a question over a trace. A summary alone is about its segments too.
+abbrev pub IsText : Trace → List Range → Question → List ℕ → Type 0
+IsText T table asked.Summary lines = IsSummaryText T lines
+IsText T table question lines = IsTextOver (all_events T.segments) table question lines
 
 -- the table of symbols, which has no range where none is given
 abbrev pub HasSymbols : Option (List ℕ) → List Range → Type 0
@@ -61,7 +68,7 @@ pub record Answers (segments : List Content) (symbols : Option (List ℕ)) (ques
   pub of_case : IsCaseOf segments trace
   pub table : List Range
   pub named : HasSymbols symbols table
-  pub is : IsText (all_events trace.segments) table question lines
+  pub is : IsText trace table question lines
 
 -- What decoded segments come to: the lines of the answer, or the first rule that they break as a case, or else
 -- the first fault of the symbols.

@@ -8,10 +8,11 @@ ghost use Rattle.htl_report.specs.Texts.{text_of};
 ghost use Rattle.htl_analyst.specs.Right.{IsRight};
 ghost use Rattle.htl_analyst.specs.Answers.{taken_events};
 ghost use Rattle.htl_exchange.specs.Desks.{IsWholeStanding};
-ghost use Rattle.htl_main.specs.Printed.{IsText, WorkersFit};
+ghost use Rattle.htl_main.specs.Printed.{IsText, IsTextOver, WorkersFit};
 ghost use Rattle.htl_main.specs.Questions.{IsOfAnalyst};
 
 use crate::fault::RunFault;
+use crate::summarizing::summary;
 use htl_analyst::Analyst;
 use htl_case::Case;
 use htl_command::{Job, Question};
@@ -23,7 +24,7 @@ use std::sync::Wait;
 use std::thread::Threads;
 
 /// The answer to the job's question. A listing is made from the case itself, and every other answer by an
-/// analyst that has taken the whole case.
+/// analyst that has taken the whole case; a summary by both.
 pub(crate) fn answer<Rt: Threads + Wait + Sync>(
     rt: &Rt,
     alloc: Global,
@@ -32,19 +33,24 @@ pub(crate) fn answer<Rt: Threads + Wait + Sync>(
 ) -> Result<Answer, RunFault>
     requires { WorkersFit job.now.workers }
     ensures ok { IfOk result (λ answer. (table : List Range)
-        → IsText (all_events case.now.segments) table job.now.question (text_of table answer)) }
+        → IsText case.now table job.now.question (text_of table answer)) }
     ensures err { IfErr result (λ fault. (fault ≡ RunFault.Memory) ⊎ (fault ≡ RunFault.NoThread)) }
 {
-    if let Question::Trace { process, handle } = job.question {
-        let rows = case.trace(alloc, process, handle)?;
-        return Ok(Answer::Trace {
+    match job.question {
+        Question::Trace { process, handle } => Ok(Answer::Trace {
             process,
             handle,
-            rows,
-        });
+            rows: case.trace(alloc, process, handle)?,
+        }),
+        Question::Summary => {
+            let analyst = standing(rt, alloc, case, job.workers)?;
+            Ok(summary(alloc, case, &analyst)?)
+        }
+        question => {
+            let analyst = standing(rt, alloc, case, job.workers)?;
+            Ok(answer_of(alloc, &analyst, question)?)
+        }
     }
-    let analyst = standing(rt, alloc, case, job.workers)?;
-    Ok(answer_of(alloc, &analyst, job.question)?)
 }
 
 /// The analyst that has taken in the whole case, by so many workers in threads of their own.
@@ -61,7 +67,7 @@ fn standing<Rt: Threads + Wait + Sync>(
     Ok(survey(rt, alloc, case, workers, &Free)?)
 }
 
-/// The answer of an analyst to a question that isn't for a listing.
+/// The answer of an analyst to a question about events.
 fn answer_of(
     alloc: Global,
     analyst: &Analyst<Global>,
@@ -69,7 +75,7 @@ fn answer_of(
 ) -> Result<Answer, NoMemory>
     requires { IsOfAnalyst question }
     ensures { IfOk result (λ answer. (T : Trace) → IsRight analyst.now T → (table : List Range)
-        → IsText (taken_events T analyst.now) table question (text_of table answer)) }
+        → IsTextOver (taken_events T analyst.now) table question (text_of table answer)) }
 {
     Ok(match question {
         Question::Outstanding { process } => Answer::Outstanding {
@@ -101,7 +107,7 @@ fn answer_of(
             tag,
             rows: analyst.stacks(alloc, object, tag)?,
         },
-        Question::Trace { .. } => unreachable!(),
+        Question::Summary | Question::Trace { .. } => unreachable!(),
     })
 }
 

@@ -1,11 +1,11 @@
 //! The run: from the bytes of inputs to the printed answer.
 //!
 //! `specs/` is read in this order: `Inputs` (which segments the inputs spell, and which input is refused first),
-//! `Printed` (the lines of the answer, or the first fault in the order of a run), `Causes` and `Sources` (how a run
-//! ends for want of memory or by a failing device). `printing.rt` and `streaming.rt` put the steps of the two runs in
-//! order: `inputs.rt` decodes what lies in memory and `sources.rt` what comes in reads, and `answering.rt` lets workers
-//! take in the case and answers. `fault.rt` has the faults with their lines and statuses. `laws.rt` says that a run has
-//! one outcome.
+//! `Summaries` (what a summary says of a trace), `Printed` (the lines of the answer, or the first fault in the order
+//! of a run), `Causes` and `Sources` (how a run ends for want of memory or by a failing device). `printing.rt` and
+//! `streaming.rt` put the steps of the two runs in order: `inputs.rt` decodes what lies in memory and `sources.rt`
+//! what comes in reads, `answering.rt` lets workers take in the case and answers, and `summarizing.rt` makes its
+//! summary. `fault.rt` has the faults with their lines and statuses. `laws.rt` says that a run has one outcome.
 #![tactic(auto)]
 
 mod answering;
@@ -15,6 +15,7 @@ pub mod laws;
 mod printing;
 mod sources;
 mod streaming;
+mod summarizing;
 #[cfg(test)]
 mod tests;
 

@@ -2,6 +2,7 @@
 
 mod devices;
 mod rows;
+mod summaries;
 
 use crate::{RunFault, Writing, run};
 use htl_command::{Job, Question};

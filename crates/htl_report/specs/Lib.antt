@@ -7,6 +7,7 @@ pub mod BadReferences
 pub mod Leaks
 pub mod TagBalances
 pub mod ReferenceStacks
+pub mod Summaries
 pub mod Texts
 
 -- What only private contracts cite: nothing.

@@ -6,9 +6,10 @@ use Rattle.htl_report.specs.Leaks.{leaks_text}
 use Rattle.htl_report.specs.Listings.{trace_text}
 use Rattle.htl_report.specs.Opens.{diff_text, outstanding_text}
 use Rattle.htl_report.specs.ReferenceStacks.{stacks_text}
+use Rattle.htl_report.specs.Summaries.{summary_text}
 use Rattle.htl_report.specs.TagBalances.{tags_text}
 use Rattle.htl_report.specs.declared.answer.Answer.{Answer}
-use Rattle.htl_report.specs.declared.answer.Answer.TheVariants.{Outstanding, Diff, Tags, Bad, Leaks, Stacks, Trace}
+use Rattle.htl_report.specs.declared.answer.Answer.TheVariants.{Outstanding, Diff, Tags, Bad, Leaks, Stacks, Trace, Summary}
 
 abbrev pub text_of : List Range → Answer → List ℕ
 text_of symbols (Outstanding process rows) = outstanding_text symbols process rows.items
@@ -18,3 +19,4 @@ text_of symbols (Bad process rows) = bad_text symbols process rows.items
 text_of symbols (Leaks process rows) = leaks_text symbols process rows.items
 text_of symbols (Stacks object tag rows) = stacks_text symbols object tag rows.items
 text_of symbols (Trace process handle rows) = trace_text symbols process handle rows.items
+text_of symbols (Summary totals gaps processes objects) = summary_text totals gaps.items processes.items objects.items

@@ -8,9 +8,11 @@ use crate::leaks::write_leaks;
 use crate::listing::write_trace;
 use crate::opens::{write_diff, write_outstanding};
 use crate::stacks::write_stacks;
+use crate::summary::{Totals, write_summary};
 use crate::tags::write_tags;
-use htl_event::{Count, NoMemory, SharedEvent, SharedStack};
+use htl_event::{Count, NoMemory, ObjectRow, ProcessRow, SharedEvent, SharedStack};
 use htl_symbols::Symbols;
+use htl_taken::Gap;
 use std::alloc::{AllocError, Global};
 
 /// The answer to a question, with what was asked. Rows are printed in the order in which they stand.
@@ -54,6 +56,13 @@ pub enum Answer {
         handle: u32,
         rows: Vec<SharedEvent>,
     },
+    /// What leaks at all: the segments that are missing, each process, and the objects with an unbalanced tag.
+    Summary {
+        totals: Totals,
+        gaps: Vec<Gap>,
+        processes: Vec<ProcessRow>,
+        objects: Vec<ObjectRow>,
+    },
 }
 
 /// The lines of an answer, each ended by a line feed, with the addresses of its stacks by name where
@@ -86,5 +95,11 @@ fn write_answer(out: &mut String, answer: &Answer, symbols: &Symbols) -> Result<
             handle,
             rows,
         } => write_trace(out, symbols, *process, *handle, rows),
+        Answer::Summary {
+            totals,
+            gaps,
+            processes,
+            objects,
+        } => write_summary(out, totals, gaps, processes, objects),
     }
 }

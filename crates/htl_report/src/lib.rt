@@ -13,9 +13,11 @@ mod listing;
 mod opens;
 mod parts;
 mod stacks;
+mod summary;
 mod tags;
 
 pub use answer::{Answer, text};
+pub use summary::Totals;
 
 #[cfg(test)]
 mod tests;

@@ -1,8 +1,9 @@
-//! The seven texts, and how addresses print.
-use crate::{Answer, text};
-use htl_event::Count;
+//! The eight texts, and how addresses print.
+use crate::{Answer, Totals, text};
+use htl_event::{Count, ObjectRow, ProcessRow};
 use htl_samples::{shared_events, shared_stack};
 use htl_symbols::Symbols;
+use htl_taken::Gap;
 use std::alloc::Global;
 use std::test::Fail;
 
@@ -140,6 +141,66 @@ EXIT handle=0x0 seq=4 thread=12
     ))
 }
 
+fn process(process: u32, outstanding: u64, exit: u64) -> ProcessRow {
+    ProcessRow {
+        process,
+        outstanding,
+        opens: 3,
+        closes: 1,
+        bad: 2,
+        mark: 7,
+        exit,
+    }
+}
+
+fn object(object: u64, unbalanced: u64) -> ObjectRow {
+    ObjectRow {
+        object,
+        tags: 3,
+        unbalanced,
+        refs: 6,
+        derefs: 5,
+    }
+}
+
+fn summary(alloc: Global) -> Result<(Answer, &'static str), Fail> {
+    let mut gaps = Vec::new(alloc);
+    gaps.push(Gap::Between {
+        processor: 0,
+        from: 0,
+        to: 4_294_967_292,
+    })?;
+    gaps.push(Gap::Absent { processor: 1 })?;
+    let mut processes = Vec::new(alloc);
+    processes.push(process(4, 2, 0))?;
+    processes.push(process(u32::MAX, 0, u64::MAX))?;
+    let mut objects = Vec::new(alloc);
+    objects.push(object(0xffff_a000_0000_1000, 2))?;
+    let totals = Totals {
+        processors: 2,
+        segments: 1,
+        events: 19,
+        complete_to: 0,
+        objects: 4,
+    };
+    Ok((
+        Answer::Summary {
+            totals,
+            gaps,
+            processes,
+            objects,
+        },
+        "summary processors=2 segments=1 events=19 complete_to=0 \
+gaps=2 processes=2 objects=4 unbalanced=1
+GAP processor=0 from=0 to=4294967292
+GAP processor=1 from=0
+PROCESS process=4 outstanding=2 opens=3 closes=1 bad=2 mark=7 exit=0
+PROCESS process=4294967295 outstanding=0 opens=3 closes=1 bad=2 mark=7 exit=18446744073709551615
+OBJECT object=0xffffa00000001000 tags=3 unbalanced=2 refs=6 derefs=5
+",
+    ))
+}
+
 #[test]
 fn texts_of_answers(rt: HostRuntime) -> Result<(), Fail> {
     let symbols = Symbols::none(rt.alloc());
@@ -151,6 +212,7 @@ fn texts_of_answers(rt: HostRuntime) -> Result<(), Fail> {
         leaks(rt.alloc())?,
         stacks(rt.alloc())?,
         trace(rt.alloc())?,
+        summary(rt.alloc())?,
     ] {
         let bytes = text(rt.alloc(), &answer, &symbols)?;
         assert_eq!(rt; bytes.as_slice(), wanted.as_bytes(), "instead of {wanted}");

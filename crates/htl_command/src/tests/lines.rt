@@ -4,7 +4,9 @@ use crate::{Job, ParseFault, Question, parse};
 use std::test::Fail;
 
 /// Lines and their questions.
-const QUESTIONS: [(&str, Question); 26] = [
+const QUESTIONS: [(&str, Question); 28] = [
+    ("summary", Question::Summary),
+    ("summary|a.hls", Question::Summary),
     (
         "outstanding|--process|4",
         Question::Outstanding { process: 4 },
@@ -140,7 +142,8 @@ const QUESTIONS: [(&str, Question); 26] = [
 ];
 
 /// Lines with the options that every command has.
-const OPTIONS: [(&str, bool, u32, &[&str], Option<&str>); 8] = [
+const OPTIONS: [(&str, bool, u32, &[&str], Option<&str>); 9] = [
+    ("summary|--workers|4|a.hls", false, 4, &["a.hls"], None),
     ("bad|--process|4", false, 1, &[], None),
     ("bad|--process|4|--hex", true, 1, &[], None),
     ("bad|--process|4|--workers|1", false, 1, &[], None),
@@ -176,7 +179,7 @@ const OPTIONS: [(&str, bool, u32, &[&str], Option<&str>); 8] = [
 ];
 
 /// Lines that are refused, and what their text names.
-const REFUSED: [(&str, &str); 48] = [
+const REFUSED: [(&str, &str); 51] = [
     // values
     (
         "bad|--process|4294967296",
@@ -249,8 +252,11 @@ const REFUSED: [(&str, &str); 48] = [
     ("trace|--handle|44", "--process <N>"),
     ("trace|--process|4", "--handle <HEX>"),
     ("tags|--object|1|--process|4", "'--process'"),
+    ("summary|--process|4", "'--process'"),
+    ("summary|--workers|9", "'9' for '--workers <N>'"),
     ("bad|--process|4|--process|4", "'--process <N>'"),
     ("bad|--process|4|--hex|--hex", "'--hex'"),
+    ("summary|--hex|--hex", "'--hex'"),
     ("bad|--process|4|--workers", "'--workers <N>'"),
     // commands
     ("", "''"),

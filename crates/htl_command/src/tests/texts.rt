@@ -11,6 +11,7 @@ debugger's !htrace and !obtrace.
 Usage: hleak <COMMAND>
 
 Commands:
+  summary      What leaks at all: processes, objects, and missing segments
   outstanding  Handles that are open, each with the stack that opened it
   diff         Handles opened since a snapshot and still open (!htrace -diff)
   tags         References and dereferences of an object, by tag (!obtrace)
@@ -37,6 +38,7 @@ Exit status:
                                  7  not a symbol table
 
 Examples:
+  hleak summary cpu0.hls cpu1.hls
   hleak outstanding --process 4 cpu0.hls cpu1.hls
   hleak tags --object 0xffffa00000001000 --symbols names.csv cpu0.hls cpu1.hls
 
@@ -46,6 +48,24 @@ Examples:
 
 const VERSION: &str = "\
 hleak 0.1.0
+";
+
+const SUMMARY: &str = "\
+What leaks at all: processes, objects, and missing segments
+
+Usage: hleak summary [OPTIONS] [FILES]...
+
+Arguments:
+  [FILES]...  Trace segments; standard input where no file is given
+
+Options:
+      --symbols <FILE>  Names for addresses: CSV of start,end,module,name
+      --workers <N>     How many threads take in segments: 1 to 8 [default: 1]
+      --hex             The files hold hexadecimal digits, not bytes
+  -h, --help            Print help
+
+Example:
+  hleak summary cpu0.hls cpu1.hls
 ";
 
 const OUTSTANDING: &str = "\
@@ -228,9 +248,10 @@ For more information, try '--help'.
 ";
 
 /// Lines that ask for help, and what they are answered.
-const HELP: [(&str, &str); 12] = [
+const HELP: [(&str, &str); 13] = [
     ("--help", PROGRAM),
     ("--version", VERSION),
+    ("summary|--help", SUMMARY),
     ("outstanding|--help", OUTSTANDING),
     ("diff|--help", DIFF),
     ("tags|--help", TAGS),

@@ -1,0 +1,58 @@
+-- A trace has one summary.
+use Rattle.std.proofs.Common.{◌≡◌, ℕ, List, ap, sym, ◌∙◌, arith}
+use Rattle.std.proofs.lemmas.List.Sorted.{IsPermutation-refl}
+use Rattle.htl_event.specs.Summaries.{SummariesAreDetermined}
+use Rattle.htl_event.proofs.Members.{Lists-same}
+use Rattle.htl_event.proofs.Summarized.{summaries_are_determined}
+use Rattle.htl_segment.specs.Traces.{Trace, HasKey, all_events}
+use Rattle.htl_taken.specs.Gaps.{IsGap, IsGapBefore, IsGaps}
+use Rattle.htl_taken.specs.declared.gap.Gap.{Gap}
+use Rattle.htl_taken.proofs.Gaps.{IsGapBefore-strict}
+use Rattle.htl_report.specs.declared.summary.Totals.{Totals}
+use Rattle.htl_main.specs.Summaries.{AreTotals, IsCompleteTo, IsSummaryText}
+
+determined : (T : Trace) → SummariesAreDetermined (all_events T.segments) (all_events T.segments)
+determined T = summaries_are_determined (all_events T.segments) (all_events T.segments) (IsPermutation-refl (all_events T.segments))
+
+one_complete : (T : Trace) (n m : ℕ) → IsCompleteTo T n → IsCompleteTo T m → n ≡ m
+one_complete T n m p q =
+    let le = p.bound q.processor m q.within q.reached in
+    let ge = q.bound p.processor n p.within p.reached in
+    omega (arith, le, ge)
+
+abbrev totals : ℕ → ℕ → ℕ → ℕ → ℕ → Totals
+totals processors segments events complete_to objects = record {
+  processors = processors;
+  segments = segments;
+  events = events;
+  complete_to = complete_to;
+  objects = objects;
+}
+
+one_totals : (T : Trace) (a b : Totals) → AreTotals T a → AreTotals T b → a ≡ b
+one_totals T a b p q =
+    let processors : a.processors ≡ b.processors = p.processors ∙ sym q.processors in
+    let segments : a.segments ≡ b.segments = p.segments ∙ sym q.segments in
+    let events : a.events ≡ b.events = p.events ∙ sym q.events in
+    let complete_to = one_complete T a.complete_to b.complete_to p.complete_to q.complete_to in
+    let objects = (determined T).objects a.objects b.objects p.objects q.objects in
+    ap (λ (n : ℕ). totals n a.segments a.events a.complete_to a.objects) processors
+    ∙ ap (λ (n : ℕ). totals b.processors n a.events a.complete_to a.objects) segments
+    ∙ ap (λ (n : ℕ). totals b.processors b.segments n a.complete_to a.objects) events
+    ∙ ap (λ (n : ℕ). totals b.processors b.segments b.events n a.objects) complete_to
+    ∙ ap (λ (n : ℕ). totals b.processors b.segments b.events b.complete_to n) objects
+
+one_gaps : (T : Trace) (a b : List Gap) → IsGaps (HasKey T) T.processors a → IsGaps (HasKey T) T.processors b → a ≡ b
+one_gaps T a b =
+    Lists-same IsGapBefore IsGapBefore-strict (IsGap (HasKey T) T.processors) (IsGap (HasKey T) T.processors) a b
+    (λ gap. ((λ h. h), (λ h. h)))
+
+pub one_summary : (T : Trace) (a b : List ℕ) → IsSummaryText T a → IsSummaryText T b → a ≡ b
+one_summary T a b p q =
+    let totals : p.0 ≡ q.0 = one_totals T p.0 q.0 p.4 q.4 in
+    let gaps : p.1 ≡ q.1 = one_gaps T p.1 q.1 p.5 q.5 in
+    let processes : p.2 ≡ q.2 = (determined T).processes p.2 q.2 p.6 q.6 in
+    let objects : p.3 ≡ q.3 = (determined T).unbalanced p.3 q.3 p.7 q.7 in
+    let one = p.8 in
+    let other = q.8 in
+    cc

@@ -1,0 +1,216 @@
+//! Summaries: what leaks at all, and which segments are missing.
+
+ghost use Rattle.std.specs.Prelude.{◌≡◌, ◌++◌, OnOk, flat_map, string_bytes};
+ghost use Rattle.htl_report.specs.Summaries.{absent_line, between_line, events_part, gap_line, handles_part, lines_part, moments_part, object_line, process_line, summary_head, summary_text, tags_part, totals_part};
+
+use crate::parts::write_object;
+use htl_event::{ObjectRow, ProcessRow};
+use htl_taken::Gap;
+use std::alloc::AllocError;
+
+/// What there is: numbers of processors, of segments, of events and of objects with an event.
+#[derive(Clone, Copy, Debug, PartialEq, Eq)]
+pub struct Totals {
+    pub processors: u16,
+    pub segments: u64,
+    pub events: u64,
+    /// The sequence up to which no segment is missing.
+    pub complete_to: u64,
+    pub objects: u64,
+}
+
+#[tactic(auto, unfolding(crate::specs::Summaries::summary_text))]
+pub(crate) fn write_summary(
+    out: &mut String,
+    totals: &Totals,
+    gaps: &[Gap],
+    processes: &[ProcessRow],
+    objects: &[ObjectRow],
+) -> Result<(), AllocError>
+    ensures { OnOk result (string_bytes out.new
+        ≡ string_bytes out.old ++ summary_text totals.now gaps.now processes.now objects.now) }
+{
+    write_head(out, totals, gaps.len(), processes.len(), objects.len())?;
+    write_gaps(out, gaps)?;
+    write_processes(out, processes)?;
+    write_objects(out, objects)
+}
+
+fn write_head(
+    out: &mut String,
+    totals: &Totals,
+    gaps: usize,
+    processes: usize,
+    unbalanced: usize,
+) -> Result<(), AllocError>
+    ensures { OnOk result (string_bytes out.new
+        ≡ string_bytes out.old ++ summary_head totals.now gaps processes unbalanced) }
+{
+    write_totals(out, totals)?;
+    write_lines(out, gaps, processes, totals.objects, unbalanced)
+}
+
+#[tactic(auto, unfolding(crate::specs::Summaries::totals_part))]
+fn write_totals(out: &mut String, totals: &Totals) -> Result<(), AllocError>
+    ensures { OnOk result (string_bytes out.new
+        ≡ string_bytes out.old ++ totals_part totals.now) }
+{
+    let Totals {
+        processors,
+        segments,
+        events,
+        complete_to,
+        ..
+    } = *totals;
+    write!(
+        out,
+        "summary processors={processors} segments={segments} events={events} complete_to={complete_to}"
+    )
+}
+
+#[tactic(auto, unfolding(crate::specs::Summaries::lines_part))]
+fn write_lines(
+    out: &mut String,
+    gaps: usize,
+    processes: usize,
+    objects: u64,
+    unbalanced: usize,
+) -> Result<(), AllocError>
+    ensures { OnOk result (string_bytes out.new
+        ≡ string_bytes out.old ++ lines_part gaps processes objects unbalanced) }
+{
+    writeln!(
+        out,
+        " gaps={gaps} processes={processes} objects={objects} unbalanced={unbalanced}"
+    )
+}
+
+fn write_gaps(out: &mut String, gaps: &[Gap]) -> Result<(), AllocError>
+    ensures { OnOk result (string_bytes out.new
+        ≡ string_bytes out.old ++ flat_map gap_line gaps.now) }
+{
+    for gap in gaps {
+        write_gap(out, gap)?;
+    }
+    Ok(())
+}
+
+fn write_gap(out: &mut String, gap: &Gap) -> Result<(), AllocError>
+    ensures { OnOk result (string_bytes out.new ≡ string_bytes out.old ++ gap_line gap.now) }
+{
+    match *gap {
+        Gap::Between {
+            processor,
+            from,
+            to,
+        } => write_between(out, processor, from, to),
+        Gap::Absent { processor } => write_absent(out, processor),
+    }
+}
+
+#[tactic(auto, unfolding(crate::specs::Summaries::between_line))]
+fn write_between(out: &mut String, processor: u16, from: u32, to: u32) -> Result<(), AllocError>
+    ensures { OnOk result (string_bytes out.new
+        ≡ string_bytes out.old ++ between_line processor from to) }
+{
+    writeln!(out, "GAP processor={processor} from={from} to={to}")
+}
+
+#[tactic(auto, unfolding(crate::specs::Summaries::absent_line))]
+fn write_absent(out: &mut String, processor: u16) -> Result<(), AllocError>
+    ensures { OnOk result (string_bytes out.new
+        ≡ string_bytes out.old ++ absent_line processor) }
+{
+    writeln!(out, "GAP processor={processor} from=0")
+}
+
+fn write_processes(out: &mut String, rows: &[ProcessRow]) -> Result<(), AllocError>
+    ensures { OnOk result (string_bytes out.new
+        ≡ string_bytes out.old ++ flat_map process_line rows.now) }
+{
+    for row in rows {
+        write_process(out, row)?;
+    }
+    Ok(())
+}
+
+fn write_process(out: &mut String, row: &ProcessRow) -> Result<(), AllocError>
+    ensures { OnOk result (string_bytes out.new
+        ≡ string_bytes out.old ++ process_line row.now) }
+{
+    write_handles(out, row)?;
+    write_events(out, row)?;
+    write_moments(out, row)
+}
+
+#[tactic(auto, unfolding(crate::specs::Summaries::handles_part))]
+fn write_handles(out: &mut String, row: &ProcessRow) -> Result<(), AllocError>
+    ensures { OnOk result (string_bytes out.new
+        ≡ string_bytes out.old ++ handles_part row.now) }
+{
+    let ProcessRow {
+        process,
+        outstanding,
+        ..
+    } = *row;
+    write!(out, "PROCESS process={process} outstanding={outstanding}")
+}
+
+#[tactic(auto, unfolding(crate::specs::Summaries::events_part))]
+fn write_events(out: &mut String, row: &ProcessRow) -> Result<(), AllocError>
+    ensures { OnOk result (string_bytes out.new
+        ≡ string_bytes out.old ++ events_part row.now) }
+{
+    let ProcessRow {
+        opens,
+        closes,
+        bad,
+        ..
+    } = *row;
+    write!(out, " opens={opens} closes={closes} bad={bad}")
+}
+
+#[tactic(auto, unfolding(crate::specs::Summaries::moments_part))]
+fn write_moments(out: &mut String, row: &ProcessRow) -> Result<(), AllocError>
+    ensures { OnOk result (string_bytes out.new
+        ≡ string_bytes out.old ++ moments_part row.now) }
+{
+    let ProcessRow { mark, exit, .. } = *row;
+    writeln!(out, " mark={mark} exit={exit}")
+}
+
+fn write_objects(out: &mut String, rows: &[ObjectRow]) -> Result<(), AllocError>
+    ensures { OnOk result (string_bytes out.new
+        ≡ string_bytes out.old ++ flat_map object_line rows.now) }
+{
+    for row in rows {
+        write_object_row(out, row)?;
+    }
+    Ok(())
+}
+
+fn write_object_row(out: &mut String, row: &ObjectRow) -> Result<(), AllocError>
+    ensures { OnOk result (string_bytes out.new
+        ≡ string_bytes out.old ++ object_line row.now) }
+{
+    write_object(out, "OBJECT", row.object)?;
+    write_object_tags(out, row)
+}
+
+#[tactic(auto, unfolding(crate::specs::Summaries::tags_part))]
+fn write_object_tags(out: &mut String, row: &ObjectRow) -> Result<(), AllocError>
+    ensures { OnOk result (string_bytes out.new
+        ≡ string_bytes out.old ++ tags_part row.now) }
+{
+    let ObjectRow {
+        tags,
+        unbalanced,
+        refs,
+        derefs,
+        ..
+    } = *row;
+    writeln!(
+        out,
+        " tags={tags} unbalanced={unbalanced} refs={refs} derefs={derefs}"
+    )
+}

@@ -1,6 +1,6 @@
-//! How fast a case is made and a handle is listed, of 4 and of 64 processors. The argument is the number of
-//! events that each of 64 segments has, 64 where there is none. The counts go to standard output and the speeds
-//! to standard error.
+//! How fast a case is made and a handle is listed, of 4 and of 64 processors. The argument is the
+//! number of events that each of 64 segments has, 64 where there is none. The counts go to standard
+//! output and the speeds to standard error.
 #![tactic(auto)]
 
 use bench_clock::Stopwatch;

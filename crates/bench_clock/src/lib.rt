@@ -6,8 +6,8 @@ use std::rt::Env;
 use std::time::{Clock, Instant};
 use std::{env, io};
 
-/// The size that the first word behind the program's name tells, or `otherwise` where there is none. A word
-/// that is no decimal number below 2^32 is refused.
+/// The size that the first word behind the program's name tells, or `otherwise` where there is
+/// none. A word that is no decimal number below 2^32 is refused.
 pub fn size<R: Env + Alloc<A = Global>>(rt: &R, otherwise: u32) -> io::Result<u32> {
     match env::args(rt)?.nth(1) {
         None => Ok(otherwise),
@@ -19,8 +19,8 @@ pub fn size<R: Env + Alloc<A = Global>>(rt: &R, otherwise: u32) -> io::Result<u3
 
 /// Times one step after the other.
 ///
-/// What a step went through goes to standard output, which is the same in each run, and how long it took
-/// to standard error.
+/// What a step went through goes to standard output, which is the same in each run, and how long it
+/// took to standard error.
 #[derive(Drop)]
 pub struct Stopwatch<'a, R> {
     rt: &'a R,
@@ -40,8 +40,8 @@ impl<'a, R: Clock + Print + Eprint> Stopwatch<'a, R> {
         Ok(())
     }
 
-    /// Ends a step that went through so many bytes, events or the like, and begins the next one. A byte a
-    /// microsecond is a megabyte a second.
+    /// Ends a step that went through so many bytes, events or the like, and begins the next one. A
+    /// byte a microsecond is a megabyte a second.
     pub fn lap(&mut self, step: &str, count: u64) -> io::Result<()> {
         let microseconds = self.started.elapsed(self.rt)?.as_micros().max(1);
         let speed = u128::from(count) / microseconds;

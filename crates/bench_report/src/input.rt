@@ -45,7 +45,8 @@ fn open(alloc: Global, row: u32, ranges: u32) -> Result<SharedEvent, NoMemory> {
     })
 }
 
-/// The innermost address is the start of a range, twelve are inside one, and the three outermost in none.
+/// The innermost address is the start of a range, twelve are inside one, and the three outermost in
+/// none.
 fn addresses(row: u32, ranges: u32) -> [u64; FRAMES] {
     let mut addresses = [0; FRAMES];
     for (place, address) in addresses.iter_mut().enumerate() {

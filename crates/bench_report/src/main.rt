@@ -1,6 +1,6 @@
-//! Reads a symbol table and prints an answer under it: `bench_report ROWS` for an answer of so many rows of
-//! 16 frames and a table of half as many ranges. Standard error tells how long each step took, standard
-//! output how large its result is.
+//! Reads a symbol table and prints an answer under it: `bench_report ROWS` for an answer of so many
+//! rows of 16 frames and a table of half as many ranges. Standard error tells how long each step
+//! took, standard output how large its result is.
 #![tactic(auto)]
 
 mod input;

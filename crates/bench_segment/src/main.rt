@@ -1,6 +1,6 @@
-//! How fast bundles are read, and in how much memory. The argument is the number of segments that each of
-//! four processors has, 1 where there is none; a segment has some 0.8 MB. Counts go to standard output,
-//! speeds and memory to standard error.
+//! How fast bundles are read, and in how much memory. The argument is the number of segments that
+//! each of four processors has, 1 where there is none; a segment has some 0.8 MB. Counts go to
+//! standard output, speeds and memory to standard error.
 #![tactic(auto)]
 
 use anyhow::Result;

@@ -1,5 +1,6 @@
-//! How long a stack tree of many events takes. The argument is the number of segments of each of 4 processors,
-//! 1 where there is none; the times go to standard error, with few stacks and with many.
+//! How long a stack tree of many events takes. The argument is the number of segments of each of 4
+//! processors, 1 where there is none; the times go to standard error, with few stacks and with
+//! many.
 #![tactic(auto)]
 
 use anyhow::Result;

@@ -10,8 +10,8 @@ impl<A: Allocator> Analyst<A> {
     ghost use Rattle.htl_taken.specs.Gaps.{IsGaps};
     ghost use Rattle.htl_analyst.specs.Keys.{HasTaken};
 
-    /// Which segments are missing: for each processor, in order, the longest unbroken runs of numbers that
-    /// weren't taken, below one that was; or that none of its segments was taken.
+    /// Which segments are missing: for each processor, in order, the longest unbroken runs of
+    /// numbers that weren't taken, below one that was; or that none of its segments was taken.
     pub fn gaps(&self, alloc: Global) -> Result<Vec<Gap>, NoMemory>
         ensures { IfOk result (λ gaps. IsGaps (HasTaken self.now) self.now.processors gaps.items) }
     {
@@ -27,8 +27,8 @@ impl<A: Allocator + Clone> Analyst<A> {
     ghost use Rattle.htl_analyst.specs.Right.{IsRight};
     ghost use Rattle.htl_analyst.specs.Answers.{taken_events};
 
-    /// Each process with an open, a close or a bad reference, the most outstanding handles first and then
-    /// by process.
+    /// Each process with an open, a close or a bad reference, the most outstanding handles first
+    /// and then by process.
     pub fn processes(&self, alloc: Global) -> Result<Vec<ProcessRow>, NoMemory>
         ensures { IfOk result (λ rows. (T : Trace) → IsRight self.now T
             → IsProcesses (taken_events T self.now) rows.items) }

@@ -34,14 +34,14 @@ impl Case {
     ghost use Rattle.htl_case.specs.Cases.{IsCase, IsCaseOf};
     ghost use Rattle.htl_case.specs.Faults.{IsRefusal, IsOutcome};
 
-    /// The case of these segments, which may come in any order and more than once. It takes n log n steps
-    /// for n events and moves the segments as they are. A refusal drops them.
+    /// The case of these segments, which may come in any order and more than once. It takes n log n
+    /// steps for n events and moves the segments as they are. A refusal drops them.
     pub fn of(alloc: Global, segments: Vec<Segment>) -> Result<Case, CaseFault>
         ensures ok { IfOk result (IsCaseOf segments.items) }
         ensures err { IfErr result (IsRefusal segments.items) }
 
-        // A list is a case or breaks a rule, never both, and one rule first. So nothing else is answered, but
-        // for want of memory.
+        // A list is a case or breaks a rule, never both, and one rule first. So nothing else is
+        // answered, but for want of memory.
         ensures exact { (outcome : Result Trace CaseFault) → IsOutcome segments.items outcome
             → (result ≡ outcome) ⊎ (result ≡ Err CaseFault.NoMemory) }
     {

@@ -4,8 +4,8 @@ use htl_event::NoMemory;
 use std::alloc::{AllocError, AllocFailed};
 use thiserror::Error;
 
-/// Why a list of segments is no case: the first rule that it breaks, each tried over all segments before
-/// the next. The text is the fault's code.
+/// Why a list of segments is no case: the first rule that it breaks, each tried over all segments
+/// before the next. The text is the fault's code.
 #[derive(Clone, Copy, Debug, PartialEq, Eq, Error)]
 pub enum CaseFault {
     /// No segments.
@@ -23,18 +23,18 @@ pub enum CaseFault {
     /// The least sequence that is in two different segments.
     #[error("C5({0})")]
     SequenceTwice(u64),
-    /// Memory for a growth was refused. It comes after `TwoContents` and before the faults that are tried
-    /// later.
+    /// Memory for a growth was refused. It comes after `TwoContents` and before the faults that are
+    /// tried later.
     #[error("C6")]
     NoMemory,
-    /// The least processor and number whose segment has an event that isn't above every sequence in the
-    /// processor's segments of lower numbers. It is tried last.
+    /// The least processor and number whose segment has an event that isn't above every sequence in
+    /// the processor's segments of lower numbers. It is tried last.
     #[error("C7({0}, {1})")]
     Falling(u16, u32),
 }
 
-/// Why a list of steps isn't played. The steps are checked in their order before any is done, so the fault is
-/// that of the first step that has one. The text is the fault's code.
+/// Why a list of steps isn't played. The steps are checked in their order before any is done, so
+/// the fault is that of the first step that has one. The text is the fault's code.
 #[derive(Clone, Copy, Debug, PartialEq, Eq, Error)]
 pub enum PlayFault {
     /// The step at this place, counted from 0, names an analyst that isn't there.

@@ -1,4 +1,5 @@
-//! The law that this project is about, and its premise. The law's function does nothing when it runs.
+//! The law that this project is about, and its premise. The law's function does nothing when it
+//! runs.
 
 ghost use Rattle.std.specs.Prelude.{IfOk};
 ghost use Rattle.std.specs.Option.{option_copied};
@@ -11,10 +12,11 @@ use htl_event::{Count, NoMemory, SharedEvent, SharedStack, Slot};
 use htl_tree::StackTree;
 use std::alloc::Global;
 
-/// For every trace and every list of takes, merges and compactions over any number of analysts, in any order
-/// and with repeats, each analyst's answer to every question is the definition's value over exactly the
-/// segments that reached it; analysts that the same segments reached agree, and are equal once compacted; and
-/// merge is commutative, associative, idempotent and gives the least state above both.
+/// For every trace and every list of takes, merges and compactions over any number of analysts, in
+/// any order and with repeats, each analyst's answer to every question is the definition's value
+/// over exactly the segments that reached it; analysts that the same segments reached agree, and
+/// are equal once compacted; and merge is commutative, associative, idempotent and gives the least
+/// state above both.
 pub fn headline()
     ensures { Headline }
 {}

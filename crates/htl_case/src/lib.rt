@@ -1,17 +1,17 @@
-//! Cases: all segments of one trace in hand, the listing of a handle's events, and analysts that a list of
-//! steps leads to. `laws` has the headline.
+//! Cases: all segments of one trace in hand, the listing of a handle's events, and analysts that a
+//! list of steps leads to. `laws` has the headline.
 //!
-//! `Case::of` accepts a list of segments exactly where, equal repeats dropped, it is a trace whose sequences
-//! rise along each processor; of another list it tells the first rule that it breaks. `play` does a list of
-//! takes, merges and compactions over a case.
+//! `Case::of` accepts a list of segments exactly where, equal repeats dropped, it is a trace whose
+//! sequences rise along each processor; of another list it tells the first rule that it breaks.
+//! `play` does a list of takes, merges and compactions over a case.
 //!
-//! `specs/` is read in this order: `Cases` (what a case is), `Faults` (the rules that a list of segments may
-//! break), `Reached` (which keys a list of steps brings to an analyst), `Plays` (why steps aren't played),
-//! `Questions` (an analyst's questions and their answers) and `Headline`; `Ordered`, `Sequences` and `Listed`
-//! serve private clauses alone. In `proofs/`, `KeyOrder` shows what a sort by key leaves, `Repeats` what is
-//! left without equal repeats, `Twice` which sequences come twice, `Scanned` where they fall, `Outcomes` that
-//! a list is one case or breaks one rule first, `Histories` what a list of steps leaves of each analyst, and
-//! `Headlines` the headline.
+//! `specs/` is read in this order: `Cases` (what a case is), `Faults` (the rules that a list of
+//! segments may break), `Reached` (which keys a list of steps brings to an analyst), `Plays` (why
+//! steps aren't played), `Questions` (an analyst's questions and their answers) and `Headline`;
+//! `Ordered`, `Sequences` and `Listed` serve private clauses alone. In `proofs/`, `KeyOrder` shows
+//! what a sort by key leaves, `Repeats` what is left without equal repeats, `Twice` which sequences
+//! come twice, `Scanned` where they fall, `Outcomes` that a list is one case or breaks one rule
+//! first, `Histories` what a list of steps leaves of each analyst, and `Headlines` the headline.
 #![tactic(auto)]
 
 mod case;

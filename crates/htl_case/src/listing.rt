@@ -16,8 +16,8 @@ impl Case {
     ghost use Rattle.htl_event.specs.Handles.{IsListing};
     ghost use Rattle.htl_segment.specs.Traces.{all_events};
 
-    /// The opens, closes and bad references of a process with the same base handle, the newest first. Only
-    /// the events that are listed are copied.
+    /// The opens, closes and bad references of a process with the same base handle, the newest
+    /// first. Only the events that are listed are copied.
     pub fn trace(
         &self,
         alloc: Global,

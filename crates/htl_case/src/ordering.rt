@@ -1,6 +1,7 @@
 //! The segments of one trace in the order of their keys, each once. Nothing here takes memory.
 
-ghost use Rattle.std.specs.Prelude.{◌≡◌, ◌↔◌, ◌==◌, not, position, IsTrue, IfOk, IfErr, MatchOption};
+ghost use Rattle.std.specs.Prelude.{◌≡◌, ◌↔◌, ◌==◌, not, position};
+ghost use Rattle.std.specs.Prelude.{IsTrue, IfOk, IfErr, MatchOption};
 ghost use Rattle.std.specs.List.{dedup};
 ghost use Rattle.std.specs.List.Sorted.{IsPermutation};
 ghost use Rattle.htl_segment.specs.Rising.{IsKeyBefore};

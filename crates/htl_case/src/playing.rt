@@ -1,6 +1,7 @@
 //! Playing a list of steps: the analysts that it leads to.
 
-ghost use Rattle.std.specs.Prelude.{◌≡◌, ◌≢◌, ◌<◌, ℕ, length, reverse, replicate, IfOk, IfErr, OnOk};
+ghost use Rattle.std.specs.Prelude.{◌≡◌, ◌≢◌, ◌<◌, ℕ, length, reverse};
+ghost use Rattle.std.specs.Prelude.{replicate, IfOk, IfErr, OnOk};
 ghost use Rattle.htl_analyst.specs.Right.{IsRight};
 ghost use Rattle.htl_analyst.specs.Steps.{new_state, IsMerge};
 ghost use Rattle.htl_case.specs.Cases.{IsCase};
@@ -88,7 +89,8 @@ fn new_analyst(alloc: Global, case: &Case) -> Result<Analyst<Global>, PlayFault>
     }
 }
 
-/// What the step does. The step names analysts and a segment that are there, so only memory may be wanting.
+/// What the step does. The step names analysts and a segment that are there, so only memory may be
+/// wanting.
 fn do_step(analysts: &mut [Analyst<Global>], case: &Case, step: Step) -> Result<(), PlayFault>
     requires there { IsFaulty (length analysts.old) (length case.now.segments) step → ⊥ }
     requires right { AreRight case.now analysts.old }

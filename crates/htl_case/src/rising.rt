@@ -34,8 +34,8 @@ pub fn falling(segments: &[Segment]) -> Option<(u16, u32)>
     None
 }
 
-/// What a segment's sequences have to be above, where the processor of the one before it has come to a
-/// highest sequence.
+/// What a segment's sequences have to be above, where the processor of the one before it has come
+/// to a highest sequence.
 fn floor_of(segment: &Segment, processor: u16, highest: u64) -> u64
     ensures { result ≡ (if segment.now.processor == processor then highest else 0) }
 {

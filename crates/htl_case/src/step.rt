@@ -3,13 +3,14 @@
 ghost use Rattle.std.specs.Prelude.{◌↔◌, IsTrue};
 ghost use Rattle.htl_case.specs.Plays.{NamesNoAnalyst, NamesNoSegment};
 
-/// What one of some analysts does. Analysts are named by their places, counted from 0, and segments by theirs
-/// in `Case::segments`.
+/// What one of some analysts does. Analysts are named by their places, counted from 0, and segments
+/// by theirs in `Case::segments`.
 #[derive(Clone, Copy, Debug, PartialEq, Eq)]
 pub enum Step {
     /// The analyst takes the segment.
     Take { analyst: u32, segment: u32 },
-    /// The source is merged into the target. Where both are one analyst, it is merged with its copy.
+    /// The source is merged into the target. Where both are one analyst, it is merged with its
+    /// copy.
     Merge { target: u32, source: u32 },
     /// The analyst is compacted.
     Compact { analyst: u32 },

@@ -1,6 +1,8 @@
 //! Closing an exchange.
-ghost use Rattle.std.specs.Prelude.{◌≡◌, ◌≢◌, ◌+◌, ◌≤◌, ◌<◌, ◌↔◌, ℕ, [], ◌∷◌, None, IsTrue, true, IfOk, IfErr, OnOk, length, vec_len, vec_capacity};
-ghost use Rattle.htl_exchange.specs.Desks.{IsDeskOf, AreDesksOf, parts_at, KeepAll, KeepsGot, IsWholeStanding};
+ghost use Rattle.std.specs.Prelude.{◌≡◌, ◌≢◌, ◌+◌, ◌≤◌, ◌<◌, ◌↔◌, ℕ, [], ◌∷◌, None, IsTrue};
+ghost use Rattle.std.specs.Prelude.{true, IfOk, IfErr, OnOk, length, vec_len, vec_capacity};
+ghost use Rattle.htl_exchange.specs.Desks.{IsDeskOf, AreDesksOf, parts_at};
+ghost use Rattle.htl_exchange.specs.Desks.{KeepAll, KeepsGot, IsWholeStanding};
 ghost use Rattle.htl_exchange.specs.Collects.{HasRest};
 
 use crate::MAX_DESKS;

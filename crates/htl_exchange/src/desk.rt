@@ -55,7 +55,8 @@ impl Model for Desk {
 }
 
 impl Desk {
-    ghost use Rattle.std.specs.Prelude.{◌≡◌, ◌≢◌, ◌↔◌, ◌+◌, ◌≤◌, ◌<◌, ℕ, [], Some, None, IsSome, IsTrue, IfErr, OnOk, Ok};
+    ghost use Rattle.std.specs.Prelude.{◌≡◌, ◌≢◌, ◌↔◌, ◌+◌, ◌≤◌, ◌<◌, ℕ, [], Some};
+    ghost use Rattle.std.specs.Prelude.{None, IsSome, IsTrue, IfErr, OnOk, Ok};
     ghost use Rattle.htl_analyst.specs.Right.{IsRight, IsStanding};
     ghost use Rattle.htl_analyst.specs.Keys.{HasTaken};
     ghost use Rattle.htl_exchange.specs.Moves.{known_of, pushed, joined};

@@ -1,5 +1,6 @@
 //! Starting an exchange: the queue is filled with the runs of a case, and the desks are seated.
-ghost use Rattle.std.specs.Prelude.{◌≡◌, ◌≢◌, ◌+◌, ◌*◌, ◌≤◌, ◌<◌, ◌↔◌, ◌⊎◌, ◌++◌, ℕ, [], filter, OnOk, IfOk, IfErr, length, vec_len, Err};
+ghost use Rattle.std.specs.Prelude.{◌≡◌, ◌≢◌, ◌+◌, ◌*◌, ◌≤◌, ◌<◌, ◌↔◌, ◌⊎◌, ◌++◌, ℕ, []};
+ghost use Rattle.std.specs.Prelude.{filter, OnOk, IfOk, IfErr, length, vec_len, Err};
 ghost use Rattle.std.specs.List.{list_any};
 ghost use Rattle.crossbeam_queue.specs.Passes.{IsPassOf, IsSamePass, ruled_capacity};
 ghost use Rattle.htl_segment.specs.Content.{Content};

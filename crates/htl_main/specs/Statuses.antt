@@ -1,7 +1,8 @@
 -- The exit statuses of the program (this project's own).
 use Rattle.std.specs.Prelude.{ℕ}
 use Rattle.htl_main.specs.declared.fault.RunFault.{RunFault}
-use Rattle.htl_main.specs.declared.fault.RunFault.TheVariants.{Workers, Segment, Hex, Case, Symbols, Read, SymbolsRead, Write, Memory, NoThread}
+use Rattle.htl_main.specs.declared.fault.RunFault.TheVariants.{Workers, Segment, Hex, Case, Symbols, Read}
+use Rattle.htl_main.specs.declared.fault.RunFault.TheVariants.{SymbolsRead, Write, Memory, NoThread}
 
 abbrev pub status_of : RunFault → ℕ
 status_of Workers = 2

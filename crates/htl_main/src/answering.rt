@@ -23,8 +23,8 @@ use std::alloc::Global;
 use std::sync::Wait;
 use std::thread::Threads;
 
-/// The answer to the job's question. A listing is made from the case itself, and every other answer by an
-/// analyst that has taken the whole case; a summary by both.
+/// The answer to the job's question. A listing is made from the case itself, and every other answer
+/// by an analyst that has taken the whole case; a summary by both.
 pub(crate) fn answer<Rt: Threads + Wait + Sync>(
     rt: &Rt,
     alloc: Global,

@@ -11,8 +11,8 @@ use thiserror::Error;
 
 /// Why a run ended. Its text is the line that the program prints on standard error.
 ///
-/// Inputs and offsets count from 0. The offset is that in the bytes of the input, which are the decoded ones
-/// where it is given in hexadecimal.
+/// Inputs and offsets count from 0. The offset is that in the bytes of the input, which are the
+/// decoded ones where it is given in hexadecimal.
 #[derive(Clone, Copy, Debug, PartialEq, Eq, Error)]
 pub enum RunFault {
     /// The number of workers is not allowed.
@@ -61,9 +61,10 @@ impl RunFault {
     ghost use Rattle.htl_main.specs.Faults.{of_hex, of_read, of_segment};
     ghost use Rattle.htl_main.specs.Statuses.{status_of};
 
-    /// The exit status of the program: 2 for a wrong command, 3 where an input says something else than the
-    /// format lets it, 4 where the inputs belong to no one case, 5 where a device failed, 6 where memory or a
-    /// thread was refused, and 7 for the symbols. Status 0 is that of a run without a fault.
+    /// The exit status of the program: 2 for a wrong command, 3 where an input says something else
+    /// than the format lets it, 4 where the inputs belong to no one case, 5 where a device failed,
+    /// 6 where memory or a thread was refused, and 7 for the symbols. Status 0 is that of a run
+    /// without a fault.
     pub fn status(&self) -> u8
         ensures { result ≡ status_of self.now }
     {

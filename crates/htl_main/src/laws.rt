@@ -6,9 +6,9 @@ ghost use Rattle.htl_command.specs.declared.question.Job.{Job};
 ghost use Rattle.htl_main.specs.Printed.{Printed, WorkersFit};
 ghost use Rattle.htl_main.specs.declared.fault.RunFault.{RunFault};
 
-/// Inputs and a symbol table come to one text or to one fault, and never to both. The number of workers
-/// is no part of it, where it is allowed. (A refused growth or thread and a failed read or write are no
-/// faults of what is given.)
+/// Inputs and a symbol table come to one text or to one fault, and never to both. The number of
+/// workers is no part of it, where it is allowed. (A refused growth or thread and a failed read or
+/// write are no faults of what is given.)
 pub fn one_outcome()
     ensures one { (job : Job) (inputs : List (List ℕ)) (symbols : Option (List ℕ))
         (a b : Result (List ℕ) RunFault)

@@ -1,11 +1,13 @@
 //! The run: from the bytes of inputs to the printed answer.
 //!
-//! `specs/` is read in this order: `Inputs` (which segments the inputs spell, and which input is refused first),
-//! `Summaries` (what a summary says of a trace), `Printed` (the lines of the answer, or the first fault in the order
-//! of a run), `Causes` and `Sources` (how a run ends for want of memory or by a failing device). `printing.rt` and
-//! `streaming.rt` put the steps of the two runs in order: `inputs.rt` decodes what lies in memory and `sources.rt`
-//! what comes in reads, `answering.rt` lets workers take in the case and answers, and `summarizing.rt` makes its
-//! summary. `fault.rt` has the faults with their lines and statuses. `laws.rt` says that a run has one outcome.
+//! `specs/` is read in this order: `Inputs` (which segments the inputs spell, and which input is
+//! refused first), `Summaries` (what a summary says of a trace), `Printed` (the lines of the
+//! answer, or the first fault in the order of a run), `Causes` and `Sources` (how a run ends for
+//! want of memory or by a failing device). `printing.rt` and `streaming.rt` put the steps of the
+//! two runs in order: `inputs.rt` decodes what lies in memory and `sources.rt` what comes in reads,
+//! `answering.rt` lets workers take in the case and answers, and `summarizing.rt` makes its
+//! summary. `fault.rt` has the faults with their lines and statuses. `laws.rt` says that a run has
+//! one outcome.
 #![tactic(auto)]
 
 mod answering;

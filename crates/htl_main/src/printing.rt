@@ -20,13 +20,13 @@ use std::alloc::Global;
 use std::sync::Wait;
 use std::thread::Threads;
 
-/// Prints the answer to the job's question over the segments of all inputs, with addresses by name where the
-/// symbol table has them.
+/// Prints the answer to the job's question over the segments of all inputs, with addresses by name
+/// where the symbol table has them.
 ///
-/// The number of workers is tested first; then each input in order is decoded, the segments are made a case, the
-/// symbols are read, and the answer is made. The first fault ends the run. Nothing is written before the
-/// whole text is made; after a failed write some first part of it went out. What is printed is the same for
-/// every number of workers.
+/// The number of workers is tested first; then each input in order is decoded, the segments are
+/// made a case, the symbols are read, and the answer is made. The first fault ends the run. Nothing
+/// is written before the whole text is made; after a failed write some first part of it went out.
+/// What is printed is the same for every number of workers.
 pub fn run<Rt: Threads + Wait + Sync, W: Sink>(
     rt: &Rt,
     alloc: Global,

@@ -1,6 +1,7 @@
 //! The segments that sources give, each read to its end.
 
-ghost use Rattle.std.specs.Prelude.{◌≡◌, ◌≢◌, ◌⊎◌, ◌+◌, ◌*◌, ◌<◌, ◌≤◌, ◌^◌, ◌++◌, ℕ, List, [], All, None, Some, false, true};
+ghost use Rattle.std.specs.Prelude.{◌≡◌, ◌≢◌, ◌⊎◌, ◌+◌, ◌*◌, ◌<◌, ◌≤◌, ◌^◌, ◌++◌};
+ghost use Rattle.std.specs.Prelude.{ℕ, List, [], All, None, Some, false, true};
 ghost use Rattle.std.specs.Prelude.{length, map, IfOk, IfErr, IfSome};
 ghost use Rattle.htl_segment.specs.Bundles.{IsRest, Splits, cut_off};
 ghost use Rattle.htl_segment.specs.Pieces.{Refuses, start_of};
@@ -15,7 +16,8 @@ use htl_device::{MAX_READ_LEN, MAX_READS, Source, read_whole};
 use htl_segment::{Segment, Splitter};
 use std::alloc::Global;
 
-/// The segments of all sources, those of the first source first. The first fault is told, and ends the reading.
+/// The segments of all sources, those of the first source first. The first fault is told, and ends
+/// the reading.
 pub(crate) fn read_all<R: Source>(
     alloc: Global,
     hex: bool,
@@ -90,8 +92,8 @@ fn read_digits<R: Source>(
     }
 }
 
-/// The segments whose bytes the source at a place gives. Each read is split at once, so that no more of the
-/// bytes is kept than one segment that is not there whole yet.
+/// The segments whose bytes the source at a place gives. Each read is split at once, so that no
+/// more of the bytes is kept than one segment that is not there whole yet.
 fn read_bundle<R: Source>(
     alloc: Global,
     place: u64,

@@ -1,6 +1,7 @@
 //! The run over sources, which are read as it goes on.
 
-ghost use Rattle.std.specs.Prelude.{◌≡◌, ◌≢◌, ◌⊎◌, ℕ, List, All, Some, false, true, map, IfErr, OnOk};
+ghost use Rattle.std.specs.Prelude.{◌≡◌, ◌≢◌, ◌⊎◌, ℕ, List, All, Some};
+ghost use Rattle.std.specs.Prelude.{false, true, map, IfErr, OnOk};
 ghost use Rattle.std.specs.Option.{option_copied};
 ghost use Rattle.htl_main.specs.Causes.{Prints, PrintsPart};
 ghost use Rattle.htl_main.specs.Sources.{IsSourcesCause, IsTrueAt, MayBeEndless};
@@ -14,11 +15,11 @@ use std::alloc::Global;
 use std::sync::Wait;
 use std::thread::Threads;
 
-/// The same as `run` for the bytes that sources give, each of which is read to its end in reads of at most 65,536
-/// bytes.
+/// The same as `run` for the bytes that sources give, each of which is read to its end in reads of
+/// at most 65,536 bytes.
 ///
-/// A fault of a source's bytes ends the run with no further read. Bytes are decoded as they come; a text in
-/// hexadecimal is gathered whole first.
+/// A fault of a source's bytes ends the run with no further read. Bytes are decoded as they come; a
+/// text in hexadecimal is gathered whole first.
 pub fn run_from<Rt: Threads + Wait + Sync, R: Source, W: Sink>(
     rt: &Rt,
     alloc: Global,

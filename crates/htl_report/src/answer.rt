@@ -15,7 +15,8 @@ use htl_symbols::Symbols;
 use htl_taken::Gap;
 use std::alloc::{AllocError, Global};
 
-/// The answer to a question, with what was asked. Rows are printed in the order in which they stand.
+/// The answer to a question, with what was asked. Rows are printed in the order in which they
+/// stand.
 #[derive(Debug, Drop)]
 pub enum Answer {
     /// The handles of a process that are open, each by the event that opened it.
@@ -56,7 +57,8 @@ pub enum Answer {
         handle: u32,
         rows: Vec<SharedEvent>,
     },
-    /// What leaks at all: the segments that are missing, each process, and the objects with an unbalanced tag.
+    /// What leaks at all: the segments that are missing, each process, and the objects with an
+    /// unbalanced tag.
     Summary {
         totals: Totals,
         gaps: Vec<Gap>,
@@ -65,8 +67,8 @@ pub enum Answer {
     },
 }
 
-/// The lines of an answer, each ended by a line feed, with the addresses of its stacks by name where
-/// the symbols have them. Names are printed as they are.
+/// The lines of an answer, each ended by a line feed, with the addresses of its stacks by name
+/// where the symbols have them. Names are printed as they are.
 pub fn text(alloc: Global, answer: &Answer, symbols: &Symbols) -> Result<Vec<u8>, NoMemory>
     ensures { IfOk result (λ bytes. bytes.items ≡ text_of symbols.now answer.now) }
 {

@@ -1,8 +1,9 @@
 //! The printed texts of answers.
 //!
-//! `specs/Texts` says what is printed, with one function of data for each answer; `text` writes just that, into
-//! one buffer. Each kind of answer has one file, here and in `specs/`: its first line, the line of a row, and
-//! the whole. What several kinds print stands in `parts.rt` and `address.rt`.
+//! `specs/Texts` says what is printed, with one function of data for each answer; `text` writes
+//! just that, into one buffer. Each kind of answer has one file, here and in `specs/`: its first
+//! line, the line of a row, and the whole. What several kinds print stands in `parts.rt` and
+//! `address.rt`.
 #![tactic(auto)]
 
 mod address;

@@ -62,7 +62,8 @@ fn write_listed(out: &mut String, symbols: &Symbols, event: &SharedEvent) -> Res
     write_stack(out, symbols, event.stack.frames())
 }
 
-/// The word of an event of this kind. A listing has the first three alone, but any event can be printed.
+/// The word of an event of this kind. A listing has the first three alone, but any event can be
+/// printed.
 fn word(kind: Kind) -> &'static str
     ensures { result.now ≡ word_of kind }
 {

@@ -1,7 +1,8 @@
 //! Outstanding handles and differences: each handle by the event that opened it.
 
 ghost use Rattle.std.specs.Prelude.{◌≡◌, ◌++◌, OnOk, flat_map, string_bytes};
-ghost use Rattle.htl_report.specs.Opens.{diff_head, diff_text, open_lines, outstanding_head, outstanding_text};
+ghost use Rattle.htl_report.specs.Opens.{diff_head, diff_text, open_lines};
+ghost use Rattle.htl_report.specs.Opens.{outstanding_head, outstanding_text};
 
 use crate::address::write_stack;
 use crate::parts::{write_event, write_process_head};

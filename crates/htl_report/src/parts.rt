@@ -1,7 +1,8 @@
 //! Parts of lines that several kinds of answers print.
 
 ghost use Rattle.std.specs.Prelude.{◌≡◌, ◌++◌, ◌<◌, OnOk, string_bytes};
-ghost use Rattle.htl_report.specs.Parts.{count_part, counts, event_line, object_part, process_head, shown_byte, shown_tag};
+ghost use Rattle.htl_report.specs.Parts.{count_part, counts, event_line, object_part};
+ghost use Rattle.htl_report.specs.Parts.{process_head, shown_byte, shown_tag};
 
 use crate::address::write_padded;
 use htl_event::{Count, SharedEvent};

@@ -1,7 +1,8 @@
 //! Stacks of an object's references and dereferences under a tag.
 
 ghost use Rattle.std.specs.Prelude.{◌≡◌, ◌++◌, OnOk, flat_map, string_bytes};
-ghost use Rattle.htl_report.specs.ReferenceStacks.{stack_line, stacks_head, stacks_text, stacks_lines};
+ghost use Rattle.htl_report.specs.ReferenceStacks.{stack_line, stacks_head};
+ghost use Rattle.htl_report.specs.ReferenceStacks.{stacks_text, stacks_lines};
 
 use crate::address::write_stack;
 use crate::parts::{write_count, write_counts, write_object, write_tag};

@@ -1,7 +1,10 @@
 //! Summaries: what leaks at all, and which segments are missing.
 
 ghost use Rattle.std.specs.Prelude.{◌≡◌, ◌++◌, OnOk, flat_map, string_bytes};
-ghost use Rattle.htl_report.specs.Summaries.{absent_line, between_line, events_part, gap_line, handles_part, lines_part, moments_part, object_line, process_line, summary_head, summary_text, tags_part, totals_part};
+ghost use Rattle.htl_report.specs.Summaries.{absent_line, between_line, events_part};
+ghost use Rattle.htl_report.specs.Summaries.{gap_line, handles_part, lines_part, moments_part};
+ghost use Rattle.htl_report.specs.Summaries.{object_line, process_line, summary_head};
+ghost use Rattle.htl_report.specs.Summaries.{summary_text, tags_part, totals_part};
 
 use crate::parts::write_object;
 use htl_event::{ObjectRow, ProcessRow};

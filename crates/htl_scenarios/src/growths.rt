@@ -1,5 +1,5 @@
-//! Growths that are refused. Each call is tried in heaps of rising size: it is refused in some and answers in
-//! others, and where it is refused every answer is as before.
+//! Growths that are refused. Each call is tried in heaps of rising size: it is refused in some and
+//! answers in others, and where it is refused every answer is as before.
 
 use crate::analysts::TWO_PROCESSORS;
 use htl_analyst::Analyst;
@@ -101,8 +101,8 @@ fn agree_on_counts(rt: &impl Abort, one: &Analyst<&LocalHeap>, other: &Analyst<&
     assert_eq!(rt; one.mark(4), other.mark(4));
 }
 
-/// What is to be found after the call: what was there before if it is refused, and else what it does in a heap
-/// with room.
+/// What is to be found after the call: what was there before if it is refused, and else what it
+/// does in a heap with room.
 fn wanted<'a>(
     rt: &impl Abort,
     alloc: Global,
@@ -117,8 +117,8 @@ fn wanted<'a>(
     Ok(twin)
 }
 
-/// Whether the call is refused in this heap, if the analyst has room there. Only a compaction may have moved
-/// fronts when it is refused.
+/// Whether the call is refused in this heap, if the analyst has room there. Only a compaction may
+/// have moved fronts when it is refused.
 fn tried<'a>(
     rt: &impl Abort,
     alloc: Global,

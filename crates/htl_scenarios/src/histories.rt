@@ -1,5 +1,6 @@
-//! Random histories of three analysts. After each step every answer of the analyst that took it is compared with
-//! the plain one, and at the end what the three know together is the same in whichever order they are merged.
+//! Random histories of three analysts. After each step every answer of the analyst that took it is
+//! compared with the plain one, and at the end what the three know together is the same in
+//! whichever order they are merged.
 
 ghost use Rattle.std.specs.Prelude.{◌<◌};
 
@@ -127,7 +128,8 @@ impl Dice {
     }
 }
 
-/// One random step of one of the three: mostly a take, else a merge of another in either way, or a compaction.
+/// One random step of one of the three: mostly a take, else a merge of another in either way, or a
+/// compaction.
 fn step(
     rt: &impl Abort,
     subject: &Subject,

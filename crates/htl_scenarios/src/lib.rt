@@ -1,9 +1,10 @@
 //! Scenarios: tests of what the crates of an analysis come to together.
 //!
-//! Analysts that took the segments of a few lines answer what was worked out by hand: `handles` and `counting` have
-//! the questions, `merging` what analysts take over from one another, `moments` up to when nothing is missing, and
-//! `refusals` what is refused. In `histories` three analysts live through random lists of steps, and each answer is
-//! compared with that of `plain`, a program that scans a list of events.
+//! Analysts that took the segments of a few lines answer what was worked out by hand: `handles` and
+//! `counting` have the questions, `merging` what analysts take over from one another, `moments` up
+//! to when nothing is missing, and `refusals` what is refused. In `histories` three analysts live
+//! through random lists of steps, and each answer is compared with that of `plain`, a program that
+//! scans a list of events.
 #![tactic(auto)]
 
 #[cfg(test)]

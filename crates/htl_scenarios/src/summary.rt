@@ -9,9 +9,9 @@ use std::alloc::Global;
 use std::process::Abort;
 use std::test::Fail;
 
-/// Of three processors one has a gap and one no segment. Of three processes one exited, and one made a bad
-/// reference. Of four objects the first is balanced, the next two have a reference too many and too few, and
-/// the last one of each under two tags.
+/// Of three processors one has a gap and one no segment. Of three processes one exited, and one
+/// made a bad reference. Of four objects the first is balanced, the next two have a reference too
+/// many and too few, and the last one of each under two tags.
 const LINES: &[&str] = &[
     "0/0: O 1 0x44, O 2 0x48, S 3, C 4 0x48, B 5 0x7, O 6 0x10 process=5, O 7 0x14 process=5",
     "0/2: O 21 0x50, R 22 0x1000 Lky8, D 23 0x1000 Lky8, R 24 0x2000 Lky8, D 25 0x3000 Lky8, \
@@ -82,11 +82,7 @@ const GAPS: &[Gap] = &[
     Gap::Absent { processor: 2 },
 ];
 
-fn is_summed_up(
-    rt: &impl Abort,
-    alloc: Global,
-    analyst: &Analyst<Global>,
-) -> Result<(), NoMemory> {
+fn is_summed_up(rt: &impl Abort, alloc: Global, analyst: &Analyst<Global>) -> Result<(), NoMemory> {
     assert_eq!(rt; analyst.processes(alloc)?.as_slice(), PROCESSES);
     let objects = analyst.objects(alloc)?;
     assert_eq!(rt; objects.number, 4);

@@ -1,5 +1,6 @@
 -- The rows of objects are those of the definition, and their number is that of the objects.
-use Rattle.std.proofs.Common.{◌≡◌, ℕ, ◌+◌, ◌<◌, Bool, true, false, not, cond, ◌&&◌, ◌==◌, List, [], ◌∷◌, map, Option, Some, None, T, refl, sym, ap, subst, ◌∙◌, arith, inl, inr, nat_eq}
+use Rattle.std.proofs.Common.{◌≡◌, ℕ, ◌+◌, ◌<◌, Bool, true, false, not, cond, ◌&&◌, ◌==◌, List, [], ◌∷◌, map}
+use Rattle.std.proofs.Common.{Option, Some, None, T, refl, sym, ap, subst, ◌∙◌, arith, inl, inr, nat_eq}
 use Rattle.std.specs.Prelude.{Contains, ◌↔◌, ◌⊎◌, length, count_by, filter, nat_lt}
 use Rattle.std.specs.List.{sum_by, filter_map, IsDistinct, AllByRecursion}
 use Rattle.std.specs.List.Sorted.{IsPermutation}

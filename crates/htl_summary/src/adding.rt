@@ -9,7 +9,8 @@ use htl_event::NoMemory;
 use htl_sorted::{Joined, merge};
 use std::alloc::Global;
 
-/// The rows in the order of their keys, those of one key joined. Halves are put in order and merged.
+/// The rows in the order of their keys, those of one key joined. Halves are put in order and
+/// merged.
 pub(crate) fn add_up<L: Joined>(alloc: Global, rows: &[L::Row]) -> Result<Vec<L::Row>, NoMemory>
     requires associative { (x y z : L.Value) → L.joined (L.joined x y) z ≡ L.joined x (L.joined y z) }
     // Parts of the rows that stand side by side can be joined.

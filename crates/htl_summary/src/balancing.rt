@@ -1,6 +1,7 @@
 //! Whether the references of objects balance.
 
-ghost use Rattle.std.specs.Prelude.{◌≡◌, ◌<◌, ◌^◌, ◌↔◌, List, Contains, filter, length, map, nat_eq, nat_lt, IfOk};
+ghost use Rattle.std.specs.Prelude.{◌≡◌, ◌<◌, ◌^◌, ◌↔◌, List, Contains, filter};
+ghost use Rattle.std.specs.Prelude.{length, map, nat_eq, nat_lt, IfOk};
 ghost use Rattle.std.specs.List.{IsDistinct};
 ghost use Rattle.htl_event.specs.Events.{Event};
 ghost use Rattle.htl_event.specs.Members.{IsRising};

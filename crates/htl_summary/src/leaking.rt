@@ -1,6 +1,7 @@
 //! What processes did with handles.
 
-ghost use Rattle.std.specs.Prelude.{◌≡◌, ◌<◌, ◌^◌, ◌↔◌, List, Contains, filter, length, map, nat_eq, IfOk};
+ghost use Rattle.std.specs.Prelude.{◌≡◌, ◌<◌, ◌^◌, ◌↔◌, List, Contains};
+ghost use Rattle.std.specs.Prelude.{filter, length, map, nat_eq, IfOk};
 ghost use Rattle.std.specs.List.{IsDistinct};
 ghost use Rattle.htl_event.specs.Events.{Event};
 ghost use Rattle.htl_event.specs.Members.{IsRising};
@@ -19,8 +20,8 @@ use htl_event::{Kind, NoMemory, ProcessRow, SharedEvent};
 use std::alloc::{Allocator, Global};
 use std::cmp::Reverse;
 
-/// Each process with an open, a close or a bad reference, the most outstanding handles first and then by
-/// process.
+/// Each process with an open, a close or a bad reference, the most outstanding handles first and
+/// then by process.
 pub fn processes<P: Part>(
     alloc: Global,
     tree_alloc: &P::Alloc,

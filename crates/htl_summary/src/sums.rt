@@ -14,8 +14,8 @@ use htl_event::{Count, NoMemory, Slot};
 use htl_tree::Slots;
 use std::alloc::Global;
 
-/// Each slot of the parts' events and how often it came, in slot order. One walk over the tree of all parts
-/// lists them.
+/// Each slot of the parts' events and how often it came, in slot order. One walk over the tree of
+/// all parts lists them.
 pub(crate) fn slot_sums<P: Part>(
     alloc: Global,
     tree_alloc: &P::Alloc,

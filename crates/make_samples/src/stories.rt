@@ -1,5 +1,5 @@
-//! Small traces that tell a story. The table samples/symbols.csv has names for all their addresses. Numbers in
-//! parentheses are sequences of events.
+//! Small traces that tell a story. The table samples/symbols.csv has names for all their addresses.
+//! Numbers in parentheses are sequences of events.
 
 ghost use Rattle.std.specs.Prelude.{◌↔◌, IsSome};
 ghost use Rattle.make_samples.specs.Stories.{IsStory};
@@ -41,10 +41,11 @@ impl Story {
 
 /// A driver that leaks a handle on its error path.
 ///
-/// It opens its log once and keeps it (1). For each device that starts it opens a file with the device's settings
-/// and closes it (2, 3), and that is how it looks when a snapshot is taken (4). The settings of the next device are
-/// faulty: `ReadConfig` returns early and forgets to close them (5). Another device starts well (6, 7), but its
-/// settings are closed once more, which is a bad reference (8). The last device's settings are faulty again (9).
+/// It opens its log once and keeps it (1). For each device that starts it opens a file with the
+/// device's settings and closes it (2, 3), and that is how it looks when a snapshot is taken (4).
+/// The settings of the next device are faulty: `ReadConfig` returns early and forgets to close them
+/// (5). Another device starts well (6, 7), but its settings are closed once more, which is a bad
+/// reference (8). The last device's settings are faulty again (9).
 const DRIVER: [&str; 2] = [
     "0/0:
         O 1 0x40 [0x10114 0x2031c 0x20038 0x1042c],
@@ -61,9 +62,10 @@ const DRIVER: [&str; 2] = [
 
 /// An object with one reference too many under one tag.
 ///
-/// A file object is opened and closed under `Dflt` (1, 9). The driver takes a reference under `Copy` for each copy
-/// that it queues (2, 4, 6) and drops it when the copy is done (3, 5, 8). To cancel a copy it takes one more (7),
-/// sees that the copy is already being done, and returns without dropping it.
+/// A file object is opened and closed under `Dflt` (1, 9). The driver takes a reference under
+/// `Copy` for each copy that it queues (2, 4, 6) and drops it when the copy is done (3, 5, 8). To
+/// cancel a copy it takes one more (7), sees that the copy is already being done, and returns
+/// without dropping it.
 const OBJECT: [&str; 1] = [
     "0/0:
         R 1 0xffffa00000001000 Dflt [0x10210 0x10344 0x10518],
@@ -79,10 +81,11 @@ const OBJECT: [&str; 1] = [
 
 /// Handles that are closed by a process exit, over two processors.
 ///
-/// Process 1200 opens its source on processor 0 (1) and its target on processor 1 (2), and closes the source on
-/// processor 1 (3), whose segments stand first in the bundle: a close before its open. It opens a second source (4)
-/// and exits with both files open (6). Process 1300 does the same work on processor 0 (5), and runs on. The number
-/// 1200 goes to a new process, which opens its source under the handle of the first one's target (7).
+/// Process 1200 opens its source on processor 0 (1) and its target on processor 1 (2), and closes
+/// the source on processor 1 (3), whose segments stand first in the bundle: a close before its
+/// open. It opens a second source (4) and exits with both files open (6). Process 1300 does the
+/// same work on processor 0 (5), and runs on. The number 1200 goes to a new process, which opens
+/// its source under the handle of the first one's target (7).
 const EXIT: [&str; 3] = [
     "1/0:
         O 2 0x14 process=1200 [0x30014 0x31064 0x40230 0x40048],

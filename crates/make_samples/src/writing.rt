@@ -9,8 +9,8 @@ use htl_samples::{RandomTrace, SampleFault, TRACE, Trace};
 use htl_segment::{Segment, encode};
 use std::alloc::Global;
 
-/// Writes the segment of each line, in their order. After a fault the segments before it are written, and after
-/// a failed write a part of one more.
+/// Writes the segment of each line, in their order. After a fault the segments before it are
+/// written, and after a failed write a part of one more.
 pub fn write_lines<W: Sink>(
     alloc: Global,
     trace: Trace,
@@ -30,9 +30,9 @@ pub fn write_lines<W: Sink>(
     Ok(())
 }
 
-/// Writes a made-up trace: number 0 of each processor, then number 1 of each, and so on. Only one segment is in
-/// memory at a time. After a fault the segments before it are written, and after a failed write a part of one
-/// more.
+/// Writes a made-up trace: number 0 of each processor, then number 1 of each, and so on. Only one
+/// segment is in memory at a time. After a fault the segments before it are written, and after a
+/// failed write a part of one more.
 pub fn write_made_up<W: Sink>(
     alloc: Global,
     made_up: &RandomTrace,

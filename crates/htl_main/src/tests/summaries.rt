@@ -13,7 +13,8 @@ struct Summary {
     text: &'static str,
 }
 
-/// Two processors have gaps and one has no segment; one process exited, and one object of four is balanced.
+/// Two processors have gaps and one has no segment; one process exited, and one object of four is
+/// balanced.
 const MISSING: Summary = Summary {
     processors: 3,
     segments: &[

@@ -27,4 +27,5 @@ by_process rows = entries (λ row. row.process) (λ row. row) rows
 
 -- what the sums tell of a process
 abbrev pub usage_at : ℕ → List (Slot × Count) → Option Usage
-usage_at process sums = total_at nat_cmp (λ row. row.process) (λ row. row) both_usages process (filter_map (λ sum. usage_of sum.0 sum.1) sums)
+usage_at process sums =
+    total_at nat_cmp (λ row. row.process) (λ row. row) both_usages process (filter_map (λ sum. usage_of sum.0 sum.1) sums)

@@ -26,7 +26,15 @@ pub struct Command {
     pub text: &'static str,
 }
 
-pub const COMMANDS: [Command; 7] = [
+pub const COMMANDS: [Command; 8] = [
+    Command {
+        question: Question::Summary,
+        text: "\
+summary processors=1 segments=2 events=7 complete_to=7 gaps=0 processes=1 objects=1 unbalanced=1
+PROCESS process=4 outstanding=1 opens=2 closes=1 bad=1 mark=2 exit=0
+OBJECT object=0x0000000000001000 tags=2 unbalanced=2 refs=1 derefs=1
+",
+    },
     Command {
         question: Question::Outstanding { process: 4 },
         text: "\

@@ -152,7 +152,7 @@ fn failing_reads(rt: HostRuntime) -> Result<(), Fail> {
         let more = fail_reads_of(&rt, alloc, command, false, [&first, &second]);
         failed = failed.wrapping_add(more);
     }
-    assert_eq!(rt; failed, 2912);
+    assert_eq!(rt; failed, 3328);
     Ok(())
 }
 
@@ -166,6 +166,6 @@ fn failing_reads_of_digits(rt: HostRuntime) -> Result<(), Fail> {
         let more = fail_reads_of(&rt, alloc, command, true, [&first, &second]);
         failed = failed.wrapping_add(more);
     }
-    assert_eq!(rt; failed, 5754);
+    assert_eq!(rt; failed, 6576);
     Ok(())
 }

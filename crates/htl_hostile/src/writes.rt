@@ -124,6 +124,6 @@ fn failing_writes(rt: HostRuntime) -> Result<(), Fail> {
             }
         }
     }
-    assert_eq!(rt; failed, 1532);
+    assert_eq!(rt; failed, 2052);
     Ok(())
 }

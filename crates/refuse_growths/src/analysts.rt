@@ -5,9 +5,10 @@ use crate::same::{Equal, Same};
 use crate::trials::Trials;
 use anyhow::Result;
 use htl_analyst::{Analyst, Took};
-use htl_event::{Count, NoMemory, SharedEvent, SharedStack, Slot};
+use htl_event::{Count, NoMemory, ObjectRow, ProcessRow, SharedEvent, SharedStack, Slot};
 use htl_samples::{SMALL, TRACE};
 use htl_segment::Segment;
+use htl_taken::Gap;
 use htl_tree::StackTree;
 use std::alloc::Global;
 
@@ -45,6 +46,9 @@ pub fn try_all(trials: &mut Trials<'_>) -> Result<()> {
     trials.reads("leaks", analyst, leaks)?;
     trials.reads("stacks", analyst, stacks)?;
     trials.reads("whole_tree", analyst, whole_tree)?;
+    trials.reads("processes", analyst, processes)?;
+    trials.reads("objects", analyst, objects)?;
+    trials.reads("gaps", analyst, gaps)?;
     Ok(())
 }
 
@@ -186,6 +190,18 @@ fn whole_tree(_alloc: Global, analyst: &Own) -> Result<StackTree<Global>, Refusa
     Ok(analyst.whole_tree()?)
 }
 
+fn processes(alloc: Global, analyst: &Own) -> Result<Equal<Vec<ProcessRow>>, Refusal> {
+    Ok(Equal(analyst.processes(alloc)?))
+}
+
+fn objects(alloc: Global, analyst: &Own) -> Result<Equal<Vec<ObjectRow>>, Refusal> {
+    Ok(Equal(analyst.objects(alloc)?.unbalanced))
+}
+
+fn gaps(alloc: Global, analyst: &Own) -> Result<Equal<Vec<Gap>>, Refusal> {
+    Ok(Equal(analyst.gaps(alloc)?))
+}
+
 /// Whether two analysts took the same segments of the made-up trace and have the same answers,
 /// whatever each folded.
 pub fn agree(alloc: Global, one: &Own, two: &Own) -> Result<bool, NoMemory> {
@@ -193,7 +209,8 @@ pub fn agree(alloc: Global, one: &Own, two: &Own) -> Result<bool, NoMemory> {
         agree_on_keys(one, two)
             && agree_without_memory(one, two)
             && agree_on_handles(alloc, one, two)?
-            && agree_on_counts(alloc, one, two)?,
+            && agree_on_counts(alloc, one, two)?
+            && agree_on_summaries(alloc, one, two)?,
     )
 }
 
@@ -226,5 +243,13 @@ fn agree_on_counts(alloc: Global, one: &Own, two: &Own) -> Result<bool, NoMemory
             && one.bad(alloc, PROCESS)? == two.bad(alloc, PROCESS)?
             && one.stacks(alloc, OBJECT, TAG)? == two.stacks(alloc, OBJECT, TAG)?
             && one.whole_tree()?.same(&two.whole_tree()?),
+    )
+}
+
+fn agree_on_summaries(alloc: Global, one: &Own, two: &Own) -> Result<bool, NoMemory> {
+    Ok(
+        one.processes(alloc)? == two.processes(alloc)?
+            && one.objects(alloc)?.unbalanced == two.objects(alloc)?.unbalanced
+            && one.gaps(alloc)? == two.gaps(alloc)?,
     )
 }

@@ -26,6 +26,7 @@ pub fn try_all<R: Threads + Wait + Sync>(rt: &R, trials: &mut Trials<'_>) -> Res
         ("run for leaks by one worker", LEAKS, 1),
         ("run for leaks by two workers", LEAKS, 2),
         ("run for a trace", TRACE, 1),
+        ("run for a summary", Question::Summary, 1),
     ] {
         let job = Job {
             question,

@@ -7,7 +7,7 @@ use crate::same::{Equal, Spent};
 use crate::trials::Trials;
 use anyhow::Result;
 use htl_command::{Asked, parse};
-use htl_report::{Answer, text};
+use htl_report::{Answer, Totals, text};
 use htl_symbols::Symbols;
 use std::alloc::Global;
 
@@ -33,6 +33,7 @@ pub fn try_all(trials: &mut Trials<'_>) -> Result<()> {
     trials.reads("text of leaks", leaks, text_of)?;
     trials.reads("text of stacks", stacks, text_of)?;
     trials.reads("text of trace", trace, text_of)?;
+    trials.reads("text of summary", summary, text_of)?;
     trials.changes("parse", words, parsed)?;
     Ok(())
 }
@@ -128,6 +129,30 @@ fn trace(alloc: Global) -> Result<Shown, Refusal> {
             process: PROCESS,
             handle: 8,
             rows,
+        },
+    )
+}
+
+/// A summary of what the analyst took, with numbers of its own.
+fn summary(alloc: Global) -> Result<Shown, Refusal> {
+    let analyst = analyst(alloc)?;
+    let totals = Totals {
+        processors: analyst.processors(),
+        segments: analyst.taken(),
+        events: 0,
+        complete_to: analyst.complete_to(),
+        objects: 0,
+    };
+    let gaps = analyst.gaps(alloc)?;
+    let processes = analyst.processes(alloc)?;
+    let objects = analyst.objects(alloc)?.unbalanced;
+    shown(
+        alloc,
+        Answer::Summary {
+            totals,
+            gaps,
+            processes,
+            objects,
         },
     )
 }

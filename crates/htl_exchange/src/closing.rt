@@ -21,7 +21,8 @@ impl Exchange {
     pub fn close<R: Wait>(self, rt: &R, desks: Vec<Desk>) -> Result<Analyst<Global>, CloseFault>
         requires { AreDesksOf self desks.items }
         ensures whole { IfOk result (λ analyst. IsWholeStanding self.trace analyst) }
-        ensures parts { IfErr result (λ fault. (fault.why ≢ Why.NoMemory) ↔ (parts_at desks.items ≢ 8)) }
+        ensures parts { IfErr result (λ fault. (fault.why ≢ Why.NoMemory)
+            ↔ (parts_at desks.items ≢ 8)) }
         ensures out { IfErr result (λ fault. fault.why ≢ Why.NoMemory
             → (vec_len desks ≤ u32.MAX → fault.why ≡ Why.DesksOut (vec_len desks) self.desks)
             × (fault.exchange ≡ self) × (fault.desks.items ≡ desks.items)) }
@@ -29,7 +30,8 @@ impl Exchange {
         ensures memory { IfErr result (λ fault. fault.why ≡ Why.NoMemory
             → AreDesksOf fault.exchange fault.desks.items × (parts_at fault.desks.items ≡ 8)
             × (fault.exchange.desks ≡ vec_len fault.desks)) }
-        ensures same { IfErr result (λ fault. (fault.exchange.id ≡ self.id) × (fault.exchange.trace ≡ self.trace)) }
+        ensures same { IfErr result (λ fault. (fault.exchange.id ≡ self.id)
+            × (fault.exchange.trace ≡ self.trace)) }
         ensures kept { IfErr result (λ fault. KeepAll desks.items fault.desks.items) }
     {
         let mut exchange = self;
@@ -92,7 +94,8 @@ fn finish<R: Wait>(
     ensures parts { first.new.known.parts + parts_at desks.new.items ≡ 8 }
     ensures kept { KeepAll (first.old ∷ desks.old.items) (first.new ∷ desks.new.items) }
     ensures ok { OnOk result (IsWholeStanding exchange.now.trace first.new.analyst) }
-    ensures room { (vec_capacity desks.new ≡ vec_capacity desks.old) × (vec_len desks.new ≤ vec_len desks.old) }
+    ensures room { (vec_capacity desks.new ≡ vec_capacity desks.old)
+        × (vec_len desks.new ≤ vec_len desks.old) }
 {
     gather(exchange, first, desks)?;
     drain(rt, exchange, first)?;
@@ -108,7 +111,8 @@ fn gather(exchange: &Exchange, first: &mut Desk, desks: &mut Vec<Desk>) -> Resul
     ensures parts { first.new.known.parts + parts_at desks.new.items ≡ 8 }
     ensures kept { KeepAll (first.old ∷ desks.old.items) (first.new ∷ desks.new.items) }
     ensures ok { OnOk result (desks.new.items ≡ []) }
-    ensures room { (vec_capacity desks.new ≡ vec_capacity desks.old) × (vec_len desks.new ≤ vec_len desks.old) }
+    ensures room { (vec_capacity desks.new ≡ vec_capacity desks.old)
+        × (vec_len desks.new ≤ vec_len desks.old) }
 {
     while let Some(other) = desks.pop() {
         if let Err(other) = first.adopt(exchange, other) {

@@ -104,7 +104,8 @@ impl Desk {
     /// are at the queue.
     pub fn collect<R: Wait>(&mut self, rt: &R, exchange: &Exchange) -> Result<Collected, NoMemory>
         requires { IsDeskOf exchange.now self.old }
-        ensures of { IsDeskOf exchange.now self.new × (self.new.known.parts ≡ self.old.known.parts) }
+        ensures of { IsDeskOf exchange.now self.new
+            × (self.new.known.parts ≡ self.old.known.parts) }
         ensures follows { FollowsRule self.new }
         ensures got { CollectsAs self.old.hand result self.old.known self.new.known }
         ensures hand { OnOk result (self.new.hand ≡ None) }
@@ -128,7 +129,8 @@ impl Desk {
     /// for other threads that are at the queue.
     pub fn post<R: Wait>(&mut self, rt: &R, exchange: &Exchange) -> Result<Posted, NoMemory>
         requires { IsDeskOf exchange.now self.old }
-        ensures of { IsDeskOf exchange.now self.new × (self.new.known.parts ≡ self.old.known.parts) }
+        ensures of { IsDeskOf exchange.now self.new
+            × (self.new.known.parts ≡ self.old.known.parts) }
         ensures follows { FollowsRule self.new }
         ensures yes { result ≡ Ok Posted.Yes → self.new.known ≡ pushed self.old.known }
         ensures no { result ≢ Ok Posted.Yes → self.new.known ≡ self.old.known }
@@ -168,10 +170,12 @@ impl Desk {
     // What is in hand, by name. Where nothing was, one parcel is popped.
     pub(crate) fn fetch<R: Wait>(&mut self, rt: &R, exchange: &Exchange) -> Collected
         requires { IsDeskOf exchange.now self.old }
-        ensures of { IsDeskOf exchange.now self.new × (self.new.known.parts ≡ self.old.known.parts) }
+        ensures of { IsDeskOf exchange.now self.new
+            × (self.new.known.parts ≡ self.old.known.parts) }
         ensures follows { FollowsRule self.new }
         ensures got { CollectsAs self.old.hand (Ok result) self.old.known self.new.known }
-        ensures nothing { result ≡ Collected.Nothing → (self.new ≡ self.old) × (self.old.hand ≡ None) }
+        ensures nothing { result ≡ Collected.Nothing → (self.new ≡ self.old)
+            × (self.old.hand ≡ None) }
         ensures last { result ≡ Collected.Nothing → HasRest self.new.known }
     {
         if let Some(parcel) = &self.hand {
@@ -224,7 +228,8 @@ impl Desk {
         requires parts { self.old.known.parts + other.known.parts ≤ 8 }
         ensures of { IsDeskOf exchange.now self.new }
         ensures ok { OnOk result (self.new.known ≡ joined self.old.known other.known) }
-        ensures err { IfErr result (λ desk. (self.new.known ≡ self.old.known) × (desk.known ≡ other.known)
+        ensures err { IfErr result (λ desk. (self.new.known ≡ self.old.known)
+            × (desk.known ≡ other.known)
             × IsDeskOf exchange.now desk) }
     {
         let mut other = other;

@@ -128,8 +128,10 @@ fn play_all<'s, E, R: Threads + Wait + Abort + Sync>(
     desks: Vec<Desk>,
 ) -> Option<Vec<Desk>>
     requires { AreDesksOf exchange.now desks.items }
-    ensures of { IfSome result (λ v. AreDesksOf exchange.now v.items × (parts_at v.items ≡ parts_at desks.items)) }
-    ensures room { IfSome result (λ v. (vec_len v ≡ vec_len desks) × (vec_capacity v ≡ vec_capacity desks)) }
+    ensures of { IfSome result (λ v. AreDesksOf exchange.now v.items
+        × (parts_at v.items ≡ parts_at desks.items)) }
+    ensures room { IfSome result (λ v. (vec_len v ≡ vec_len desks)
+        × (vec_capacity v ≡ vec_capacity desks)) }
 {
     let mut desks = desks;
     let Some(desk) = desks.pop() else {

@@ -56,7 +56,8 @@ fn work_together<G: Gate + Sync, R: Threads + Wait + Sync>(
     desks: Vec<Desk>,
 ) -> Option<Vec<Desk>>
     requires { AreDesksOf exchange.now desks.items × (vec_len desks < 9) }
-    ensures { IfSome result (λ v. AreDesksOf exchange.now v.items × (parts_at v.items ≡ parts_at desks.items)) }
+    ensures { IfSome result (λ v. AreDesksOf exchange.now v.items
+        × (parts_at v.items ≡ parts_at desks.items)) }
 {
     thread::scope(
         thread::scope_env(),
@@ -79,8 +80,10 @@ fn work_all<'s, E, G: Gate + Sync, R: Threads + Wait + Sync>(
     desks: Vec<Desk>,
 ) -> Option<Vec<Desk>>
     requires { AreDesksOf exchange.now desks.items × (vec_len desks < 9) }
-    ensures of { IfSome result (λ v. AreDesksOf exchange.now v.items × (parts_at v.items ≡ parts_at desks.items)) }
-    ensures room { IfSome result (λ v. (vec_len v ≡ vec_len desks) × (vec_capacity v ≡ vec_capacity desks)) }
+    ensures of { IfSome result (λ v. AreDesksOf exchange.now v.items
+        × (parts_at v.items ≡ parts_at desks.items)) }
+    ensures room { IfSome result (λ v. (vec_len v ≡ vec_len desks)
+        × (vec_capacity v ≡ vec_capacity desks)) }
 {
     let mut desks = desks;
     let Some(desk) = desks.pop() else {

@@ -41,11 +41,14 @@ fn take_run(analyst: &mut Analyst<Global>, segments: Vec<Segment>) -> Result<(),
     requires { (T : Trace) × IsRight analyst.old T
         × ((s : Content) → Contains segments.items s → Contains T.segments s) }
     ensures right { (T : Trace) → IsRight analyst.old T
-        → ((s : Content) → Contains segments.items s → Contains T.segments s) → IsRight analyst.new T }
+        → ((s : Content) → Contains segments.items s → Contains T.segments s)
+        → IsRight analyst.new T }
     ensures taken { OnOk result ((p n : ℕ) → HasTaken analyst.new p n
         ↔ (HasTaken analyst.old p n ⊎ HasSegment segments.items p n)) }
-    ensures rest { IfErr result (λ rest. (s : Content) → Contains rest.items s → Contains segments.items s) }
-    ensures left { IfErr result (λ rest. (p n : ℕ) → (HasTaken analyst.new p n ⊎ HasSegment rest.items p n)
+    ensures rest { IfErr result (λ rest. (s : Content) → Contains rest.items s
+        → Contains segments.items s) }
+    ensures left { IfErr result (λ rest. (p n : ℕ) → (HasTaken analyst.new p n
+        ⊎ HasSegment rest.items p n)
         ↔ (HasTaken analyst.old p n ⊎ HasSegment segments.items p n)) }
 {
     let mut rest = segments;

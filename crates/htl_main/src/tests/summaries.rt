@@ -7,6 +7,7 @@ use htl_segment::encode;
 use std::alloc::Global;
 use std::test::Fail;
 
+#[derive(Clone, Copy)]
 struct Summary {
     processors: u16,
     segments: &'static [&'static str],

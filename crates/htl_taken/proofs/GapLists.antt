@@ -8,7 +8,7 @@ use Rattle.htl_event.proofs.Members.{Contains-here, Contains-there, Contains-cas
 use Rattle.htl_taken.specs.declared.gap.Gap.{Gap}
 use Rattle.htl_taken.specs.declared.gap.Gap.TheVariants.{Between, Absent}
 use Rattle.htl_taken.specs.Rising.{Rises}
-use Rattle.htl_taken.specs.Numbers.{Numbers, IsProper}
+use Rattle.htl_taken.specs.Numbers.{Numbers}
 use Rattle.htl_taken.specs.NumberSets.{Has}
 use Rattle.htl_taken.specs.Gaps.{IsMissingRun, IsGap, IsGapBefore, IsGaps}
 use Rattle.htl_taken.specs.GapLists.{gaps_from, gaps_of}

@@ -1,11 +1,11 @@
 -- Gaps depend on the keys alone, and have one list.
-use Rattle.std.proofs.Common.{◌≡◌, true, ℕ, ◌+◌, ◌<◌, ◌≤◌, List, sym, ◌∙◌, arith, inl, inr}
+use Rattle.std.proofs.Common.{◌≡◌, true, ℕ, ◌+◌, ◌<◌, List, sym, ◌∙◌, arith, inl, inr}
 use Rattle.std.specs.Prelude.{◌↔◌}
-use Rattle.htl_event.specs.Members.{Lists, IsStrictOrder}
+use Rattle.htl_event.specs.Members.{IsStrictOrder}
 use Rattle.htl_event.proofs.Members.{Lists-same}
 use Rattle.htl_taken.specs.declared.gap.Gap.{Gap}
 use Rattle.htl_taken.specs.declared.gap.Gap.TheVariants.{Between, Absent}
-use Rattle.htl_taken.specs.Gaps.{IsMissingRun, IsGap, IsGapBefore, IsGaps, GapsAreDetermined, processor_of, first_of}
+use Rattle.htl_taken.specs.Gaps.{IsMissingRun, IsGap, IsGapBefore, IsGaps, GapsAreDetermined}
 
 pub IsGapBefore-strict : IsStrictOrder IsGapBefore
 IsGapBefore-strict = record {

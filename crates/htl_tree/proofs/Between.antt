@@ -1,32 +1,27 @@
 -- The counts of some slots, and their sums.
-use Rattle.std.proofs.Common.{◌≡◌, ℕ, zero, suc, ◌+◌, ◌<◌, ◌≤◌, ◌^◌, List, [], ◌∷◌, ◌++◌, length}
+use Rattle.std.proofs.Common.{◌≡◌, ℕ, zero, suc, ◌+◌, ◌<◌, ◌≤◌, List, [], ◌∷◌, ◌++◌, length}
 use Rattle.std.proofs.Common.{map, take, get_or, Option, Some, None, Result, Ok, Err, IfOk, T, Bool, true}
-use Rattle.std.proofs.Common.{false, ◌&&◌, cond, nat_eq, unwrap_or, refl, sym, ◌∙◌, ap, subst, arith, inl, inr}
-use Rattle.std.specs.Prelude.{Contains, ◌↔◌}
-use Rattle.std.specs.List.{AllByRecursion, sum_by, starts_with}
+use Rattle.std.proofs.Common.{false, ◌&&◌, cond, unwrap_or, refl, sym, ◌∙◌, ap, subst, arith, inl, inr}
+use Rattle.std.specs.Prelude.{Contains}
+use Rattle.std.specs.List.{AllByRecursion}
 use Rattle.std.specs.List.Sorted.{IsPermutation}
-use Rattle.std.specs.Ordering.{is_eq, is_le, eq_by_cmp, ordering_reverse}
-use Rattle.std.specs.Cmp.{tied_itself}
+use Rattle.std.specs.Ordering.{is_eq}
 use Rattle.std.specs.FinMap.Entries.{find, put, find-put, is_sorted-put, below_all}
-use Rattle.std.specs.declared.cmp.Ordering.{Ordering}
 use Rattle.std.specs.declared.cmp.Ordering.TheVariants.{Less, Equal, Greater}
 use Rattle.std.proofs.lemmas.List.{map-append, take_more, take-map}
-use Rattle.std.proofs.lemmas.List.Sums.{sum_by-cons, sum_by-append, sum_by-take-le}
+use Rattle.std.proofs.lemmas.List.Sums.{sum_by-cons, sum_by-take-le}
 use Rattle.std.proofs.lemmas.List.Sorted.{sum_by-IsPermutation, IsPermutation-map, IsPermutation-sym, Contains-permutation}
 use Rattle.htl_event.specs.SlotOrder.{slot_cmp}
 use Rattle.htl_event.specs.OrderLaws.{slot_total, slot_same}
 use Rattle.htl_event.specs.declared.slot.Slot.{Slot}
 use Rattle.htl_event.specs.declared.slot.Slot.TheVariants.{Tagged}
-use Rattle.htl_event.specs.declared.slot.Sign.{Sign}
 use Rattle.htl_event.specs.declared.slot.Count.{Count}
 use Rattle.htl_event.specs.Slots.{same_slot}
-use Rattle.htl_event.specs.Stacks.{outer}
-use Rattle.htl_event.specs.Members.{IsRising, Lists}
+use Rattle.htl_event.specs.Members.{IsRising}
 use Rattle.htl_event.specs.Tallies.{zero_count, plus_count, total_of, IsPositive}
 use Rattle.htl_event.proofs.Members.{Contains-here, Contains-there, Contains-cases, Contains-nil, at_member, each_member}
 use Rattle.htl_sorted.specs.Entries.{IsSorted, Each}
 use Rattle.htl_sorted.proofs.Bools.{both_left, both_right, less}
-use Rattle.htl_sorted.proofs.Places.{turn}
 use Rattle.htl_sorted.proofs.Finds.{find_first, find_below, below_tied, each_found, each_put}
 use Rattle.htl_tree.specs.Trees.{Tree, place_cmp, count_at, count_under, sum_where, total_count}
 use Rattle.htl_tree.specs.Trees.{IsTree, ByStackAndSlot, ListsRowsOf, BySlot, ListsSums}
@@ -35,11 +30,10 @@ use Rattle.htl_tree.specs.declared.slots.Slots.TheVariants.{One}
 use Rattle.htl_tree.specs.Asked.{has_slot}
 use Rattle.htl_tree.specs.Nodes.{count_in, picked, entries_at, sum_of_slot, AreSums}
 use Rattle.htl_tree.proofs.TreesAsLists.{place_total, place_same}
-use Rattle.htl_tree.proofs.CopiesAndSums.{zero_left, zero_right}
+use Rattle.htl_tree.proofs.CopiesAndSums.{zero_right}
 use Rattle.htl_tree.proofs.SlotRows.{listed, found_later}
 use Rattle.htl_tree.proofs.Under.{same_slot_Decides, same_slot_tied, sum_where-append, sum_where_le_total}
-use Rattle.htl_tree.proofs.SumsFromTally.{plus_assoc}
-use Rattle.htl_tree.proofs.Events.{side, same_sides, side_sum, weight}
+use Rattle.htl_tree.proofs.Events.{same_sides, side_sum, weight}
 
 abbrev At : Type 0
 At = (Slot × List ℕ) × Count

@@ -1,6 +1,6 @@
 -- Rows in groups, and a tree with a group of rows counted too.
-use Rattle.std.proofs.Common.{◌≡◌, ℕ, zero, suc, ◌+◌, ◌-◌, ◌<◌, ◌≤◌, ◌^◌, ◌≢◌, List, []}
-use Rattle.std.proofs.Common.{◌∷◌, ◌++◌, map, reverse, length, get_or, take, drop, Option, Some, None, Bool}
+use Rattle.std.proofs.Common.{◌≡◌, ℕ, ◌+◌, ◌-◌, ◌<◌, ◌≤◌, ◌≢◌, List, []}
+use Rattle.std.proofs.Common.{◌∷◌, ◌++◌, reverse, length, get_or, take, drop, Option, Some, None}
 use Rattle.std.proofs.Common.{true, false, cond, nat_eq, unwrap_or, append-nil, refl, sym, ◌∙◌, ap, subst, arith}
 use Rattle.std.specs.Prelude.{Contains}
 use Rattle.std.specs.Borrow.{Bor}
@@ -15,21 +15,20 @@ use Rattle.std.proofs.lemmas.Grind.{flat_map-append}
 use Rattle.std.proofs.lemmas.List.Sums.{sum_by-cons}
 use Rattle.std.proofs.lemmas.List.Sorted.{sum_by-IsPermutation, IsPermutation-sym, Contains-permutation}
 use Rattle.std.proofs.lemmas.List.{reverse-reverse}
-use Rattle.htl_event.proofs.Members.{Contains-here, Contains-there, Contains-flat_map, at_member, each_member, AllByRecursion-weaker}
+use Rattle.htl_event.proofs.Members.{Contains-flat_map, at_member, each_member, AllByRecursion-weaker}
 use Rattle.htl_event.specs.Stacks.{stack_cmp}
 use Rattle.htl_event.specs.SlotOrder.{slot_cmp}
 use Rattle.htl_event.specs.OrderLaws.{stack_total}
 use Rattle.htl_event.specs.declared.slot.Slot.{Slot}
 use Rattle.htl_event.specs.declared.slot.Sign.{Sign}
-use Rattle.htl_event.specs.declared.slot.Sign.TheVariants.{Plus, Minus}
 use Rattle.htl_event.specs.declared.slot.Count.{Count}
 use Rattle.htl_event.specs.Tallies.{zero_count, plus_count, total_of, IsPositive}
-use Rattle.htl_sorted.specs.Entries.{IsSorted, Each}
+use Rattle.htl_sorted.specs.Entries.{Each}
 use Rattle.htl_sorted.proofs.Finds.{each_found}
 use Rattle.htl_tree.specs.declared.node.Node.{Node}
 use Rattle.htl_tree.specs.declared.row.Row.{Row}
 use Rattle.htl_tree.specs.Trees.{Tree, place_cmp, count_at, total_count, IsTree, AllShort}
-use Rattle.htl_tree.specs.Nodes.{tally, tally_of, rows, tree_of, IsNormal, IsNormalTop, IsNormalRoot}
+use Rattle.htl_tree.specs.Nodes.{tally, rows, tree_of, IsNormal, IsNormalTop, IsNormalRoot}
 use Rattle.htl_tree.specs.Rows.{entries_of, sum_at, slot_sum, AreShort, IsGroup, IsGained, IsChain, WithRows}
 use Rattle.htl_tree.proofs.ChangedKeys.{all_keys_from_found, key_found}
 use Rattle.htl_tree.proofs.CountAdded.{nonempty_from}

@@ -1,10 +1,9 @@
 -- Nodes before and after rows were added.
-use Rattle.std.proofs.Common.{◌≡◌, ℕ, zero, suc, ◌+◌, ◌<◌, ◌≤◌, ◌^◌, ◌≢◌, List, [], ◌∷◌, ◌++◌, length, get_or, set, take, Option}
+use Rattle.std.proofs.Common.{◌≡◌, ℕ, zero, suc, ◌+◌, ◌<◌, ◌≤◌, ◌≢◌, List, [], ◌∷◌, ◌++◌, length, get_or, set, take, Option}
 use Rattle.std.proofs.Common.{Some, None, Result, Ok, Err, OnOk, true, false, cond, unwrap_or, refl, sym, inl, inr, ◌∙◌, ap, subst, arith}
 use Rattle.std.specs.Cmp.{tied_itself, nat_cmp_total}
 use Rattle.std.specs.Ordering.{nat_cmp, is_eq, eq_by_cmp}
 use Rattle.std.specs.List.{insert}
-use Rattle.std.specs.declared.cmp.Ordering.{Ordering}
 use Rattle.std.specs.declared.cmp.Ordering.TheVariants.{Less, Equal, Greater}
 use Rattle.std.specs.FinMap.{nat_cmp-IsAntisymmetric}
 use Rattle.std.specs.FinMap.Entries.{find, put, find-put, is_sorted-put}
@@ -18,9 +17,9 @@ use Rattle.htl_sorted.specs.Entries.{IsSorted, IsPlace, IsGap, Each}
 use Rattle.htl_sorted.proofs.Finds.{find_put_other, each_put}
 use Rattle.htl_tree.specs.declared.node.Node.{Node}
 use Rattle.htl_tree.specs.declared.row.Row.{Row}
-use Rattle.htl_tree.specs.Nodes.{tally, tally_of, no_tally, own, kids, count_in, at_child, IsNonEmpty, IsNormal, NormalAt, AtChild}
+use Rattle.htl_tree.specs.Nodes.{tally, tally_of, no_tally, own, kids, count_in, at_child, IsNonEmpty, IsNormal, NormalAt}
 use Rattle.htl_tree.specs.Rows.{entries_of, slot_sum, Gained, AddsRows, IsGained, IsChain}
-use Rattle.htl_tree.proofs.CountAdded.{normal_here, normal_own, normal_kid, tally_kid, tally_else, nonempty_from, child_found}
+use Rattle.htl_tree.proofs.CountAdded.{normal_own, normal_kid, tally_kid, tally_else, nonempty_from, child_found}
 use Rattle.htl_tree.proofs.CopiesAndSums.{zero_left, zero_right}
 use Rattle.htl_tree.proofs.SumsFromTally.{plus_assoc}
 

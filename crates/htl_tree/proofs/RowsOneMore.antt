@@ -1,7 +1,6 @@
 -- Rows that count one more: in a row that was there, or in one of its own.
-use Rattle.std.proofs.Common.{◌≡◌, ℕ, zero, suc, ◌+◌, ◌<◌, ◌≤◌, List, [], ◌∷◌, ◌++◌, map}
-use Rattle.std.proofs.Common.{length, get_or, set, true, false, cond, refl, sym, ◌∙◌, ap, subst, arith}
-use Rattle.std.specs.List.{sum_by}
+use Rattle.std.proofs.Common.{◌≡◌, ℕ, zero, suc, ◌+◌, ◌<◌, ◌≤◌, List, [], ◌∷◌, ◌++◌}
+use Rattle.std.proofs.Common.{length, get_or, set, true, false, cond, sym, ◌∙◌, ap, subst, arith}
 use Rattle.std.specs.Ordering.{eq_by_cmp}
 use Rattle.std.proofs.Math.ListN.{get_or-map}
 use Rattle.std.proofs.lemmas.List.{map-set, map-append, length-map}
@@ -15,9 +14,9 @@ use Rattle.htl_event.specs.Tallies.{zero_count, plus_count, total_of, IsPositive
 use Rattle.htl_sorted.specs.Entries.{Each}
 use Rattle.htl_tree.specs.declared.row.Row.{Row}
 use Rattle.htl_tree.specs.Trees.{Tree, place_cmp, bump, total_count, AllShort}
-use Rattle.htl_tree.specs.Rows.{entries_of, sum_at, one_at, AreShort, IsOneMore}
+use Rattle.htl_tree.specs.Rows.{entries_of, sum_at, one_at, IsOneMore}
 use Rattle.htl_tree.proofs.CountAdded.{bump_positive}
-use Rattle.htl_tree.proofs.CopiesAndSums.{zero_left, zero_right}
+use Rattle.htl_tree.proofs.CopiesAndSums.{zero_right}
 use Rattle.htl_tree.proofs.TreesAsLists.{bump_total}
 use Rattle.htl_tree.proofs.SumsFromTally.{plus_assoc, sum_at-append, each-append}
 

@@ -27,7 +27,7 @@ use Rattle.htl_tree.specs.Trees.{Tree, AllShort, place_cmp, count_at, IsTree, Li
 use Rattle.htl_tree.specs.Nodes.{own, kids, below, rows, tree_of, rows_at, own_at, picked, IsShortFrom, slots_of}
 use Rattle.htl_tree.proofs.NodeRows.{own_rows, kid_rows, rows_is}
 use Rattle.htl_tree.proofs.TreesAsLists.{place_total, place_same, nothing_is_tree}
-use Rattle.htl_tree.proofs.Under.{same_slot_Decides, same_slot_tied}
+use Rattle.htl_tree.proofs.Under.{same_slot_Decides}
 
 abbrev Row : Type 0
 Row = (List ℕ × Slot) × Count

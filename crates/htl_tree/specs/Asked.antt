@@ -1,5 +1,5 @@
 -- Which slots are asked for.
-use Rattle.std.specs.Prelude.{◌≡◌, ◌==◌, Bool, true, false, ◌&&◌}
+use Rattle.std.specs.Prelude.{◌==◌, Bool, true, false}
 use Rattle.htl_event.specs.Slots.{same_slot}
 use Rattle.htl_event.specs.declared.slot.Slot.{Slot}
 use Rattle.htl_event.specs.declared.slot.Slot.TheVariants.{Tagged, Bad}

@@ -1,5 +1,5 @@
 -- A run more adds its moments, and sorting them keeps them.
-use Rattle.std.proofs.Common.{◌≡◌, ◌+◌, ◌++◌, take, arith, ap}
+use Rattle.std.proofs.Common.{◌≡◌, ◌+◌, ◌++◌, take, arith}
 use Rattle.std.specs.Prelude.{flat_map}
 use Rattle.std.proofs.lemmas.List.{take_all}
 use Rattle.htl_tables.proofs.Moments.{moments_run, moments_sorted}

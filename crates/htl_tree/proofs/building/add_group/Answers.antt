@@ -1,13 +1,10 @@
 -- All rows of a group have its first row's stack.
-use Rattle.std.proofs.Common.{rules, ◌≡◌, ℕ, ◌+◌, ◌<◌, ◌≤◌, ◌^◌, List, zero, suc, []}
-use Rattle.std.proofs.Common.{◌∷◌, length, get_or, Some, None, sym, ap, ◌∙◌, subst, reverse, arith}
-use Rattle.std.specs.List.{AllByRecursion}
-use Rattle.htl_event.specs.declared.slot.Slot.{Slot}
+use Rattle.std.proofs.Common.{◌+◌, ◌<◌, ◌^◌}
+use Rattle.std.proofs.Common.{get_or, Some, sym, ap, subst, arith}
 use Rattle.htl_event.specs.Tallies.{total_of}
-use Rattle.htl_tree.specs.declared.row.Row.{Row}
-use Rattle.htl_tree.specs.Trees.{count_at, AllShort}
-use Rattle.htl_tree.specs.Nodes.{tally, tree_of, IsNormalRoot}
-use Rattle.htl_tree.specs.Rows.{entries_of, sum_at, slot_sum, IsGroup, WithRows}
+use Rattle.htl_tree.specs.Trees.{count_at}
+use Rattle.htl_tree.specs.Nodes.{tree_of, IsNormalRoot}
+use Rattle.htl_tree.specs.Rows.{entries_of, sum_at, slot_sum, WithRows}
 use Rattle.htl_tree.proofs.RowsAdded.{on_ok}
 use Rattle.htl_tree.proofs.RowsOneMore.{no_row}
 use Rattle.htl_tree.proofs.RowGroups.{gained_tree, chain_tree, group_sum, first_alike, first_short}

@@ -1,12 +1,10 @@
 -- A group more is counted.
-use Rattle.std.proofs.Common.{◌≡◌, ℕ, ◌+◌, ◌<◌, ◌≤◌, ◌^◌, List, [], ◌∷◌, ◌++◌}
-use Rattle.std.proofs.Common.{length, take, drop, get_or, append-nil, sym, ap, ◌∙◌, subst, arith}
+use Rattle.std.proofs.Common.{◌≡◌, ℕ, List, []}
+use Rattle.std.proofs.Common.{take, get_or, sym, ap, ◌∙◌, subst, arith}
 use Rattle.std.specs.Prelude.{Contains}
 use Rattle.std.specs.Borrow.{Bor}
-use Rattle.std.specs.List.{AllByRecursion}
 use Rattle.std.specs.List.Sorted.{IsPermutation}
-use Rattle.std.proofs.lemmas.Grind.{flat_map-append}
-use Rattle.std.proofs.lemmas.List.{take_more, take_all}
+use Rattle.std.proofs.lemmas.List.{take_all}
 use Rattle.std.proofs.lemmas.List.Elements.{Contains-get_or}
 use Rattle.std.proofs.lemmas.List.Sorted.{IsPermutation-sym, Contains-permutation}
 use Rattle.htl_event.specs.declared.slot.Slot.{Slot}
@@ -14,12 +12,10 @@ use Rattle.htl_event.specs.declared.slot.Count.{Count}
 use Rattle.htl_event.specs.Tallies.{zero_count, plus_count, total_of}
 use Rattle.htl_event.proofs.Members.{at_member}
 use Rattle.htl_tree.specs.declared.row.Row.{Row}
-use Rattle.htl_tree.specs.Trees.{count_at}
-use Rattle.htl_tree.specs.Nodes.{tree_of}
-use Rattle.htl_tree.specs.Rows.{entries_of, sum_at, IsGroup, WithRows}
+use Rattle.htl_tree.specs.Rows.{entries_of, sum_at, IsGroup}
 use Rattle.htl_tree.proofs.CopiesAndSums.{zero_left}
 use Rattle.htl_tree.proofs.SumsFromTally.{plus_assoc}
-use Rattle.htl_tree.proofs.RowGroups.{rows_of, sum-permutation, sum-rows_append, groups-permutation}
+use Rattle.htl_tree.proofs.RowGroups.{rows_of, sum-permutation, groups-permutation}
 use Rattle.htl_tree.proofs.RowGroups.{sum_at_most, short_group, sum-take_more, sum-take_most}
 use Rattle.htl_tree.proofs.building.root_of.Goals as goal
 

@@ -1,5 +1,5 @@
 -- The total so far and the next count are no more than all.
-use Rattle.std.proofs.Common.{◌≡◌, ◌+◌, ◌≤◌, arith}
+use Rattle.std.proofs.Common.{arith}
 use Rattle.htl_tree.proofs.Picked.{total_most}
 use Rattle.htl_tree.proofs.building.rows_in.Goals as goal
 

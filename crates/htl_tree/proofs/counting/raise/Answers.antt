@@ -1,12 +1,11 @@
 -- The row that was found counts one more.
-use Rattle.std.proofs.Common.{rules, ℕ, List, ◌≡◌, ◌+◌, ◌<◌, ◌≤◌, ◌^◌, length, get_or, sym, ap, ◌∙◌, refl, arith}
+use Rattle.std.proofs.Common.{rules, ℕ, List, ◌≡◌, ◌≤◌, length, get_or, sym, ap, arith}
 use Rattle.std.proofs.Math.ListN.{get_or-map}
 use Rattle.std.proofs.lemmas.List.{length-map}
 use Rattle.std.proofs.lemmas.List.Sums.{get_or-le-sum_by}
 use Rattle.htl_event.specs.Tallies.{total_of}
 use Rattle.htl_event.specs.declared.slot.Slot.{Slot}
 use Rattle.htl_event.specs.declared.slot.Count.{Count}
-use Rattle.htl_tree.specs.declared.row.Row.{Row}
 use Rattle.htl_tree.specs.Trees.{total_count}
 use Rattle.htl_tree.specs.Rows.{entries_of}
 use Rattle.htl_tree.proofs.RowsOneMore.{no_row, entry, raised}

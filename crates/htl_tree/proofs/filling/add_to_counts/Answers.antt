@@ -1,10 +1,9 @@
 -- A row more was added.
-use Rattle.std.proofs.Common.{◌≡◌, ◌+◌, ◌<◌, ◌≤◌, ◌^◌, List, [], ◌∷◌, ◌++◌, take, get_or, length, refl, sym, ap, ◌∙◌, subst, arith}
+use Rattle.std.proofs.Common.{List, take, get_or, refl, sym, ap, subst, arith}
 use Rattle.std.proofs.lemmas.List.{take_more}
 use Rattle.htl_event.specs.Tallies.{total_of}
 use Rattle.htl_tree.specs.declared.row.Row.{Row}
-use Rattle.htl_tree.specs.Nodes.{count_in}
-use Rattle.htl_tree.specs.Rows.{slot_sum, Gained}
+use Rattle.htl_tree.specs.Rows.{Gained}
 use Rattle.htl_tree.proofs.RowsAdded.{sum_room, gained_more}
 use Rattle.htl_tree.proofs.RowsOneMore.{no_row, row_positive}
 use Rattle.htl_tree.proofs.filling.add_to_counts.Goals as goal

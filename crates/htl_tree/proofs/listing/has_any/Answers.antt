@@ -1,5 +1,5 @@
 -- A count that doesn't pass is left out.
-use Rattle.std.proofs.Common.{◌≡◌, ℕ, List, [], drop, get_or, ◌+◌, ◌∷◌, false, cond, reverse, sym, ap, ◌∙◌}
+use Rattle.std.proofs.Common.{◌≡◌, ℕ, List, drop, get_or, ◌+◌, ◌∷◌, false, cond, reverse, sym, ap, ◌∙◌}
 use Rattle.std.proofs.lemmas.List.{drop_all}
 use Rattle.htl_event.specs.declared.slot.Slot.{Slot}
 use Rattle.htl_event.specs.declared.slot.Count.{Count}

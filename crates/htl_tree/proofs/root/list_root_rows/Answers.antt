@@ -1,7 +1,5 @@
 -- The rows of the root are those of the tree.
 use Rattle.std.proofs.Common.{◌≡◌, ℕ, List, [], ◌++◌, length, Some, sym, ap, ◌∙◌, subst}
-use Rattle.htl_event.specs.declared.slot.Slot.{Slot}
-use Rattle.htl_event.specs.declared.slot.Count.{Count}
 use Rattle.htl_tree.specs.Asked.{has_slot}
 use Rattle.htl_tree.specs.Nodes.{tree_of, rows, rows_at, picked, IsNormalRoot, IsShortFrom}
 use Rattle.htl_tree.proofs.SlotRows.{picked_tree, short_root}

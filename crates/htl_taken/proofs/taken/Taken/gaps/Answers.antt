@@ -1,5 +1,5 @@
 -- One processor's gaps more, and those of all.
-use Rattle.std.proofs.Common.{◌≡◌, ◌≤◌, ℕ, true, length, subst, arith}
+use Rattle.std.proofs.Common.{◌≡◌, ℕ, true, length, subst, arith}
 use Rattle.htl_taken.specs.declared.TheConstants.{MAX_FRONT}
 use Rattle.htl_taken.specs.Numbers.{front_at, loose_at, has_key}
 use Rattle.htl_taken.specs.Gaps.{IsGaps}

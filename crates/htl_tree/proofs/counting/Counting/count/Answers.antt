@@ -1,11 +1,11 @@
 -- What the rows count more is what the event counts.
-use Rattle.std.proofs.Common.{◌≡◌, ℕ, List, [], ◌∷◌, ◌++◌, Some, sym, ap, ◌∙◌}
+use Rattle.std.proofs.Common.{◌≡◌, ℕ, List, Some, sym, ap, ◌∙◌}
 use Rattle.htl_event.specs.Events.{Event}
 use Rattle.htl_event.specs.Slots.{slot_of}
 use Rattle.htl_event.specs.declared.slot.Count.{Count}
 use Rattle.htl_event.specs.Tallies.{plus_count, tally}
 use Rattle.htl_tree.specs.Rows.{one_at}
-use Rattle.htl_tree.proofs.Events.{tally_one_more, tally_no_more}
+use Rattle.htl_tree.proofs.Events.{tally_one_more}
 use Rattle.htl_tree.proofs.counting.Counting.count.Goals as goal
 
 pub returns-in_ok-count_in-in-Some-clause-tally : goal.returns-in_ok-count_in-in-Some-clause-tally

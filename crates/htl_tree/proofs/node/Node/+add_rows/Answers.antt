@@ -1,12 +1,12 @@
 -- What is added below a child is added at the frame and the path below it.
-use Rattle.std.proofs.Common.{rules, sym, ◌+◌, ◌<◌, ◌≤◌, ◌^◌, ◌≡◌, ap, ◌∙◌, refl, reverse, Result, Ok, Err, OnOk, arith}
+use Rattle.std.proofs.Common.{rules, sym, ◌+◌, ◌<◌, ◌^◌, ◌≡◌, ap, ◌∙◌, reverse, arith}
 use Rattle.std.specs.Vec.{with_item}
 use Rattle.htl_tree.specs.declared.node.Node.{Node}
 use Rattle.htl_tree.specs.declared.node.Node.TheViews.{out-Node, roll-Node}
 use Rattle.htl_event.specs.declared.slot.Slot.{Slot}
 use Rattle.htl_event.specs.Tallies.{total_of}
 use Rattle.htl_tree.specs.Nodes.{IsNormal, tally, own}
-use Rattle.htl_tree.specs.Rows.{slot_sum, Gained, IsGained}
+use Rattle.htl_tree.specs.Rows.{slot_sum, Gained}
 use Rattle.htl_tree.proofs.CountAdded.{normal_here, path_is, child_normal, child_tally, own_of, kids_of}
 use Rattle.htl_tree.proofs.RowsAdded.{some_slot, gained_own, gained_step, gained_graft, on_ok}
 use Rattle.std.proofs.lemmas.List.{nil_from_length}

@@ -1,5 +1,5 @@
 -- A run more is counted, and the tree of the rows has the tally of the events.
-use Rattle.std.proofs.Common.{◌≡◌, ℕ, ◌+◌, ◌<◌, ◌≤◌, ◌^◌, List, [], ◌∷◌, ◌++◌, length}
+use Rattle.std.proofs.Common.{◌≡◌, ℕ, ◌+◌, ◌≤◌, List, [], ◌∷◌, ◌++◌, length}
 use Rattle.std.proofs.Common.{take, get_or, Option, refl, sym, ap, ◌∙◌, subst, append-nil, length-append, arith}
 use Rattle.std.specs.List.{flat_map}
 use Rattle.std.proofs.lemmas.List.{take_more, take_all}
@@ -7,7 +7,7 @@ use Rattle.std.proofs.lemmas.List.Folds.{length-flat_map-take}
 use Rattle.std.proofs.lemmas.Grind.{flat_map-append}
 use Rattle.htl_event.specs.Events.{Event}
 use Rattle.htl_event.specs.declared.slot.Slot.{Slot}
-use Rattle.htl_event.specs.Tallies.{tally, total_of}
+use Rattle.htl_event.specs.Tallies.{total_of}
 use Rattle.htl_tree.specs.declared.row.Row.{Row}
 use Rattle.htl_tree.specs.Trees.{count_at, total_count, HasTally}
 use Rattle.htl_tree.specs.declared.node.Node.{Node}

@@ -1,9 +1,7 @@
 -- The rows of the slots make the tree of these slots.
-use Rattle.std.proofs.Common.{◌≡◌, ◌<◌, ◌≤◌, ◌^◌, List, sym, ap, ◌∙◌, subst, arith}
-use Rattle.htl_event.specs.declared.slot.Slot.{Slot}
-use Rattle.htl_event.specs.declared.slot.Count.{Count}
+use Rattle.std.proofs.Common.{◌≡◌, sym, ap, ◌∙◌, subst, arith}
 use Rattle.htl_tree.specs.Asked.{has_slot}
-use Rattle.htl_tree.specs.Trees.{Tree, IsTree, IsTallyOf, total_count}
+use Rattle.htl_tree.specs.Trees.{Tree, IsTallyOf, total_count}
 use Rattle.htl_tree.specs.Nodes.{tree_of, picked, entries_at}
 use Rattle.htl_tree.specs.Rows.{entries_of}
 use Rattle.htl_tree.proofs.Roots.{root_is_tree}

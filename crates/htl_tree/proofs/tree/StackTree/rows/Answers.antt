@@ -3,7 +3,7 @@ use Rattle.std.proofs.Common.{◌≡◌, ℕ, List, map, sym, ap, ◌∙◌, sub
 use Rattle.htl_event.specs.declared.slot.Slot.{Slot}
 use Rattle.htl_event.specs.declared.slot.Count.{Count}
 use Rattle.htl_tree.specs.Trees.{Tree, ListsRows}
-use Rattle.htl_tree.specs.Nodes.{tree_of, picked}
+use Rattle.htl_tree.specs.Nodes.{tree_of}
 use Rattle.htl_tree.proofs.Roots.{root_is_tree}
 use Rattle.htl_tree.proofs.SlotRows.{listed, lists_rows}
 use Rattle.htl_tree.proofs.Between.{if_ok, one_slot}

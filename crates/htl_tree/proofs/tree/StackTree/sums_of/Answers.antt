@@ -1,12 +1,12 @@
 -- The sums of the rows are the tree's.
-use Rattle.std.proofs.Common.{◌≡◌, ℕ, ◌<◌, ◌≤◌, ◌^◌, List, sym, ap, subst, arith}
+use Rattle.std.proofs.Common.{ℕ, List, sym, ap, subst, arith}
 use Rattle.htl_event.specs.declared.slot.Slot.{Slot}
 use Rattle.htl_event.specs.declared.slot.Count.{Count}
 use Rattle.htl_event.specs.Tallies.{IsPositive}
 use Rattle.htl_sorted.specs.Entries.{Each}
 use Rattle.htl_tree.specs.Trees.{Tree, IsTree, ListsSums, total_count}
 use Rattle.htl_tree.specs.Asked.{has_slot}
-use Rattle.htl_tree.specs.Nodes.{tree_of, picked, entries_at, AreSums}
+use Rattle.htl_tree.specs.Nodes.{tree_of, entries_at, AreSums}
 use Rattle.htl_tree.proofs.Roots.{root_is_tree}
 use Rattle.htl_tree.proofs.Between.{if_ok, lists_sums, picked_total, picked_positive}
 use Rattle.htl_tree.proofs.tree.StackTree.sums_of.Goals as goal

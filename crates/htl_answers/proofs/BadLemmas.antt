@@ -1,5 +1,5 @@
 -- The bad references of a process, from the rows of slots.
-use Rattle.std.proofs.Common.{◌≡◌, ℕ, ◌+◌, ◌<◌, ◌≤◌, Bool, true, false, cond, List, [], ◌∷◌, ◌++◌, Option, Some, None, refl, sym, ap, subst, ◌∙◌, arith, ◌&&◌}
+use Rattle.std.proofs.Common.{◌≡◌, ℕ, ◌<◌, Bool, true, false, cond, List, [], ◌∷◌, Option, Some, None, refl, sym, ap, subst, ◌∙◌, arith, ◌&&◌}
 use Rattle.std.specs.Prelude.{Contains, ◌↔◌, ◌==◌, filter}
 use Rattle.std.specs.List.{filter_map}
 use Rattle.std.specs.Option.{option_map}
@@ -20,7 +20,7 @@ use Rattle.htl_event.specs.declared.slot.Sign.TheVariants.{Minus}
 use Rattle.htl_event.specs.declared.slot.Count.{Count}
 use Rattle.htl_event.specs.Slots.{is_counted, is_slot, slot_by_kind}
 use Rattle.htl_event.specs.Stacks.{stack_cmp}
-use Rattle.htl_event.specs.Members.{IsRising, Lists}
+use Rattle.htl_event.specs.Members.{IsRising}
 use Rattle.htl_event.specs.Tallies.{times, has_stack, tally, IsPositive, ByHandleAndStack, IsBad}
 use Rattle.htl_event.proofs.Members.{Contains-here, Contains-there, each_member, at_member}
 use Rattle.htl_tree.specs.declared.slots.Slots.TheVariants.{BadOf}

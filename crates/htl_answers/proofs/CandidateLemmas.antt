@@ -1,6 +1,6 @@
 -- What folded tables and held events have of a process's handles, and the latest of these.
-use Rattle.std.proofs.Common.{◌≡◌, ◌≢◌, ℕ, ◌<◌, ◌≤◌, Bool, true, List, [], ◌∷◌, ◌++◌, Option, Some, None, refl, sym, ap, ◌∙◌, subst, arith, inl, inr, ◌&&◌}
-use Rattle.std.specs.Prelude.{Contains, ◌==◌, filter, nat_lt, max}
+use Rattle.std.proofs.Common.{◌≡◌, ℕ, ◌<◌, Bool, true, List, [], ◌∷◌, ◌++◌, Option, Some, None, refl, sym, ap, ◌∙◌, subst, arith, inl, inr}
+use Rattle.std.specs.Prelude.{Contains, filter, max}
 use Rattle.std.proofs.lemmas.Bool.{and_from, and_parts, cases_Bool, ltb-true, lt-ltb}
 use Rattle.std.proofs.lemmas.Bool.Decides.{Decides-eqb}
 use Rattle.std.proofs.lemmas.List.Elements.{Contains-append_cases, Contains-append_left, Contains-append_right}
@@ -9,12 +9,12 @@ use Rattle.htl_event.specs.declared.kind.Kind.{Kind}
 use Rattle.htl_event.specs.declared.kind.Kind.TheVariants.{Opened}
 use Rattle.htl_event.specs.Slots.{base_of}
 use Rattle.htl_event.specs.Members.{Lists, IsRising}
-use Rattle.htl_event.specs.Handles.{OpensOrCloses, LatestIs, IsLatest, ByBase, IsOpen, IsOf, IsLastExit, IsDiff, HaveOwnSequences}
+use Rattle.htl_event.specs.Handles.{OpensOrCloses, LatestIs, ByBase, IsOpen, IsLastExit, IsDiff, HaveOwnSequences}
 use Rattle.htl_event.proofs.Members.{Contains-filter, Contains-from_filter, each_member, at_member, filter-pass, filter-skip}
 use Rattle.htl_event.proofs.ComputedHandles.{last_exit_of, IsLastExit-last_exit_of}
 use Rattle.htl_event.specs.Handles.{IsOutstanding}
 use Rattle.htl_event.proofs.Determined.{LatestIs-unique, one_event, IsGreatestSequence-unique}
-use Rattle.htl_tables.specs.Latest.{event_at, HasEvent, HasEventOf}
+use Rattle.htl_tables.specs.Latest.{event_at, HasEventOf}
 use Rattle.htl_answers.specs.Candidates.{touches, is_open_kind, is_opened_after, IsMet, AreCandidates, AreLatestOf}
 
 more_candidates : (cs ds : List Event) (process base : ℕ) (e : Event) → ((x : Event) → Contains cs x → Contains ds x)

@@ -1,5 +1,5 @@
 -- How often stacks opened handles, over events that each open a handle of one process.
-use Rattle.std.proofs.Common.{◌≡◌, ℕ, ◌+◌, ◌<◌, Bool, true, false, cond, List, [], ◌∷◌, map, refl, sym, ap, subst, ◌∙◌, arith, inl, inr, ◌&&◌}
+use Rattle.std.proofs.Common.{◌≡◌, ℕ, ◌<◌, Bool, true, false, cond, List, [], ◌∷◌, map, refl, sym, ap, subst, ◌∙◌, arith, ◌&&◌}
 use Rattle.std.specs.Prelude.{Contains, ◌↔◌, count_by}
 use Rattle.std.specs.Ordering.{nat_cmp, is_eq, ordering_then}
 use Rattle.std.specs.Cmp.{unsigned_Decides}
@@ -15,7 +15,6 @@ use Rattle.htl_event.specs.Events.{Event}
 use Rattle.htl_event.specs.declared.kind.Kind.{Kind}
 use Rattle.htl_event.specs.declared.kind.Kind.TheVariants.{Opened}
 use Rattle.htl_event.specs.declared.slot.Slot.TheVariants.{Handles}
-use Rattle.htl_event.specs.declared.slot.Sign.{Sign}
 use Rattle.htl_event.specs.declared.slot.Sign.TheVariants.{Plus, Minus}
 use Rattle.htl_event.specs.declared.slot.Count.{Count}
 use Rattle.htl_event.specs.Slots.{slot_by_kind, is_slot, is_counted}

@@ -1,5 +1,5 @@
 -- Events among which the latest of a process's handles are found.
-use Rattle.std.specs.Prelude.{◌≡◌, ◌==◌, ◌&&◌, ℕ, ◌≤◌, nat_lt, Bool, true, false, List, Contains}
+use Rattle.std.specs.Prelude.{◌==◌, ◌&&◌, ℕ, ◌≤◌, nat_lt, Bool, true, false, List, Contains}
 use Rattle.htl_event.specs.Events.{Event}
 use Rattle.htl_event.specs.declared.kind.Kind.{Kind}
 use Rattle.htl_event.specs.declared.kind.Kind.TheVariants.{Opened}

@@ -1,5 +1,5 @@
 -- The outermost addresses are those of the path.
-use Rattle.std.proofs.Common.{◌≡◌, ◌-◌, length, take, drop, reverse, sym, ap, ◌∙◌, arith, nat_eq}
+use Rattle.std.proofs.Common.{◌-◌, length, take, reverse, sym, ap, ◌∙◌, arith, nat_eq}
 use Rattle.std.specs.Ordering.{nat_cmp, is_eq}
 use Rattle.std.specs.Cmp.{unsigned_ties}
 use Rattle.std.specs.Cmp.Lexicographic.{slice_cmp, pointwise, lists_ties}

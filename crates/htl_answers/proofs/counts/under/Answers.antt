@@ -1,14 +1,12 @@
 -- One part more.
-use Rattle.std.proofs.Common.{◌≡◌, ◌+◌, ◌≤◌, ◌++◌, List, length, map, take, refl, sym, ap, subst, ◌∙◌, nat_eq, arith}
+use Rattle.std.proofs.Common.{◌≡◌, ◌≤◌, ◌++◌, length, refl, sym, ap, subst, ◌∙◌, nat_eq, arith}
 use Rattle.std.specs.List.{starts_with}
 use Rattle.std.proofs.lemmas.List.{take_all}
-use Rattle.htl_event.specs.Events.{Event}
 use Rattle.htl_event.specs.Stacks.{outer}
 use Rattle.htl_event.specs.Tallies.{under, total_of, plus_count}
 use Rattle.htl_event.proofs.Counts.{counts_add_up}
 use Rattle.htl_tree.specs.Trees.{total_count, count_under, HasTally}
 use Rattle.htl_tree.proofs.Under.{sum_where_le_total}
-use Rattle.htl_answers.specs.Parts.{size_of, size_of_all}
 use Rattle.htl_answers.proofs.PartLemmas.{last_part, one_part_more, size_more, size_most}
 use Rattle.htl_answers.proofs.counts.under.Goals as goal
 

@@ -1,8 +1,8 @@
 -- One event more.
-use Rattle.std.proofs.Common.{◌≡◌, ◌+◌, ◌∷◌, [], ◌++◌, take, sym, ap, ◌∙◌, arith}
+use Rattle.std.proofs.Common.{◌∷◌, [], ◌++◌, take, sym, ap, ◌∙◌, arith}
 use Rattle.std.proofs.lemmas.List.{take_more, take_all}
 use Rattle.htl_event.specs.Events.{Event}
-use Rattle.htl_event.specs.Tallies.{total_of, plus_count, under}
+use Rattle.htl_event.specs.Tallies.{total_of}
 use Rattle.htl_event.proofs.Counts.{counts_add_up}
 use Rattle.htl_answers.proofs.counts.under_events.Goals as goal
 

@@ -1,5 +1,5 @@
 -- One part more.
-use Rattle.std.proofs.Common.{take, refl, inl, arith}
+use Rattle.std.proofs.Common.{refl, inl, arith}
 use Rattle.std.proofs.lemmas.List.{take_all}
 use Rattle.htl_event.specs.declared.kind.Kind.TheVariants.{Exited}
 use Rattle.htl_event.specs.Handles.{IsOf}

@@ -1,7 +1,6 @@
 -- One part more.
-use Rattle.std.proofs.Common.{◌≡◌, ◌≢◌, ◌++◌, List, take, refl, ◌∙◌, arith}
+use Rattle.std.proofs.Common.{◌≢◌, ◌++◌, ◌∙◌, arith}
 use Rattle.std.proofs.lemmas.List.{take_all}
-use Rattle.htl_event.specs.Events.{Event}
 use Rattle.htl_event.specs.Slots.{base_of}
 use Rattle.htl_answers.proofs.Appended.{latest_append}
 use Rattle.htl_event.proofs.Members.{Contains-nil}

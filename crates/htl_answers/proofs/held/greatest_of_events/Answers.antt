@@ -1,5 +1,5 @@
 -- One event more.
-use Rattle.std.proofs.Common.{◌∷◌, [], ◌++◌, take, refl, sym, ap, ◌∙◌, arith, inl, inr}
+use Rattle.std.proofs.Common.{◌∷◌, [], ◌++◌, take, refl, sym, ap, ◌∙◌, arith, inl}
 use Rattle.std.proofs.lemmas.List.{take_more, take_all}
 use Rattle.htl_event.specs.Events.{Event}
 use Rattle.htl_tables.proofs.NotingLaws.{keeps_greatest}

@@ -1,5 +1,5 @@
 -- One row more.
-use Rattle.std.proofs.Common.{◌≡◌, ◌∷◌, [], ◌++◌, map, take, sym, ap, ◌∙◌, refl}
+use Rattle.std.proofs.Common.{◌∷◌, [], ◌++◌, map, take, sym, ap, ◌∙◌, refl}
 use Rattle.std.proofs.lemmas.List.{take_more, map-append}
 use Rattle.htl_answers.specs.Leaks.{stack_before_number}
 use Rattle.htl_answers.proofs.leaking.stack_first.Goals as goal

@@ -1,6 +1,6 @@
 -- One event more.
-use Rattle.std.proofs.Common.{◌≡◌, ◌∷◌, [], ◌++◌, take, sym, ap, ◌∙◌, append_assoc, arith}
-use Rattle.std.proofs.lemmas.List.{take_more, take_all}
+use Rattle.std.proofs.Common.{◌∷◌, [], ◌++◌, take, sym, ap, ◌∙◌, append_assoc}
+use Rattle.std.proofs.lemmas.List.{take_more}
 use Rattle.htl_event.specs.Events.{Event}
 use Rattle.htl_answers.proofs.open.add_copies.Goals as goal
 

@@ -1,6 +1,5 @@
 -- One event more.
-use Rattle.std.proofs.Common.{◌≡◌, [], ◌∷◌, ◌++◌, List, sym, ap, ◌∙◌, arith}
-use Rattle.std.proofs.lemmas.List.{take_all}
+use Rattle.std.proofs.Common.{[], ◌∷◌, ◌++◌, List, sym, ap, ◌∙◌}
 use Rattle.htl_event.specs.Events.{Event}
 use Rattle.htl_answers.specs.Candidates.{touches}
 use Rattle.htl_answers.proofs.Filters.{one_added, none_added}

@@ -1,5 +1,5 @@
 -- One part more.
-use Rattle.std.proofs.Common.{◌≡◌, ◌++◌, take, append_assoc, arith}
+use Rattle.std.proofs.Common.{◌++◌, append_assoc, arith}
 use Rattle.std.proofs.lemmas.List.{take_all}
 use Rattle.htl_event.proofs.Members.{Contains-nil}
 use Rattle.htl_answers.proofs.PartLemmas.{last_part, one_part_more}

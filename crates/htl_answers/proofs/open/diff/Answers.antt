@@ -1,9 +1,8 @@
 -- The opens after the moment, of the latest of the process's handles, are the difference.
-use Rattle.std.proofs.Common.{sym, subst, ◌∙◌}
+use Rattle.std.proofs.Common.{sym, subst}
 use Rattle.std.specs.Prelude.{Contains}
 use Rattle.std.proofs.lemmas.Result.{IfOk-weaker}
 use Rattle.htl_event.specs.Handles.{IsDiff}
-use Rattle.htl_answers.proofs.Appended.{nat_max}
 use Rattle.htl_answers.proofs.CandidateLemmas.{opened_after_is_diff}
 use Rattle.htl_answers.proofs.open.diff.Goals as goal
 

@@ -1,5 +1,5 @@
 -- One sum more.
-use Rattle.std.proofs.Common.{◌≡◌, ◌++◌, ◌∷◌, [], take, get_or, refl, sym, ap, ◌∙◌}
+use Rattle.std.proofs.Common.{take, get_or, refl, sym, ap, ◌∙◌}
 use Rattle.std.specs.List.{filter_map}
 use Rattle.std.proofs.lemmas.List.{take_more}
 use Rattle.htl_tree.proofs.Between.{no_count}

@@ -1,5 +1,5 @@
 -- Both halves together.
-use Rattle.std.proofs.Common.{rules, ◌≡◌, ◌+◌, ◌-◌, ◌<◌, ◌^◌, ◌/◌, List, length, length-drop, map, ap, ◌∙◌, arith}
+use Rattle.std.proofs.Common.{rules, ◌<◌, ◌^◌, ◌/◌, length, length-drop, map, ap, ◌∙◌, arith}
 use Rattle.std.proofs.lemmas.Result.{IfOk-weaker}
 use Rattle.htl_tree.specs.Trees.{HasTally, total_count}
 use Rattle.htl_answers.specs.Parts.{size_of_all}

@@ -1,5 +1,5 @@
 -- What is folded and what is held add up.
-use Rattle.std.proofs.Common.{◌≡◌, ◌+◌, ◌≤◌, List, length, ap, sym, subst, arith}
+use Rattle.std.proofs.Common.{List, length, ap, sym, subst, arith}
 use Rattle.std.proofs.lemmas.Result.{IfOk-weaker}
 use Rattle.htl_event.specs.Events.{Event}
 use Rattle.htl_tree.specs.Trees.{HasTally, total_count}

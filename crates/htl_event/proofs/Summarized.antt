@@ -13,7 +13,7 @@ use Rattle.htl_event.specs.declared.summary.ObjectRow.{ObjectRow}
 use Rattle.htl_event.specs.Members.{Lists, IsStrictOrder}
 use Rattle.htl_event.specs.Handles.{IsOf}
 use Rattle.htl_event.specs.Laws.{HaveSame}
-use Rattle.htl_event.specs.Summaries.{how_many, IsProcessRow, MostOutstandingFirst, IsObject, IsObjectRow, MostUnbalancedFirst, SummariesAreDetermined}
+use Rattle.htl_event.specs.Summaries.{how_many, IsProcessRow, MostOutstandingFirst, IsObjectRow, MostUnbalancedFirst, SummariesAreDetermined}
 use Rattle.htl_event.proofs.Members.{Lists-same}
 use Rattle.htl_event.proofs.Orders.{strict_from_total}
 use Rattle.htl_event.proofs.Determined.{IsGreatestSequence-same, same_where, open_in_both}

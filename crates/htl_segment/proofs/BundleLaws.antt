@@ -5,8 +5,8 @@ use Rattle.std.proofs.Common.{arith, inl, inr, ◌⊎◌}
 use Rattle.std.specs.Prelude.{codes, MatchOption}
 use Rattle.std.specs.List.{starts_with}
 use Rattle.std.proofs.lemmas.Bool.{cases_lt, lt-ltb, le-ltb}
-use Rattle.std.proofs.lemmas.List.{append_cancel_left, take_all, length-append, length-take, append-nil, take-append-drop, flat_map_more}
-use Rattle.std.proofs.lemmas.List.Elements.{All-nil, All-cons, All-push, All-head, All-tail}
+use Rattle.std.proofs.lemmas.List.{append_cancel_left, length-append, length-take, take-append-drop, flat_map_more}
+use Rattle.std.proofs.lemmas.List.Elements.{All-push, All-head, All-tail}
 use Rattle.htl_segment.specs.declared.version.Version.{Version}
 use Rattle.htl_segment.specs.declared.fault.Fault.{Fault}
 use Rattle.htl_segment.specs.declared.fault.Fault.TheVariants as faults
@@ -21,7 +21,7 @@ use Rattle.htl_segment.specs.Feeding.{SplitsMore}
 use Rattle.htl_segment.specs.Pieces.{is_memory}
 use Rattle.htl_segment.proofs.PassedTests.{some_is}
 use Rattle.htl_segment.proofs.HeaderLaws.{length-header_bytes}
-use Rattle.htl_segment.proofs.SegmentLaws.{first_fault-header, first_fault-cut, first_fault-records, begins, segment_again, one_spelling}
+use Rattle.htl_segment.proofs.SegmentLaws.{first_fault-header, first_fault-cut, first_fault-records, segment_again, one_spelling}
 use Rattle.htl_segment.proofs.MoreBytes.{header_fault-append, first_fault-append}
 
 -- ---- which faults are early ends

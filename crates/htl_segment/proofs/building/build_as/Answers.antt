@@ -1,6 +1,6 @@
 -- Parts without a fault fit.
-use Rattle.std.proofs.Common.{sym, ◌∙◌, arith}
-use Rattle.htl_segment.proofs.BuildingLaws.{parts_fit, parts_pass}
+use Rattle.std.proofs.Common.{arith}
+use Rattle.htl_segment.proofs.BuildingLaws.{parts_fit}
 use Rattle.htl_segment.proofs.building.build_as.Goals as goal
 
 pub new-requires : goal.new-requires

@@ -1,5 +1,5 @@
 -- What follows a first segment is split behind it.
-use Rattle.std.proofs.Common.{◌≡◌, ◌∷◌, [], refl, sym, arith}
+use Rattle.std.proofs.Common.{◌≡◌, ◌∷◌, [], refl, arith}
 use Rattle.std.proofs.lemmas.Grind.{common_steps}
 use Rattle.htl_segment.proofs.BundleLaws.{boundary_inside}
 use Rattle.htl_segment.proofs.PiecesLaws.{taken_after, spelled_refused, refused_behind, piece_boundary}

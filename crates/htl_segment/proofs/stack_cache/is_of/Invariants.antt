@@ -1,5 +1,5 @@
 -- The addresses so far are those of the bytes.
-use Rattle.std.proofs.Common.{◌≡◌, ◌-◌, ◌*◌, ◌/◌, ◌≤◌, ◌++◌, length, take}
+use Rattle.std.proofs.Common.{◌≡◌, ◌-◌, ◌*◌, ◌/◌, ◌++◌, length, take}
 use Rattle.htl_segment.specs.Numbers.{numbers}
 use Rattle.htl_segment.proofs.stack_cache.is_of.Given as goal
 

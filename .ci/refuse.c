@@ -2,7 +2,7 @@
 // memory.
 //
 // A whole run is tried with REFUSED_GROWTH=N in its environment: growth N, counted from the program's start, is
-// refused, and 'refused' goes to file 9. A program that tries one call after the other (crates/refuse_growths) tells
+// refused, and 'refused' goes to file 9. A program that tries one call after the other (crates/growth_trials) tells
 // when a call begins and ends. It can do so only by a call of the C library that takes a name of its choice, and that
 // is the look at its environment: where it asks for the variable REFUSE_GROWTH_N, growth N, counted from there on, is
 // refused, and where it asks for GROWTH_REFUSED, none is any more, and the answer is whether one was.

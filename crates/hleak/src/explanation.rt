@@ -32,7 +32,8 @@ impl fmt::Display for Explanation<'_> {
             RunFault::SymbolsRead => write!(f, "{}: {UNREADABLE}", self.symbols()),
             RunFault::Write => write!(
                 f,
-                "standard output: it didn't take the whole answer: is a disk full, or its reader gone?"
+                "standard output: it didn't take the whole answer: is a disk full, or its reader \
+                 gone?"
             ),
             RunFault::Memory => write!(f, "hleak: {NO_MEMORY}"),
             RunFault::NoThread => write!(

@@ -1,5 +1,7 @@
 //! What the program reads from.
 
+ghost use Rattle.std.specs.Prelude.{◌≡◌, ◌⊎◌, None};
+
 use crate::progress::Progress;
 use std::fs::{File, Metadata};
 use std::io::{IsTerminal, Read, Stdin};
@@ -14,7 +16,10 @@ pub struct Input<'a> {
 
 impl<'a> Input<'a> {
     /// A file, of which nothing was read.
-    pub fn file(file: File, progress: Option<&'a Progress>) -> Input<'a> {
+    pub fn file(file: File, progress: Option<&'a Progress>) -> Input<'a>
+        ensures device { result.device ≡ Device.File file }
+        ensures watched { result.progress ≡ progress.entry }
+    {
         if let Some(progress) = progress {
             progress.open(known_len(file.metadata()));
         }
@@ -25,7 +30,10 @@ impl<'a> Input<'a> {
     }
 
     /// Standard input. What a person types is not counted.
-    pub fn standard(rt: &HostRuntime, progress: Option<&'a Progress>) -> Input<'a> {
+    pub fn standard(rt: &HostRuntime, progress: Option<&'a Progress>) -> Input<'a>
+        ensures device { (standard : Stdin) × (result.device ≡ Device.Standard standard) }
+        ensures watched { (result.progress ≡ None) ⊎ (result.progress ≡ progress.entry) }
+    {
         let standard = rt.stdin();
         let progress = progress.filter(|_| !standard.is_terminal());
         if let Some(progress) = progress {

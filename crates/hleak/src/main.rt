@@ -1,10 +1,12 @@
 //! The program: answers one question over trace segments in files, or from standard input.
 //!
-//! The words ask for a job (`htl_command`). The files are opened in order, the symbol table is read, and
-//! the job is run (`htl_main`). A fault's line goes to standard error, and the program ends with its status.
+//! The words ask for a job (`htl_command`). The files are opened in order, the symbol table is
+//! read, and the job is run (`htl_main`). A fault's line goes to standard error, and the program
+//! ends with its status.
 //!
-//! Where standard error is a terminal, a person is told more: `progress.rt` shows how much was read, and
-//! `explanation.rt` and `meaning.rt` say a fault in words.
+//! Where standard error is a terminal, a person is told more: `progress.rt` shows how much was
+//! read, `note.rt` says that segments are missing, and `explanation.rt` and `meaning.rt` say a
+//! fault in words.
 #![tactic(auto)]
 
 ghost use Rattle.std.specs.Prelude.{◌≡◌, All, IfOk, false};
@@ -12,12 +14,14 @@ ghost use Rattle.std.specs.Prelude.{◌≡◌, All, IfOk, false};
 mod explanation;
 mod input;
 mod meaning;
+mod note;
 mod progress;
 
 use explanation::Explanation;
 use htl_command::{Asked, ParseFault, parse};
-use htl_main::{Reading, RunFault, Source, Writing, run_from};
+use htl_main::{Coverage, Reading, RunFault, Source, Writing, run_from};
 use input::Input;
+use note::Note;
 use progress::Progress;
 use std::alloc::Global;
 use std::fs::File;
@@ -38,7 +42,12 @@ fn main(rt: HostRuntime) -> ExitCode {
     };
     let is_watched = rt.stderr().is_terminal();
     match answered(&rt, &rt, &asked, is_watched) {
-        Ok(()) => ExitCode::SUCCESS,
+        Ok(coverage) => {
+            if is_watched {
+                tell_gaps(&rt, coverage);
+            }
+            ExitCode::SUCCESS
+        }
         Err(fault) => {
             let _ = eprintln!(rt; "{fault}");
             if is_watched {
@@ -81,13 +90,20 @@ fn refused(rt: &HostRuntime, fault: &ParseFault) -> ExitCode {
     }
 }
 
+/// Tells a person where segments are missing.
+fn tell_gaps(rt: &HostRuntime, coverage: Coverage) {
+    if let Some(note) = Note::on(coverage) {
+        let _ = eprintln!(rt; "{note}");
+    }
+}
+
 /// Runs what is asked for, with workers in threads of the runtime.
 fn answered(
     host: &HostRuntime,
     rt: &(impl Threads + Wait + Sync),
     asked: &Asked,
     is_watched: bool,
-) -> Result<(), RunFault> {
+) -> Result<Coverage, RunFault> {
     let progress = if is_watched {
         Progress::begin(*host).ok()
     } else {

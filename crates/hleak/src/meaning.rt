@@ -1,6 +1,7 @@
 //! What the code of a fault means, in words, and what to do about it.
 //!
-//! "The segment" is the one at the offset that the fault's line tells. Records, rows and segments count from 0.
+//! "The segment" is the one at the offset that the fault's line tells. Records, rows and segments
+//! count from 0.
 
 use htl_case::CaseFault;
 use htl_segment::{Fault, HexFault};
@@ -122,8 +123,8 @@ impl fmt::Display for Meaning<CaseFault> {
             CaseFault::NoMemory => write!(f, "{NO_MEMORY}"),
             CaseFault::Falling(processor, number) => write!(
                 f,
-                "segment {number} of processor {processor} has an event that isn't above all in its segments \
-                 before: are they of one trace? If so, its writer is at fault"
+                "segment {number} of processor {processor} has an event that isn't above all in \
+                 its segments before: are they of one trace? If so, its writer is at fault"
             ),
         }
     }

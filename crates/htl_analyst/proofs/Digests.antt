@@ -1,26 +1,20 @@
 -- Digests of events, put together.
-use Rattle.std.proofs.Common.{◌≡◌, ℕ, ◌+◌, ◌<◌, ◌≤◌, max, List, [], ◌∷◌, ◌++◌, length, take, get_or, Option, refl, sym, ap, ◌∙◌, subst}
-use Rattle.std.proofs.Common.{arith, inl, inr, ◌⊎◌, append-nil}
-use Rattle.std.specs.Prelude.{Contains, ◌↔◌}
+use Rattle.std.proofs.Common.{◌≡◌, ℕ, ◌+◌, ◌<◌, ◌≤◌, max, List, [], ◌∷◌, ◌++◌, length, take, get_or, refl, sym, ap, ◌∙◌, subst}
+use Rattle.std.proofs.Common.{arith, inl, inr, append-nil}
+use Rattle.std.specs.Prelude.{Contains}
 use Rattle.std.proofs.lemmas.List.{take_more, take_all}
-use Rattle.std.proofs.lemmas.List.Elements.{Contains-append_cases, Contains-append_left, Contains-append_right, Contains-push}
-use Rattle.std.proofs.lemmas.List.Elements.{Contains-push_cases}
+use Rattle.std.proofs.lemmas.List.Elements.{Contains-push, Contains-push_cases}
 use Rattle.std.proofs.lemmas.Grind.{flat_map-append}
 use Rattle.htl_event.specs.Events.{Event}
 use Rattle.htl_segment.specs.Content.{Content}
 use Rattle.htl_segment.specs.Traces.{all_events}
-use Rattle.htl_event.specs.Handles.{LatestIs, later, IsGreatestSequence}
+use Rattle.htl_event.specs.Handles.{IsGreatestSequence}
 use Rattle.htl_event.specs.Tallies.{has_stack}
 use Rattle.htl_event.proofs.Counts.{count_where-append}
-use Rattle.htl_event.proofs.Unions.{LatestIs-later, IsGreatestSequence-max, union_where}
+use Rattle.htl_event.proofs.Unions.{IsGreatestSequence-max}
 use Rattle.htl_event.proofs.Members.{Contains-nil}
 use Rattle.htl_tree.specs.Trees.{Tree, HasTally, IsSumTally}
-
-pub append_members : (xs ys : List Event) (e : Event) → Contains (xs ++ ys) e ↔ (Contains xs e ⊎ Contains ys e)
-append_members xs ys e = (
-  (λ h. Contains-append_cases xs ys e h),
-  (λ h. elim h [ inl l ↦ Contains-append_left xs ys e l | inr r ↦ Contains-append_right xs ys e r ]),
-)
+use Rattle.htl_answers.proofs.Appended.{append_is_union}
 
 pub tally_joined : (t u sum : Tree) (xs ys : List Event) → IsSumTally sum t u → HasTally t xs → HasTally u ys → HasTally sum (xs ++ ys)
 tally_joined t u sum xs ys plus ht hu slot stack =
@@ -28,26 +22,12 @@ tally_joined t u sum xs ys plus ht hu slot stack =
     ∙ rw (ht slot stack, hu slot stack) refl
     ∙ sym (count_where-append (has_stack stack) xs ys slot)
 
-pub latest_joined : (xs ys : List Event) (process base : ℕ) (new a b : Option Event) → new ≡ later a b
-    → LatestIs (Contains xs) process base a → LatestIs (Contains ys) process base b → LatestIs (Contains (xs ++ ys)) process base new
-latest_joined xs ys process base new a b e x y =
-    subst (λ (o : Option Event). LatestIs (Contains (xs ++ ys)) process base o) (sym e)
-    (LatestIs-later (Contains xs) (Contains ys) (Contains (xs ++ ys)) (append_members xs ys) process base a b x y)
-
--- the greatest sequence of the events with a property
-pub greatest_joined : (P : Event → Type 0) (xs ys : List Event) (new a b : ℕ) → new ≡ max a b
-    → IsGreatestSequence (λ e. Contains xs e × P e) a → IsGreatestSequence (λ e. Contains ys e × P e) b
-    → IsGreatestSequence (λ e. Contains (xs ++ ys) e × P e) new
-greatest_joined P xs ys new a b e x y =
-    subst (IsGreatestSequence (λ e. Contains (xs ++ ys) e × P e)) (sym e)
-    (IsGreatestSequence-max (λ e. Contains xs e × P e) (λ e. Contains ys e × P e) (λ e. Contains (xs ++ ys) e × P e)
-    (union_where (Contains xs) (Contains ys) (Contains (xs ++ ys)) P (append_members xs ys)) a b x y)
-
+-- the greatest sequence of the events of both
 pub last_joined : (xs ys : List Event) (new a b : ℕ) → new ≡ max a b → IsGreatestSequence (Contains xs) a
     → IsGreatestSequence (Contains ys) b → IsGreatestSequence (Contains (xs ++ ys)) new
 last_joined xs ys new a b e x y =
     subst (IsGreatestSequence (Contains (xs ++ ys))) (sym e)
-    (IsGreatestSequence-max (Contains xs) (Contains ys) (Contains (xs ++ ys)) (append_members xs ys) a b x y)
+    (IsGreatestSequence-max (Contains xs) (Contains ys) (Contains (xs ++ ys)) (append_is_union xs ys) a b x y)
 
 -- ---- one event after the other
 

@@ -1,5 +1,5 @@
 -- Laws of states that are right about one trace.
-use Rattle.std.specs.Prelude.{◌≡◌, ℕ}
+use Rattle.std.specs.Prelude.{◌≡◌}
 use Rattle.htl_segment.specs.Traces.{Trace, events_of}
 use Rattle.htl_analyst.specs.States.{State}
 use Rattle.htl_analyst.specs.Keys.{keys}

@@ -1,5 +1,5 @@
 -- What the steps of an analyst make of its state.
-use Rattle.std.specs.Prelude.{◌≡◌, ℕ, ◌<◌, ◌⊎◌, nat_lt, if◌then◌else◌, List, map, replicate, Contains, slice_set, insert, length}
+use Rattle.std.specs.Prelude.{◌≡◌, ℕ, ◌<◌, ◌⊎◌, nat_lt, if◌then◌else◌, map, replicate, Contains, slice_set, insert, length}
 use Rattle.std.specs.List.{AllByRecursion}
 use Rattle.htl_segment.specs.Content.{Content}
 use Rattle.htl_taken.specs.Numbers.{Numbers, no_numbers, numbers_at, loose_at, with_loose, IsUnion}

@@ -7,3 +7,4 @@ pub mod Candidates
 pub mod Leaks
 pub mod Tags
 pub mod Bad
+pub mod Whole

@@ -16,8 +16,6 @@ mod leaking;
 mod open;
 mod part;
 mod tagging;
-#[cfg(test)]
-mod tests;
 mod whole;
 
 pub use bad_references::bad;

@@ -12,8 +12,6 @@ mod fault;
 mod help;
 mod question;
 mod reading;
-#[cfg(test)]
-mod tests;
 mod values;
 
 pub use asked::{Asked, parse};

@@ -44,8 +44,13 @@ count_send = search sendable depth 20
 
 node_step : (i : the_members (Heap.the_row).Denot) → Sends (knot.ring Heap.the_row ghosts) i
 node_step member-Node = record {
-  send = λ h s. declared_send (knot.type-Node Heap.the_row ghosts (h member-Node))
-      (search (sendable, crosses, slot_send, count_send) depth 20, (search (sendable, crosses) depth 20, tt));
+  send = λ h s. declared_send (knot.type-Node Heap.the_row ghosts (h member-Node)) (
+    search (sendable, crosses) depth 20,
+    (
+      search (sendable, crosses, slot_send, count_send) depth 20,
+      (search (sendable, crosses) depth 20, (search (sendable, crosses) depth 20, tt)),
+    ),
+  );
 }
 
 pub hole_send : IsSend (holes (knot.ring Heap.the_row ghosts) member-Node)

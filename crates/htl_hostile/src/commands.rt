@@ -1,6 +1,7 @@
 //! Each command's text over one trace.
 
 use htl_command::Question;
+use htl_main::Coverage;
 use htl_samples::{SampleFault, TRACE};
 use htl_segment::encode;
 use std::alloc::Global;
@@ -10,6 +11,12 @@ pub const INPUTS: [&str; 2] = [
     "0/0: O 1 0x44 [0x1004 0x20], S 2, O 3 0x48 [0x30]",
     "0/1: C 4 0x44, B 5 0x45 [0x30], R 6 0x1000 Lky8 [0x1004], D 7 0x1000 Dflt",
 ];
+
+/// No segment of it is missing.
+pub const COVERAGE: Coverage = Coverage {
+    gaps: 0,
+    complete_to: 7,
+};
 
 pub const SYMBOLS: &str = "start,end,module,name\n1000,1010,app,main\n";
 

@@ -1,8 +1,8 @@
 //! Sources that give a few bytes a read, and that fail at each of their reads in turn.
 
-use crate::commands::{COMMANDS, Command, INPUTS, SYMBOLS, bytes_of};
+use crate::commands::{COMMANDS, COVERAGE, Command, INPUTS, SYMBOLS, bytes_of};
 use htl_command::Job;
-use htl_main::{Reading, RunFault, Writing, run_from};
+use htl_main::{Coverage, Reading, RunFault, Writing, run_from};
 use htl_samples::SampleFault;
 use std::alloc::Global;
 use std::io;
@@ -63,7 +63,7 @@ impl<'a> Sources<'a> {
         alloc: Global,
         job: &Job,
         reads: usize,
-    ) -> (Vec<u8>, Result<(), RunFault>) {
+    ) -> (Vec<u8>, Result<Coverage, RunFault>) {
         let reads_left = reads.saturating_sub(self.reads_of(self.first));
         let mut sources = [
             Reading::new(self.source(self.first, reads)),
@@ -100,7 +100,7 @@ fn fail_reads(
         assert!(rt; written.is_empty(), "read {read}");
     }
     let (written, ended) = sources.run(rt, alloc, job, reads);
-    assert_eq!(rt; ended, Ok(()));
+    assert_eq!(rt; ended, Ok(COVERAGE));
     assert_eq!(rt; written.as_slice(), text.as_bytes());
     reads
 }

@@ -43,7 +43,7 @@ from_zero : (ss : List Content) → AllByRecursion (λ t. 0 ≤ rank t) ss
 from_zero [] = tt
 from_zero (s ∷ ss) = (omega arith, from_zero ss)
 
-few_segments : (ss : List Content) → AreInOrder ss → AllByRecursion Fits ss → length ss ≤ 2 ^ 40
+pub few_segments : (ss : List Content) → AreInOrder ss → AllByRecursion Fits ss → length ss ≤ 2 ^ 40
 few_segments ss ordered fit = let all = above 0 ss ordered fit (from_zero ss) (omega arith) in omega (arith, all)
 
 few_each : (ss : List Content) → AllByRecursion Fits ss → length (all_events ss) ≤ 4096 * length ss

@@ -1,8 +1,11 @@
 pub mod InputLaws
 pub mod SplitLaws
 pub mod SourceLaws
-pub mod WholeLaws
 pub mod FewSegments
+pub mod OfProcessor
+pub mod Covered
+pub mod WholeLaws
 pub mod OneTable
 pub mod OneSummary
 pub mod OneOutcome
+pub mod OneCoverage

@@ -108,7 +108,7 @@ decoded_not_told hex place input ss fault is (inr p) = no_hex_fault hex input is
 
 -- ---- all inputs
 
-one_decoding : (hex : Bool) (inputs : List (List ℕ)) (ss ts : List Content) → DecodeAll hex inputs ss → DecodeAll hex inputs ts → ss ≡ ts
+pub one_decoding : (hex : Bool) (inputs : List (List ℕ)) (ss ts : List Content) → DecodeAll hex inputs ss → DecodeAll hex inputs ts → ss ≡ ts
 one_decoding hex [] ss ts p q = p ∙ sym q
 one_decoding hex (input ∷ inputs) ss ts p q =
     p.4 ∙ ap (λ (l : List Content). l ++ p.1) (one_content hex input p.0 q.0 p.2 q.2)

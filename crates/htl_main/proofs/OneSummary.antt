@@ -14,7 +14,7 @@ use Rattle.htl_main.specs.Summaries.{AreTotals, IsCompleteTo, IsSummaryText}
 determined : (T : Trace) → SummariesAreDetermined (all_events T.segments) (all_events T.segments)
 determined T = summaries_are_determined (all_events T.segments) (all_events T.segments) (IsPermutation-refl (all_events T.segments))
 
-one_complete : (T : Trace) (n m : ℕ) → IsCompleteTo T n → IsCompleteTo T m → n ≡ m
+pub one_complete : (T : Trace) (n m : ℕ) → IsCompleteTo T n → IsCompleteTo T m → n ≡ m
 one_complete T n m p q =
     let le = p.bound q.processor m q.within q.reached in
     let ge = q.bound p.processor n p.within p.reached in
@@ -42,7 +42,7 @@ one_totals T a b p q =
     ∙ ap (λ (n : ℕ). totals b.processors b.segments b.events n a.objects) complete_to
     ∙ ap (λ (n : ℕ). totals b.processors b.segments b.events b.complete_to n) objects
 
-one_gaps : (T : Trace) (a b : List Gap) → IsGaps (HasKey T) T.processors a → IsGaps (HasKey T) T.processors b → a ≡ b
+pub one_gaps : (T : Trace) (a b : List Gap) → IsGaps (HasKey T) T.processors a → IsGaps (HasKey T) T.processors b → a ≡ b
 one_gaps T a b =
     Lists-same IsGapBefore IsGapBefore-strict (IsGap (HasKey T) T.processors) (IsGap (HasKey T) T.processors) a b
     (λ gap. ((λ h. h), (λ h. h)))

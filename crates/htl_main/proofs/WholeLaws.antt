@@ -1,7 +1,6 @@
 -- An analyst that has taken a whole trace has the trace's events and keys, and is complete to where the trace is.
 use Rattle.std.proofs.Common.{◌≡◌, ◌<◌, ℕ, suc, Bool, true, List, [], ◌∷◌, ap, refl, sym, subst, arith, inl, inr}
 use Rattle.std.specs.Prelude.{Contains, filter}
-use Rattle.std.proofs.lemmas.Bool.{cases_lt}
 use Rattle.htl_event.specs.Handles.{IsGreatestSequence}
 use Rattle.htl_event.proofs.Members.{Contains-from_map, at_member}
 use Rattle.htl_segment.specs.Traces.{Trace, HasKey, has_key, all_events}
@@ -22,6 +21,7 @@ use Rattle.htl_exchange.specs.Desks.{IsWholeStanding}
 use Rattle.htl_main.specs.Printed.{IsText, IsTextOver}
 use Rattle.htl_main.specs.Questions.{IsOfAnalyst}
 use Rattle.htl_main.specs.Summaries.{IsCompleteTo, IsFirstMissing}
+use Rattle.htl_main.proofs.Covered.{one_first}
 
 filter_whole : {X : Type 0} (p : X → Bool) (xs : List X) → ((x : X) → Contains xs x → p x ≡ true) → filter p xs ≡ xs
 filter_whole p [] all = refl
@@ -40,13 +40,6 @@ first_missing T a whole p lt = record {
   below = (whole.standing.right.each p lt).complete;
   missing = λ key. whole.standing.least p (whole.keys p (front_at a.taken p) key);
 }
-
-one_first : (T : Trace) (p n m : ℕ) → IsFirstMissing T p n → IsFirstMissing T p m → n ≡ m
-one_first T p n m a b =
-    elim (cases_lt n m) [
-      | inl lt ↦ absurd (a.missing (b.below n lt))
-      | inr le ↦ elim (cases_lt m n) [ inl lt ↦ absurd (b.missing (a.below m lt)) | inr ge ↦ omega (arith, le, ge) ]
-    ]
 
 pub complete : (T : Trace) (a : State) (n : ℕ) → IsWholeStanding T a → moments.IsCompleteTo T a n → IsCompleteTo T n
 complete T a n whole is =

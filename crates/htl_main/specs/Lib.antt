@@ -1,6 +1,7 @@
 -- What public contracts cite.
 pub mod Inputs
 pub mod Summaries
+pub mod Coverages
 pub mod Printed
 pub mod Causes
 pub mod Sources
@@ -8,3 +9,5 @@ pub mod Statuses
 -- What only private contracts cite.
 pub mod Faults
 pub mod Questions
+pub mod Reads
+pub mod Numbers

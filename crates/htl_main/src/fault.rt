@@ -157,10 +157,9 @@ impl From<SurveyFault> for RunFault {
 }
 
 impl From<NoMemory> for RunFault {
-    ghost use Rattle.std.specs.Prelude.{◌≡◌};
-    ghost use Rattle.htl_main.specs.declared.fault.RunFault.TheVariants.{Memory};
+    ghost use Rattle.htl_main.specs.Faults.{IsMemory};
 
-    ghost from_gives = { λ _ fault. fault ≡ Memory };
+    ghost from_gives = { λ _. IsMemory };
 
     fn from(_refused: NoMemory) -> RunFault {
         RunFault::Memory
@@ -168,10 +167,9 @@ impl From<NoMemory> for RunFault {
 }
 
 impl From<AllocError> for RunFault {
-    ghost use Rattle.std.specs.Prelude.{◌≡◌};
-    ghost use Rattle.htl_main.specs.declared.fault.RunFault.TheVariants.{Memory};
+    ghost use Rattle.htl_main.specs.Faults.{IsMemory};
 
-    ghost from_gives = { λ _ fault. fault ≡ Memory };
+    ghost from_gives = { λ _. IsMemory };
 
     fn from(_refused: AllocError) -> RunFault {
         RunFault::Memory
@@ -179,10 +177,9 @@ impl From<AllocError> for RunFault {
 }
 
 impl<T: Drop> From<AllocFailed<T>> for RunFault {
-    ghost use Rattle.std.specs.Prelude.{◌≡◌};
-    ghost use Rattle.htl_main.specs.declared.fault.RunFault.TheVariants.{Memory};
+    ghost use Rattle.htl_main.specs.Faults.{IsMemory};
 
-    ghost from_gives = { λ _ fault. fault ≡ Memory };
+    ghost from_gives = { λ _. IsMemory };
 
     fn from(_refused: AllocFailed<T>) -> RunFault {
         RunFault::Memory

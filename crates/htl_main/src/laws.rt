@@ -1,9 +1,16 @@
 //! Laws of what a run comes to. Each function's contract is the law; none does anything when it
 //! runs.
 
-ghost use Rattle.std.specs.Prelude.{◌≡◌, ℕ, List, Option, Result};
+ghost use Rattle.std.specs.Prelude.{◌≡◌, ℕ, Bool, List, Option, Result, length};
+ghost use Rattle.htl_segment.specs.Traces.{Trace, HasKey};
+ghost use Rattle.htl_taken.specs.Gaps.{IsGaps};
+ghost use Rattle.htl_taken.specs.declared.gap.Gap.{Gap};
+ghost use Rattle.htl_report.specs.declared.summary.Totals.{Totals};
 ghost use Rattle.htl_command.specs.declared.question.Job.{Job};
+ghost use Rattle.htl_main.specs.Coverages.{Covers, IsCoverage};
 ghost use Rattle.htl_main.specs.Printed.{Printed, WorkersFit};
+ghost use Rattle.htl_main.specs.Summaries.{AreTotals};
+ghost use Rattle.htl_main.specs.declared.coverage.Coverage.{Coverage};
 ghost use Rattle.htl_main.specs.declared.fault.RunFault.{RunFault};
 
 /// Inputs and a symbol table come to one text or to one fault, and never to both. The number of
@@ -18,4 +25,13 @@ pub fn one_outcome()
         → job.hex ≡ other.hex → job.question ≡ other.question
         → WorkersFit job.workers → WorkersFit other.workers
         → Printed job inputs symbols a → Printed other inputs symbols b → a ≡ b }
+{}
+
+/// Inputs have one coverage, and a summary tells the same.
+pub fn one_coverage()
+    ensures one { (hex : Bool) (inputs : List (List ℕ)) (a b : Coverage)
+        → Covers hex inputs a → Covers hex inputs b → a ≡ b }
+    ensures summary { (T : Trace) (coverage : Coverage) (totals : Totals) (gaps : List Gap)
+        → IsCoverage T coverage → AreTotals T totals → IsGaps (HasKey T) T.processors gaps
+        → (coverage.gaps ≡ length gaps) × (coverage.complete_to ≡ totals.complete_to) }
 {}

@@ -4,10 +4,12 @@ ghost use Rattle.std.specs.Prelude.{◌≡◌, ◌≢◌, ◌⊎◌, false, true
 ghost use Rattle.std.specs.Io.KnownBytes.{Appends};
 ghost use Rattle.std.specs.Option.{option_copied};
 ghost use Rattle.htl_device.specs.Devices.{AppendsPrefix};
+ghost use Rattle.htl_main.specs.Coverages.{Covers, CoversSegments};
 ghost use Rattle.htl_main.specs.Printed.{Answers, HasSymbols, HasSymbolFault, WorkersFit};
 ghost use Rattle.htl_main.specs.Causes.{Prints, PrintsPart, IsCause, IsCauseBehind};
 
 use crate::answering::answer;
+use crate::coverage::Coverage;
 use crate::fault::RunFault;
 use crate::inputs::decode_all;
 use htl_case::Case;
@@ -26,7 +28,8 @@ use std::thread::Threads;
 /// The number of workers is tested first; then each input in order is decoded, the segments are
 /// made a case, the symbols are read, and the answer is made. The first fault ends the run. Nothing
 /// is written before the whole text is made; after a failed write some first part of it went out.
-/// What is printed is the same for every number of workers.
+/// What is printed is the same for every number of workers. A run that ends well tells how much of
+/// its trace the case of all segments has.
 pub fn run<Rt: Threads + Wait + Sync, W: Sink>(
     rt: &Rt,
     alloc: Global,
@@ -34,10 +37,12 @@ pub fn run<Rt: Threads + Wait + Sync, W: Sink>(
     inputs: &[Vec<u8>],
     symbols: Option<&[u8]>,
     out: &mut W,
-) -> Result<(), RunFault>
+) -> Result<Coverage, RunFault>
     requires { W.has_failed out.old ≡ false }
     ensures ok { OnOk result (Prints job.now (map (λ input. input.items) inputs.now)
         (option_copied symbols.entry) (W.contents out.old) (W.contents out.new)) }
+    ensures coverage { IfOk result
+        (Covers job.now.hex (map (λ input. input.items) inputs.now)) }
     ensures fine { OnOk result (W.has_failed out.new ≡ false) }
     ensures cause { IfErr result (IsCause job.now (map (λ input. input.items) inputs.now)
         (option_copied symbols.entry)) }
@@ -49,8 +54,9 @@ pub fn run<Rt: Threads + Wait + Sync, W: Sink>(
 {
     check_workers(job.workers)?;
     let segments = decode_all(alloc, job.hex, inputs)?;
-    let lines = lines_of(rt, alloc, job, segments, symbols)?;
-    write_lines(out, &lines)
+    let (lines, coverage) = answered(rt, alloc, job, segments, symbols)?;
+    write_lines(out, &lines)?;
+    Ok(coverage)
 }
 
 /// Tests the number of workers.
@@ -65,24 +71,26 @@ pub(crate) fn check_workers(workers: u32) -> Result<(), RunFault>
     }
 }
 
-/// The lines of the answer to the job's question over the decoded segments.
-pub(crate) fn lines_of<Rt: Threads + Wait + Sync>(
+/// The lines of the answer to the job's question over the decoded segments, and how much of its
+/// trace their case has.
+pub(crate) fn answered<Rt: Threads + Wait + Sync>(
     rt: &Rt,
     alloc: Global,
     job: &Job,
     segments: Vec<Segment>,
     symbols: Option<&[u8]>,
-) -> Result<Vec<u8>, RunFault>
+) -> Result<(Vec<u8>, Coverage), RunFault>
     requires { WorkersFit job.now.workers }
-    ensures ok { IfOk result (λ lines.
-        Answers segments.items (option_copied symbols.entry) job.now.question lines.items) }
+    ensures ok { IfOk result (λ answered.
+        Answers segments.items (option_copied symbols.entry) job.now.question answered.0.items) }
+    ensures coverage { IfOk result (λ answered. CoversSegments segments.items answered.1) }
     ensures err { IfErr result
         (IsCauseBehind segments.items (option_copied symbols.entry) job.now.question) }
 {
     let case = Case::of(alloc, segments)?;
     let symbols = read_symbols(alloc, symbols)?;
     let answer = answer(rt, alloc, job, &case)?;
-    Ok(text(alloc, &answer, &symbols)?)
+    Ok((text(alloc, &answer, &symbols)?, Coverage::of(&case)))
 }
 
 /// The symbols of a table's bytes, or none where no table is given.

@@ -1,6 +1,6 @@
 //! The segments that sources give, each read to its end.
 
-ghost use Rattle.std.specs.Prelude.{◌≡◌, ◌≢◌, ◌⊎◌, ◌+◌, ◌*◌, ◌<◌, ◌≤◌, ◌^◌, ◌++◌};
+ghost use Rattle.std.specs.Prelude.{◌≡◌, ◌⊎◌, ◌+◌, ◌*◌, ◌<◌, ◌≤◌, ◌^◌, ◌++◌};
 ghost use Rattle.std.specs.Prelude.{ℕ, List, [], All, None, Some, false, true};
 ghost use Rattle.std.specs.Prelude.{length, map, IfOk, IfErr, IfSome};
 ghost use Rattle.htl_segment.specs.Bundles.{IsRest, Splits, cut_off};
@@ -8,6 +8,7 @@ ghost use Rattle.htl_segment.specs.Pieces.{Refuses, start_of};
 ghost use Rattle.htl_segment.specs.declared.fault.Fault.{Fault};
 ghost use Rattle.htl_main.specs.Faults.{of_segment};
 ghost use Rattle.htl_main.specs.Inputs.{Decodes, DecodeAll, StopsAt};
+ghost use Rattle.htl_main.specs.Reads.{FailsOnly, NeverRead, NeverWrite, TellsFailure};
 ghost use Rattle.htl_main.specs.Sources.{IsToldOfSource, IsTrueAt, MayBeEndless};
 
 use crate::fault::RunFault;
@@ -34,7 +35,7 @@ pub(crate) fn read_all<R: Source>(
     ensures read { (place : ℕ) → result ≡ Err (RunFault.Read place)
         → IsTrueAt (map R.has_failed sources.new) place
         ⊎ MayBeEndless (map R.remaining sources.old) place }
-    ensures no_write { IfErr result (λ fault. fault ≢ RunFault.Write) }
+    ensures no_write { NeverWrite result }
 {
     let mut segments = Vec::new(alloc);
     for (place, source) in sources.iter_mut().enumerate() {
@@ -56,11 +57,10 @@ fn read_input<R: Source>(
         (λ bytes. Decodes hex bytes segments.items)) }
     ensures err { IfErr result (λ fault. IfSome (R.remaining source.old)
         (λ bytes. IsToldOfSource hex place bytes fault)) }
-    ensures told { R.has_failed source.new ≡ true → result ≡ Err (RunFault.Read place) }
-    ensures read { (at : ℕ) → result ≡ Err (RunFault.Read at) → (at ≡ place)
-        × ((R.has_failed source.new ≡ true)
-        ⊎ IfSome (R.remaining source.old) (λ bytes. MAX_READS ≤ length bytes)) }
-    ensures no_write { IfErr result (λ fault. fault ≢ RunFault.Write) }
+    ensures told { TellsFailure place (R.has_failed source.new) result }
+    ensures read { FailsOnly place (R.has_failed source.new) (R.remaining source.old)
+        MAX_READS result }
+    ensures no_write { NeverWrite result }
 {
     if hex {
         read_digits(alloc, place, source)
@@ -80,11 +80,10 @@ fn read_digits<R: Source>(
         (λ text. Decodes true text segments.items)) }
     ensures err { IfErr result (λ fault. IfSome (R.remaining source.old)
         (λ text. IsToldOfSource true place text fault)) }
-    ensures told { R.has_failed source.new ≡ true → result ≡ Err (RunFault.Read place) }
-    ensures read { (at : ℕ) → result ≡ Err (RunFault.Read at) → (at ≡ place)
-        × ((R.has_failed source.new ≡ true)
-        ⊎ IfSome (R.remaining source.old) (λ bytes. MAX_READS ≤ length bytes)) }
-    ensures no_write { IfErr result (λ fault. fault ≢ RunFault.Write) }
+    ensures told { TellsFailure place (R.has_failed source.new) result }
+    ensures read { FailsOnly place (R.has_failed source.new) (R.remaining source.old)
+        MAX_READS result }
+    ensures no_write { NeverWrite result }
 {
     match read_whole(alloc, source) {
         Ok(text) => decode_input(alloc, true, place, &text),
@@ -104,11 +103,10 @@ fn read_bundle<R: Source>(
         (λ bytes. Splits bytes segments.items [])) }
     ensures err { IfErr result (λ fault. IfSome (R.remaining source.old)
         (λ bytes. IsToldOfSource false place bytes fault)) }
-    ensures told { R.has_failed source.new ≡ true → result ≡ Err (RunFault.Read place) }
-    ensures read { (at : ℕ) → result ≡ Err (RunFault.Read at) → (at ≡ place)
-        × ((R.has_failed source.new ≡ true)
-        ⊎ IfSome (R.remaining source.old) (λ bytes. MAX_READS ≤ length bytes)) }
-    ensures no_write { IfErr result (λ fault. fault ≢ RunFault.Write) }
+    ensures told { TellsFailure place (R.has_failed source.new) result }
+    ensures read { FailsOnly place (R.has_failed source.new) (R.remaining source.old)
+        MAX_READS result }
+    ensures no_write { NeverWrite result }
 {
     let mut buffer = vec![in alloc; 0u8; MAX_READ_LEN]?;
     split_within(alloc, place, source, &mut buffer, MAX_READS)
@@ -130,11 +128,10 @@ fn split_within<R: Source>(
         (λ bytes. Splits bytes segments.items [])) }
     ensures err { IfErr result (λ fault. IfSome (R.remaining source.old)
         (λ bytes. IsToldOfSource false place bytes fault)) }
-    ensures told { R.has_failed source.new ≡ true → result ≡ Err (RunFault.Read place) }
-    ensures read { (at : ℕ) → result ≡ Err (RunFault.Read at) → (at ≡ place)
-        × ((R.has_failed source.new ≡ true)
-        ⊎ IfSome (R.remaining source.old) (λ bytes. most ≤ length bytes)) }
-    ensures no_write { IfErr result (λ fault. fault ≢ RunFault.Write) }
+    ensures told { TellsFailure place (R.has_failed source.new) result }
+    ensures read { FailsOnly place (R.has_failed source.new) (R.remaining source.old)
+        most result }
+    ensures no_write { NeverWrite result }
 {
     let mut splitter = Splitter::new(alloc);
     let mut segments = Vec::new(alloc);
@@ -167,8 +164,8 @@ fn feed(
     ensures err { IfErr result (λ fault. (refusal : ℕ × Fault)
         × Refuses splitter.old piece.now refusal
         × (fault ≡ of_segment place refusal.0 refusal.1)) }
-    ensures no_read { (at : ℕ) → result ≡ Err (RunFault.Read at) → ⊥ }
-    ensures no_write { IfErr result (λ fault. fault ≢ RunFault.Write) }
+    ensures no_read { NeverRead result }
+    ensures no_write { NeverWrite result }
 {
     match splitter.feed(alloc, piece) {
         Ok(segments) => Ok(segments),
@@ -182,8 +179,8 @@ fn finish(place: u64, splitter: Splitter, segments: Vec<Segment>) -> Result<Vec<
     ensures ok { IfOk result (λ given. (given.items ≡ segments.items) × (splitter.rest ≡ [])) }
     ensures err { IfErr result (λ fault. (0 < length splitter.rest) × IsRest splitter.rest
         × (fault ≡ of_segment place (start_of splitter) (cut_off splitter.rest))) }
-    ensures no_read { (at : ℕ) → result ≡ Err (RunFault.Read at) → ⊥ }
-    ensures no_write { IfErr result (λ fault. fault ≢ RunFault.Write) }
+    ensures no_read { NeverRead result }
+    ensures no_write { NeverWrite result }
 {
     match splitter.finish() {
         Ok(()) => Ok(segments),

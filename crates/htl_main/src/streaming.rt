@@ -1,13 +1,15 @@
 //! The run over sources, which are read as it goes on.
 
 ghost use Rattle.std.specs.Prelude.{◌≡◌, ◌≢◌, ◌⊎◌, ℕ, List, All, Some};
-ghost use Rattle.std.specs.Prelude.{false, true, map, IfErr, OnOk};
+ghost use Rattle.std.specs.Prelude.{false, true, map, IfErr, IfOk, OnOk};
 ghost use Rattle.std.specs.Option.{option_copied};
 ghost use Rattle.htl_main.specs.Causes.{Prints, PrintsPart};
+ghost use Rattle.htl_main.specs.Coverages.{Covers};
 ghost use Rattle.htl_main.specs.Sources.{IsSourcesCause, IsTrueAt, MayBeEndless};
 
+use crate::coverage::Coverage;
 use crate::fault::RunFault;
-use crate::printing::{check_workers, lines_of, write_lines};
+use crate::printing::{answered, check_workers, write_lines};
 use crate::sources::read_all;
 use htl_command::Job;
 use htl_device::{Sink, Source};
@@ -27,13 +29,15 @@ pub fn run_from<Rt: Threads + Wait + Sync, R: Source, W: Sink>(
     inputs: &mut [R],
     symbols: Option<&[u8]>,
     out: &mut W,
-) -> Result<(), RunFault>
+) -> Result<Coverage, RunFault>
     requires inputs { All (λ source. R.has_failed source ≡ false) inputs.old }
     requires out { W.has_failed out.old ≡ false }
     // What the sources' bytes come to is printed, or told.
     ensures ok { (texts : List (List ℕ)) → map R.remaining inputs.old ≡ map Some texts
         → OnOk result (Prints job.now texts (option_copied symbols.entry)
         (W.contents out.old) (W.contents out.new)) }
+    ensures coverage { (texts : List (List ℕ)) → map R.remaining inputs.old ≡ map Some texts
+        → IfOk result (Covers job.now.hex texts) }
     ensures fine { OnOk result (W.has_failed out.new ≡ false) }
     ensures cause { (texts : List (List ℕ)) → map R.remaining inputs.old ≡ map Some texts
         → IfErr result (IsSourcesCause job.now texts (option_copied symbols.entry)) }
@@ -52,6 +56,7 @@ pub fn run_from<Rt: Threads + Wait + Sync, R: Source, W: Sink>(
 {
     check_workers(job.workers)?;
     let segments = read_all(alloc, job.hex, inputs)?;
-    let lines = lines_of(rt, alloc, job, segments, symbols)?;
-    write_lines(out, &lines)
+    let (lines, coverage) = answered(rt, alloc, job, segments, symbols)?;
+    write_lines(out, &lines)?;
+    Ok(coverage)
 }

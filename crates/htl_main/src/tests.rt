@@ -4,11 +4,11 @@ mod devices;
 mod rows;
 mod summaries;
 
-use crate::{RunFault, Writing, run};
+use crate::{Coverage, RunFault, Writing, run};
 use htl_command::{Job, Question};
 use htl_samples::TRACE;
 use htl_segment::encode;
-use rows::{PRINTED, Printed, REFUSED, Refused, STORED, STORED_TEXT};
+use rows::{PRINTED, Printed, REFUSED, Refused, STORED, STORED_COVERAGE, STORED_TEXT};
 use std::alloc::Global;
 use std::sync::Wait;
 use std::test::Fail;
@@ -53,7 +53,7 @@ fn printed(
     job: &Job,
     inputs: &[Vec<u8>],
     symbols: Option<&str>,
-) -> (Vec<u8>, Result<(), RunFault>) {
+) -> (Vec<u8>, Result<Coverage, RunFault>) {
     let mut written = Vec::new(alloc);
     let symbols = symbols.map(|text| text.as_bytes());
     let ended = run(
@@ -85,7 +85,7 @@ fn printed_row(
 }
 
 /// The fault of a run that writes nothing.
-fn refusal(written: &[u8], ended: Result<(), RunFault>) -> Result<RunFault, Fail> {
+fn refusal(written: &[u8], ended: Result<Coverage, RunFault>) -> Result<RunFault, Fail> {
     if !written.is_empty() {
         return Err("something was written".into());
     }
@@ -111,7 +111,7 @@ fn prints_the_stored_run(rt: HostRuntime) -> Result<(), Fail> {
     };
     let inputs = vec![in rt.alloc(); Vec::from_slice(rt.alloc(), STORED.as_bytes())?]?;
     let (written, ended) = printed(&rt, rt.alloc(), &job, &inputs, None);
-    assert_eq!(rt; ended, Ok(()));
+    assert_eq!(rt; ended, Ok(STORED_COVERAGE));
     assert_eq!(rt; written.as_slice(), STORED_TEXT.as_bytes());
     Ok(())
 }

@@ -2,9 +2,8 @@
 //! compared with the plain one, and at the end what the three know together is the same in
 //! whichever order they are merged.
 
-ghost use Rattle.std.specs.Prelude.{◌<◌};
-
 use crate::account::{Account, PROCESSORS};
+use crate::dice::Dice;
 use crate::plain;
 use htl_analyst::{Analyst, Took};
 use htl_event::{Kind, NoMemory, SharedEvent, SharedStack, Slot};
@@ -113,21 +112,6 @@ impl Player {
     }
 }
 
-/// Numbers that follow from a seed, by Sebastiano Vigna's SplitMix64.
-#[derive(Drop)]
-struct Dice(u64);
-
-impl Dice {
-    fn below(&mut self, bound: u64) -> u64
-        ensures { 0 < bound → result < bound }
-    {
-        self.0 = self.0.wrapping_add(0x9e37_79b9_7f4a_7c15);
-        let first = (self.0 ^ (self.0 >> 30)).wrapping_mul(0xbf58_476d_1ce4_e5b9);
-        let second = (first ^ (first >> 27)).wrapping_mul(0x94d0_49bb_1331_11eb);
-        (second ^ (second >> 31)) % bound.max(1)
-    }
-}
-
 /// One random step of one of the three: mostly a take, else a merge of another in either way, or a
 /// compaction.
 fn step(
@@ -157,7 +141,7 @@ fn step(
 fn random_histories(rt: HostRuntime) -> Result<(), Fail> {
     let alloc = rt.alloc();
     let subject = Subject::new(alloc)?;
-    let mut dice = Dice(1);
+    let mut dice = Dice::new(1);
     for _ in 0..LISTS {
         play(&rt, alloc, &subject, &mut dice)?;
     }

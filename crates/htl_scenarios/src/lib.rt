@@ -2,9 +2,10 @@
 //!
 //! Analysts that took the segments of a few lines answer what was worked out by hand: `handles` and
 //! `counting` have the questions, `merging` what analysts take over from one another, `moments` up
-//! to when nothing is missing, and `refusals` what is refused. In `histories` three analysts live
-//! through random lists of steps, and each answer is compared with that of `plain`, a program that
-//! scans a list of events.
+//! to when nothing is missing, `summary` what leaks at all, and `refusals` what is refused. In
+//! `histories` three analysts live through random lists of steps, and each answer is compared with
+//! that of `plain`, a program that scans a list of events. In `summaries` random traces lack
+//! segments, and their summaries are compared with those of `plain_summary`.
 #![tactic(auto)]
 
 #[cfg(test)]
@@ -13,6 +14,8 @@ mod account;
 mod analysts;
 #[cfg(test)]
 mod counting;
+#[cfg(test)]
+mod dice;
 #[cfg(test)]
 mod growths;
 #[cfg(test)]
@@ -26,6 +29,10 @@ mod moments;
 #[cfg(test)]
 mod plain;
 #[cfg(test)]
+mod plain_summary;
+#[cfg(test)]
 mod refusals;
+#[cfg(test)]
+mod summaries;
 #[cfg(test)]
 mod summary;

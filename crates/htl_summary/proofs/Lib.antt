@@ -1,4 +1,5 @@
 pub mod Totals
+pub mod InOrder
 pub mod JoinedTables
 pub mod SlotSums
 pub mod Sorted

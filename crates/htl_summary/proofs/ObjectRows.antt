@@ -1,9 +1,8 @@
 -- The rows of objects are those of the definition, and their number is that of the objects.
 use Rattle.std.proofs.Common.{◌≡◌, ℕ, ◌+◌, ◌<◌, Bool, true, false, not, cond, ◌&&◌, ◌==◌, List, [], ◌∷◌, map}
-use Rattle.std.proofs.Common.{Option, Some, None, T, refl, sym, ap, subst, ◌∙◌, arith, inl, inr, nat_eq}
+use Rattle.std.proofs.Common.{Option, Some, None, T, refl, sym, ap, subst, ◌∙◌, arith, inl, inr}
 use Rattle.std.specs.Prelude.{Contains, ◌↔◌, ◌⊎◌, length, count_by, filter, nat_lt}
-use Rattle.std.specs.List.{sum_by, filter_map, IsDistinct, AllByRecursion}
-use Rattle.std.specs.List.Sorted.{IsPermutation}
+use Rattle.std.specs.List.{sum_by, filter_map, AllByRecursion}
 use Rattle.std.specs.Ordering.{nat_cmp, is_eq}
 use Rattle.std.specs.Cmp.{unsigned_tied, nat_cmp_total}
 use Rattle.std.specs.FinMap.Entries.{find, below_all}
@@ -22,10 +21,10 @@ use Rattle.htl_event.specs.declared.slot.Sign.TheVariants.{Plus, Minus}
 use Rattle.htl_event.specs.declared.slot.Count.{Count}
 use Rattle.htl_event.specs.declared.summary.ObjectRow.{ObjectRow}
 use Rattle.htl_event.specs.Slots.{slot_of, slot_by_kind, is_slot, is_counted}
-use Rattle.htl_event.specs.Members.{IsRising, Lists}
-use Rattle.htl_event.specs.Tallies.{IsPositive, total_of, balance, ByTag, IsTags}
+use Rattle.htl_event.specs.Members.{IsRising}
+use Rattle.htl_event.specs.Tallies.{IsPositive, balance, ByTag, IsTags}
 use Rattle.htl_event.specs.Summaries.{IsOfObject, IsObject, IsNumberOfObjects, is_unbalanced, IsObjectRow, MostUnbalancedFirst, IsUnbalanced}
-use Rattle.htl_event.proofs.Members.{Contains-here, Contains-there, Contains-cases, Contains-nil, Contains-map, Contains-from_map}
+use Rattle.htl_event.proofs.Members.{Contains-here, Contains-there, Contains-map, Contains-from_map}
 use Rattle.htl_event.proofs.Members.{Contains-filter, Contains-from_filter}
 use Rattle.htl_event.proofs.Counts.{counts_are_determined}
 use Rattle.htl_sorted.specs.Entries.{IsSorted}
@@ -34,11 +33,11 @@ use Rattle.htl_tree.specs.Trees.{BySlot}
 use Rattle.htl_answers.specs.Tags.{tag_row}
 use Rattle.htl_answers.proofs.TagLemmas.{Contains-filter_map, Contains-from_filter_map, IsRising-filter_map, row_of, row_is, row_at, tags_rise}
 use Rattle.htl_summary.specs.Sums.{times_of, ListsSlotSums}
-use Rattle.htl_summary.specs.Totals.{one_at, total_at}
+use Rattle.htl_summary.specs.Totals.{one_at}
 use Rattle.htl_summary.specs.ObjectTags.{one_if_unbalanced, tag_of, both_objects, by_object, object_at}
-use Rattle.htl_summary.proofs.Totals.{amount, sum_same, sum_filter_map, found_row, row_there, total-amount, total-keeps}
+use Rattle.htl_summary.proofs.Totals.{amount, sum_same, sum_filter_map, found_row, row_there, total-amount, total-keeps, number_at}
 use Rattle.htl_summary.proofs.SlotSums.{came}
-use Rattle.htl_summary.proofs.Sorted.{below, distinct_keys}
+use Rattle.htl_summary.proofs.Sorted.{below}
 
 abbrev Sum : Type 0
 Sum = Slot × Count
@@ -68,8 +67,9 @@ tag_share : (g : ObjectRow → ℕ) (f : Balance → ℕ) → ((object : ℕ) (t
     → (object : ℕ) (slot : Slot) (count : Count)
     → amount (λ (row : ObjectRow). amount g (one_at nat_cmp key whole object row)) (tag_of slot count) ≡ amount f (tag_row object slot count)
 tag_share g f same object (Tagged its tag) count =
-    ap (λ (b : Bool). amount g (cond b (Some (single its count)) None)) (unsigned_tied object its ∙ nat_eq_equiv.symm object its)
-    ∙ (elim (its == object) as (λ b. amount g (cond b (Some (single its count)) None) ≡ amount f (cond b (Some (tag, count)) None))
+    number_at key g object (single its count)
+    ∙ ap (λ (b : Bool). cond b (g (single its count)) 0) (nat_eq_equiv.symm object its)
+    ∙ (elim (its == object) as (λ b. cond b (g (single its count)) 0 ≡ amount f (cond b (Some (tag, count)) None))
     [ true ↦ same its tag count | false ↦ refl ])
 tag_share g f same object (Handles p) count = refl
 tag_share g f same object (Bad p h) count = refl
@@ -314,9 +314,6 @@ module _ (events : List Event) (sums : List Sum) (rows : List ObjectRow) (listed
       let len = ap length same in
       let found = row_of_object row.object (omega (arith, some, number, upto, len)) in
       subst (Contains rows) (one_row events found.0 row (from_rows found.0 found.1) is found.2) found.1
-
-  pub rows_are_apart : IsDistinct nat_eq (map (λ (row : ObjectRow). row.object) rows)
-  rows_are_apart = distinct_keys key whole rows ordered
 
   pub are_unbalanced : (sorted : List ObjectRow) → IsRising MostUnbalancedFirst sorted
       → ((row : ObjectRow) → Contains sorted row ↔ Contains (filter shows rows) row) → IsUnbalanced events sorted

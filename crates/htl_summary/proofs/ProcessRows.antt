@@ -1,13 +1,13 @@
 -- The rows of processes are those of the definition.
 use Rattle.std.proofs.Common.{◌≡◌, ℕ, ◌+◌, ◌<◌, Bool, true, false, cond, ◌&&◌, ◌==◌, List, [], ◌∷◌, ◌++◌}
-use Rattle.std.proofs.Common.{map, Option, Some, None, refl, sym, ap, subst, ◌∙◌, arith, inl, inr, nat_eq}
+use Rattle.std.proofs.Common.{Option, Some, None, refl, sym, ap, subst, ◌∙◌, arith, inl, inr}
 use Rattle.std.specs.Prelude.{Contains, ◌↔◌, length}
-use Rattle.std.specs.List.{sum_by, filter_map, IsDistinct}
+use Rattle.std.specs.List.{filter_map}
 use Rattle.std.specs.Ordering.{nat_cmp, is_eq}
 use Rattle.std.specs.Cmp.{unsigned_tied, nat_cmp_total}
 use Rattle.std.specs.FinMap.Entries.{find}
+use Rattle.std.proofs.Math.Bool.{and-true, and-false}
 use Rattle.std.proofs.lemmas.Bool.{eqb-true}
-use Rattle.std.proofs.lemmas.Bool.Decides.{Decides-eqb}
 use Rattle.htl_event.specs.Events.{Event}
 use Rattle.htl_event.specs.declared.kind.Kind.{Kind}
 use Rattle.htl_event.specs.declared.kind.Kind.TheVariants.{Opened, Closed, BadRef, Snapshot, Ref, Deref, Exited}
@@ -18,8 +18,8 @@ use Rattle.htl_event.specs.declared.slot.Sign.TheVariants.{Plus, Minus}
 use Rattle.htl_event.specs.declared.slot.Count.{Count}
 use Rattle.htl_event.specs.declared.summary.ProcessRow.{ProcessRow}
 use Rattle.htl_event.specs.Slots.{slot_of, slot_by_kind, is_slot, is_counted}
-use Rattle.htl_event.specs.Members.{IsRising, Lists}
-use Rattle.htl_event.specs.Tallies.{IsPositive, total_of}
+use Rattle.htl_event.specs.Members.{IsRising}
+use Rattle.htl_event.specs.Tallies.{IsPositive}
 use Rattle.htl_event.specs.Summaries.{is_open, is_close, is_bad, how_many, HasOutstanding, IsProcessRow, MostOutstandingFirst, IsProcesses}
 use Rattle.htl_event.proofs.Members.{Contains-here, Contains-there, Contains-cases, Contains-nil}
 use Rattle.htl_event.proofs.Determined.{outstanding_same, IsGreatestSequence-unique}
@@ -27,23 +27,15 @@ use Rattle.htl_sorted.specs.Entries.{IsSorted}
 use Rattle.htl_answers.proofs.TagLemmas.{Contains-from_filter_map}
 use Rattle.htl_summary.specs.declared.usage.Usage.{Usage}
 use Rattle.htl_summary.specs.Sums.{times_of, ListsSlotSums}
-use Rattle.htl_summary.specs.Totals.{one_at, total_at}
+use Rattle.htl_summary.specs.Totals.{one_at}
 use Rattle.htl_summary.specs.Usages.{usage_of, both_usages, by_process, usage_at}
 use Rattle.htl_summary.specs.Rows.{IsRowOf, AreRowsOf}
-use Rattle.htl_summary.proofs.Totals.{amount, sum_same, sum_zero, sum_filter_map, found_row, row_there, total-amount, total-keeps}
+use Rattle.htl_summary.proofs.Totals.{amount, sum_same, sum_zero, sum_filter_map, none_or_none, found_row, row_there, total-amount, total-keeps}
+use Rattle.htl_summary.proofs.Totals.{number_at}
 use Rattle.htl_summary.proofs.SlotSums.{side, hits, sums_are_events}
-use Rattle.htl_summary.proofs.Sorted.{distinct_keys}
 
 abbrev Sum : Type 0
 Sum = Slot × Count
-
-and_true : (b : Bool) → (b && true) ≡ b
-and_true true = refl
-and_true false = refl
-
-and_false : (b : Bool) → (b && false) ≡ false
-and_false true = refl
-and_false false = refl
 
 -- ---- what slots tell of a process
 
@@ -56,8 +48,8 @@ is_misused process (Bad p handle) = process == p
 is_misused process other = false
 
 open_test : (process : ℕ) (kind : Kind) (e : Event) → hits (is_handles process) Plus (slot_by_kind kind e) ≡ (is_open kind && process == e.process)
-open_test process Opened e = and_true (process == e.process)
-open_test process Closed e = and_false (process == e.process)
+open_test process Opened e = and-true (process == e.process)
+open_test process Closed e = and-false (process == e.process)
 open_test process BadRef e = refl
 open_test process Snapshot e = refl
 open_test process Ref e = refl
@@ -65,8 +57,8 @@ open_test process Deref e = refl
 open_test process Exited e = refl
 
 close_test : (process : ℕ) (kind : Kind) (e : Event) → hits (is_handles process) Minus (slot_by_kind kind e) ≡ (is_close kind && process == e.process)
-close_test process Opened e = and_false (process == e.process)
-close_test process Closed e = and_true (process == e.process)
+close_test process Opened e = and-false (process == e.process)
+close_test process Closed e = and-true (process == e.process)
 close_test process BadRef e = refl
 close_test process Snapshot e = refl
 close_test process Ref e = refl
@@ -76,7 +68,7 @@ close_test process Exited e = refl
 bad_test : (process : ℕ) (kind : Kind) (e : Event) → hits (is_misused process) Plus (slot_by_kind kind e) ≡ (is_bad kind && process == e.process)
 bad_test process Opened e = refl
 bad_test process Closed e = refl
-bad_test process BadRef e = and_true (process == e.process)
+bad_test process BadRef e = and-true (process == e.process)
 bad_test process Snapshot e = refl
 bad_test process Ref e = refl
 bad_test process Deref e = refl
@@ -86,7 +78,7 @@ bad_test process Exited e = refl
 bad_never_minus : (kind : Kind) (e : Event) (p h : ℕ) → is_slot (Bad p h) Minus (slot_by_kind kind e) ≡ false
 bad_never_minus Opened e p h = refl
 bad_never_minus Closed e p h = refl
-bad_never_minus BadRef e p h = and_false _
+bad_never_minus BadRef e p h = and-false _
 bad_never_minus Snapshot e p h = refl
 bad_never_minus Ref e p h = refl
 bad_never_minus Deref e p h = refl
@@ -118,37 +110,24 @@ closes usage = usage.closes
 abbrev misuses : Usage → ℕ
 misuses usage = usage.bad
 
+share_is : (field : Usage → ℕ) (process : ℕ) (slot : Slot) (count : Count) (row : Usage) → usage_of slot count ≡ Some row
+    → share field process (slot, count) ≡ cond (process == row.process) (field row) 0
+share_is field process slot count row e =
+    ap (amount (λ (r : Usage). amount field (one_at nat_cmp key whole process r))) e ∙ number_at key field process row
+
 share_opens : (process : ℕ) (slot : Slot) (count : Count) → share opens process (slot, count) ≡ cond (is_handles process slot) (side Plus count) 0
-share_opens process (Handles p) count =
-    ap (λ (b : Bool). amount opens (cond b (Some (record { process = p; opens = count.plus; closes = count.minus; bad = 0 })) None))
-    (unsigned_tied process p)
-    ∙ (elim (process == p) as (λ b. amount opens (cond b (Some (record { process = p; opens = count.plus; closes = count.minus; bad = 0 })) None)
-    ≡ cond b count.plus 0) [ true ↦ refl | false ↦ refl ])
-share_opens process (Bad p h) count =
-    elim (is_eq (nat_cmp process p)) as (λ b. amount opens (cond b (Some (record { process = p; opens = 0; closes = 0; bad = count.plus })) None) ≡ 0)
-    [ true ↦ refl | false ↦ refl ]
+share_opens process (Handles p) count = share_is opens process (Handles p) count _ refl
+share_opens process (Bad p h) count = share_is opens process (Bad p h) count _ refl ∙ none_or_none (process == p)
 share_opens process (Tagged o t) count = refl
 
 share_closes : (process : ℕ) (slot : Slot) (count : Count) → share closes process (slot, count) ≡ cond (is_handles process slot) (side Minus count) 0
-share_closes process (Handles p) count =
-    ap (λ (b : Bool). amount closes (cond b (Some (record { process = p; opens = count.plus; closes = count.minus; bad = 0 })) None))
-    (unsigned_tied process p)
-    ∙ (elim (process == p) as (λ b. amount closes (cond b (Some (record { process = p; opens = count.plus; closes = count.minus; bad = 0 })) None)
-    ≡ cond b count.minus 0) [ true ↦ refl | false ↦ refl ])
-share_closes process (Bad p h) count =
-    elim (is_eq (nat_cmp process p)) as (λ b. amount closes (cond b (Some (record { process = p; opens = 0; closes = 0; bad = count.plus })) None) ≡ 0)
-    [ true ↦ refl | false ↦ refl ]
+share_closes process (Handles p) count = share_is closes process (Handles p) count _ refl
+share_closes process (Bad p h) count = share_is closes process (Bad p h) count _ refl ∙ none_or_none (process == p)
 share_closes process (Tagged o t) count = refl
 
 share_misuses : (process : ℕ) (slot : Slot) (count : Count) → share misuses process (slot, count) ≡ cond (is_misused process slot) (side Plus count) 0
-share_misuses process (Handles p) count =
-    elim (is_eq (nat_cmp process p))
-    as (λ b. amount misuses (cond b (Some (record { process = p; opens = count.plus; closes = count.minus; bad = 0 })) None) ≡ 0)
-    [ true ↦ refl | false ↦ refl ]
-share_misuses process (Bad p h) count =
-    ap (λ (b : Bool). amount misuses (cond b (Some (record { process = p; opens = 0; closes = 0; bad = count.plus })) None)) (unsigned_tied process p)
-    ∙ (elim (process == p) as (λ b. amount misuses (cond b (Some (record { process = p; opens = 0; closes = 0; bad = count.plus })) None)
-    ≡ cond b count.plus 0) [ true ↦ refl | false ↦ refl ])
+share_misuses process (Handles p) count = share_is misuses process (Handles p) count _ refl ∙ none_or_none (process == p)
+share_misuses process (Bad p h) count = share_is misuses process (Bad p h) count _ refl
 share_misuses process (Tagged o t) count = refl
 
 -- a row with a use, of the process
@@ -246,15 +225,6 @@ module _ (events : List Event) where
         | inr there ↦ let rest = usage_of_row used rows are.1 row there in (rest.0, Contains-there u used rest.0 rest.1, rest.2)
       ]
 
-  pub same_processes : (used : List Usage) (rows : List ProcessRow) → AreRowsOf events used rows
-      → map (λ (row : ProcessRow). row.process) rows ≡ map key used
-  same_processes [] [] are = refl
-  same_processes [] (r ∷ rows) are = absurd are
-  same_processes (u ∷ used) [] are = absurd are
-  same_processes (u ∷ used) (r ∷ rows) are =
-      ap (λ (p : ℕ). p ∷ map (λ (row : ProcessRow). row.process) rows) are.0.owner
-      ∙ ap (λ (l : List ℕ). u.process ∷ l) (same_processes used rows are.1)
-
   -- one row more
   pub rows_more : (used : List Usage) (rows : List ProcessRow) (u : Usage) (r : ProcessRow) → AreRowsOf events used rows → IsRowOf events u r
       → AreRowsOf events (used ++ u ∷ []) (rows ++ r ∷ [])
@@ -307,9 +277,6 @@ module _ (events : List Event) (sums : List Sum) (used : List Usage) (rows sorte
           let owner : usage.process ≡ row.process = (is_used events sums listed row.process usage at).1 in
           let same : there.0.process ≡ row.process = there.2.owner ∙ ap key found.2 ∙ owner in
           subst (Contains rows) (one_row events there.0 row (from_rows there.0 there.1) is same) there.1
-
-  pub rows_are_apart : IsDistinct nat_eq (map (λ (row : ProcessRow). row.process) rows)
-  rows_are_apart = subst (IsDistinct nat_eq) (sym (same_processes events used rows are)) (distinct_keys key whole used ordered)
 
   pub are_processes : IsRising MostOutstandingFirst sorted → ((row : ProcessRow) → Contains sorted row ↔ Contains rows row)
       → IsProcesses events sorted

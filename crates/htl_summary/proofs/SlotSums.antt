@@ -1,10 +1,10 @@
 -- Sums over the slots of a list that has each slot once: of a tree's counts, and of how often events came.
 use Rattle.std.proofs.Common.{◌≡◌, ◌≢◌, ℕ, ◌+◌, ◌<◌, ◌≤◌, Bool, true, false, cond, ◌&&◌, List, []}
 use Rattle.std.proofs.Common.{◌∷◌, Option, Some, None, refl, sym, ap, subst, ◌∙◌, arith, inl, inr}
-use Rattle.std.specs.Prelude.{Contains, count_by, nat_eq, reverse}
-use Rattle.std.specs.List.{sum_by, starts_with}
+use Rattle.std.specs.Prelude.{Contains, count_by}
+use Rattle.std.specs.List.{sum_by}
+use Rattle.std.proofs.Math.Bool.{and-true}
 use Rattle.std.proofs.lemmas.Bool.{cases_Bool}
-use Rattle.std.proofs.lemmas.Bool.Decides.{Decides-eqb}
 use Rattle.std.proofs.lemmas.List.Sums.{sum_by-cons, sum_by-le-sum_by}
 use Rattle.htl_event.specs.Events.{Event}
 use Rattle.htl_event.specs.declared.slot.Slot.{Slot}
@@ -13,18 +13,16 @@ use Rattle.htl_event.specs.declared.slot.Sign.TheVariants.{Plus, Minus}
 use Rattle.htl_event.specs.declared.slot.Count.{Count}
 use Rattle.htl_event.specs.Slots.{slot_of, same_slot, same_sign, is_slot, is_counted}
 use Rattle.htl_event.specs.OrderLaws.{slot_total}
-use Rattle.htl_event.specs.Members.{IsRising, IsStrictOrder, Lists}
-use Rattle.htl_event.specs.Stacks.{outer}
-use Rattle.htl_event.specs.Tallies.{total_of, plus_count, times, count_where, IsPositive}
+use Rattle.htl_event.specs.Members.{IsRising, IsStrictOrder}
+use Rattle.htl_event.specs.Tallies.{total_of, plus_count, IsPositive}
 use Rattle.htl_event.proofs.Members.{Contains-here, Contains-there, Contains-cases, Contains-nil, at_member}
 use Rattle.htl_event.proofs.Orders.{strict_from_total}
-use Rattle.htl_tree.specs.Trees.{Tree, IsTree, HasTally, BySlot, ListsSums, count_under, sum_where, total_count}
-use Rattle.htl_tree.specs.declared.slots.Slots.{Slots}
+use Rattle.htl_tree.specs.Trees.{Tree, IsTree, HasTally, BySlot, ListsSums, count_under, total_count}
 use Rattle.htl_tree.specs.declared.slots.Slots.TheVariants.{All}
 use Rattle.htl_tree.proofs.Under.{same_slot_Decides}
 use Rattle.htl_tree.proofs.Events.{under_events}
 use Rattle.htl_summary.specs.Sums.{times_of, ListsSlotSums}
-use Rattle.htl_summary.proofs.Totals.{sum_same, sum_upto, sum_zero, sum_swap}
+use Rattle.htl_summary.proofs.Totals.{sum_same, sum_zero, sum_swap, none_or_none}
 
 abbrev Sum : Type 0
 Sum = Slot × Count
@@ -99,9 +97,6 @@ module _ (f : Slot → ℕ) (t : Slot) where
 abbrev At : Type 0
 At = (List ℕ × Slot) × Count
 
-any_stack : (stack : List ℕ) → starts_with nat_eq (outer stack) [] ≡ true
-any_stack stack = refl
-
 total_under : (tree : Tree) (s : Slot)
     → total_of (count_under tree [] s) ≡ sum_by (λ (row : At). cond (same_slot s row.0.1) (total_of row.1) 0) tree
 total_under [] s = refl
@@ -150,14 +145,6 @@ hits passes sign (Some counted) = passes counted.0 && same_sign sign counted.1
 abbrev one_if : Bool → ℕ
 one_if b = cond b 1 0
 
-and_true : (b : Bool) → (b && true) ≡ b
-and_true true = refl
-and_true false = refl
-
-and_false : (b : Bool) → (b && false) ≡ false
-and_false true = refl
-and_false false = refl
-
 positive_somewhere : {X : Type 0} (p : X → Bool) (xs : List X) (x : X) → Contains xs x → p x ≡ true → 0 < count_by p xs
 positive_somewhere p [] x h holds = absurd (Contains-nil x h)
 positive_somewhere {X} p (y ∷ xs) x h holds =
@@ -177,7 +164,7 @@ pub came : (events : List Event) (e : Event) (slot : Slot) (sign : Sign) → Con
 came events e slot sign h is = go sign is
   where
     counted : (s : Sign) → slot_of e ≡ Some (slot, s) → (is_counted slot s e && true) ≡ true
-    counted s at = and_true (is_counted slot s e) ∙ ap (is_slot slot s) at
+    counted s at = and-true (is_counted slot s e) ∙ ap (is_slot slot s) at
         ∙ ap (λ b. b && same_sign s s) ((same_slot_Decides slot slot).1 refl) ∙ own s
       where
         own : (s : Sign) → (true && same_sign s s) ≡ true
@@ -215,11 +202,7 @@ module _ (passes : Slot → Bool) (sign : Sign) (events : List Event) (sums : Li
           nothing : (sum : Sum) → w sum e ≡ 0
           nothing sum =
               let not : is_counted sum.0 sign e ≡ false = ap (is_slot sum.0 sign) at in
-              ap (λ b. cond (passes sum.0) (one_if (b && true)) 0) not ∙ both (passes sum.0)
-            where
-              both : (b : Bool) → ◌≡◌ {A = ℕ} (cond b 0 0) 0
-              both true = refl
-              both false = refl
+              ap (λ b. cond (passes sum.0) (one_if (b && true)) 0) not ∙ none_or_none (passes sum.0)
       go (Some counted) at =
           sum_same (λ (sum : Sum). w sum e) (here f counted.0) sums (λ sum k. as_here sum)
           ∙ once f counted.0 sums listed.rising (times_of events counted.0)

@@ -1,24 +1,27 @@
 -- Rows that a sort by a key put in order rise strictly, where their keys differ.
-use Rattle.std.proofs.Common.{◌≡◌, ◌≢◌, ℕ, zero, suc, ◌+◌, ◌<◌, get_or, Bool, true, false, List, []}
+use Rattle.std.proofs.Common.{◌≡◌, ◌≢◌, ℕ, suc, ◌+◌, ◌<◌, get_or, Bool, false, List, []}
 use Rattle.std.proofs.Common.{◌∷◌, map, T, refl, sym, ap, subst, ◌∙◌, arith, inl, inr, nat_eq}
-use Rattle.std.specs.Prelude.{Contains, filter}
+use Rattle.std.specs.Prelude.{Contains, ◌↔◌, filter}
 use Rattle.std.specs.List.{IsDistinct, AllByRecursion}
 use Rattle.std.specs.List.Sorted.{IsSortedBy, IsPermutation}
-use Rattle.std.specs.Ordering.{nat_cmp, is_lt}
+use Rattle.std.specs.Ordering.{nat_cmp, is_lt, ordering_then}
 use Rattle.std.specs.Cmp.{IsTotalOrder}
+use Rattle.std.specs.FinMap.{nat_cmp-IsAntisymmetric}
 use Rattle.std.specs.FinMap.Entries.{below_all}
 use Rattle.std.specs.declared.cmp.Ordering.{Ordering}
 use Rattle.std.specs.declared.cmp.Ordering.TheVariants.{Less, Equal, Greater}
+use Rattle.std.specs.declared.cmp.Reverse.{Reverse}
 use Rattle.std.proofs.lemmas.Bool.{cases_Bool, false≢true, ne_eqb, eq-eqb, both_ways}
 use Rattle.std.proofs.lemmas.Bool.Decides.{nat_tests}
-use Rattle.std.proofs.lemmas.Cmp.{nat_eq_equiv}
+use Rattle.std.proofs.lemmas.Cmp.{nat_eq_equiv, nat_cmp_total, on_total, then_total, back_total}
 use Rattle.std.proofs.lemmas.Map.Keys.{IsDistinct-IsPermutation}
-use Rattle.std.proofs.lemmas.List.Sorted.{ranks_by, sorted_far, IsPermutation-map}
+use Rattle.std.proofs.lemmas.List.Sorted.{ranks_by, sorted_far, IsPermutation-map, IsPermutation-sym, Contains-permutation}
 use Rattle.htl_event.specs.Members.{IsRising}
 use Rattle.htl_event.proofs.Members.{Contains-map, Contains-from_map, Contains-from_filter, each_member, at_member, filter-pass, filter-skip}
 use Rattle.htl_sorted.specs.Entries.{IsSorted, entries}
 use Rattle.htl_sorted.proofs.Bools.{both_left, both_right, less}
 use Rattle.htl_sorted.proofs.Places.{turn}
+use Rattle.htl_answers.proofs.Opens.{both_tied}
 
 -- ---- keys that differ
 
@@ -44,22 +47,27 @@ pub distinct_moved : {X : Type 0} (n : X → ℕ) (xs ys : List X) → IsPermuta
 distinct_moved n xs ys moved =
     IsDistinct-IsPermutation nat_eq nat_eq_equiv.symm (map n xs) (map n ys) (IsPermutation-map n xs ys moved)
 
--- of rows whose keys differ, those with one key are one
-pub one_of_key : {X : Type 0} (n : X → ℕ) (xs : List X) → IsDistinct nat_eq (map n xs) → (x y : X) → Contains xs x → Contains xs y
-    → n x ≡ n y → x ≡ y
+-- rows that pass a test have keys that differ too
+pub distinct_filter : {X : Type 0} (n : X → ℕ) (p : X → Bool) (xs : List X) → IsDistinct nat_eq (map n xs)
+    → IsDistinct nat_eq (map n (filter p xs))
 unfolding IsDistinct
-one_of_key n [] distinct x y h k e = absurd (omega (arith, h.1))
-one_of_key n (z ∷ xs) distinct x y (zero, lt, is) (zero, lu, at) e = sym is ∙ at
-one_of_key n (z ∷ xs) distinct x y (zero, lt, is) (suc j, lu, at) e =
-    let there : Contains xs y = (j, omega (arith, lu), at) in
-    let not : nat_eq (n z) (n y) ≡ false = at_member (λ k. nat_eq (n z) k ≡ false) (map n xs) (n y) distinct.0 (Contains-map n xs y there) in
-    absurd (both_ways (nat_eq (n z) (n y)) not (eq-eqb (n z) (n y) (ap n is ∙ e)))
-one_of_key n (z ∷ xs) distinct x y (suc i, lt, is) (zero, lu, at) e =
-    let there : Contains xs x = (i, omega (arith, lt), is) in
-    let not : nat_eq (n z) (n x) ≡ false = at_member (λ k. nat_eq (n z) k ≡ false) (map n xs) (n x) distinct.0 (Contains-map n xs x there) in
-    absurd (both_ways (nat_eq (n z) (n x)) not (eq-eqb (n z) (n x) (ap n at ∙ sym e)))
-one_of_key n (z ∷ xs) distinct x y (suc i, lt, is) (suc j, lu, at) e =
-    one_of_key n xs distinct.1 x y (i, omega (arith, lt), is) (j, omega (arith, lu), at) e
+distinct_filter n p [] distinct = tt
+distinct_filter {X} n p (x ∷ xs) distinct =
+    let rest = distinct_filter n p xs distinct.1 in
+    elim (cases_Bool (p x)) [
+      | inl passes ↦ subst (λ (l : List X). IsDistinct nat_eq (map n l)) (sym (filter-pass p x xs passes)) (
+        each_member (λ k. nat_eq (n x) k ≡ false) (map n (filter p xs)) (λ k h.
+            let from = Contains-from_map n (filter p xs) k h in
+            at_member (λ k. nat_eq (n x) k ≡ false) (map n xs) k distinct.0
+            (subst (Contains (map n xs)) from.2 (Contains-map n xs from.0 (Contains-from_filter p xs from.0 from.1).0))),
+        rest,
+      )
+      | inr fails ↦ subst (λ (l : List X). IsDistinct nat_eq (map n l)) (sym (filter-skip p x xs fails)) rest
+    ]
+
+-- a list in another order has the same members
+pub same_members : {X : Type 0} (xs ys : List X) → IsPermutation xs ys → (x : X) → Contains ys x ↔ Contains xs x
+same_members xs ys moved x = (Contains-permutation ys xs x (IsPermutation-sym xs ys moved), Contains-permutation xs ys x moved)
 
 -- ---- in order
 
@@ -99,20 +107,25 @@ module _ {X K : Type 0} (key : X → K) (R : K → K → Ordering) (o : IsTotalO
           let not : nat_eq (n x) (n y) ≡ false = at_member (λ k. nat_eq (n x) k ≡ false) (map n xs) (n y) distinct.0 (Contains-map n xs y h) in
           both_ways (nat_eq (n x) (n y)) not (eq-eqb (n x) (n y) e)
 
--- rows that pass a test have keys that differ too
-pub distinct_filter : {X : Type 0} (n : X → ℕ) (p : X → Bool) (xs : List X) → IsDistinct nat_eq (map n xs)
-    → IsDistinct nat_eq (map n (filter p xs))
-unfolding IsDistinct
-distinct_filter n p [] distinct = tt
-distinct_filter {X} n p (x ∷ xs) distinct =
-    let rest = distinct_filter n p xs distinct.1 in
-    elim (cases_Bool (p x)) [
-      | inl passes ↦ subst (λ (l : List X). IsDistinct nat_eq (map n l)) (sym (filter-pass p x xs passes)) (
-        each_member (λ k. nat_eq (n x) k ≡ false) (map n (filter p xs)) (λ k h.
-            let from = Contains-from_map n (filter p xs) k h in
-            at_member (λ k. nat_eq (n x) k ≡ false) (map n xs) k distinct.0
-            (subst (Contains (map n xs)) from.2 (Contains-map n xs from.0 (Contains-from_filter p xs from.0 from.1).0))),
-        rest,
-      )
-      | inr fails ↦ subst (λ (l : List X). IsDistinct nat_eq (map n l)) (sym (filter-skip p x xs fails)) rest
-    ]
+-- ---- the greatest number first, and then by key
+
+abbrev Rank : Type 0
+Rank = Reverse ℕ × ℕ
+
+abbrev rank_cmp : Rank → Rank → Ordering
+rank_cmp x y = ordering_then (nat_cmp y.0.0 x.0.0) (nat_cmp x.1 y.1)
+
+rank_total : IsTotalOrder rank_cmp
+rank_total = then_total (back_total (on_total (λ (k : Rank). k.0.0) nat_cmp_total)) (on_total (λ (k : Rank). k.1) nat_cmp_total)
+
+module _ {X : Type 0} (number n : X → ℕ) where
+  abbrev pub rank : X → Rank
+  rank x = (record { 0 = number x }, n x)
+
+  tied : (x y : X) → rank_cmp (rank x) (rank y) ≡ Equal → n x ≡ n y
+  tied x y e = nat_cmp-IsAntisymmetric (n x) (n y) (both_tied _ _ e).1
+
+  pub rising_by_rank : (xs ys : List X) → IsDistinct nat_eq (map n xs) → IsPermutation xs ys
+      → IsSortedBy (λ x y. is_lt (rank_cmp (rank x) (rank y))) ys → IsRising (λ a b. rank_cmp (rank a) (rank b) ≡ Less) ys
+  rising_by_rank xs ys distinct moved up =
+      rising_from_sorted rank rank_cmp rank_total n tied ys up (distinct_moved n xs ys moved distinct)

@@ -1,31 +1,21 @@
 -- Rows of one key made one: over two lists, of one row, and what their numbers add up to.
 use Rattle.std.proofs.Common.{◌≡◌, ℕ, ◌+◌, ◌<◌, ◌≤◌, Bool, true, false, cond, List, [], ◌∷◌, ◌++◌}
-use Rattle.std.proofs.Common.{Option, Some, None, refl, sym, ap, subst, ◌∙◌, arith, inl, inr}
+use Rattle.std.proofs.Common.{Option, Some, None, refl, sym, ap, subst, ◌∙◌, ◌==◌, arith, inl, inr}
 use Rattle.std.specs.Prelude.{Contains}
 use Rattle.std.specs.List.{sum_by, filter_map, cons_option}
-use Rattle.std.specs.Ordering.{is_eq}
-use Rattle.std.specs.Cmp.{IsTotalOrder}
+use Rattle.std.specs.Ordering.{nat_cmp, is_eq}
+use Rattle.std.specs.Cmp.{IsTotalOrder, unsigned_tied}
 use Rattle.std.specs.FinMap.Entries.{find}
 use Rattle.std.specs.declared.cmp.Ordering.{Ordering}
 use Rattle.std.proofs.lemmas.Bool.{cases_Bool}
 use Rattle.std.proofs.lemmas.List.Sums.{sum_by-cons, sum_by-append, sum_by-le-sum_by}
 use Rattle.std.proofs.lemmas.Option.{same_Some, none-some}
-use Rattle.htl_event.proofs.Members.{Contains-here, Contains-there, Contains-nil}
+use Rattle.htl_event.proofs.Members.{Contains-here, Contains-there}
 use Rattle.htl_sorted.specs.Entries.{IsSorted, entries, joined_at}
 use Rattle.htl_sorted.proofs.Rows.{row_found}
 use Rattle.htl_summary.specs.Totals.{one_at, total_at}
 
 -- ---- sums
-
--- equal terms at each member
-pub sum_same : {X : Type 0} (f g : X → ℕ) (xs : List X) → ((x : X) → Contains xs x → f x ≡ g x) → sum_by f xs ≡ sum_by g xs
-sum_same f g [] same = refl
-sum_same f g (x ∷ xs) same =
-    let head = same x (Contains-here x xs) in
-    let rest = sum_same f g xs (λ y h. same y (Contains-there x xs y h)) in
-    let left = sum_by-cons f x xs in
-    let right = sum_by-cons g x xs in
-    omega (arith, head, rest, left, right)
 
 pub sum_upto : {X : Type 0} (f g : X → ℕ) (xs : List X) → ((x : X) → Contains xs x → f x ≤ g x) → sum_by f xs ≤ sum_by g xs
 sum_upto f g [] upto = omega arith
@@ -35,6 +25,13 @@ sum_upto f g (x ∷ xs) upto =
     let left = sum_by-cons f x xs in
     let right = sum_by-cons g x xs in
     omega (arith, head, rest, left, right)
+
+-- equal terms at each member
+pub sum_same : {X : Type 0} (f g : X → ℕ) (xs : List X) → ((x : X) → Contains xs x → f x ≡ g x) → sum_by f xs ≡ sum_by g xs
+sum_same f g xs same =
+    let upto = sum_upto f g xs (λ x h. let e = same x h in omega (arith, e)) in
+    let from = sum_upto g f xs (λ x h. let e = same x h in omega (arith, e)) in
+    omega (arith, upto, from)
 
 pub sum_zero : {X : Type 0} (xs : List X) → sum_by (λ (x : X). 0) xs ≡ 0
 sum_zero [] = refl
@@ -79,6 +76,12 @@ sum_filter_map {X} {Y} f g (x ∷ xs) =
     one None ys = omega arith
     one (Some y) ys = sum_by-cons f y ys
 
+-- ---- a number or none
+
+pub none_or_none : (b : Bool) → ◌≡◌ {A = ℕ} (cond b 0 0) 0
+none_or_none true = refl
+none_or_none false = refl
+
 -- ---- totals
 
 module _ {Row K X : Type 0} (cmp : K → K → Ordering) (key : Row → K) (value : Row → X) where
@@ -95,6 +98,13 @@ module _ {Row K X : Type 0} (cmp : K → K → Ordering) (key : Row → K) (valu
   pub row_there : IsTotalOrder cmp → (rows : List Row) → IsSorted cmp (entries key value rows) → (row : Row) → Contains rows row
       → find cmp (key row) (entries key value rows) ≡ Some (value row)
   row_there total rows sorted row (i, lt, is) = row_found key value total rows sorted i row lt (sym is)
+
+  -- the number of a row, where its key is asked for
+  pub one-amount : (field : X → ℕ) (k : K) (row : Row)
+      → amount field (one_at cmp key value k row) ≡ cond (is_eq (cmp k (key row))) (field (value row)) 0
+  one-amount field k row = elim (is_eq (cmp k (key row)))
+      as (λ b. amount field (cond b (Some (value row)) None) ≡ cond b (field (value row)) 0)
+      [ true ↦ refl | false ↦ refl ]
 
   module _ (join : X → X → X) where
     abbrev total : K → List Row → Option X
@@ -113,13 +123,6 @@ module _ {Row K X : Type 0} (cmp : K → K → Ordering) (key : Row → K) (valu
     total-append assoc k (x ∷ xs) ys =
         ap (joined_at join (one_at cmp key value k x)) (total-append assoc k xs ys)
         ∙ sym (joined_assoc assoc (one_at cmp key value k x) (total k xs) (total k ys))
-
-    -- one row is found where its key is asked for
-    pub total-one : (k : K) (row : Row)
-        → find cmp k (entries key value (row ∷ [])) ≡ total_at cmp key value join k (row ∷ [])
-    total-one k row = elim (is_eq (cmp k (key row)))
-        as (λ b. cond b (Some (value row)) None ≡ joined_at join (cond b (Some (value row)) None) None)
-        [ true ↦ refl | false ↦ refl ]
 
     -- what holds of the value of each row with the key, and of two that are joined, holds of the total
     abbrev pub Holds : (X → Type 0) → Option X → Type 0
@@ -190,3 +193,9 @@ module _ {Row K X : Type 0} (cmp : K → K → Ordering) (key : Row → K) (valu
           let at_left = total-upto k left x one in
           let at_right = total-upto k right y two in
           omega (arith, lt, all, first, second, third, at_left, at_right)
+
+-- the number of a row that stands for itself, where its key is asked for
+pub number_at : {X : Type 0} (key field : X → ℕ) (k : ℕ) (x : X)
+    → amount field (one_at nat_cmp key (λ (y : X). y) k x) ≡ cond (k == key x) (field x) 0
+number_at {X} key field k x =
+    one-amount nat_cmp key (λ (y : X). y) field k x ∙ ap (λ (b : Bool). cond b (field x) 0) (unsigned_tied k (key x))

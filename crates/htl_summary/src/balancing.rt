@@ -32,9 +32,11 @@ pub fn balances<P: Part>(
 ) -> Result<Objects, NoMemory>
     requires { size_of_all (map P.contents parts.now) < 2 ^ 64 }
     ensures number { IfOk result (λ objects. (events : List Event)
-        → AreEventsOf (map P.contents parts.now) events → IsNumberOfObjects events objects.number) }
+        → AreEventsOf (map P.contents parts.now) events
+        → IsNumberOfObjects events objects.number) }
     ensures unbalanced { IfOk result (λ objects. (events : List Event)
-        → AreEventsOf (map P.contents parts.now) events → IsUnbalanced events objects.unbalanced.items) }
+        → AreEventsOf (map P.contents parts.now) events
+        → IsUnbalanced events objects.unbalanced.items) }
 {
     let sums = slot_sums(alloc, tree_alloc, parts)?;
     let mut rows = object_rows(alloc, &sums)?;
@@ -55,7 +57,8 @@ fn number_of(rows: &[ObjectRow]) -> u64
 
 /// Keeps the rows of objects with an unbalanced tag.
 fn keep_unbalanced(rows: &mut Vec<ObjectRow>)
-    ensures { rows.new.items ≡ filter (λ (row : ObjectRow). nat_lt 0 row.unbalanced) rows.old.items }
+    ensures { rows.new.items
+        ≡ filter (λ (row : ObjectRow). nat_lt 0 row.unbalanced) rows.old.items }
 {
     rows.retain(|row| row.unbalanced > 0);
 }
@@ -64,7 +67,8 @@ fn keep_unbalanced(rows: &mut Vec<ObjectRow>)
 fn put_in_order(rows: &mut Vec<ObjectRow>)
     requires { IsDistinct nat_eq (map (λ (row : ObjectRow). row.object) rows.old.items) }
     ensures rising { IsRising MostUnbalancedFirst rows.new.items }
-    ensures members { (row : ObjectRow) → Contains rows.new.items row ↔ Contains rows.old.items row }
+    ensures members { (row : ObjectRow)
+        → Contains rows.new.items row ↔ Contains rows.old.items row }
 {
     rows.sort_unstable_by_key(|row| (Reverse(row.unbalanced), row.object));
 }

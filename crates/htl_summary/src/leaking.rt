@@ -28,7 +28,8 @@ pub fn processes<P: Part>(
     parts: &[P],
 ) -> Result<Vec<ProcessRow>, NoMemory>
     requires { size_of_all (map P.contents parts.now) < 2 ^ 64 }
-    ensures { IfOk result (λ rows. (events : List Event) → AreEventsOf (map P.contents parts.now) events
+    ensures { IfOk result (λ rows. (events : List Event)
+        → AreEventsOf (map P.contents parts.now) events
         → HaveOwnSequences events → IsProcesses events rows.items) }
 {
     let sums = slot_sums(alloc, tree_alloc, parts)?;
@@ -95,7 +96,8 @@ fn opened_after(latest: &[SharedEvent], moment: u64) -> u64
 fn put_in_order(rows: &mut Vec<ProcessRow>)
     requires { IsDistinct nat_eq (map (λ (row : ProcessRow). row.process) rows.old.items) }
     ensures rising { IsRising MostOutstandingFirst rows.new.items }
-    ensures members { (row : ProcessRow) → Contains rows.new.items row ↔ Contains rows.old.items row }
+    ensures members { (row : ProcessRow)
+        → Contains rows.new.items row ↔ Contains rows.old.items row }
 {
     rows.sort_unstable_by_key(|row| (Reverse(row.outstanding), row.process));
 }

@@ -9,6 +9,7 @@
 mod adding;
 mod balancing;
 mod leaking;
+mod rows;
 mod sums;
 mod tables;
 mod tags;

@@ -22,9 +22,11 @@ pub(crate) fn slot_sums<P: Part>(
     parts: &[P],
 ) -> Result<Vec<(Slot, Count)>, NoMemory>
     requires { size_of_all (map P.contents parts.now) < 2 ^ 64 }
-    ensures sums { IfOk result (λ sums. (events : List Event) → AreEventsOf (map P.contents parts.now) events
+    ensures sums { IfOk result (λ sums. (events : List Event)
+        → AreEventsOf (map P.contents parts.now) events
         → ListsSlotSums events sums.items) }
-    ensures positive { IfOk result (λ sums. (sum : Slot × Count) → Contains sums.items sum → IsPositive sum.1) }
+    ensures positive { IfOk result (λ sums. (sum : Slot × Count)
+        → Contains sums.items sum → IsPositive sum.1) }
     ensures fits { IfOk result (λ sums. sum_by (λ sum. total_of sum.1) sums.items < 2 ^ 64) }
 {
     let tree = whole_tree(tree_alloc, parts)?;

@@ -23,7 +23,8 @@ pub(crate) fn tables_of<P: Part>(
     alloc: &P::Alloc,
     parts: &[P],
 ) -> Result<Tables<P::Alloc>, NoMemory>
-    ensures { IfOk result (λ tables. (events : List Event) → AreEventsOf (map P.contents parts.now) events
+    ensures { IfOk result (λ tables. (events : List Event)
+        → AreEventsOf (map P.contents parts.now) events
         → AreTablesOf events tables.latest tables.marks tables.exits) }
 {
     if parts.len() < 2 {
@@ -52,7 +53,8 @@ fn no_tables<A: Allocator + Clone>(alloc: &A) -> Result<Tables<A>, NoMemory>
 /// The tables of one part: what it folded and what it holds.
 fn tables_of_part<P: Part>(alloc: &P::Alloc, part: &P) -> Result<Tables<P::Alloc>, NoMemory>
     ensures { IfOk result (λ tables. (folded : List Event) → IsFoldOf (P.contents part.now) folded
-        → AreTablesOf (folded ++ (P.contents part.now).held) tables.latest tables.marks tables.exits) }
+        → AreTablesOf (folded ++ (P.contents part.now).held)
+        tables.latest tables.marks tables.exits) }
 {
     let held = tables_of_runs(alloc, part.held())?;
     Ok(Tables {
@@ -67,7 +69,8 @@ fn tables_of_runs<A: Allocator + Clone, R: Run>(
     alloc: &A,
     runs: &[R],
 ) -> Result<Tables<A>, NoMemory>
-    ensures { IfOk result (λ tables. AreTablesOf (flat_map R.events_of runs.now) tables.latest tables.marks tables.exits) }
+    ensures { IfOk result (λ tables. AreTablesOf (flat_map R.events_of runs.now)
+        tables.latest tables.marks tables.exits) }
 {
     Ok(Tables {
         latest: Latest::of(alloc.clone()?, runs)?,

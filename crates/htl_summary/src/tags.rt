@@ -1,22 +1,36 @@
 //! What the tags of objects come to.
 
 ghost use Rattle.std.specs.Prelude.{◌≡◌, ◌<◌, ◌^◌, ℕ, Contains, IfOk};
-ghost use Rattle.std.specs.List.{filter_map, sum_by};
+ghost use Rattle.std.specs.List.{sum_by};
 ghost use Rattle.std.specs.Ordering.{nat_cmp};
 ghost use Rattle.std.specs.FinMap.Entries.{find};
 ghost use Rattle.htl_event.specs.Tallies.{total_of, IsPositive};
 ghost use Rattle.htl_sorted.specs.Entries.{IsSorted};
 ghost use Rattle.htl_event.specs.declared.slot.Slot.{Slot};
 ghost use Rattle.htl_event.specs.declared.slot.Count.{Count};
-ghost use Rattle.htl_summary.specs.ObjectTags.{tag_of, by_object, object_at};
+ghost use Rattle.htl_summary.specs.ObjectTags.{by_object, object_at};
 
 use crate::adding::add_up;
+use crate::rows::{FromSum, rows_told};
 use htl_event::{Count, NoMemory, ObjectRow, Slot};
 use htl_sorted::{Joined, Keyed};
 use std::alloc::{AllocError, Global};
 
+/// The rows of all objects, by object, from the sums of slots.
+pub(crate) fn object_rows(alloc: Global, sums: &[(Slot, Count)]) -> Result<Vec<ObjectRow>, NoMemory>
+    requires fits { sum_by (λ (sum : Slot × Count). total_of sum.1) sums.now < 2 ^ 64 }
+    requires positive { (sum : Slot × Count) → Contains sums.now sum → IsPositive sum.1 }
+    ensures sorted { IfOk result (λ rows. IsSorted nat_cmp (by_object rows.items)) }
+    ensures values { IfOk result (λ rows. (object : ℕ)
+        → find nat_cmp object (by_object rows.items)
+        ≡ object_at object sums.now) }
+{
+    let rows = rows_told::<ByObject>(alloc, sums)?;
+    add_up::<ByObject>(alloc, &rows)
+}
+
 /// Rows of objects, which are added up.
-pub(crate) struct ByObject;
+struct ByObject;
 
 impl Keyed for ByObject {
     ghost use Rattle.std.specs.FinMap.{nat_cmp-IsAntisymmetric};
@@ -60,44 +74,22 @@ impl Joined for ByObject {
     }
 }
 
-/// The rows of all objects, by object, from the sums of slots.
-pub(crate) fn object_rows(alloc: Global, sums: &[(Slot, Count)]) -> Result<Vec<ObjectRow>, NoMemory>
-    requires fits { sum_by (λ (sum : Slot × Count). total_of sum.1) sums.now < 2 ^ 64 }
-    requires positive { (sum : Slot × Count) → Contains sums.now sum → IsPositive sum.1 }
-    ensures sorted { IfOk result (λ rows. IsSorted nat_cmp (by_object rows.items)) }
-    ensures values { IfOk result (λ rows. (object : ℕ) → find nat_cmp object (by_object rows.items)
-        ≡ object_at object sums.now) }
-{
-    let rows = tags(alloc, sums)?;
-    add_up::<ByObject>(alloc, &rows)
-}
+impl FromSum for ByObject {
+    ghost use Rattle.htl_summary.specs.ObjectTags.{tag_of};
 
-/// The sums of tags, each as a row of an object that has this tag alone.
-fn tags(alloc: Global, sums: &[(Slot, Count)]) -> Result<Vec<ObjectRow>, NoMemory>
-    ensures { IfOk result (λ rows. rows.items
-        ≡ filter_map (λ (sum : Slot × Count). tag_of sum.0 sum.1) sums.now) }
-{
-    let mut rows = Vec::new(alloc);
-    for (slot, count) in sums {
-        if let Some(row) = tag_of(*slot, *count) {
-            rows.push(row)?;
+    ghost told = { tag_of };
+
+    /// The sum of a tag as the row of an object that has this tag alone.
+    fn from_sum(slot: Slot, count: Count) -> Option<ObjectRow> {
+        match slot {
+            Slot::Tagged { object, .. } => Some(ObjectRow {
+                object,
+                tags: 1,
+                unbalanced: if count.plus == count.minus { 0 } else { 1 },
+                refs: count.plus,
+                derefs: count.minus,
+            }),
+            Slot::Handles { .. } | Slot::Bad { .. } => None,
         }
-    }
-    Ok(rows)
-}
-
-/// The sum of a tag as the row of an object that has this tag alone.
-fn tag_of(slot: Slot, count: Count) -> Option<ObjectRow>
-    ensures { result ≡ tag_of slot count }
-{
-    match slot {
-        Slot::Tagged { object, .. } => Some(ObjectRow {
-            object,
-            tags: 1,
-            unbalanced: if count.plus == count.minus { 0 } else { 1 },
-            refs: count.plus,
-            derefs: count.minus,
-        }),
-        Slot::Handles { .. } | Slot::Bad { .. } => None,
     }
 }

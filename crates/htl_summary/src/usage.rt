@@ -1,16 +1,17 @@
 //! How often processes opened, closed and misused handles.
 
 ghost use Rattle.std.specs.Prelude.{◌≡◌, ◌<◌, ◌^◌, ℕ, IfOk};
-ghost use Rattle.std.specs.List.{filter_map, sum_by};
+ghost use Rattle.std.specs.List.{sum_by};
 ghost use Rattle.std.specs.Ordering.{nat_cmp};
 ghost use Rattle.std.specs.FinMap.Entries.{find};
 ghost use Rattle.htl_sorted.specs.Entries.{IsSorted};
 ghost use Rattle.htl_event.specs.declared.slot.Slot.{Slot};
 ghost use Rattle.htl_event.specs.declared.slot.Count.{Count};
 ghost use Rattle.htl_event.specs.Tallies.{total_of};
-ghost use Rattle.htl_summary.specs.Usages.{usage_of, by_process, usage_at};
+ghost use Rattle.htl_summary.specs.Usages.{by_process, usage_at};
 
 use crate::adding::add_up;
+use crate::rows::{FromSum, rows_told};
 use htl_event::{Count, NoMemory, Slot};
 use htl_sorted::{Joined, Keyed};
 use std::alloc::{AllocError, Global};
@@ -24,8 +25,20 @@ pub(crate) struct Usage {
     pub bad: u64,
 }
 
+/// How often each process opened, closed and misused handles, by process, from the sums of slots.
+pub(crate) fn used_by_process(alloc: Global, sums: &[(Slot, Count)]) -> Result<Vec<Usage>, NoMemory>
+    requires { sum_by (λ (sum : Slot × Count). total_of sum.1) sums.now < 2 ^ 64 }
+    ensures sorted { IfOk result (λ used. IsSorted nat_cmp (by_process used.items)) }
+    ensures values { IfOk result (λ used. (process : ℕ)
+        → find nat_cmp process (by_process used.items)
+        ≡ usage_at process sums.now) }
+{
+    let rows = rows_told::<ByProcess>(alloc, sums)?;
+    add_up::<ByProcess>(alloc, &rows)
+}
+
 /// Usages by process, which are added up.
-pub(crate) struct ByProcess;
+struct ByProcess;
 
 impl Keyed for ByProcess {
     ghost use Rattle.std.specs.FinMap.{nat_cmp-IsAntisymmetric};
@@ -68,48 +81,26 @@ impl Joined for ByProcess {
     }
 }
 
-/// How often each process opened, closed and misused handles, by process, from the sums of slots.
-pub(crate) fn used_by_process(alloc: Global, sums: &[(Slot, Count)]) -> Result<Vec<Usage>, NoMemory>
-    requires { sum_by (λ (sum : Slot × Count). total_of sum.1) sums.now < 2 ^ 64 }
-    ensures sorted { IfOk result (λ used. IsSorted nat_cmp (by_process used.items)) }
-    ensures values { IfOk result (λ used. (process : ℕ) → find nat_cmp process (by_process used.items)
-        ≡ usage_at process sums.now) }
-{
-    let rows = usages(alloc, sums)?;
-    add_up::<ByProcess>(alloc, &rows)
-}
+impl FromSum for ByProcess {
+    ghost use Rattle.htl_summary.specs.Usages.{usage_of};
 
-/// What the sums of slots tell of processes.
-fn usages(alloc: Global, sums: &[(Slot, Count)]) -> Result<Vec<Usage>, NoMemory>
-    ensures { IfOk result (λ rows. rows.items
-        ≡ filter_map (λ (sum : Slot × Count). usage_of sum.0 sum.1) sums.now) }
-{
-    let mut rows = Vec::new(alloc);
-    for (slot, count) in sums {
-        if let Some(row) = usage_of(*slot, *count) {
-            rows.push(row)?;
+    ghost told = { usage_of };
+
+    fn from_sum(slot: Slot, count: Count) -> Option<Usage> {
+        match slot {
+            Slot::Handles { process } => Some(Usage {
+                process,
+                opens: count.plus,
+                closes: count.minus,
+                bad: 0,
+            }),
+            Slot::Bad { process, .. } => Some(Usage {
+                process,
+                opens: 0,
+                closes: 0,
+                bad: count.plus,
+            }),
+            Slot::Tagged { .. } => None,
         }
-    }
-    Ok(rows)
-}
-
-/// What the sum of a slot tells of a process.
-fn usage_of(slot: Slot, count: Count) -> Option<Usage>
-    ensures { result ≡ usage_of slot count }
-{
-    match slot {
-        Slot::Handles { process } => Some(Usage {
-            process,
-            opens: count.plus,
-            closes: count.minus,
-            bad: 0,
-        }),
-        Slot::Bad { process, .. } => Some(Usage {
-            process,
-            opens: 0,
-            closes: 0,
-            bad: count.plus,
-        }),
-        Slot::Tagged { .. } => None,
     }
 }

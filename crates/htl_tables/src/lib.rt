@@ -15,8 +15,6 @@ mod latest;
 pub mod laws;
 mod of_process;
 mod sort_key;
-#[cfg(test)]
-mod tests;
 
 pub use greatest::{EventKind, Exits, Greatest, Marks, ProcessExits, Snapshots};
 pub use latest::Latest;

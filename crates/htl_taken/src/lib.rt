@@ -11,8 +11,6 @@ mod missing;
 mod number_set;
 mod sorted_numbers;
 mod taken;
-#[cfg(test)]
-mod tests;
 
 pub use gap::Gap;
 pub use taken::Taken;

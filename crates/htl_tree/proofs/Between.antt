@@ -22,7 +22,7 @@ use Rattle.htl_event.specs.Tallies.{zero_count, plus_count, total_of, IsPositive
 use Rattle.htl_event.proofs.Members.{Contains-here, Contains-there, Contains-cases, Contains-nil, at_member, each_member}
 use Rattle.htl_sorted.specs.Entries.{IsSorted, Each}
 use Rattle.htl_sorted.proofs.Bools.{both_left, both_right, less}
-use Rattle.htl_sorted.proofs.Finds.{find_first, find_below, below_tied, each_found, each_put}
+use Rattle.htl_sorted.proofs.Finds.{find_first, each_found, each_put}
 use Rattle.htl_tree.specs.Trees.{Tree, place_cmp, count_at, count_under, sum_where, total_count}
 use Rattle.htl_tree.specs.Trees.{IsTree, ByStackAndSlot, ListsRowsOf, BySlot, ListsSums}
 use Rattle.htl_tree.specs.declared.slots.Slots.{Slots}
@@ -31,7 +31,8 @@ use Rattle.htl_tree.specs.Asked.{has_slot}
 use Rattle.htl_tree.specs.Nodes.{count_in, picked, entries_at, sum_of_slot, AreSums}
 use Rattle.htl_tree.proofs.TreesAsLists.{place_total, place_same}
 use Rattle.htl_tree.proofs.CopiesAndSums.{zero_right}
-use Rattle.htl_tree.proofs.SlotRows.{listed, found_later}
+use Rattle.htl_tree.proofs.ChangedKeys.{found_behind}
+use Rattle.htl_tree.proofs.SlotRows.{listed}
 use Rattle.htl_tree.proofs.Under.{same_slot_Decides, same_slot_tied, sum_where-append, sum_where_le_total}
 use Rattle.htl_tree.proofs.Events.{same_sides, side_sum, weight}
 
@@ -89,9 +90,9 @@ module _ (p : Slot → Bool) where
                 ∙ ap (λ (y : At). Some y.1) is,
             ap (λ (y : At). p y.0.0) (sym is) ∙ e,
           )
-          | inr there ↦ let rest = picked_found t (both_right _ _ s) x there in (found_later row t s (x.0.1, x.0.0) x.1 rest.0, rest.1)
+          | inr there ↦ let rest = picked_found t (both_right _ _ s) x there in (found_behind place_cmp place_total row t s (x.0.1, x.0.0) x.1 rest.0, rest.1)
         ]
-        | false ↦ λ e c. let rest = picked_found t (both_right _ _ s) x c in (found_later row t s (x.0.1, x.0.0) x.1 rest.0, rest.1)
+        | false ↦ λ e c. let rest = picked_found t (both_right _ _ s) x c in (found_behind place_cmp place_total row t s (x.0.1, x.0.0) x.1 rest.0, rest.1)
       ]) refl h
 
   found_picked : (t : Tree) (s : Slot) (k : List ℕ) (c : Count) → p s ≡ true → find place_cmp (k, s) t ≡ Some c
@@ -172,9 +173,6 @@ put_sum sums x s =
       | Greater ↦ λ c. zero_right (count_in sums s)
     ]) refl
     ∙ ap (λ b. plus_count (count_in sums s) (cond b x.1 zero_count)) (sym (same_slot_tied s x.0.0))
-
-pub no_sums : AreSums [] []
-no_sums = record { sorted = tt; positive = tt; counts = λ slot. refl }
 
 pub sums_more : (xs : List At) (x : At) (old new : List (Slot × Count)) → AreSums xs old → IsPositive x.1
     → new ≡ put slot_cmp x.0.0 (plus_count (count_in old x.0.0) x.1) old → AreSums (xs ++ x ∷ []) new
@@ -268,22 +266,12 @@ sums_rise : (es : List (Slot × Count)) → IsSorted slot_cmp es → IsRising (�
 sums_rise [] s = tt
 sums_rise (e ∷ es) s = (first_rises e es (both_left _ _ s), sums_rise es (both_right _ _ s))
 
-later_sum : (e : Slot × Count) (es : List (Slot × Count)) → IsSorted slot_cmp (e ∷ es) → (k : Slot) (c : Count)
-    → find slot_cmp k es ≡ Some c → find slot_cmp k (e ∷ es) ≡ Some c
-later_sum e es s k c found =
-    (elim (slot_cmp k e.0) as (λ r. slot_cmp k e.0 ≡ r → cond (is_eq r) (Some e.1) (find slot_cmp k es) ≡ Some c) [
-      | Less ↦ λ _. found
-      | Equal ↦ λ is. absurd (let none : find slot_cmp k es ≡ None = find_below slot_cmp slot_total k es
-          (below_tied slot_cmp slot_total k e.0 es is (both_left _ _ s)) in let never : None ≡ Some c = sym none ∙ found in cc)
-      | Greater ↦ λ _. found
-    ]) refl
-
 sum_found : (es : List (Slot × Count)) → IsSorted slot_cmp es → (x : Slot × Count) → Contains es x → find slot_cmp x.0 es ≡ Some x.1
 sum_found [] s x h = absurd (Contains-nil x h)
 sum_found (e ∷ es) s x h = elim (Contains-cases e es x h) [
   | inl is ↦ ap (λ (y : Slot × Count). find slot_cmp y.0 (e ∷ es)) (sym is) ∙ find_first slot_cmp slot_total e es
       ∙ ap (λ (y : Slot × Count). Some y.1) is
-  | inr there ↦ later_sum e es s x.0 x.1 (sum_found es (both_right _ _ s) x there)
+  | inr there ↦ found_behind slot_cmp slot_total e es s x.0 x.1 (sum_found es (both_right _ _ s) x there)
 ]
 
 found_sum : (es : List (Slot × Count)) (k : Slot) (c : Count) → find slot_cmp k es ≡ Some c → Contains es (k, c)

@@ -14,14 +14,11 @@ use Rattle.htl_event.specs.Tallies.{zero_count, IsPositive}
 use Rattle.htl_sorted.specs.Entries.{IsSorted, Each}
 use Rattle.htl_sorted.proofs.Bools.{both_left, both_right}
 use Rattle.htl_sorted.proofs.Finds.{find_below, find_below_all, find_first, find_skip}
-use Rattle.htl_tree.specs.declared.node.Node.{Node}
-use Rattle.htl_tree.specs.declared.node.Node.TheOpen.{Node-F}
-use Rattle.htl_tree.specs.declared.node.Node.TheViews.{roll-Node}
-use Rattle.htl_tree.specs.declared.node.Node.TheFolds.{ind-Node}
 use Rattle.htl_event.specs.SlotOrder.{slot_cmp}
 use Rattle.htl_event.specs.OrderLaws.{slot_total, slot_same}
-use Rattle.htl_tree.specs.Nodes.{tally, tally_of, own, kids, at_child, IsNonEmpty, IsNormal, IsSameTally}
-use Rattle.htl_tree.proofs.CountAdded.{normal_here, normal_child, own_of, kids_of}
+use Rattle.htl_tree.specs.Nodes.{Spot, tally, tally_of, own, kids, at_child, IsNonEmpty, IsNormal, IsSameTally}
+use Rattle.htl_tree.proofs.CountAdded.{normal_here, normal_child}
+use Rattle.htl_tree.proofs.Spots.{ind_spot}
 
 abbrev or_zero : Option Count → Count
 or_zero o = unwrap_or o zero_count
@@ -30,16 +27,16 @@ no_zero : IsPositive zero_count → ⊥
 no_zero h = omega arith
 
 -- a count somewhere
-pub record Witness {A : Type 0} (n : Node A) : Type 0 where
+pub record Witness {A : Type 0} (n : Spot A) : Type 0 where
   pub path : List ℕ
   pub slot : Slot
   pub counts : IsPositive (tally path slot n)
 
-abbrev HasWitness : {A : Type 0} → Node A → Type 0
+abbrev HasWitness : {A : Type 0} → Spot A → Type 0
 HasWitness n = IsNormal n → IsNonEmpty n → Witness n
 
-module _ {A : Type 0} (n : Node A) (h : IsNormal n) (some : IsNonEmpty n) where
-  start : (os : List (Slot × Count)) → own n ≡ os → (ks : List (ℕ × ((c : Node A) × HasWitness c)))
+module _ {A : Type 0} (n : Spot A) (h : IsNormal n) (some : IsNonEmpty n) where
+  start : (os : List (Slot × Count)) → own n ≡ os → (ks : List (ℕ × ((c : Spot A) × HasWitness c)))
       → kids n ≡ map (λ e. (e.0, e.1.0)) ks → Witness n
   start (o ∷ os) e ks k = record {
     path = [];
@@ -61,33 +58,31 @@ module _ {A : Type 0} (n : Node A) (h : IsNormal n) (some : IsNonEmpty n) where
       }
 
 -- a node that is not empty has a count somewhere
-pub inhabited : {A : Type 0} (n : Node A) → HasWitness n
-inhabited {A} = ind-Node A (λ n. HasWitness n) (λ x y is h some.
-    start (roll-Node A x) h some x.counts.items (own_of x) y.children.items
-    (kids_of x ∙ sym (ap (λ (z : Node-F A (Node A)). z.children.items) is)))
+pub inhabited : {A : Type 0} (n : Spot A) → HasWitness n
+inhabited {A} = ind_spot (λ n. HasWitness n) (λ n ks is h some. start n h some (own n) refl ks is)
 
-abbrev pub SameKids : {A : Type 0} → List (ℕ × Node A) → List (ℕ × Node A) → Type 0
+abbrev pub SameKids : {A : Type 0} → List (ℕ × Spot A) → List (ℕ × Spot A) → Type 0
 SameKids [] [] = Unit {0}
 SameKids [] (f ∷ fs) = ⊥
 SameKids (e ∷ es) [] = ⊥
 SameKids (e ∷ es) (f ∷ fs) = (e.0 ≡ f.0) × IsSameTally (tally_of e.1) (tally_of f.1) × SameKids es fs
 
-abbrev SameBelow : {A : Type 0} → List (ℕ × Node A) → List (ℕ × Node A) → Type 0
+abbrev SameBelow : {A : Type 0} → List (ℕ × Spot A) → List (ℕ × Spot A) → Type 0
 SameBelow es fs = (g : ℕ) (p : List ℕ) (s : Slot)
     → at_child (λ c. tally p s c) (find nat_cmp g fs) ≡ at_child (λ c. tally p s c) (find nat_cmp g es)
 
 -- a child that only one side has
-missing : {A : Type 0} (e : ℕ × Node A) (es fs : List (ℕ × Node A)) → Witness e.1 → find nat_cmp e.0 fs ≡ None
+missing : {A : Type 0} (e : ℕ × Spot A) (es fs : List (ℕ × Spot A)) → Witness e.1 → find nat_cmp e.0 fs ≡ None
     → ((p : List ℕ) (s : Slot) → at_child (λ c. tally p s c) (find nat_cmp e.0 fs)
     ≡ at_child (λ c. tally p s c) (find nat_cmp e.0 (e ∷ es))) → ⊥
 missing e es fs w none same =
     no_zero (subst IsPositive (sym (ap (at_child (λ c. tally w.path w.slot c)) (find_first nat_cmp nat_cmp_total e es))
     ∙ sym (same w.path w.slot) ∙ ap (at_child (λ c. tally w.path w.slot c)) none) w.counts)
 
-abbrev Witnesses : {A : Type 0} → List (ℕ × Node A) → Type 0
+abbrev Witnesses : {A : Type 0} → List (ℕ × Spot A) → Type 0
 Witnesses es = Each (λ c. Witness c) es
 
-pub same_kids : {A : Type 0} (es fs : List (ℕ × Node A)) → IsSorted nat_cmp es → IsSorted nat_cmp fs → Witnesses es → Witnesses fs
+pub same_kids : {A : Type 0} (es fs : List (ℕ × Spot A)) → IsSorted nat_cmp es → IsSorted nat_cmp fs → Witnesses es → Witnesses fs
     → SameBelow es fs → SameKids es fs
 same_kids [] [] s t v w same = tt
 same_kids [] (f ∷ fs) s t v w same = missing f fs [] w.0 refl (λ p q. sym (same f.0 p q))
@@ -118,19 +113,19 @@ same_kids {A} (e ∷ es) (f ∷ fs) s t v w same =
     ] refl
 
 -- children alike have tallies alike
-same_below : {A : Type 0} (es fs : List (ℕ × Node A)) → SameKids es fs → SameBelow es fs
+same_below : {A : Type 0} (es fs : List (ℕ × Spot A)) → SameKids es fs → SameBelow es fs
 same_below [] [] h g p s = refl
 same_below [] (f ∷ fs) h g p s = absurd h
 same_below (e ∷ es) [] h g p s = absurd h
 same_below {A} (e ∷ es) (f ∷ fs) h g p s =
-    let at : Option (Node A) → Count = at_child (λ c. tally p s c) in
+    let at : Option (Spot A) → Count = at_child (λ c. tally p s c) in
     rw h.0 (elim (eq_by_cmp nat_cmp g f.0)
     as (λ b. at (cond b (Some f.1) (find nat_cmp g fs)) ≡ at (cond b (Some e.1) (find nat_cmp g es))) [
       | true ↦ h.1 p s
       | false ↦ same_below es fs h.2 g p s
     ])
 
-pub same_from : {A : Type 0} (a b : Node A) → own a ≡ own b → SameKids (kids a) (kids b) → IsSameTally (tally_of a) (tally_of b)
+pub same_from : {A : Type 0} (a b : Spot A) → own a ≡ own b → SameKids (kids a) (kids b) → IsSameTally (tally_of a) (tally_of b)
 same_from a b o k [] s = rw o refl
 same_from a b o k (f ∷ p) s = same_below (kids a) (kids b) k f p s
 
@@ -154,15 +149,15 @@ same_option (Some c) None h k e = absurd (no_zero (subst IsPositive (sym e) h))
 same_option (Some c) (Some d) h k e = ap (λ (x : Count). Some x) (sym e)
 
 -- equal tallies have equal counts at the node
-pub canonical_own : {A : Type 0} (a b : Node A) → IsNormal a → IsNormal b → IsSameTally (tally_of a) (tally_of b) → own a ≡ own b
+pub canonical_own : {A : Type 0} (a b : Spot A) → IsNormal a → IsNormal b → IsSameTally (tally_of a) (tally_of b) → own a ≡ own b
 canonical_own a b h k same =
     let x = normal_here a h in
     let y = normal_here b k in
     same_entries slot_cmp slot_total slot_same (own a) (own b) x.slots y.slots
     (λ s. same_option _ _ (found_positive slot_cmp s (own a) x.positive) (found_positive slot_cmp s (own b) y.positive) (same [] s))
 
-witnesses : {A : Type 0} (es : List (ℕ × Node A)) → IsSorted nat_cmp es → Each (λ c. IsNonEmpty c) es
-    → ((f : ℕ) (c : Node A) → find nat_cmp f es ≡ Some c → IsNormal c) → Witnesses es
+witnesses : {A : Type 0} (es : List (ℕ × Spot A)) → IsSorted nat_cmp es → Each (λ c. IsNonEmpty c) es
+    → ((f : ℕ) (c : Spot A) → find nat_cmp f es ≡ Some c → IsNormal c) → Witnesses es
 witnesses [] s h n = tt
 witnesses (e ∷ es) s h n = (
   inhabited e.1 (n e.0 e.1 (find_first nat_cmp nat_cmp_total e es)) h.0,
@@ -174,7 +169,7 @@ witnesses (e ∷ es) s h n = (
 )
 
 -- and children alike
-pub canonical_kids : {A : Type 0} (a b : Node A) → IsNormal a → IsNormal b → IsSameTally (tally_of a) (tally_of b)
+pub canonical_kids : {A : Type 0} (a b : Spot A) → IsNormal a → IsNormal b → IsSameTally (tally_of a) (tally_of b)
     → SameKids (kids a) (kids b)
 canonical_kids a b h k same =
     let x = normal_here a h in
@@ -184,25 +179,29 @@ canonical_kids a b h k same =
     (witnesses (kids b) y.frames y.nonempty (λ f c found. normal_child b k f c found))
     (λ g p s. same (g ∷ p) s)
 
-pub same_length : {A : Type 0} (es fs : List (ℕ × Node A)) → SameKids es fs → length es ≡ length fs
+pub same_length : {A : Type 0} (es fs : List (ℕ × Spot A)) → SameKids es fs → length es ≡ length fs
 same_length [] [] h = refl
 same_length [] (f ∷ fs) h = absurd h
 same_length (e ∷ es) [] h = absurd h
 same_length (e ∷ es) (f ∷ fs) h = ap suc (same_length es fs h.2)
 
 -- the children at one place
-abbrev pub SamePlace : {A : Type 0} → (ℕ × Node A) → (ℕ × Node A) → Type 0
+abbrev pub SamePlace : {A : Type 0} → (ℕ × Spot A) → (ℕ × Spot A) → Type 0
 SamePlace e f = (e.0 ≡ f.0) × IsSameTally (tally_of e.1) (tally_of f.1)
 
-pub same_place : {A : Type 0} (es fs : List (ℕ × Node A)) → SameKids es fs → (i : ℕ) (d c : ℕ × Node A) → i < length es
+pub same_ends : {A : Type 0} (a b d e : ℕ × Spot A) → d ≡ a → e ≡ b → SamePlace a b → SamePlace d e
+same_ends {A} a b d e is_a is_b h =
+    subst (λ (x : ℕ × Spot A). SamePlace x e) (sym is_a) (subst (λ (x : ℕ × Spot A). SamePlace a x) (sym is_b) h)
+
+pub same_place : {A : Type 0} (es fs : List (ℕ × Spot A)) → SameKids es fs → (i : ℕ) (d c : ℕ × Spot A) → i < length es
     → SamePlace (get_or es i d) (get_or fs i c)
 same_place [] fs h i d c lt = absurd (omega arith)
 same_place (e ∷ es) [] h i d c lt = absurd h
 same_place (e ∷ es) (f ∷ fs) h zero d c lt = (h.0, h.1)
 same_place (e ∷ es) (f ∷ fs) h (suc i) d c lt = same_place es fs h.2 i d c (omega arith)
 
-pub same_places : {A : Type 0} (es fs : List (ℕ × Node A)) → length es ≡ length fs
-    → ((i : ℕ) (d c : ℕ × Node A) → i < length es → SamePlace (get_or es i d) (get_or fs i c)) → SameKids es fs
+pub same_places : {A : Type 0} (es fs : List (ℕ × Spot A)) → length es ≡ length fs
+    → ((i : ℕ) (d c : ℕ × Spot A) → i < length es → SamePlace (get_or es i d) (get_or fs i c)) → SameKids es fs
 same_places [] [] l h = tt
 same_places [] (f ∷ fs) l h = absurd (omega arith)
 same_places (e ∷ es) [] l h = absurd (omega arith)

@@ -1,4 +1,4 @@
--- Lists of entries whose keys are changed alike, or put one after the other.
+-- Lists of entries: what is found behind the first, keys that are changed alike, and lists put one after the other.
 use Rattle.std.proofs.Common.{◌≡◌, ℕ, ◌+◌, List, [], ◌∷◌, ◌++◌, map, Some, None, T}
 use Rattle.std.proofs.Common.{true, false, cond, unwrap_or, refl, sym, ◌∙◌, ap, subst, arith}
 use Rattle.std.specs.Ordering.{is_lt, is_eq, eq_by_cmp}
@@ -40,18 +40,30 @@ module _ {K X : Type 0} (R : K → K → Ordering) where
       both _ _ (below_append x.0 xs ys (both_left _ _ g) all.0) (sorted_append xs ys (both_right _ _ g) h all.1)
 
   module _ (o : IsTotalOrder R) where
+    -- what is found behind the first entry is found in the whole
+    pub found_behind : (e : K × X) (es : List (K × X)) → IsSorted R (e ∷ es) → (k : K) (v : X) → find R k es ≡ Some v
+        → find R k (e ∷ es) ≡ Some v
+    found_behind e es s k v found =
+        (elim (R k e.0) as (λ r. R k e.0 ≡ r → cond (is_eq r) (Some e.1) (find R k es) ≡ Some v) [
+          | Less ↦ λ c. found
+          | Equal ↦ λ c. absurd (let none : find R k es ≡ None = find_below R o k es (below_tied R o k e.0 es c (both_left _ _ s)) in
+              let never : None ≡ Some v = sym none ∙ found in cc)
+          | Greater ↦ λ c. found
+        ]) refl
+
+    -- what holds of each entry that is found holds of each entry
+    pub all_from_found : (P : K → X → Type 0) (es : List (K × X)) → IsSorted R es → ((k : K) (v : X) → find R k es ≡ Some v → P k v)
+        → AllByRecursion (λ (e : K × X). P e.0 e.1) es
+    all_from_found P [] s h = tt
+    all_from_found P (e ∷ es) s h =
+        (h e.0 e.1 (find_first R o e es), all_from_found P es (both_right _ _ s) (λ k v found. h k v (found_behind e es s k v found)))
+
     -- what holds of each value that is found holds of each value
     pub each_from_found : (P : X → Type 0) (es : List (K × X)) → IsSorted R es → ((k : K) (v : X) → find R k es ≡ Some v → P v) → Each P es
     each_from_found P [] s h = tt
     each_from_found P (e ∷ es) s h = (
       h e.0 e.1 (find_first R o e es),
-      each_from_found P es (both_right _ _ s)
-          (λ k v found. h k v (elim (R k e.0) as (λ r. R k e.0 ≡ r → cond (is_eq r) (Some e.1) (find R k es) ≡ Some v) [
-            | Less ↦ λ c. found
-            | Equal ↦ λ c. absurd (let none : find R k es ≡ None = find_below R o k es (below_tied R o k e.0 es c (both_left _ _ s)) in
-                let never : None ≡ Some v = sym none ∙ found in cc)
-            | Greater ↦ λ c. found
-          ] refl)),
+      each_from_found P es (both_right _ _ s) (λ k v found. h k v (found_behind e es s k v found)),
     )
 
     -- how a sum over the entries changes where one is put
@@ -88,13 +100,7 @@ module _ {K X : Type 0} (R : K → K → Ordering) where
     all_keys_from_found P [] s h = tt
     all_keys_from_found P (e ∷ es) s h = (
       h e.0 e.1 (find_first R o e es),
-      all_keys_from_found P es (both_right _ _ s)
-          (λ k v found. h k v (elim (R k e.0) as (λ r. R k e.0 ≡ r → cond (is_eq r) (Some e.1) (find R k es) ≡ Some v) [
-            | Less ↦ λ c. found
-            | Equal ↦ λ c. absurd (let none : find R k es ≡ None = find_below R o k es (below_tied R o k e.0 es c (both_left _ _ s)) in
-                let never : None ≡ Some v = sym none ∙ found in cc)
-            | Greater ↦ λ c. found
-          ] refl)),
+      all_keys_from_found P es (both_right _ _ s) (λ k v found. h k v (found_behind e es s k v found)),
     )
 
     pub all_keys_put : (P : K → Type 0) (k : K) (v : X) (es : List (K × X)) → P k → AllByRecursion (λ e. P e.0) es

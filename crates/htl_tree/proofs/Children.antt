@@ -1,59 +1,109 @@
--- The children of a node, by their places.
-use Rattle.std.proofs.Common.{◌≡◌, ℕ, zero, suc, ◌+◌, ◌<◌, ◌≤◌, List, [], ◌∷◌, ◌++◌, length}
+-- The places one frame further in, one by one.
+use Rattle.std.proofs.Common.{◌≡◌, ℕ, zero, suc, ◌+◌, ◌<◌, ◌≤◌, List, [], ◌∷◌, ◌++◌, length, map, max}
 use Rattle.std.proofs.Common.{take, drop, get_or, Some, append_assoc, refl, sym, ◌∙◌, ap, subst, arith}
 use Rattle.std.specs.Cmp.{nat_cmp_total}
 use Rattle.std.specs.Ordering.{nat_cmp}
 use Rattle.std.specs.FinMap.Entries.{find}
-use Rattle.std.proofs.lemmas.List.{map-id, take_more}
-use Rattle.htl_sorted.specs.Entries.{IsSorted, Each, entries}
+use Rattle.std.proofs.lemmas.List.{map-id, take_more, drop_more, drop_all, get_or-map, length-map}
+use Rattle.htl_sorted.specs.Entries.{IsSorted, entries}
 use Rattle.htl_sorted.specs.Made.{Made}
 use Rattle.htl_sorted.proofs.Rows.{row_found}
 use Rattle.htl_tree.specs.declared.node.Node.{Node}
 use Rattle.htl_tree.specs.declared.node.Node.TheFolds.{fold_out-Node}
-use Rattle.htl_tree.specs.Nodes.{kids, height, heights, height_step, IsNormal, IsCopy, AppendsCopies}
+use Rattle.htl_tree.specs.Nodes.{Spot, top, inside, tops, children_of, kids, max_of, height_of, height, heights, height_step}
+use Rattle.htl_tree.specs.Nodes.{IsNormal, IsCopy, AppendsCopies}
 use Rattle.htl_tree.proofs.CountAdded.{normal_here, normal_child}
+use Rattle.htl_tree.proofs.Tops.{top_of}
+
+-- ---- the places one frame further in
 
 -- the child that is found at the frame of a place
-pub kid_found : {A : Type 0} (n : Node A) → IsNormal n → (i : ℕ) (d : ℕ × Node A) → i < length (kids n) → d ≡ get_or (kids n) i d
+pub kid_found : {A : Type 0} (n : Spot A) → IsNormal n → (i : ℕ) (d : ℕ × Spot A) → i < length (kids n) → d ≡ get_or (kids n) i d
     → find nat_cmp d.0 (kids n) ≡ Some d.1
 kid_found {A} n h i d lt is =
-    let sorted : IsSorted nat_cmp (entries (λ (e : ℕ × Node A). e.0) (λ e. e.1) (kids n)) =
+    let sorted : IsSorted nat_cmp (entries (λ (e : ℕ × Spot A). e.0) (λ e. e.1) (kids n)) =
     subst (λ es. IsSorted nat_cmp es) (sym (map-id (kids n))) (normal_here n h).frames in
     subst (λ es. find nat_cmp d.0 es ≡ Some d.1) (map-id (kids n))
-    (row_found (λ (e : ℕ × Node A). e.0) (λ e. e.1) nat_cmp_total (kids n) sorted i d lt is)
+    (row_found (λ (e : ℕ × Spot A). e.0) (λ e. e.1) nat_cmp_total (kids n) sorted i d lt is)
 
-pub kid_normal : {A : Type 0} (n : Node A) → IsNormal n → (i : ℕ) (d : ℕ × Node A) → i < length (kids n) → d ≡ get_or (kids n) i d
+pub kid_normal : {A : Type 0} (n : Spot A) → IsNormal n → (i : ℕ) (d : ℕ × Spot A) → i < length (kids n) → d ≡ get_or (kids n) i d
     → IsNormal d.1
 kid_normal n h i d lt is = normal_child n h d.0 d.1 (kid_found n h i d lt is)
 
-height_below : {A : Type 0} (es : List (ℕ × Node A)) (i : ℕ) (d : ℕ × Node A) → i < length es → height (get_or es i d).1 ≤ heights es
+height_below : {A : Type 0} (es : List (ℕ × Spot A)) (i : ℕ) (d : ℕ × Spot A) → i < length es → height (get_or es i d).1 ≤ heights es
 height_below [] i d lt = absurd (omega arith)
 height_below (e ∷ es) zero d lt = omega arith
 height_below (e ∷ es) (suc i) d lt = let h = height_below es i d (omega arith) in omega (arith, h)
 
 -- a child is no higher than the highest
-pub height_at : {A : Type 0} (ks : List (ℕ × Node A)) (i : ℕ) (d : ℕ × Node A) → i < length ks → d ≡ get_or ks i d
+pub height_at : {A : Type 0} (ks : List (ℕ × Spot A)) (i : ℕ) (d : ℕ × Spot A) → i < length ks → d ≡ get_or ks i d
     → height d.1 ≤ heights ks
 height_at {A} ks i d lt is =
     let at : height (get_or ks i d).1 ≤ heights ks = height_below ks i d lt in
-    let same : height d.1 ≡ height (get_or ks i d).1 = ap (λ (e : ℕ × Node A). height e.1) is in
+    let same : height d.1 ≡ height (get_or ks i d).1 = ap (λ (e : ℕ × Spot A). height e.1) is in
     omega arith
 
-pub height_is : {A : Type 0} (n : Node A) → height n ≡ heights (kids n) + 1
-height_is {A} n = fold_out-Node A ℕ height_step n
+-- a node's height is that of its top
+pub height_top : {A : Type 0} (n : Node A) → height_of n ≡ height (top n)
+height_top {A} n = fold_out-Node A ℕ height_step n
+
+heights-tops : {A : Type 0} (ks : List (ℕ × Node A)) → max_of (map (λ k. (k.0, height_of k.1)) ks) ≡ heights (tops ks)
+heights-tops [] = refl
+heights-tops (k ∷ ks) = ap (λ h. max h (max_of (map (λ j. (j.0, height_of j.1)) ks))) (height_top k.1)
+    ∙ ap (max (height (top k.1))) (heights-tops ks)
+
+pub height_is : {A : Type 0} (c : Spot A) → height c ≡ heights (kids c) + 1
+height_is {A} c = of c.0
+  where
+    of : (fs : List ℕ) → height (fs, c.1) ≡ heights (kids (fs, c.1)) + 1
+    of [] = let same = heights-tops (children_of c.1) in omega (arith, same)
+    of (f ∷ fs) = omega arith
+
+-- a node is no higher than the places before it
+pub inside_height : {A : Type 0} (fs : List ℕ) (n : Node A) → height (inside n) ≤ height (fs, n)
+inside_height fs n = omega arith
 
 -- a child is lower
-pub kid_height : {A : Type 0} (n : Node A) (i : ℕ) (d : ℕ × Node A) → i < length (kids n) → d ≡ get_or (kids n) i d → height d.1 < height n
+pub kid_height : {A : Type 0} (n : Spot A) (i : ℕ) (d : ℕ × Spot A) → i < length (kids n) → d ≡ get_or (kids n) i d → height d.1 < height n
 kid_height n i d lt is = let at = height_at (kids n) i d lt is in let all = height_is n in omega (arith, at, all)
 
--- what holds of each child holds of the one at a place
-pub each_at : {A : Type 0} (P : Node A → Type 0) (ks : List (ℕ × Node A)) → Each P ks → (i : ℕ) (d : ℕ × Node A) → i < length ks
-    → d ≡ get_or ks i d → P d.1
-each_at P [] h i d lt is = absurd (omega arith)
-each_at {A} P (k ∷ ks) h zero d lt is = subst (λ (e : ℕ × Node A). P e.1) (sym is) h.0
-each_at P (k ∷ ks) h (suc i) d lt is = each_at P ks h.1 i d (omega arith) is
+-- ---- the children of a node, one by one
 
-made_push : {A : Type 0} (P : Node A → Node A → Type 0) (xs ys : List (ℕ × Node A)) (x y : ℕ × Node A) → Made P xs ys → x.0 ≡ y.0
+-- the place at an index is the top of this child
+pub record IsChildAt {A : Type 0} (n : Node A) (i : ℕ) (d : ℕ × Node A) : Type 0 where
+  pub within : i < length (kids (inside n))
+  pub value : top_of d ≡ get_or (kids (inside n)) i (top_of d)
+
+module _ {A : Type 0} (n : Node A) (ks : List (ℕ × Node A)) (is : ks ≡ children_of n) (i : ℕ) where
+  pub child_at : (d : ℕ × Node A) → i < length ks → d ≡ get_or ks i d → IsChildAt n i d
+  child_at d lt at = record {
+    within = subst (λ l. i < length (tops l)) is (omega (arith, length-map ks (λ (k : ℕ × Node A). top_of k), lt));
+    value = subst (λ l. top_of d ≡ get_or (tops l) i (top_of d)) is
+        (ap (λ (k : ℕ × Node A). top_of k) at ∙ sym (get_or-map (λ (k : ℕ × Node A). top_of k) ks i d (top_of d) lt));
+  }
+
+  -- behind the last child is no place
+  pub no_child_at : length ks ≤ i → drop i (kids (inside n)) ≡ []
+  no_child_at past = drop_all i (kids (inside n)) (subst (λ l. length (tops l) ≤ i) is
+      (omega (arith, length-map ks (λ (k : ℕ × Node A). top_of k), past)))
+
+-- the places from a child on
+pub from_child : {A : Type 0} {n : Node A} {i : ℕ} {d : ℕ × Node A} → IsChildAt n i d
+    → drop i (kids (inside n)) ≡ top_of d ∷ drop (i + 1) (kids (inside n))
+from_child {A} {n} {i} {d} at = drop_more (kids (inside n)) i (top_of d) at.within
+    ∙ ap (λ (k : ℕ × Spot A). k ∷ drop (i + 1) (kids (inside n))) (sym at.value)
+
+-- a child is in order
+pub child_normal : {A : Type 0} {n : Node A} {i : ℕ} {d : ℕ × Node A} → IsChildAt n i d → IsNormal (inside n) → IsNormal (top d.1)
+child_normal {A} {n} {i} {d} at h = kid_normal (inside n) h i (top_of d) at.within at.value
+
+-- and lower than the node
+pub child_height : {A : Type 0} {n : Node A} {i : ℕ} {d : ℕ × Node A} → IsChildAt n i d → height (top d.1) < height (inside n)
+child_height {A} {n} {i} {d} at = kid_height (inside n) i (top_of d) at.within at.value
+
+-- ---- copies
+
+made_push : {A : Type 0} (P : Spot A → Spot A → Type 0) (xs ys : List (ℕ × Spot A)) (x y : ℕ × Spot A) → Made P xs ys → x.0 ≡ y.0
     → P x.1 y.1 → Made P (xs ++ x ∷ []) (ys ++ y ∷ [])
 made_push P [] [] x y m k p = (k, p, tt)
 made_push P [] (b ∷ ys) x y m k p = absurd m
@@ -61,7 +111,7 @@ made_push P (a ∷ xs) [] x y m k p = absurd m
 made_push P (a ∷ xs) (b ∷ ys) x y m k p = (m.0, m.1, made_push P xs ys x y m.2 k p)
 
 -- one more copy
-pub appends_more : {A : Type 0} (ks old mid new : List (ℕ × Node A)) (i : ℕ) (d : ℕ × Node A) (c : Node A)
+pub appends_more : {A : Type 0} (ks old mid new : List (ℕ × Spot A)) (i : ℕ) (d : ℕ × Spot A) (c : Spot A)
     → AppendsCopies (take i ks) old mid → i < length ks → d ≡ get_or ks i d → IsCopy d.1 c → new ≡ mid ++ (d.0, c) ∷ []
     → AppendsCopies (take (i + 1) ks) old new
 appends_more {A} ks old mid new i d c (copies, so_far, made) lt is copy more = (
@@ -69,8 +119,3 @@ appends_more {A} ks old mid new i d c (copies, so_far, made) lt is copy more = (
   more ∙ ap (λ l. l ++ (d.0, c) ∷ []) so_far ∙ append_assoc old copies ((d.0, c) ∷ []),
   rw (take_more ks i d lt, sym is) (made_push (λ k c. IsCopy k c) (take i ks) copies d (d.0, c) made refl copy),
 )
-
-pub each_drop : {A : Type 0} (P : Node A → Type 0) (i : ℕ) (ks : List (ℕ × Node A)) → Each P ks → Each P (drop i ks)
-each_drop P zero ks h = h
-each_drop P (suc i) [] h = tt
-each_drop P (suc i) (k ∷ ks) h = each_drop P i ks h.1

@@ -1,11 +1,13 @@
 -- Nodes made of others: copies and sums.
-use Rattle.std.proofs.Common.{◌≡◌, ℕ, ◌+◌, ◌<◌, ◌≤◌, ◌^◌, List, [], ◌∷◌, ◌++◌, length, map}
-use Rattle.std.proofs.Common.{drop, get_or, Option, Some, None, unwrap_or, refl, sym, ◌∙◌, ap, subst, arith}
-use Rattle.std.specs.Cmp.{nat_cmp_total}
+use Rattle.std.proofs.Common.{◌≡◌, ℕ, zero, suc, ◌+◌, ◌-◌, ◌<◌, ◌≤◌, ◌^◌, List, [], ◌∷◌, ◌++◌, length, map}
+use Rattle.std.proofs.Common.{take, drop, get_or, Option, Some, None, unwrap_or, refl, sym, ◌∙◌, ap, subst, arith}
+use Rattle.std.proofs.lemmas.List.{length-drop, get_or-drop, drop_all, map_push}
+use Rattle.std.specs.Cmp.{nat_cmp_total, tied_itself}
 use Rattle.std.specs.Ordering.{nat_cmp}
 use Rattle.std.specs.declared.cmp.Ordering.{Ordering}
 use Rattle.std.specs.declared.cmp.Ordering.TheVariants.{Less, Equal, Greater}
 use Rattle.std.specs.FinMap.Entries.{find}
+use Rattle.std.specs.Int.Bits.{bit_or}
 use Rattle.htl_event.specs.declared.slot.Slot.{Slot}
 use Rattle.htl_event.specs.declared.slot.Count.{Count}
 use Rattle.htl_event.specs.Tallies.{zero_count, plus_count, total_of, IsPositive}
@@ -14,48 +16,53 @@ use Rattle.htl_sorted.specs.Made.{Made}
 use Rattle.htl_sorted.proofs.Finds.{each_found}
 use Rattle.htl_sorted.proofs.SideBySide.{join, pair, MadeAt, find_made, sorted_made, sorted_join}
 use Rattle.htl_sorted.proofs.SideBySide.{find_join, Carries, carry_less, carry_greater, carry_equal, carries_end}
+use Rattle.htl_tree.specs.declared.cursor.Cursor.{Cursor}
 use Rattle.htl_tree.specs.declared.node.Node.{Node}
 use Rattle.htl_event.specs.SlotOrder.{slot_cmp}
 use Rattle.htl_event.specs.OrderLaws.{slot_total}
-use Rattle.htl_tree.specs.Nodes.{tally, own, kids, at_child, AtChild, NormalAt}
-use Rattle.htl_tree.specs.Nodes.{IsNormal, IsNonEmpty, IsCopy, IsSum, AppendsCopies, FitsSum}
+use Rattle.htl_tree.specs.Nodes.{Spot, spot, top, tops, inside, tally, own, marks, kids, height, at_child, AtChild, NormalAt}
+use Rattle.htl_tree.specs.Nodes.{IsNormal, IsNonEmpty, IsKept, IsCopy, IsSum, AppendsCopies, FitsSum}
 use Rattle.htl_tree.proofs.Canonical.{inhabited}
 use Rattle.htl_tree.proofs.ChangedKeys.{each_from_found}
-use Rattle.htl_tree.proofs.CountAdded.{normal_here, normal_child, nonempty_from}
+use Rattle.htl_tree.proofs.CountAdded.{normal_here, normal_child, normal_inside, nonempty_from, kept_before}
+use Rattle.htl_tree.proofs.Children.{appends_more}
+use Rattle.htl_tree.proofs.Marked.{marked_joined}
+use Rattle.htl_tree.proofs.Spots.{before, find_before}
 
 -- ---- copies
 
-pub copied_nonempty : {A : Type 0} (n m : Node A) → IsNormal n → IsCopy n m → IsNonEmpty n → IsNonEmpty m
+pub copied_nonempty : {A : Type 0} (n m : Spot A) → IsNormal n → IsCopy n m → IsNonEmpty n → IsNonEmpty m
 copied_nonempty n m h copy some = let w = inhabited n h some in
     nonempty_from m w.path w.slot (subst IsPositive (sym (copy.counts w.path w.slot)) w.counts)
 
-abbrev CopyAt : {A : Type 0} → Option (Node A) → Option (Node A) → Type 0
+abbrev CopyAt : {A : Type 0} → Option (Spot A) → Option (Spot A) → Type 0
 CopyAt o p = MadeAt (λ k c. IsCopy k c) o p
 
-copied_tally : {A : Type 0} (p : List ℕ) (s : Slot) (o q : Option (Node A)) → CopyAt o q
+copied_tally : {A : Type 0} (p : List ℕ) (s : Slot) (o q : Option (Spot A)) → CopyAt o q
     → at_child (λ c. tally p s c) q ≡ at_child (λ c. tally p s c) o
 copied_tally p s None None m = refl
 copied_tally p s None (Some c) m = absurd m
 copied_tally p s (Some k) None m = absurd m
 copied_tally p s (Some k) (Some c) m = m.counts p s
 
-copied_normal : {A : Type 0} (p : List ℕ) (o q : Option (Node A)) → CopyAt o q → AtChild (λ c. NormalAt p c) q
+copied_normal : {A : Type 0} (p : List ℕ) (o q : Option (Spot A)) → CopyAt o q → AtChild (λ c. NormalAt p c) q
 copied_normal p None None m = tt
 copied_normal p None (Some c) m = absurd m
 copied_normal p (Some k) None m = absurd m
 copied_normal p (Some k) (Some c) m = m.normal.everywhere p
 
-module _ {A : Type 0} (n m : Node A) (h : IsNormal n) (same : own m ≡ own n) (copies : Made (λ k c. IsCopy k c) (kids n) (kids m)) where
+module _ {A : Type 0} (n m : Spot A) (h : IsNormal n) (same : own m ≡ own n) (marked : marks m ≡ marks n)
+    (copies : Made (λ k c. IsCopy k c) (kids n) (kids m)) where
   copy_at : (f : ℕ) → CopyAt (find nat_cmp f (kids n)) (find nat_cmp f (kids m))
   copy_at f = find_made nat_cmp (λ k c. IsCopy k c) f (kids n) (kids m) copies
 
   frames_sorted : IsSorted nat_cmp (kids m)
   frames_sorted = sorted_made nat_cmp (λ k c. IsCopy k c) (kids n) (kids m) copies (normal_here n h).frames
 
-  kid_nonempty : (f : ℕ) (c : Node A) → find nat_cmp f (kids m) ≡ Some c → IsNonEmpty c
+  kid_nonempty : (f : ℕ) (c : Spot A) → find nat_cmp f (kids m) ≡ Some c → IsNonEmpty c
   kid_nonempty f c e = of (find nat_cmp f (kids n)) refl (subst (λ q. CopyAt (find nat_cmp f (kids n)) q) e (copy_at f))
     where
-      of : (o : Option (Node A)) → find nat_cmp f (kids n) ≡ o → CopyAt o (Some c) → IsNonEmpty c
+      of : (o : Option (Spot A)) → find nat_cmp f (kids n) ≡ o → CopyAt o (Some c) → IsNonEmpty c
       of None is m = absurd m
       of (Some k) is m = copied_nonempty k c (normal_child n h f k is) m
           (each_found nat_cmp (λ c. IsNonEmpty c) f k (kids n) (normal_here n h).nonempty is)
@@ -67,6 +74,7 @@ module _ {A : Type 0} (n m : Node A) (h : IsNormal n) (same : own m ≡ own n) (
       at [] = let here = normal_here n h in record {
         slots = rw same here.slots;
         positive = rw same here.positive;
+        marked = rw (same, marked) here.marked;
         frames = frames_sorted;
         nonempty = each_from_found nat_cmp nat_cmp_total (λ c. IsNonEmpty c) (kids m) frames_sorted kid_nonempty;
       }
@@ -75,6 +83,58 @@ module _ {A : Type 0} (n m : Node A) (h : IsNormal n) (same : own m ≡ own n) (
       counts : (p : List ℕ) (s : Slot) → tally p s m ≡ tally p s n
       counts [] s = rw same refl
       counts (f ∷ p) s = copied_tally p s (find nat_cmp f (kids n)) (find nat_cmp f (kids m)) (copy_at f)
+
+-- ---- places further along a node's frames
+
+pub normal_drop : {A : Type 0} (k : ℕ) (fs : List ℕ) (n : Node A) → IsNormal (fs, n) → IsNormal (drop k fs, n)
+normal_drop zero fs n h = h
+normal_drop (suc k) [] n h = h
+normal_drop (suc k) (f ∷ fs) n h = normal_drop k fs n (normal_child (f ∷ fs, n) h f (fs, n) (find_before f (fs, n)))
+
+-- the place so many frames further along is in order too
+pub normal_skip : {A : Type 0} (c : Cursor A) (k : ℕ) (at : Spot A) → at ≡ (drop k c.frames.now, c.node.now) → IsNormal (spot c)
+    → IsNormal at
+normal_skip c k at is h = subst (λ s. IsNormal s) (sym is) (normal_drop k c.frames.now c.node.now h)
+
+-- and no higher
+pub height_skip : {A : Type 0} (c : Cursor A) (k : ℕ) (at : Spot A) → at ≡ (drop k c.frames.now, c.node.now)
+    → height at ≤ height (spot c)
+height_skip c k at is =
+    let same : height at ≡ height (drop k c.frames.now, c.node.now) = ap (λ s. height s) is in
+    omega (arith, same, length-drop k c.frames.now)
+
+-- behind all frames is the node
+pub skip_all : {A : Type 0} (c : Cursor A) (at : Spot A) → at ≡ (drop (length c.frames.now) c.frames.now, c.node.now)
+    → at ≡ inside c.node.now
+skip_all c at is = is ∙ ap (λ fs. (fs, c.node.now)) (drop_all (length c.frames.now) c.frames.now (omega arith))
+
+-- a copy with the frames before it too
+pub copied_along : {A : Type 0} (fs : List ℕ) (n m : Node A) → IsNormal (fs, n) → IsCopy (inside n) (inside m) → IsCopy (fs, n) (fs, m)
+copied_along fs n m h copy =
+    let kept : IsKept (inside n) (inside m) = record {
+      normal = copy.normal;
+      counts = copy.counts;
+      nonempty = copied_nonempty (inside n) (inside m) (normal_inside fs n h) copy;
+    } in
+    let before = kept_before fs n m h kept in
+    record { normal = before.normal; counts = before.counts }
+
+-- one more copy of the children from a place on
+pub appends_next : {A : Type 0} (ks old mid new : List (ℕ × Spot A)) (start i : ℕ) (d : ℕ × Spot A) (c : Spot A) → start ≤ i
+    → AppendsCopies (take (i - start) (drop start ks)) old mid → i < length ks → d ≡ get_or ks i d → IsCopy d.1 c
+    → new ≡ mid ++ (d.0, c) ∷ [] → AppendsCopies (take (i + 1 - start) (drop start ks)) old new
+appends_next {A} ks old mid new start i d c from so_far lt is copy more =
+    let step : i + 1 - start ≡ (i - start) + 1 = omega arith in
+    let back : start + (i - start) ≡ i = omega arith in
+    let here : d ≡ get_or (drop start ks) (i - start) d =
+    is ∙ ap (λ j. get_or ks j d) (sym back) ∙ sym (get_or-drop start ks (i - start) d) in
+    subst (λ j. AppendsCopies (take j (drop start ks)) old new) (sym step)
+    (appends_more (drop start ks) old mid new (i - start) d c so_far (omega (arith, length-drop start ks)) here copy more)
+
+-- a node more among others, as places
+pub tops_push : {A : Type 0} (ks new : List (ℕ × Node A)) (f : ℕ) (n : Node A) → new ≡ ks ++ (f, n) ∷ []
+    → tops new ≡ tops ks ++ (f, top n) ∷ []
+tops_push {A} ks new f n is = ap tops is ∙ map_push (λ (k : ℕ × Node A). (k.0, top k.1)) ks (f, n)
 
 -- ---- sums
 
@@ -87,19 +147,19 @@ zero_left c = let p : c.plus ≡ 0 + c.plus = omega arith in let m : c.minus ≡
     λ i. record { plus = p i; minus = m i }
 
 -- the node that two sides make
-abbrev pub SumOf : {A : Type 0} → Option (Node A) × Option (Node A) → Node A → Type 0
+abbrev pub SumOf : {A : Type 0} → Option (Spot A) × Option (Spot A) → Spot A → Type 0
 SumOf {A} sides sum = of sides.0 sides.1
   where
-    of : Option (Node A) → Option (Node A) → Type 0
+    of : Option (Spot A) → Option (Spot A) → Type 0
     of None None = ⊥
     of None (Some right) = IsCopy right sum
     of (Some left) None = IsCopy left sum
     of (Some left) (Some right) = IsSum left right sum
 
-abbrev SumAt : {A : Type 0} → Option (Node A) → Option (Node A) → Option (Node A) → Type 0
+abbrev SumAt : {A : Type 0} → Option (Spot A) → Option (Spot A) → Option (Spot A) → Type 0
 SumAt a b c = MadeAt (λ sides sum. SumOf sides sum) (pair a b) c
 
-sum_tally : {A : Type 0} (p : List ℕ) (s : Slot) (a b c : Option (Node A)) → SumAt a b c
+sum_tally : {A : Type 0} (p : List ℕ) (s : Slot) (a b c : Option (Spot A)) → SumAt a b c
     → at_child (λ c. tally p s c) c ≡ plus_count (at_child (λ c. tally p s c) a) (at_child (λ c. tally p s c) b)
 sum_tally p s None None None m = refl
 sum_tally p s None None (Some z) m = absurd m
@@ -110,14 +170,14 @@ sum_tally p s (Some x) None (Some z) m = m.counts p s ∙ zero_right (tally p s 
 sum_tally p s (Some x) (Some y) None m = absurd m
 sum_tally p s (Some x) (Some y) (Some z) m = m.counts p s
 
-sum_normal : {A : Type 0} (p : List ℕ) (a b c : Option (Node A)) → SumAt a b c → AtChild (λ c. NormalAt p c) c
+sum_normal : {A : Type 0} (p : List ℕ) (a b c : Option (Spot A)) → SumAt a b c → AtChild (λ c. NormalAt p c) c
 sum_normal p a b None m = tt
 sum_normal p None None (Some z) m = absurd m
 sum_normal p None (Some y) (Some z) m = m.normal.everywhere p
 sum_normal p (Some x) None (Some z) m = m.normal.everywhere p
 sum_normal p (Some x) (Some y) (Some z) m = m.normal.everywhere p
 
-pub summed_nonempty : {A : Type 0} (a b c : Node A) → IsNormal a → IsSum a b c → IsNonEmpty a → IsNonEmpty c
+pub summed_nonempty : {A : Type 0} (a b c : Spot A) → IsNormal a → IsSum a b c → IsNonEmpty a → IsNonEmpty c
 summed_nonempty a b c h sum some =
     let w = inhabited a h some in
     let is = sum.counts w.path w.slot in
@@ -141,8 +201,8 @@ joined_positive (Some c) (Some d) v g h e =
     let is : plus_count c d ≡ v = ap (λ (o : Option Count). unwrap_or o v) e in
     subst IsPositive is positive
 
-module _ {A : Type 0} (a b c : Node A) (g : IsNormal a) (h : IsNormal b)
-    (sorted : IsSorted slot_cmp (own c))
+module _ {A : Type 0} (a b c : Spot A) (g : IsNormal a) (h : IsNormal b)
+    (sorted : IsSorted slot_cmp (own c)) (marked : marks c ≡ bit_or (marks a) (marks b))
     (values : (s : Slot) → find slot_cmp s (own c) ≡ joined_at plus_count (find slot_cmp s (own a)) (find slot_cmp s (own b)))
     (sums : Made (λ sides sum. SumOf sides sum) (join nat_cmp (kids a) (kids b)) (kids c)) where
   sum_at : (f : ℕ) → SumAt (find nat_cmp f (kids a)) (find nat_cmp f (kids b)) (find nat_cmp f (kids c))
@@ -154,11 +214,11 @@ module _ {A : Type 0} (a b c : Node A) (g : IsNormal a) (h : IsNormal b)
   sum_frames = sorted_made nat_cmp (λ sides sum. SumOf sides sum) (join nat_cmp (kids a) (kids b)) (kids c) sums
       (sorted_join nat_cmp nat_cmp_total (kids a) (kids b) (normal_here a g).frames (normal_here b h).frames)
 
-  sum_nonempty : (f : ℕ) (k : Node A) → find nat_cmp f (kids c) ≡ Some k → IsNonEmpty k
+  sum_nonempty : (f : ℕ) (k : Spot A) → find nat_cmp f (kids c) ≡ Some k → IsNonEmpty k
   sum_nonempty f k e = of (find nat_cmp f (kids a)) refl (find nat_cmp f (kids b)) refl
       (subst (λ o. SumAt (find nat_cmp f (kids a)) (find nat_cmp f (kids b)) o) e (sum_at f))
     where
-      of : (o : Option (Node A)) → find nat_cmp f (kids a) ≡ o → (q : Option (Node A)) → find nat_cmp f (kids b) ≡ q
+      of : (o : Option (Spot A)) → find nat_cmp f (kids a) ≡ o → (q : Option (Spot A)) → find nat_cmp f (kids b) ≡ q
           → SumAt o q (Some k) → IsNonEmpty k
       of None no_left None no_right m = absurd m
       of None no_left (Some y) right m = copied_nonempty y k (normal_child b h f y right) m
@@ -182,6 +242,7 @@ module _ {A : Type 0} (a b c : Node A) (g : IsNormal a) (h : IsNormal b)
       at [] = record {
         slots = sorted;
         positive = each_from_found slot_cmp slot_total IsPositive (own c) sorted sum_positive;
+        marked = rw marked (marked_joined (marks a) (marks b) (own a) (own b) (own c) (normal_here a g).marked (normal_here b h).marked sorted values);
         frames = sum_frames;
         nonempty = each_from_found nat_cmp nat_cmp_total (λ c. IsNonEmpty c) (kids c) sum_frames sum_nonempty;
       }
@@ -194,37 +255,37 @@ module _ {A : Type 0} (a b c : Node A) (g : IsNormal a) (h : IsNormal b)
 
 -- ---- the children of a sum, made in one pass
 
-module _ {A : Type 0} (left right : List (ℕ × Node A)) where
-  abbrev pub IsMadeOf : ℕ → ℕ → List (ℕ × Node A) → Type 0
+module _ {A : Type 0} (left right : List (ℕ × Spot A)) where
+  abbrev pub IsMadeOf : ℕ → ℕ → List (ℕ × Spot A) → Type 0
   IsMadeOf i j out = Carries nat_cmp (λ sides sum. SumOf sides sum) left right i j out
 
-  module _ (i j : ℕ) (out new : List (ℕ × Node A)) (h : IsMadeOf i j out) (x y : ℕ × Node A) (lt : i < length left)
-      (lu : j < length right) (is_x : x ≡ get_or left i x) (is_y : y ≡ get_or right j y) (c : Node A) where
+  module _ (i j : ℕ) (out new : List (ℕ × Spot A)) (h : IsMadeOf i j out) (x y : ℕ × Spot A) (lt : i < length left)
+      (lu : j < length right) (is_x : x ≡ get_or left i x) (is_y : y ≡ get_or right j y) (c : Spot A) where
     frames : (r : Ordering) → nat_cmp x.0 y.0 ≡ r → nat_cmp (get_or left i x).0 (get_or right j y).0 ≡ r
-    frames r e = ap (λ (k : ℕ × Node A). nat_cmp k.0 (get_or right j y).0) (sym is_x)
-        ∙ ap (λ (k : ℕ × Node A). nat_cmp x.0 k.0) (sym is_y) ∙ e
+    frames r e = ap (λ (k : ℕ × Spot A). nat_cmp k.0 (get_or right j y).0) (sym is_x)
+        ∙ ap (λ (k : ℕ × Spot A). nat_cmp x.0 k.0) (sym is_y) ∙ e
 
     pub sum_less : nat_cmp x.0 y.0 ≡ Less → IsCopy x.1 c → new ≡ out ++ (x.0, c) ∷ [] → IsMadeOf (i + 1) j new
     sum_less e copy more = carry_less nat_cmp (λ sides sum. SumOf sides sum) left right i j out new h x y lt lu c (frames Less e)
-        (subst (λ (k : ℕ × Node A). IsCopy k.1 c) is_x copy) (more ∙ ap (λ (k : ℕ × Node A). out ++ (k.0, c) ∷ []) is_x)
+        (subst (λ (k : ℕ × Spot A). IsCopy k.1 c) is_x copy) (more ∙ ap (λ (k : ℕ × Spot A). out ++ (k.0, c) ∷ []) is_x)
 
     pub sum_greater : nat_cmp x.0 y.0 ≡ Greater → IsCopy y.1 c → new ≡ out ++ (y.0, c) ∷ [] → IsMadeOf i (j + 1) new
     sum_greater e copy more = carry_greater nat_cmp (λ sides sum. SumOf sides sum) left right i j out new h x y lt lu c
-        (frames Greater e) (subst (λ (k : ℕ × Node A). IsCopy k.1 c) is_y copy) (more ∙ ap (λ (k : ℕ × Node A). out ++ (k.0, c) ∷ []) is_y)
+        (frames Greater e) (subst (λ (k : ℕ × Spot A). IsCopy k.1 c) is_y copy) (more ∙ ap (λ (k : ℕ × Spot A). out ++ (k.0, c) ∷ []) is_y)
 
     pub sum_equal : nat_cmp x.0 y.0 ≡ Equal → IsSum x.1 y.1 c → new ≡ out ++ (x.0, c) ∷ [] → IsMadeOf (i + 1) (j + 1) new
     sum_equal e sum more = carry_equal nat_cmp (λ sides sum. SumOf sides sum) left right i j out new h x y lt lu c (frames Equal e)
-        (subst (λ (k : ℕ × Node A). IsSum k.1 (get_or right j y).1 c) is_x (subst (λ (k : ℕ × Node A). IsSum x.1 k.1 c) is_y sum))
-        (more ∙ ap (λ (k : ℕ × Node A). out ++ (k.0, c) ∷ []) is_x)
+        (subst (λ (k : ℕ × Spot A). IsSum k.1 (get_or right j y).1 c) is_x (subst (λ (k : ℕ × Spot A). IsSum x.1 k.1 c) is_y sum))
+        (more ∙ ap (λ (k : ℕ × Spot A). out ++ (k.0, c) ∷ []) is_x)
 
-  lefts_made : (ks cs : List (ℕ × Node A)) → Made (λ k c. IsCopy k c) ks cs
+  lefts_made : (ks cs : List (ℕ × Spot A)) → Made (λ k c. IsCopy k c) ks cs
       → Made (λ sides sum. SumOf sides sum) (map (λ e. (e.0, (Some e.1, None))) ks) cs
   lefts_made [] [] m = tt
   lefts_made [] (c ∷ cs) m = absurd m
   lefts_made (k ∷ ks) [] m = absurd m
   lefts_made (k ∷ ks) (c ∷ cs) m = (m.0, m.1, lefts_made ks cs m.2)
 
-  rights_made : (ks cs : List (ℕ × Node A)) → Made (λ k c. IsCopy k c) ks cs
+  rights_made : (ks cs : List (ℕ × Spot A)) → Made (λ k c. IsCopy k c) ks cs
       → Made (λ sides sum. SumOf sides sum) (map (λ e. (e.0, (None, Some e.1))) ks) cs
   rights_made [] [] m = tt
   rights_made [] (c ∷ cs) m = absurd m
@@ -232,7 +293,7 @@ module _ {A : Type 0} (left right : List (ℕ × Node A)) where
   rights_made (k ∷ ks) (c ∷ cs) m = (m.0, m.1, rights_made ks cs m.2)
 
   -- copies of what is left of either side follow, where one is at its end
-  pub sums_end : (i j : ℕ) (out mid new : List (ℕ × Node A)) → IsMadeOf i j out → (i < length left → length right ≤ j) → AppendsCopies
+  pub sums_end : (i j : ℕ) (out mid new : List (ℕ × Spot A)) → IsMadeOf i j out → (i < length left → length right ≤ j) → AppendsCopies
       (drop i left) out mid → AppendsCopies (drop j right) mid new → Made (λ sides sum. SumOf sides sum) (join nat_cmp left right) new
   sums_end i j out mid new h one (lefts, first, copies) (rights, second, more_copies) =
       let whole : new ≡ (out ++ lefts) ++ rights = second ∙ ap (λ l. l ++ rights) first in
@@ -240,10 +301,64 @@ module _ {A : Type 0} (left right : List (ℕ × Node A)) where
       (lefts_made (drop i left) lefts copies) (rights_made (drop j right) rights more_copies))
 
 -- what fits at two nodes fits at two children of one frame
-pub fits_below : {A : Type 0} (a b : Node A) → FitsSum a b → (f : ℕ) (x y : Node A) → find nat_cmp f (kids a) ≡ Some x
+pub fits_below : {A : Type 0} (a b : Spot A) → FitsSum a b → (f : ℕ) (x y : Spot A) → find nat_cmp f (kids a) ≡ Some x
     → find nat_cmp f (kids b) ≡ Some y → FitsSum x y
 fits_below a b fits f x y left right p s =
     let at_left : tally (f ∷ p) s a ≡ tally p s x = ap (at_child (λ c. tally p s c)) left in
     let at_right : tally (f ∷ p) s b ≡ tally p s y = ap (at_child (λ c. tally p s c)) right in
     subst (λ n. total_of (tally p s x) + total_of n < 2 ^ 64) at_right
     (subst (λ n. total_of n + total_of (tally (f ∷ p) s b) < 2 ^ 64) at_left (fits (f ∷ p) s))
+
+-- ---- sums with the frames that both sides share before them
+
+fits_further : {A : Type 0} (f g : ℕ) (fs gs : List ℕ) (a b : Node A) → f ≡ g → FitsSum (f ∷ fs, a) (g ∷ gs, b)
+    → FitsSum (fs, a) (gs, b)
+fits_further f g fs gs a b same fits =
+    fits_below (f ∷ fs, a) (g ∷ gs, b) fits f (fs, a) (gs, b) (find_before f (fs, a))
+    (ap (λ h. find nat_cmp h (kids (g ∷ gs, b))) same ∙ find_before g (gs, b))
+
+fits_drop : {A : Type 0} (k : ℕ) (fs gs : List ℕ) (a b : Node A) → take k fs ≡ take k gs → FitsSum (fs, a) (gs, b)
+    → FitsSum (drop k fs, a) (drop k gs, b)
+fits_drop zero fs gs a b same fits = fits
+fits_drop (suc k) [] [] a b same fits = fits
+fits_drop (suc k) [] (g ∷ gs) a b same fits = absurd (cc)
+fits_drop (suc k) (f ∷ fs) [] a b same fits = absurd (cc)
+fits_drop (suc k) (f ∷ fs) (g ∷ gs) a b same fits =
+    fits_drop k fs gs a b (ap (λ l. drop 1 l) same) (fits_further f g fs gs a b (ap (λ l. get_or l 0 f) same) fits)
+
+-- what fits at two places fits behind frames that they share
+pub fits_skip : {A : Type 0} (c d : Cursor A) (k : ℕ) (at by : Spot A) → take k c.frames.now ≡ take k d.frames.now
+    → at ≡ (drop k c.frames.now, c.node.now) → by ≡ (drop k d.frames.now, d.node.now) → FitsSum (spot c) (spot d) → FitsSum at by
+fits_skip c d k at by same left right fits =
+    subst (λ s. FitsSum s by) (sym left) (subst (λ s. FitsSum (drop k c.frames.now, c.node.now) s) (sym right)
+    (fits_drop k c.frames.now d.frames.now c.node.now d.node.now same fits))
+
+summed_before : {A : Type 0} (f : ℕ) (a b c : Spot A) → IsNormal (before f a) → IsNormal (before f b) → IsSum a b c
+    → IsSum (before f a) (before f b) (before f c)
+summed_before {A} f a b c g h sum =
+    let both : join nat_cmp (kids (before f a)) (kids (before f b)) ≡ (f, (Some a, Some b)) ∷ [] =
+    rw (tied_itself nat_cmp_total f) refl in
+    summed (before f a) (before f b) (before f c) g h tt refl (λ s. refl)
+    (subst (λ l. Made (λ sides sum. SumOf sides sum) l (kids (before f c))) (sym both) (refl, sum, tt))
+
+summed_along : {A : Type 0} (k : ℕ) (fs gs : List ℕ) (a b c : Node A) → take k fs ≡ take k gs → IsNormal (fs, a)
+    → IsNormal (gs, b) → IsSum (drop k fs, a) (drop k gs, b) (inside c) → IsSum (fs, a) (gs, b) (take k fs, c)
+summed_along zero fs gs a b c same g h sum = sum
+summed_along (suc k) [] [] a b c same g h sum = sum
+summed_along (suc k) [] (f ∷ gs) a b c same g h sum = absurd (cc)
+summed_along (suc k) (f ∷ fs) [] a b c same g h sum = absurd (cc)
+summed_along {A} (suc k) (f ∷ fs) (e ∷ gs) a b c same g h sum =
+    let frame : e ≡ f = sym (ap (λ l. get_or l 0 f) same) in
+    let right : IsNormal (before f (gs, b)) = subst (λ d. IsNormal (before d (gs, b))) frame h in
+    let further : IsSum (fs, a) (gs, b) (take k fs, c) =
+    summed_along k fs gs a b c (ap (λ l. drop 1 l) same) (normal_drop 1 (f ∷ fs) a g) (normal_drop 1 (e ∷ gs) b h) sum in
+    subst (λ d. IsSum (f ∷ fs, a) (before d (gs, b)) (f ∷ take k fs, c)) (sym frame)
+    (summed_before f (fs, a) (gs, b) (take k fs, c) g right further)
+
+-- the sum of what two places have behind frames that they share, with these before it
+pub summed_skip : {A : Type 0} (c d : Cursor A) (k : ℕ) (at by : Spot A) (n : Node A) → take k c.frames.now ≡ take k d.frames.now
+    → at ≡ (drop k c.frames.now, c.node.now) → by ≡ (drop k d.frames.now, d.node.now) → IsNormal (spot c) → IsNormal (spot d)
+    → IsSum at by (inside n) → IsSum (spot c) (spot d) (take k c.frames.now, n)
+summed_skip c d k at by n same left right g h sum =
+    summed_along k c.frames.now d.frames.now c.node.now d.node.now n same g h
+    (subst (λ s. IsSum s (drop k d.frames.now, d.node.now) (inside n)) left (subst (λ s. IsSum at s (inside n)) right sum))

@@ -1,45 +1,36 @@
--- Nodes before and after a count was added.
-use Rattle.std.proofs.Common.{◌≡◌, ℕ, ◌≢◌, ◌++◌, List, [], ◌∷◌, get_or, set, reverse, Option, Some, None, Result, Ok}
-use Rattle.std.proofs.Common.{Err, MatchResult, OnOk, OnErr, IsErr, unwrap_or, refl, sym, inl, inr, ◌∙◌, ap, subst, arith}
+-- Places before and after a count was added.
+use Rattle.std.proofs.Common.{◌≡◌, ℕ, ◌≢◌, ◌++◌, List, [], ◌∷◌, Option, Some, None, Result, Ok}
+use Rattle.std.proofs.Common.{Err, IfOk, MatchResult, IsErr, unwrap_or, refl, sym, inl, inr, ◌∙◌, ap, subst, arith}
 use Rattle.std.specs.Cmp.{tied_itself, nat_cmp_total}
 use Rattle.std.specs.Ordering.{nat_cmp}
-use Rattle.std.specs.List.{insert}
 use Rattle.std.specs.FinMap.{nat_cmp-IsAntisymmetric}
+use Rattle.std.specs.Int.Bits.{bit_or}
 use Rattle.std.specs.FinMap.Entries.{find, put, is_sorted-put}
 use Rattle.std.proofs.lemmas.Bool.{cases_eq}
-use Rattle.std.proofs.lemmas.List.{reverse-append}
+use Rattle.std.proofs.lemmas.List.{append-nil}
 use Rattle.htl_event.specs.declared.slot.Slot.{Slot}
 use Rattle.htl_event.specs.declared.slot.Sign.{Sign}
 use Rattle.htl_event.specs.declared.slot.Sign.TheVariants.{Plus, Minus}
 use Rattle.htl_event.specs.declared.slot.Count.{Count}
 use Rattle.htl_event.specs.Tallies.{zero_count, IsPositive}
-use Rattle.htl_sorted.specs.Entries.{IsSorted, IsPlace, IsGap, Each}
+use Rattle.htl_sorted.specs.Entries.{IsSorted, Each}
 use Rattle.htl_sorted.proofs.Finds.{find_put_same, find_put_other, each_put, put_some, each_found}
-use Rattle.htl_tree.specs.declared.node.Node.{Node}
-use Rattle.htl_tree.specs.declared.node.Node.TheOpen.{Node-F}
-use Rattle.htl_tree.specs.declared.node.Node.TheViews.{roll-Node, out-roll-Node}
 use Rattle.htl_event.specs.SlotOrder.{slot_cmp}
 use Rattle.htl_event.specs.OrderLaws.{slot_total, slot_same}
+use Rattle.htl_tree.specs.declared.node.Node.{Node}
 use Rattle.htl_tree.specs.Trees.{bump}
-use Rattle.htl_tree.specs.Nodes.{tally, tally_of, own, kids, at_child, IsNonEmpty, IsNormal, IsNormalNode}
+use Rattle.htl_tree.specs.Marks.{mark, AreMarked}
+use Rattle.htl_tree.specs.Nodes.{Spot, frames, counts_of, children_of, marks_at, marks, top, tops, inside}
+use Rattle.htl_tree.specs.Nodes.{tally, tally_of, own, kids, at_child, IsNonEmpty, IsNormal, IsNormalSpot}
 use Rattle.htl_tree.specs.Nodes.{AtChild, NormalAt, AddsOne, counted, IsAdded, IsKept, IsBranch}
+use Rattle.htl_tree.proofs.Marked.{marked_counted}
+use Rattle.htl_tree.proofs.Spots.{before, find_before, frames_before}
 
-pub own_of : {A : Type 0} (x : Node-F A (Node A)) → own (roll-Node A x) ≡ x.counts.items
-own_of {A} x = ap (λ (y : Node-F A (Node A)). y.counts.items) (out-roll-Node A x)
-
-pub kids_of : {A : Type 0} (x : Node-F A (Node A)) → kids (roll-Node A x) ≡ x.children.items
-kids_of {A} x = ap (λ (y : Node-F A (Node A)). y.children.items) (out-roll-Node A x)
-
-pub normal_here : {A : Type 0} (n : Node A) → IsNormal n → IsNormalNode n
+pub normal_here : {A : Type 0} (n : Spot A) → IsNormal n → IsNormalSpot n
 normal_here n h = h.everywhere []
 
-pub normal_child : {A : Type 0} (n : Node A) → IsNormal n → (f : ℕ) (c : Node A) → find nat_cmp f (kids n) ≡ Some c → IsNormal c
+pub normal_child : {A : Type 0} (n : Spot A) → IsNormal n → (f : ℕ) (c : Spot A) → find nat_cmp f (kids n) ≡ Some c → IsNormal c
 normal_child {A} n h f c e = record { everywhere = λ p. subst (λ o. AtChild (λ c. NormalAt p c) o) e (h.everywhere (f ∷ p)) }
-
--- the child at the place of its frame
-pub child_there : {A : Type 0} (n : Node A) (es : List (ℕ × Node A)) → es ≡ kids n → (f i : ℕ) → IsPlace nat_cmp es f i
-    → (d : ℕ × Node A) → d ≡ get_or es i d → find nat_cmp f (kids n) ≡ Some d.1
-child_there n es e f i place d is = rw (← e) (place.value d ∙ ap (λ (x : ℕ × Node _). Some x.1) (sym is))
 
 -- one more is more than nothing
 pub bump_positive : (sign : Sign) (c : Count) → IsPositive (bump sign c)
@@ -47,28 +38,31 @@ bump_positive Plus c = omega arith
 bump_positive Minus c = omega arith
 
 -- a node with a count somewhere is not empty
-pub nonempty_from : {A : Type 0} (n : Node A) (p : List ℕ) (s : Slot) → IsPositive (tally p s n) → IsNonEmpty n
+pub nonempty_from : {A : Type 0} (n : Spot A) (p : List ℕ) (s : Slot) → IsPositive (tally p s n) → IsNonEmpty n
 nonempty_from n [] s h o k = let none : tally [] s n ≡ zero_count = ap (λ es. unwrap_or (find slot_cmp s es) zero_count) o in
     let h' : IsPositive zero_count = subst IsPositive none h in omega (arith, h')
 nonempty_from n (f ∷ p) s h o k = let none : tally (f ∷ p) s n ≡ zero_count = ap (λ es. at_child (λ c. tally p s c) (find nat_cmp f es))
     k in let h' : IsPositive zero_count = subst IsPositive none h in omega (arith, h')
 
-module _ {A : Type 0} (n m : Node A) where
+module _ {A : Type 0} (n m : Spot A) where
   -- the same children
-  pub normal_own : kids m ≡ kids n → IsNormal n → IsSorted slot_cmp (own m) → Each IsPositive (own m) → IsNormal m
-  normal_own k h sorted positive = record { everywhere = at }
+  pub normal_own : kids m ≡ kids n → IsNormal n → IsSorted slot_cmp (own m) → Each IsPositive (own m) → AreMarked (marks m) (own m)
+      → IsNormal m
+  normal_own k h sorted positive marked = record { everywhere = at }
     where
       at : (p : List ℕ) → NormalAt p m
       at [] = let here = normal_here n h in
-          record { slots = sorted; positive = positive; frames = rw k here.frames; nonempty = rw k here.nonempty }
+          record { slots = sorted; positive = positive; marked = marked; frames = rw k here.frames; nonempty = rw k here.nonempty }
       at (f ∷ p) = rw k (h.everywhere (f ∷ p))
 
-  pub added_own : (s : Slot) (sign : Sign) → IsNormal n → own m ≡ counted s sign (own n) → kids m ≡ kids n → IsAdded [] s sign n m
-  added_own s sign h more k =
+  pub added_own : (s : Slot) (sign : Sign) → IsNormal n → own m ≡ counted s sign (own n) → marks m ≡ bit_or (marks n) (mark s)
+      → kids m ≡ kids n → IsAdded [] s sign n m
+  added_own s sign h more new k =
       let here = normal_here n h in
       record {
         normal = normal_own k h (rw more (is_sorted-put slot_cmp slot_total s _ (own n) here.slots))
-            (rw more (each_put slot_cmp IsPositive s _ (own n) (bump_positive sign _) here.positive));
+            (rw more (each_put slot_cmp IsPositive s _ (own n) (bump_positive sign _) here.positive))
+            (rw (more, new) (marked_counted (marks n) s sign (own n) here.marked));
         counts = record {
           here = rw (more, find_put_same slot_cmp slot_total s _ (own n)) refl;
           elsewhere = elsewhere;
@@ -79,11 +73,11 @@ module _ {A : Type 0} (n m : Node A) where
       elsewhere [] t differs = rw (more, find_put_other slot_cmp slot_total slot_same t s _ (own n) (differs refl)) refl
       elsewhere (f ∷ p) t differs = rw k refl
 
-  pub kept_own : IsNormal n → own m ≡ own n → kids m ≡ kids n → IsKept n m
-  kept_own h o k =
+  pub kept_own : IsNormal n → own m ≡ own n → marks m ≡ marks n → kids m ≡ kids n → IsKept n m
+  kept_own h o w k =
       let here = normal_here n h in
       record {
-        normal = normal_own k h (rw o here.slots) (rw o here.positive);
+        normal = normal_own k h (rw o here.slots) (rw o here.positive) (rw (o, w) here.marked);
         counts = same;
         nonempty = λ some p q. some (sym o ∙ p) (sym k ∙ q);
       }
@@ -92,7 +86,7 @@ module _ {A : Type 0} (n m : Node A) where
       same [] t = rw o refl
       same (f ∷ p) t = rw k refl
 
-  module _ (f : ℕ) (c : Node A) (o : own m ≡ own n) (k : kids m ≡ put nat_cmp f c (kids n)) (h : IsNormal n) where
+  module _ (f : ℕ) (c : Spot A) (o : own m ≡ own n) (w : marks m ≡ marks n) (k : kids m ≡ put nat_cmp f c (kids n)) (h : IsNormal n) where
     pub normal_kid : IsNormal c → IsNonEmpty c → IsNormal m
     normal_kid good some = record { everywhere = at }
       where
@@ -100,6 +94,7 @@ module _ {A : Type 0} (n m : Node A) where
         at [] = let here = normal_here n h in record {
           slots = rw o here.slots;
           positive = rw o here.positive;
+          marked = rw (o, w) here.marked;
           frames = rw k (is_sorted-put nat_cmp nat_cmp_total f c (kids n) here.frames);
           nonempty = rw k (each_put nat_cmp (λ c. IsNonEmpty c) f c (kids n) some here.nonempty);
         }
@@ -126,7 +121,7 @@ module _ {A : Type 0} (n m : Node A) where
         ]
 
     -- a child that was there
-    module _ (old : Node A) (found : find nat_cmp f (kids n) ≡ Some old) where
+    module _ (old : Spot A) (found : find nat_cmp f (kids n) ≡ Some old) where
       pub added_below : (path : List ℕ) (s : Slot) (sign : Sign) → IsAdded path s sign old c → IsAdded (f ∷ path) s sign n m
       added_below path s sign added = record {
         normal = normal_kid added.normal (nonempty_from c path s (rw added.counts.here (bump_positive sign _)));
@@ -160,65 +155,39 @@ pub match_result : {X E : Type 0} {P P' : X → Type 0} {Q Q' : E → Type 0} (r
 match_result (Ok x) h f g = f x h
 match_result (Err e) h f g = g e h
 
--- the path begins with the last of the stack
-pub path_is : (stack rest : List ℕ) (f : ℕ) → stack ≡ rest ++ f ∷ [] → reverse stack ≡ f ∷ reverse rest
-path_is stack rest f e = rw e (reverse-append rest (f ∷ []))
+-- a child whose frame is found is not empty
+pub nonempty_child : {A : Type 0} (n : Spot A) → IsNormal n → (f : ℕ) (c : Spot A) → find nat_cmp f (kids n) ≡ Some c → IsNonEmpty c
+nonempty_child n h f c found = each_found nat_cmp (λ c. IsNonEmpty c) f c (kids n) (normal_here n h).nonempty found
 
--- at the place of a child
-module _ {A : Type 0} (n : Node A) (h : IsNormal n) (es : List (ℕ × Node A)) (e : es ≡ kids n) (f i : ℕ) (pl : IsPlace nat_cmp es f i)
-    (d : ℕ × Node A) (is : d ≡ get_or (kids n) i d) where
-  place : IsPlace nat_cmp (kids n) f i
-  place = subst (λ l. IsPlace nat_cmp l f i) e pl
-
-  pub child_found : find nat_cmp f (kids n) ≡ Some d.1
-  child_found = place.value d ∙ ap (λ (x : ℕ × Node A). Some x.1) (sym is)
-
-  pub child_normal : IsNormal d.1
-  child_normal = normal_child n h f d.1 child_found
-
-  pub child_tally : (p : List ℕ) (s : Slot) → tally (f ∷ p) s n ≡ tally p s d.1
-  child_tally p s = rw child_found refl
-
-  pub stepped : (m : Node A) (c : Node A) → own m ≡ own n → kids m ≡ set (kids n) i (d.0, c) → (path : List ℕ) (s : Slot) (sign : Sign)
-      → {E : Type 0} (r : Result (Unit {0}) E) → MatchResult r (λ _. IsAdded path s sign d.1 c) (λ _. IsKept d.1 c)
-      → MatchResult r (λ _. IsAdded (f ∷ path) s sign n m) (λ _. IsKept n m)
-  stepped m c o k path s sign r result =
-      let key : (get_or (kids n) i d).0 ≡ d.0 = ap (λ (x : ℕ × Node A). x.0) (sym is) in
-      let as_put : kids m ≡ put nat_cmp f c (kids n) = k ∙ ap (λ (x : ℕ). set (kids n) i (x, c)) (sym key) ∙ sym (place.puts d c) in
-      let some : IsNonEmpty d.1 = each_found nat_cmp (λ c. IsNonEmpty c) f d.1 (kids n) (normal_here n h).nonempty child_found in
-      match_result r result
-      (λ x added. added_below n m f c o as_put h d.1 child_found path s sign added)
-      (λ x kept. kept_below n m f c o as_put h d.1 child_found kept some)
-
--- at the gap for a child
-pub grafted : {A : Type 0} (n : Node A) → IsNormal n → (es : List (ℕ × Node A)) → es ≡ kids n → (f i : ℕ) → IsGap nat_cmp es f i
-    → (m c : Node A) → own m ≡ own n → kids m ≡ insert (kids n) i (f, c) → (path : List ℕ) (s : Slot) (sign : Sign)
-    → IsBranch path s sign c → IsAdded (f ∷ path) s sign n m
-grafted n h es e f i gap m c o k path s sign new =
-    let here = subst (λ l. IsGap nat_cmp l f i) e gap in
-    added_branch n m f c o (k ∙ sym (here.puts c)) h path s sign here.value new
-
--- a count that was added at the node itself, or refused
-pub ended : {A : Type 0} (n m : Node A) → IsNormal n → (s : Slot) (sign : Sign) (fs : List (Slot × Count)) → own m ≡ fs
-    → kids m ≡ kids n → {X E : Type 0} (r : Result X E) → OnOk r (fs ≡ counted s sign (own n)) → OnErr r (fs ≡ own n)
-    → MatchResult r (λ _. IsAdded [] s sign n m) (λ _. IsKept n m)
-ended n m h s sign fs o k (Ok x) ok err = added_own n m s sign h (o ∙ ok) k
-ended n m h s sign fs o k (Err e) ok err = kept_own n m h (o ∙ err) k
+-- a count that was added below a child, or refused
+pub stepped : {A : Type 0} (n m : Spot A) → IsNormal n → (f : ℕ) (old new : Spot A) → find nat_cmp f (kids n) ≡ Some old
+    → own m ≡ own n → marks m ≡ marks n → kids m ≡ put nat_cmp f new (kids n) → (path : List ℕ) (s : Slot) (sign : Sign)
+    → {X E : Type 0} (r : Result X E) → MatchResult r (λ _. IsAdded path s sign old new) (λ _. IsKept old new)
+    → MatchResult r (λ _. IsAdded (f ∷ path) s sign n m) (λ _. IsKept n m)
+stepped n m h f old new found o w k path s sign r result = match_result r result
+    (λ x added. added_below n m f new o w k h old found path s sign added)
+    (λ x kept. kept_below n m f new o w k h old found kept (nonempty_child n h f old found))
 
 pub refused : {X E : Type 0} (P : X → Type 0) {Q : Type 0} (r : Result X E) → IsErr r → Q → MatchResult r P (λ _. Q)
 refused P (Ok x) e q = cc
 refused P (Err x) e q = q
 
 -- the node at the end of a branch
-pub branch_end : {A : Type 0} (m : Node A) (s : Slot) (sign : Sign) → own m ≡ (s, bump sign zero_count) ∷ [] → kids m ≡ []
-    → IsBranch [] s sign m
-branch_end {A} m s sign o k = record {
+pub branch_end : {A : Type 0} (m : Spot A) (s : Slot) (sign : Sign) → own m ≡ (s, bump sign zero_count) ∷ []
+    → AreMarked (marks m) (own m) → kids m ≡ [] → IsBranch [] s sign m
+branch_end {A} m s sign o marked k = record {
   normal = record { everywhere = at };
   counts = record { here = rw (o, tied_itself slot_total s) refl; elsewhere = elsewhere };
 }
   where
     at : (p : List ℕ) → NormalAt p m
-    at [] = record { slots = rw o tt; positive = rw o (bump_positive sign zero_count, tt); frames = rw k tt; nonempty = rw k tt }
+    at [] = record {
+      slots = rw o tt;
+      positive = rw o (bump_positive sign zero_count, tt);
+      marked = marked;
+      frames = rw k tt;
+      nonempty = rw k tt;
+    }
     at (f ∷ p) = rw k tt
 
     elsewhere : (p : List ℕ) (t : Slot) → (p ≡ [] → t ≢ s) → tally p t m ≡ zero_count
@@ -227,7 +196,7 @@ branch_end {A} m s sign o k = record {
     elsewhere (f ∷ p) t differs = rw k refl
 
 -- a node above it
-pub branch_on : {A : Type 0} (m c : Node A) (f : ℕ) (path : List ℕ) (s : Slot) (sign : Sign) → own m ≡ [] → kids m ≡ (f, c) ∷ []
+pub branch_on : {A : Type 0} (m c : Spot A) (f : ℕ) (path : List ℕ) (s : Slot) (sign : Sign) → own m ≡ [] → kids m ≡ (f, c) ∷ []
     → IsBranch path s sign c → IsBranch (f ∷ path) s sign m
 branch_on m c f path s sign o k child = record {
   normal = record { everywhere = at };
@@ -238,6 +207,7 @@ branch_on m c f path s sign o k child = record {
     at [] = record {
       slots = rw o tt;
       positive = rw o tt;
+      marked = rw o tt;
       frames = rw k tt;
       nonempty =
           rw k (nonempty_from c path s (rw child.counts.here (bump_positive sign zero_count)), tt);
@@ -257,3 +227,78 @@ branch_on m c f path s sign o k child = record {
       | inr other ↦ rw k (ap (λ x. at_child (λ c. tally p t c) x)
           (find_put_other nat_cmp nat_cmp_total nat_cmp-IsAntisymmetric g f c [] other))
     ]
+
+-- ---- frames before a place
+
+-- the only place after a frame is put there at that frame
+pub put_before : {A : Type 0} (f : ℕ) (c k : Spot A) → kids (before f k) ≡ put nat_cmp f k (kids (before f c))
+put_before f c k = rw (tied_itself nat_cmp_total f) refl
+
+module _ {A : Type 0} where
+  pub normal_after : (f : ℕ) (c : Spot A) → IsNormal (before f c) → IsNormal c
+  normal_after f c h = normal_child (before f c) h f c (find_before f c)
+
+  normal_along : (fs : List ℕ) (c : Spot A) → IsNormal (frames_before fs c) → IsNormal c
+  normal_along [] c h = h
+  normal_along (f ∷ fs) c h = normal_along fs c (normal_after f (frames_before fs c) h)
+
+  kept_along : (fs : List ℕ) (c k : Spot A) → IsNormal (frames_before fs c) → IsKept c k
+      → IsKept (frames_before fs c) (frames_before fs k)
+  kept_along [] c k h kept = kept
+  kept_along (f ∷ fs) c k h kept =
+      let old = frames_before fs c in
+      let new = frames_before fs k in
+      kept_below (before f old) (before f new) f new refl refl (put_before f old new) h old (find_before f old)
+      (kept_along fs c k (normal_after f old h) kept) (nonempty_child (before f old) h f old (find_before f old))
+
+  -- what is normal at frames before a node is normal at the node
+  pub normal_inside : (fs : List ℕ) (n : Node A) → IsNormal (fs, n) → IsNormal (inside n)
+  normal_inside [] n h = h
+  normal_inside (f ∷ fs) n h = normal_inside fs n (normal_after f (fs, n) h)
+
+  -- what was kept at a node was so at frames before it
+  pub kept_before : (fs : List ℕ) (n m : Node A) → IsNormal (fs, n) → IsKept (inside n) (inside m) → IsKept (fs, n) (fs, m)
+  kept_before fs n m h kept = subst (λ l. IsKept (l, n) (l, m)) (append-nil fs)
+      (kept_along fs (inside n) (inside m) (subst (λ l. IsNormal (l, n)) (sym (append-nil fs)) h) kept)
+
+  branch_before : (fs : List ℕ) (m : Node A) (path : List ℕ) (s : Slot) (sign : Sign) → IsBranch path s sign (inside m)
+      → IsBranch (fs ++ path) s sign (fs, m)
+  branch_before [] m path s sign new = new
+  branch_before (f ∷ fs) m path s sign new = branch_on (f ∷ fs, m) (fs, m) f (fs ++ path) s sign refl refl
+      (branch_before fs m path s sign new)
+
+  pub branch_top : (m : Node A) (s : Slot) (sign : Sign) → IsBranch [] s sign (inside m) → IsBranch (frames m) s sign (top m)
+  branch_top m s sign new = subst (λ l. IsBranch l s sign (top m)) (append-nil (frames m)) (branch_before (frames m) m [] s sign new)
+
+-- ---- a node that was split
+
+-- the rest of its frames lead to a node of its own, which has all that was inside
+pub parted : {A : Type 0} (n upper lower : Node A) (fs gs : List ℕ) (f : ℕ) → IsNormal (top n) → frames n ≡ fs ++ f ∷ gs
+    → frames upper ≡ fs → counts_of upper ≡ [] → children_of upper ≡ (f, lower) ∷ [] → marks_at upper ≡ 0 → frames lower ≡ gs
+    → counts_of lower ≡ counts_of n → children_of lower ≡ children_of n → marks_at lower ≡ marks_at n → IsKept (top n) (top upper)
+parted {A} n upper lower fs gs f h all first none only unmarked rest counts children marked =
+    subst (λ l. IsKept (l, n) (top upper)) (sym all) (subst (λ l. IsKept (fs ++ f ∷ gs, n) (l, upper)) (append-nil fs ∙ sym first)
+    (kept_along fs (f ∷ gs, n) (inside upper) normal below))
+  where
+    normal : IsNormal (fs ++ f ∷ gs, n)
+    normal = subst (λ l. IsNormal (l, n)) all h
+
+    here : IsNormal (f ∷ gs, n)
+    here = normal_along fs (f ∷ gs, n) normal
+
+    moved : IsKept (gs, n) (gs, lower)
+    moved = kept_before gs n lower (normal_after f (gs, n) here)
+        (kept_own (inside n) (inside lower) (normal_inside (frames n) n h) counts marked (ap tops children))
+
+    below : IsKept (f ∷ gs, n) (inside upper)
+    below = kept_below (f ∷ gs, n) (inside upper) f (gs, lower) none unmarked
+        (ap tops only ∙ ap (λ l. (f, (l, lower)) ∷ []) rest ∙ put_before f (gs, n) (gs, lower)) here (gs, n) (find_before f (gs, n)) moved
+        (nonempty_child (f ∷ gs, n) here f (gs, n) (find_before f (gs, n)))
+
+-- what is known of a node by its parts
+pub if_parts : {A E : Type 0} (P : Node A → Type 0) (fs : List ℕ) (es : List (Slot × Count)) (r : Result (Node A) E)
+    → IfOk r (λ n. frames n ≡ fs) → IfOk r (λ n. counts_of n ≡ es) → IfOk r (λ n. children_of n ≡ [])
+    → IfOk r (λ n. AreMarked (marks_at n) (counts_of n))
+    → ((n : Node A) → frames n ≡ fs → counts_of n ≡ es → children_of n ≡ [] → AreMarked (marks_at n) (counts_of n) → P n) → IfOk r P
+if_parts P fs es (Ok n) f c k w known = known n f c k w
+if_parts P fs es (Err e) f c k w known = tt

@@ -1,27 +1,24 @@
 -- No node is deeper than a stack is long.
-use Rattle.std.proofs.Common.{◌≡◌, ℕ, ◌+◌, ◌<◌, ◌≤◌, List, [], ◌∷◌, length, map, refl, sym, ◌∙◌, ap, subst, arith}
+use Rattle.std.proofs.Common.{◌≡◌, ℕ, ◌+◌, ◌<◌, ◌≤◌, List, [], ◌∷◌, length, map, refl, ◌∙◌, ap, subst, arith}
 use Rattle.htl_event.specs.declared.slot.Slot.{Slot}
 use Rattle.htl_event.specs.declared.slot.Count.{Count}
 use Rattle.htl_sorted.specs.Entries.{Each}
-use Rattle.htl_tree.specs.declared.node.Node.{Node}
-use Rattle.htl_tree.specs.declared.node.Node.TheOpen.{Node-F}
-use Rattle.htl_tree.specs.declared.node.Node.TheViews.{roll-Node}
-use Rattle.htl_tree.specs.declared.node.Node.TheFolds.{ind-Node}
-use Rattle.htl_tree.specs.Nodes.{own, kids, rows, height, heights, below, IsNormal, IsNonEmpty, IsShortFrom}
-use Rattle.htl_tree.proofs.CountAdded.{normal_here, kids_of}
+use Rattle.htl_tree.specs.Nodes.{Spot, own, kids, rows, height, heights, below, IsNormal, IsNonEmpty, IsShortFrom}
+use Rattle.htl_tree.proofs.CountAdded.{normal_here}
+use Rattle.htl_tree.proofs.Spots.{ind_spot}
 use Rattle.htl_tree.proofs.NodeRows.{own_rows, kid_rows, rows_is, kids_normal}
 use Rattle.htl_tree.proofs.Children.{height_is}
 use Rattle.htl_tree.proofs.SlotRows.{all_left, all_right, short_here, short_below}
 
-abbrev IsLow : {A : Type 0} → Node A → Type 0
+abbrev IsLow : {A : Type 0} → Spot A → Type 0
 IsLow n = (depth : ℕ) → IsNormal n → IsNonEmpty n → IsShortFrom depth (rows n) → depth + height n ≤ 65
 
 abbrev Row : Type 0
 Row = (List ℕ × Slot) × Count
 
-kids_low : {A : Type 0} (depth : ℕ) (ks : List (ℕ × ((c : Node A) × IsLow c))) → Each (λ c. IsNormal c) (map (λ e. (e.0, e.1.0)) ks)
+kids_low : {A : Type 0} (depth : ℕ) (ks : List (ℕ × ((c : Spot A) × IsLow c))) → Each (λ c. IsNormal c) (map (λ e. (e.0, e.1.0)) ks)
     → Each (λ c. IsNonEmpty c) (map (λ e. (e.0, e.1.0)) ks) → IsShortFrom depth (kid_rows (map (λ e. (e.0, e.1.0)) ks))
-    → 0 < length (map (λ (e : ℕ × ((c : Node A) × IsLow c)). e.0) ks) → depth + 1 + heights (map (λ e. (e.0, e.1.0)) ks) ≤ 65
+    → 0 < length (map (λ (e : ℕ × ((c : Spot A) × IsLow c)). e.0) ks) → depth + 1 + heights (map (λ e. (e.0, e.1.0)) ks) ≤ 65
 kids_low depth [] h some short any = absurd (omega arith)
 kids_low {A} depth (k ∷ []) h some short any =
     let here = short_below depth k.0 (rows k.1.0)
@@ -37,8 +34,8 @@ kids_low {A} depth (k ∷ j ∷ ks) h some short any =
     (omega arith) in
     omega (arith, low, more)
 
-low_from : {A : Type 0} (n : Node A) → IsNormal n → IsNonEmpty n → (depth : ℕ) → IsShortFrom depth (rows n) → (os : List (Slot × Count))
-    → own n ≡ os → (ks : List (ℕ × ((c : Node A) × IsLow c))) → kids n ≡ map (λ e. (e.0, e.1.0)) ks → depth + height n ≤ 65
+low_from : {A : Type 0} (n : Spot A) → IsNormal n → IsNonEmpty n → (depth : ℕ) → IsShortFrom depth (rows n) → (os : List (Slot × Count))
+    → own n ≡ os → (ks : List (ℕ × ((c : Spot A) × IsLow c))) → kids n ≡ map (λ e. (e.0, e.1.0)) ks → depth + height n ≤ 65
 low_from n h some depth short [] no_own [] no_kids = absurd (some no_own no_kids)
 low_from n h some depth short (o ∷ os) own_is [] no_kids =
     let tall : height n ≡ 1 = height_is n ∙ ap (λ ks. heights ks + 1) no_kids in
@@ -46,21 +43,19 @@ low_from n h some depth short (o ∷ os) own_is [] no_kids =
     let here = short_here n depth short (omega (arith, mine)) in
     omega (arith, tall, here)
 low_from {A} n h some depth short os own_is (k ∷ ks) kids_is =
-    let tall : height n ≡ heights (map (λ (e : ℕ × ((c : Node A) × IsLow c)). (e.0, e.1.0)) (k ∷ ks)) + 1 = height_is n
+    let tall : height n ≡ heights (map (λ (e : ℕ × ((c : Spot A) × IsLow c)). (e.0, e.1.0)) (k ∷ ks)) + 1 = height_is n
     ∙ ap (λ l. heights l + 1) kids_is in
-    let normal : Each (λ c. IsNormal c) (map (λ (e : ℕ × ((c : Node A) × IsLow c)). (e.0, e.1.0)) (k ∷ ks)) =
-    subst (λ (l : List (ℕ × Node A)). Each (λ c. IsNormal c) l) kids_is (kids_normal n h) in
-    let full : Each (λ c. IsNonEmpty c) (map (λ (e : ℕ × ((c : Node A) × IsLow c)). (e.0, e.1.0)) (k ∷ ks)) =
-    subst (λ (l : List (ℕ × Node A)). Each (λ c. IsNonEmpty c) l) kids_is (normal_here n h).nonempty in
-    let inner : IsShortFrom depth (kid_rows (map (λ (e : ℕ × ((c : Node A) × IsLow c)). (e.0, e.1.0)) (k ∷ ks))) =
-    subst (λ (l : List (ℕ × Node A)). IsShortFrom depth (kid_rows l)) kids_is
+    let normal : Each (λ c. IsNormal c) (map (λ (e : ℕ × ((c : Spot A) × IsLow c)). (e.0, e.1.0)) (k ∷ ks)) =
+    subst (λ (l : List (ℕ × Spot A)). Each (λ c. IsNormal c) l) kids_is (kids_normal n h) in
+    let full : Each (λ c. IsNonEmpty c) (map (λ (e : ℕ × ((c : Spot A) × IsLow c)). (e.0, e.1.0)) (k ∷ ks)) =
+    subst (λ (l : List (ℕ × Spot A)). Each (λ c. IsNonEmpty c) l) kids_is (normal_here n h).nonempty in
+    let inner : IsShortFrom depth (kid_rows (map (λ (e : ℕ × ((c : Spot A) × IsLow c)). (e.0, e.1.0)) (k ∷ ks))) =
+    subst (λ (l : List (ℕ × Spot A)). IsShortFrom depth (kid_rows l)) kids_is
     (all_right (λ (row : Row). depth + length row.0.0 ≤ 64) (own_rows (own n)) (kid_rows (kids n))
     (subst (λ t. IsShortFrom depth t) (rows_is n) short)) in
     let low = kids_low depth (k ∷ ks) normal full inner (omega arith) in
     omega (arith, tall, low)
 
 -- so many frames below the root, a node has at most the other nodes of a path below it
-pub low_node : {A : Type 0} (n : Node A) → IsLow n
-low_node {A} = ind-Node A (λ n. IsLow n) (λ x y is depth h some short.
-    low_from (roll-Node A x) h some depth short (own (roll-Node A x)) refl y.children.items
-    (kids_of x ∙ sym (ap (λ (z : Node-F A (Node A)). z.children.items) is)))
+pub low_node : {A : Type 0} (n : Spot A) → IsLow n
+low_node {A} = ind_spot (λ n. IsLow n) (λ n ks is depth h some short. low_from n h some depth short (own n) refl ks is)

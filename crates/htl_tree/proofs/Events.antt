@@ -17,8 +17,7 @@ use Rattle.htl_event.specs.declared.slot.Count.{Count}
 use Rattle.htl_event.specs.Slots.{slot_of, same_slot, same_sign, is_slot, is_counted}
 use Rattle.htl_event.specs.Stacks.{outer}
 use Rattle.htl_event.specs.Tallies.{zero_count, plus_count, count_where, has_stack, tally, under, IsPositive}
-use Rattle.htl_event.proofs.Counts.{count_where-append, count_where-IsPermutation}
-use Rattle.std.specs.List.Sorted.{IsPermutation}
+use Rattle.htl_event.proofs.Counts.{count_where-append}
 use Rattle.htl_sorted.specs.Entries.{Each}
 use Rattle.htl_tree.specs.Trees.{Tree, place_cmp, bump, sum_where, with_one, count_at, count_under, IsTree, HasTally}
 use Rattle.htl_tree.proofs.CountAdded.{bump_positive}
@@ -238,12 +237,6 @@ tally_one_more events e slot sign is s k =
     tally_push events e s k ∙ ap (plus_count (tally events s k))
     (one_event (has_stack k) e s (slot, sign) is ∙ ap (λ b. cond b (bump sign zero_count) zero_count) (sym (here_is s slot k e.stack)))
 
--- one that is counted nowhere adds nothing
-pub tally_no_more : (events : List Event) (e : Event) → slot_of e ≡ None → (s : Slot) (k : List ℕ)
-    → tally (events ++ e ∷ []) s k ≡ tally events s k
-tally_no_more events e is s k = tally_push events e s k ∙ ap (plus_count (tally events s k)) (no_event (has_stack k) e s is)
-    ∙ sym (zero_right (tally events s k))
-
 -- an event that is counted adds one
 pub tally_with_one : (t : Tree) (events : List Event) (e : Event) (slot : Slot) (sign : Sign) → HasTally t events
     → slot_of e ≡ Some (slot, sign) → HasTally (with_one t slot sign e.stack) (events ++ e ∷ [])
@@ -268,7 +261,3 @@ tally_with_one t events e slot sign tallied is s k =
 pub tally_same : (t : Tree) (events : List Event) (e : Event) → HasTally t events → slot_of e ≡ None → HasTally t (events ++ e ∷ [])
 tally_same t events e tallied is s k = tallied s k ∙ zero_right (tally events s k)
     ∙ ap (plus_count (tally events s k)) (sym (no_event (has_stack k) e s is)) ∙ sym (tally_push events e s k)
-
--- the tally doesn't turn on the order of the events
-pub tally_moved : (t : Tree) (xs ys : List Event) → IsPermutation xs ys → HasTally t ys → HasTally t xs
-tally_moved t xs ys moved tallied s k = tallied s k ∙ sym (count_where-IsPermutation (has_stack k) xs ys moved s)

@@ -1,4 +1,6 @@
+pub mod Marked
 pub mod CountAdded
+pub mod Entered
 pub mod ChangedKeys
 pub mod NodeRows
 pub mod Canonical
@@ -9,11 +11,18 @@ pub mod TreesAsLists
 pub mod SumsFromTally
 pub mod RowsAdded
 pub mod RowsOneMore
+pub mod Tops
 pub mod Under
 pub mod Events
 pub mod SlotRows
+pub mod Spots
 pub mod Depth
 pub mod Roots
 pub mod RowGroups
 pub mod Between
 pub mod Picked
+pub mod KeyedSums
+pub mod EachValue
+pub mod PlaceLists
+pub mod Gathered
+pub mod SumsOfTrees

@@ -1,5 +1,5 @@
--- The rows of a node: what is found in them, and their order.
-use Rattle.std.proofs.Common.{◌≡◌, ℕ, List, [], ◌∷◌, ◌++◌, map, Option, Some, None, T, true, false, cond, unwrap_or, refl, sym, ◌∙◌, ap}
+-- The rows of a place: what is found in them, and their order.
+use Rattle.std.proofs.Common.{◌≡◌, ℕ, List, [], ◌∷◌, ◌++◌, map, Option, Some, None, T, true, false, cond, unwrap_or, append-nil, refl, sym, ◌∙◌, ap}
 use Rattle.std.specs.Prelude.{option_and_then}
 use Rattle.std.specs.List.{flat_map}
 use Rattle.std.specs.Ordering.{nat_cmp, is_eq, on, then_cmp, eq_by_cmp}
@@ -16,16 +16,16 @@ use Rattle.htl_sorted.specs.Entries.{IsSorted, Each}
 use Rattle.htl_sorted.proofs.Bools.{both_left, both_right, less}
 use Rattle.htl_sorted.proofs.Finds.{find_below, below_tied, each_found}
 use Rattle.htl_tree.specs.declared.node.Node.{Node}
-use Rattle.htl_tree.specs.declared.node.Node.TheOpen.{Node-F}
-use Rattle.htl_tree.specs.declared.node.Node.TheViews.{roll-Node}
-use Rattle.htl_tree.specs.declared.node.Node.TheFolds.{fold_out-Node, ind-Node}
+use Rattle.htl_tree.specs.declared.node.Node.TheFolds.{fold_out-Node}
 use Rattle.htl_event.specs.SlotOrder.{slot_cmp}
 use Rattle.htl_event.specs.OrderLaws.{slot_total}
 use Rattle.htl_tree.specs.Trees.{Tree}
-use Rattle.htl_tree.specs.Nodes.{tally, own, kids, at_child, below, rows, rows_step, IsNormal}
+use Rattle.htl_tree.specs.Nodes.{Spot, children_of, top, tops, tally, own, kids, at_child, below}
+use Rattle.htl_tree.specs.Nodes.{rows_of, rows, rows_step, IsNormal}
 use Rattle.htl_tree.proofs.ChangedKeys.{find-append_left, find-append_right, below_append, AllBelow, sorted_append}
 use Rattle.htl_tree.proofs.ChangedKeys.{each_from_found, find-map_other, find-map_key, below-map, sorted-map_key}
-use Rattle.htl_tree.proofs.CountAdded.{normal_here, normal_child, kids_of}
+use Rattle.htl_tree.proofs.CountAdded.{normal_here, normal_child}
+use Rattle.htl_tree.proofs.Spots.{ind_spot}
 
 -- by path, and then by slot
 abbrev pub path_cmp : List ℕ × Slot → List ℕ × Slot → Ordering
@@ -42,20 +42,31 @@ abbrev inward : ℕ → List ℕ × Slot → List ℕ × Slot
 inward f place = (f ∷ place.0, place.1)
 
 -- the rows of children
-abbrev pub kid_rows : {A : Type 0} → List (ℕ × Node A) → Tree
+abbrev pub kid_rows : {A : Type 0} → List (ℕ × Spot A) → Tree
 kid_rows ks = flat_map (λ k. map (λ row. below k.0 row) (rows k.1)) ks
 
 -- the rows of the node itself
 abbrev pub own_rows : List (Slot × Count) → Tree
 own_rows es = map (λ e. (([], e.0), e.1)) es
 
-kid_rows-map : {A : Type 0} (ks : List (ℕ × Node A))
-    → flat_map (λ (k : ℕ × Tree). map (λ row. below k.0 row) k.1) (map (λ k. (k.0, rows k.1)) ks) ≡ kid_rows ks
-kid_rows-map [] = refl
-kid_rows-map (k ∷ ks) = ap (λ l. map (λ row. below k.0 row) (rows k.1) ++ l) (kid_rows-map ks)
+-- a node's rows are those of its top
+pub rows_top : {A : Type 0} (n : Node A) → rows_of n ≡ rows (top n)
+rows_top {A} n = fold_out-Node A Tree rows_step n
 
-pub rows_is : {A : Type 0} (n : Node A) → rows n ≡ own_rows (own n) ++ kid_rows (kids n)
-rows_is {A} n = fold_out-Node A Tree rows_step n ∙ ap (λ l. own_rows (own n) ++ l) (kid_rows-map (kids n))
+kid_rows-tops : {A : Type 0} (ks : List (ℕ × Node A))
+    → flat_map (λ (k : ℕ × Tree). map (λ row. below k.0 row) k.1) (map (λ k. (k.0, rows_of k.1)) ks) ≡ kid_rows (tops ks)
+kid_rows-tops [] = refl
+kid_rows-tops (k ∷ ks) = ap (λ t. map (λ row. below k.0 row) t ++ flat_map (λ (j : ℕ × Tree). map (λ row. below j.0 row) j.1)
+    (map (λ j. (j.0, rows_of j.1)) ks)) (rows_top k.1)
+    ∙ ap (λ l. map (λ row. below k.0 row) (rows (top k.1)) ++ l) (kid_rows-tops ks)
+
+-- the rows of a place are its own and those of the places one frame further in
+pub rows_is : {A : Type 0} (c : Spot A) → rows c ≡ own_rows (own c) ++ kid_rows (kids c)
+rows_is {A} c = of c.0
+  where
+    of : (fs : List ℕ) → rows (fs, c.1) ≡ own_rows (own (fs, c.1)) ++ kid_rows (kids (fs, c.1))
+    of [] = ap (λ l. own_rows (own ([], c.1)) ++ l) (kid_rows-tops (children_of c.1))
+    of (f ∷ fs) = sym (append-nil (map (λ row. below f row) (rows (fs, c.1))))
 
 inward_cmp : (f : ℕ) (k j : List ℕ × Slot) → path_cmp (inward f k) (inward f j) ≡ path_cmp k j
 inward_cmp f k j = rw (tied_itself nat_cmp_total f) refl
@@ -74,17 +85,17 @@ find_own s es = find-map_key at_node path_cmp slot_cmp (λ k j. refl) s es
 no_own : (f : ℕ) (p : List ℕ) (s : Slot) (es : List (Slot × Count)) → find path_cmp (f ∷ p, s) (own_rows es) ≡ None
 no_own f p s es = find-map_other at_node path_cmp (f ∷ p, s) (λ k. refl) es
 
-no_kid_here : {A : Type 0} (s : Slot) (ks : List (ℕ × Node A)) → find path_cmp ([], s) (kid_rows ks) ≡ None
+no_kid_here : {A : Type 0} (s : Slot) (ks : List (ℕ × Spot A)) → find path_cmp ([], s) (kid_rows ks) ≡ None
 no_kid_here s [] = refl
 no_kid_here s (k ∷ ks) = find-append_right path_cmp ([], s) (map (λ row. below k.0 row) (rows k.1)) (kid_rows ks)
     (find-map_other (inward k.0) path_cmp ([], s) (λ _. refl) (rows k.1)) ∙ no_kid_here s ks
 
-find_kid : {A : Type 0} (f : ℕ) (p : List ℕ) (s : Slot) (ks : List (ℕ × Node A)) → IsSorted nat_cmp ks
+find_kid : {A : Type 0} (f : ℕ) (p : List ℕ) (s : Slot) (ks : List (ℕ × Spot A)) → IsSorted nat_cmp ks
     → find path_cmp (f ∷ p, s) (kid_rows ks) ≡ option_and_then (λ c. find path_cmp (p, s) (rows c)) (find nat_cmp f ks)
 find_kid f p s [] sorted = refl
 find_kid {A} f p s (k ∷ ks) sorted =
     let first : Tree = map (λ row. below k.0 row) (rows k.1) in
-    let at : Option (Node A) → Option Count = option_and_then (λ c. find path_cmp (p, s) (rows c)) in
+    let at : Option (Spot A) → Option Count = option_and_then (λ c. find path_cmp (p, s) (rows c)) in
     elim (nat_cmp f k.0) as (λ r. nat_cmp f k.0 ≡ r
     → find path_cmp (f ∷ p, s) (first ++ kid_rows ks) ≡ at (cond (is_eq r) (Some k.1) (find nat_cmp f ks))) [
       | Less ↦ λ c. find-append_right path_cmp (f ∷ p, s) first (kid_rows ks)
@@ -102,11 +113,11 @@ find_kid {A} f p s (k ∷ ks) sorted =
           ∙ rw same (find-map_key (inward k.0) path_cmp path_cmp (inward_cmp k.0) (p, s) (rows k.1))
     ] refl
 
-abbrev found : {A : Type 0} → List ℕ → Slot → Node A → Option Count
+abbrev found : {A : Type 0} → List ℕ → Slot → Spot A → Option Count
 found [] s n = find slot_cmp s (own n)
 found (f ∷ p) s n = option_and_then (λ c. found p s c) (find nat_cmp f (kids n))
 
-find_rows : {A : Type 0} (p : List ℕ) (s : Slot) (n : Node A) → IsNormal n → find path_cmp (p, s) (rows n) ≡ found p s n
+find_rows : {A : Type 0} (p : List ℕ) (s : Slot) (n : Spot A) → IsNormal n → find path_cmp (p, s) (rows n) ≡ found p s n
 find_rows [] s n h = ap (find path_cmp ([], s)) (rows_is n)
     ∙ find-append_left path_cmp ([], s) (own_rows (own n)) (kid_rows (kids n)) (no_kid_here s (kids n)) ∙ find_own s (own n)
 find_rows (f ∷ p) s n h =
@@ -118,23 +129,23 @@ find_rows (f ∷ p) s n h =
       | Some c ↦ λ e. find_rows p s c (normal_child n h f c e)
     ] refl
 
-tally_found : {A : Type 0} (p : List ℕ) (s : Slot) (n : Node A) → tally p s n ≡ unwrap_or (found p s n) zero_count
+tally_found : {A : Type 0} (p : List ℕ) (s : Slot) (n : Spot A) → tally p s n ≡ unwrap_or (found p s n) zero_count
 tally_found [] s n = refl
 tally_found {A} (f ∷ p) s n = elim (find nat_cmp f (kids n))
-    as (λ o. at_child (λ c. tally p s c) o ≡ unwrap_or (option_and_then (λ (c : Node A). found p s c) o) zero_count) [
+    as (λ o. at_child (λ c. tally p s c) o ≡ unwrap_or (option_and_then (λ (c : Spot A). found p s c) o) zero_count) [
       | None ↦ refl
       | Some c ↦ tally_found p s c
     ]
 
 -- the rows count what the node counts
-pub tally_rows : {A : Type 0} (p : List ℕ) (s : Slot) (n : Node A) → IsNormal n
+pub tally_rows : {A : Type 0} (p : List ℕ) (s : Slot) (n : Spot A) → IsNormal n
     → unwrap_or (find path_cmp (p, s) (rows n)) zero_count ≡ tally p s n
 tally_rows p s n h = ap (λ (o : Option Count). unwrap_or o zero_count) (find_rows p s n h) ∙ sym (tally_found p s n)
 
-found_positive : {A : Type 0} (p : List ℕ) (s : Slot) (n : Node A) → IsNormal n → (v : Count) → found p s n ≡ Some v → IsPositive v
+found_positive : {A : Type 0} (p : List ℕ) (s : Slot) (n : Spot A) → IsNormal n → (v : Count) → found p s n ≡ Some v → IsPositive v
 found_positive [] s n h v e = each_found slot_cmp IsPositive s v (own n) (normal_here n h).positive e
 found_positive {A} (f ∷ p) s n h v e =
-    (elim (find nat_cmp f (kids n)) as (λ o. find nat_cmp f (kids n) ≡ o → option_and_then (λ (c : Node A). found p s c) o ≡ Some v
+    (elim (find nat_cmp f (kids n)) as (λ o. find nat_cmp f (kids n) ≡ o → option_and_then (λ (c : Spot A). found p s c) o ≡ Some v
     → IsPositive v) [
       | None ↦ λ is none. absurd (cc)
       | Some c ↦ λ is there. found_positive p s c (normal_child n h f c is) v there
@@ -142,16 +153,16 @@ found_positive {A} (f ∷ p) s n h v e =
 
 -- ---- their order
 
-own_below : {A : Type 0} (s : Slot) (ks : List (ℕ × Node A)) → T (below_all path_cmp ([], s) (kid_rows ks))
+own_below : {A : Type 0} (s : Slot) (ks : List (ℕ × Spot A)) → T (below_all path_cmp ([], s) (kid_rows ks))
 own_below s [] = tt
 own_below s (k ∷ ks) = below_append path_cmp ([], s) (map (λ row. below k.0 row) (rows k.1)) (kid_rows ks)
     (below-map (inward k.0) path_cmp ([], s) (λ _. refl) (rows k.1)) (own_below s ks)
 
-all_own_below : {A : Type 0} (es : List (Slot × Count)) (ks : List (ℕ × Node A)) → AllBelow path_cmp (own_rows es) (kid_rows ks)
+all_own_below : {A : Type 0} (es : List (Slot × Count)) (ks : List (ℕ × Spot A)) → AllBelow path_cmp (own_rows es) (kid_rows ks)
 all_own_below [] ks = tt
 all_own_below (e ∷ es) ks = (own_below e.0 ks, all_own_below es ks)
 
-kid_below : {A : Type 0} (f : ℕ) (place : List ℕ × Slot) (ks : List (ℕ × Node A)) → T (below_all nat_cmp f ks)
+kid_below : {A : Type 0} (f : ℕ) (place : List ℕ × Slot) (ks : List (ℕ × Spot A)) → T (below_all nat_cmp f ks)
     → T (below_all path_cmp (inward f place) (kid_rows ks))
 kid_below f place [] h = tt
 kid_below f place (k ∷ ks) h =
@@ -159,12 +170,12 @@ kid_below f place (k ∷ ks) h =
     below_append path_cmp (inward f place) (map (λ row. below k.0 row) (rows k.1)) (kid_rows ks)
     (below-map (inward k.0) path_cmp (inward f place) (λ _. rw lt refl) (rows k.1)) (kid_below f place ks (both_right _ _ h))
 
-all_kid_below : {A : Type 0} (f : ℕ) (t : Tree) (ks : List (ℕ × Node A)) → T (below_all nat_cmp f ks)
+all_kid_below : {A : Type 0} (f : ℕ) (t : Tree) (ks : List (ℕ × Spot A)) → T (below_all nat_cmp f ks)
     → AllBelow path_cmp (map (λ row. below f row) t) (kid_rows ks)
 all_kid_below f [] ks h = tt
 all_kid_below f (row ∷ t) ks h = (kid_below f row.0 ks h, all_kid_below f t ks h)
 
-kids_sorted : {A : Type 0} (ks : List (ℕ × Node A)) → IsSorted nat_cmp ks → Each (λ c. IsSorted path_cmp (rows c)) ks
+kids_sorted : {A : Type 0} (ks : List (ℕ × Spot A)) → IsSorted nat_cmp ks → Each (λ c. IsSorted path_cmp (rows c)) ks
     → IsSorted path_cmp (kid_rows ks)
 kids_sorted [] sorted each = tt
 kids_sorted (k ∷ ks) sorted each =
@@ -174,30 +185,27 @@ kids_sorted (k ∷ ks) sorted each =
     (all_kid_below k.0 (rows k.1) ks (both_left _ _ sorted))
 
 -- what holds of each normal child's children
-abbrev HasOrder : {A : Type 0} → Node A → Type 0
+abbrev HasOrder : {A : Type 0} → Spot A → Type 0
 HasOrder n = IsNormal n → IsSorted path_cmp (rows n)
 
-each_inner : {A : Type 0} (P : Node A → Type 0) (ks : List (ℕ × ((c : Node A) × (IsNormal c → P c))))
+each_inner : {A : Type 0} (P : Spot A → Type 0) (ks : List (ℕ × ((c : Spot A) × (IsNormal c → P c))))
     → Each (λ c. IsNormal c) (map (λ e. (e.0, e.1.0)) ks) → Each P (map (λ e. (e.0, e.1.0)) ks)
 each_inner P [] h = tt
 each_inner P (k ∷ ks) h = (k.1.1 h.0, each_inner P ks h.1)
 
-pub kids_normal : {A : Type 0} (n : Node A) → IsNormal n → Each (λ c. IsNormal c) (kids n)
+pub kids_normal : {A : Type 0} (n : Spot A) → IsNormal n → Each (λ c. IsNormal c) (kids n)
 kids_normal n h = each_from_found nat_cmp nat_cmp_total (λ c. IsNormal c) (kids n) (normal_here n h).frames
     (λ f c e. normal_child n h f c e)
 
-pub rows_sorted : {A : Type 0} (n : Node A) → IsNormal n → IsSorted path_cmp (rows n)
-rows_sorted {A} = ind-Node A (λ n. HasOrder n) (λ x y is h.
-    let n = roll-Node A x in
-    let inner : kids n ≡ map (λ e. (e.0, e.1.0)) y.children.items = kids_of x
-    ∙ sym (ap (λ (z : Node-F A (Node A)). z.children.items) is) in
+pub rows_sorted : {A : Type 0} (n : Spot A) → IsNormal n → IsSorted path_cmp (rows n)
+rows_sorted {A} = ind_spot (λ n. HasOrder n) (λ n ks inner h.
     let each : Each (λ c. IsSorted path_cmp (rows c)) (kids n) =
-    rw inner (each_inner (λ c. IsSorted path_cmp (rows c)) y.children.items (rw inner at (kids_normal n h))) in
+    rw inner (each_inner (λ c. IsSorted path_cmp (rows c)) ks (rw inner at (kids_normal n h))) in
     let here = normal_here n h in
     rw (rows_is n) (sorted_append path_cmp (own_rows (own n)) (kid_rows (kids n))
     (sorted-map_key at_node path_cmp slot_cmp (λ k j. refl) (own n) here.slots) (kids_sorted (kids n) here.frames each)
     (all_own_below (own n) (kids n))))
 
-pub rows_positive : {A : Type 0} (n : Node A) → IsNormal n → Each IsPositive (rows n)
+pub rows_positive : {A : Type 0} (n : Spot A) → IsNormal n → Each IsPositive (rows n)
 rows_positive n h = each_from_found path_cmp path_total IsPositive (rows n) (rows_sorted n h)
     (λ k v e. found_positive k.0 k.1 n h v (sym (find_rows k.0 k.1 n h) ∙ e))

@@ -25,10 +25,9 @@ use Rattle.htl_event.specs.declared.slot.Count.{Count}
 use Rattle.htl_event.specs.Tallies.{zero_count, plus_count, total_of, IsPositive}
 use Rattle.htl_sorted.specs.Entries.{Each}
 use Rattle.htl_sorted.proofs.Finds.{each_found}
-use Rattle.htl_tree.specs.declared.node.Node.{Node}
 use Rattle.htl_tree.specs.declared.row.Row.{Row}
 use Rattle.htl_tree.specs.Trees.{Tree, place_cmp, count_at, total_count, IsTree, AllShort}
-use Rattle.htl_tree.specs.Nodes.{tally, rows, tree_of, IsNormal, IsNormalTop, IsNormalRoot}
+use Rattle.htl_tree.specs.Nodes.{Spot, tally, rows, tree_at, IsNormal, IsNormalTop}
 use Rattle.htl_tree.specs.Rows.{entries_of, sum_at, slot_sum, AreShort, IsGroup, IsGained, IsChain, WithRows}
 use Rattle.htl_tree.proofs.ChangedKeys.{all_keys_from_found, key_found}
 use Rattle.htl_tree.proofs.CountAdded.{nonempty_from}
@@ -38,7 +37,7 @@ use Rattle.htl_tree.proofs.RowsOneMore.{no_row}
 use Rattle.htl_tree.proofs.CopiesAndSums.{zero_right}
 use Rattle.htl_tree.proofs.SumsFromTally.{sum_at-append}
 use Rattle.htl_tree.proofs.Events.{side, side_adds, side_zero, same_sides}
-use Rattle.htl_tree.proofs.Roots.{root_from, all_inward, count_tree, tally_tree, sorted_tree, positive_tree, root_is_tree}
+use Rattle.htl_tree.proofs.Roots.{root_from, all_inward, count_tree, tally_tree, sorted_tree, positive_tree, top_is_tree}
 
 abbrev Entry : Type 0
 Entry = (List ℕ × Slot) × Count
@@ -178,7 +177,7 @@ group_else (row ∷ rows) stack alike slot k other =
       | false ↦ λ apart. rest
     ]) refl
 
-module _ {A : Type 0} (m : Node A) (normal : IsNormal m) (t : Tree) (tree : IsTree t) (stack : List ℕ) (short : length stack ≤ 64)
+module _ {A : Type 0} (m : Spot A) (normal : IsNormal m) (t : Tree) (tree : IsTree t) (stack : List ℕ) (short : length stack ≤ 64)
     (rs : List Row) (some : 0 < length rs) (each : Each IsPositive (entries_of rs))
     (alike : AllByRecursion (λ (row : Row). row.stack.now ≡ stack) rs)
     (here : (slot : Slot) → tally (reverse stack) slot m ≡ plus_count (count_at t slot stack) (slot_sum slot rs))
@@ -186,21 +185,21 @@ module _ {A : Type 0} (m : Node A) (normal : IsNormal m) (t : Tree) (tree : IsTr
   back : (k : List ℕ) → reverse k ≡ reverse stack → k ≡ stack
   back k e = sym (reverse-reverse k) ∙ ap reverse e ∙ reverse-reverse stack
 
-  count_here : (slot : Slot) → count_at (tree_of (Some m)) slot stack
+  count_here : (slot : Slot) → count_at (tree_at m) slot stack
       ≡ plus_count (count_at t slot stack) (sum_at (entries_of rs) slot stack)
   count_here slot = count_tree m normal slot stack ∙ here slot
       ∙ ap (plus_count (count_at t slot stack)) (sym (group_here rs stack alike slot))
 
-  count_else : (slot : Slot) (k : List ℕ) → k ≢ stack → count_at (tree_of (Some m)) slot k ≡ count_at t slot k
+  count_else : (slot : Slot) (k : List ℕ) → k ≢ stack → count_at (tree_at m) slot k ≡ count_at t slot k
   count_else slot k other = count_tree m normal slot k ∙ elsewhere (reverse k) slot (λ e. other (back k e))
       ∙ ap (λ l. count_at t slot l) (reverse-reverse k)
 
-  with_rows : WithRows (tree_of (Some m)) t rs
+  with_rows : WithRows (tree_at m) t rs
   with_rows slot k =
       (elim (pointwise nat_eq k stack) as (λ b. pointwise nat_eq k stack ≡ b
-      → count_at (tree_of (Some m)) slot k ≡ plus_count (count_at t slot k) (sum_at (entries_of rs) slot k)) [
+      → count_at (tree_at m) slot k ≡ plus_count (count_at t slot k) (sum_at (entries_of rs) slot k)) [
         | true ↦ λ e. let is = (pointwise_decides unsigned_Decides k stack).0 e in
-            ap (λ l. count_at (tree_of (Some m)) slot l) is ∙ count_here slot
+            ap (λ l. count_at (tree_at m) slot l) is ∙ count_here slot
             ∙ ap (λ l. plus_count (count_at t slot l) (sum_at (entries_of rs) slot l)) (sym is)
         | false ↦ λ e.
             let other : k ≢ stack = λ is. let never : false ≡ true = sym e ∙ (pointwise_decides unsigned_Decides k stack).1 is in
@@ -209,11 +208,11 @@ module _ {A : Type 0} (m : Node A) (normal : IsNormal m) (t : Tree) (tree : IsTr
             ∙ ap (plus_count (count_at t slot k)) (sym (group_else rs stack alike slot k other))
       ]) refl
 
-  all_are_short : AllShort (tree_of (Some m))
-  all_are_short = all_keys_from_found place_cmp place_total (λ (k : List ℕ × Slot). length k.0 ≤ 64) (tree_of (Some m))
+  all_are_short : AllShort (tree_at m)
+  all_are_short = all_keys_from_found place_cmp place_total (λ (k : List ℕ × Slot). length k.0 ≤ 64) (tree_at m)
       (sorted_tree m normal) (λ k v found.
-      let counted : count_at (tree_of (Some m)) k.1 k.0 ≡ v = ap (λ (o : Option Count). unwrap_or o zero_count) found in
-      let positive : IsPositive v = each_found place_cmp IsPositive k v (tree_of (Some m)) (positive_tree m normal) found in
+      let counted : count_at (tree_at m) k.1 k.0 ≡ v = ap (λ (o : Option Count). unwrap_or o zero_count) found in
+      let positive : IsPositive v = each_found place_cmp IsPositive k v (tree_at m) (positive_tree m normal) found in
       (elim (pointwise nat_eq k.0 stack) as (λ b. pointwise nat_eq k.0 stack ≡ b → length k.0 ≤ 64) [
         | true ↦ λ e. subst (λ (l : List ℕ). length l ≤ 64) (sym ((pointwise_decides unsigned_Decides k.0 stack).0 e)) short
         | false ↦ λ e.
@@ -229,7 +228,7 @@ module _ {A : Type 0} (m : Node A) (normal : IsNormal m) (t : Tree) (tree : IsTr
       was k None none positive = let never : IsPositive zero_count =
           subst (λ (o : Option Count). IsPositive (unwrap_or o zero_count)) none positive in absurd (omega (arith, never))
 
-  pub group_tree : IsNormalRoot (Some m) × WithRows (tree_of (Some m)) t rs
+  pub group_tree : IsNormalTop m × WithRows (tree_at m) t rs
   group_tree =
       let w = some_slot rs some each in
       let there = w.1 in
@@ -240,18 +239,18 @@ module _ {A : Type 0} (m : Node A) (normal : IsNormal m) (t : Tree) (tree : IsTr
       )
 
 -- a group put into a root
-pub gained_tree : {A : Type 0} (n m : Node A) → IsNormalTop n → (stack : List ℕ) → length stack ≤ 64 → (rs : List Row) → 0 < length rs
+pub gained_tree : {A : Type 0} (n m : Spot A) → IsNormalTop n → (stack : List ℕ) → length stack ≤ 64 → (rs : List Row) → 0 < length rs
     → Each IsPositive (entries_of rs) → AllByRecursion (λ (row : Row). row.stack.now ≡ stack) rs → IsGained (reverse stack) rs n m
-    → IsNormalRoot (Some m) × WithRows (tree_of (Some m)) (tree_of (Some n)) rs
+    → IsNormalTop m × WithRows (tree_at m) (tree_at n) rs
 gained_tree n m h stack short rs some each alike gained =
-    group_tree m gained.normal (tree_of (Some n)) (root_is_tree (Some n) h) stack short rs some each alike
+    group_tree m gained.normal (tree_at n) (top_is_tree n h) stack short rs some each alike
     (λ slot. gained.counts.here slot ∙ ap (λ c. plus_count c (slot_sum slot rs)) (sym (count_tree n h.normal slot stack)))
     (λ p slot other. gained.counts.elsewhere p slot other ∙ tally_tree n h.normal p slot)
 
 -- a group that makes a root
-pub chain_tree : {A : Type 0} (m : Node A) (stack : List ℕ) → length stack ≤ 64 → (rs : List Row) → 0 < length rs
+pub chain_tree : {A : Type 0} (m : Spot A) (stack : List ℕ) → length stack ≤ 64 → (rs : List Row) → 0 < length rs
     → Each IsPositive (entries_of rs) → AllByRecursion (λ (row : Row). row.stack.now ≡ stack) rs → IsChain (reverse stack) rs m
-    → IsNormalRoot (Some m) × WithRows (tree_of (Some m)) [] rs
+    → IsNormalTop m × WithRows (tree_at m) [] rs
 chain_tree m stack short rs some each alike chain =
     group_tree m chain.normal [] nothing_is_tree stack short rs some each alike chain.counts.here chain.counts.elsewhere
 
@@ -306,14 +305,14 @@ sum-take_most gs i d lt slot stack =
     ∙ sum-rows_append (rows_of (take (i + 1) gs)) (rows_of (drop (i + 1) gs)) slot stack) in
     omega (arith, more, parts)
 
-pub take-plus : (n m : ℕ) (xs : List Row) → n ≤ length xs → take (n + m) xs ≡ take n xs ++ take m (drop n xs)
-take-plus n m xs within =
-    let front : List Row = take (n + m) xs in
+pub take-plus : {X : Type 0} (n m : ℕ) (xs : List X) → n ≤ length xs → take (n + m) xs ≡ take n xs ++ take m (drop n xs)
+take-plus {X} n m xs within =
+    let front : List X = take (n + m) xs in
     let long : n ≤ length front = omega (arith, length-take (n + m) xs) in
     let first : take n front ≡ take n xs = sym (take-append-le n front (drop (n + m) xs) long)
     ∙ ap (take n) (take-append-drop (n + m) xs) in
-    sym (take-append-drop n front) ∙ ap (λ (l : List Row). l ++ drop n front) first
-    ∙ ap (λ (l : List Row). take n xs ++ l) (drop-take n m xs)
+    sym (take-append-drop n front) ∙ ap (λ (l : List X). l ++ drop n front) first
+    ∙ ap (λ (l : List X). take n xs ++ l) (drop-take n m xs)
 
 -- a group more, of rows that were left
 pub group_more : (gs new : List (Bor (List Row))) (one : Bor (List Row)) (n len : ℕ) (rows rest : List Row) → rest ≡ drop n rows

@@ -1,25 +1,29 @@
--- Nodes before and after rows were added.
-use Rattle.std.proofs.Common.{◌≡◌, ℕ, zero, suc, ◌+◌, ◌<◌, ◌≤◌, ◌≢◌, List, [], ◌∷◌, ◌++◌, length, get_or, set, take, Option}
+-- Places before and after rows were added.
+use Rattle.std.proofs.Common.{◌≡◌, ℕ, zero, suc, ◌+◌, ◌<◌, ◌≤◌, ◌≢◌, List, [], ◌∷◌, ◌++◌, length, get_or, take, Option}
 use Rattle.std.proofs.Common.{Some, None, Result, Ok, Err, OnOk, true, false, cond, unwrap_or, refl, sym, inl, inr, ◌∙◌, ap, subst, arith}
 use Rattle.std.specs.Cmp.{tied_itself, nat_cmp_total}
 use Rattle.std.specs.Ordering.{nat_cmp, is_eq, eq_by_cmp}
-use Rattle.std.specs.List.{insert}
 use Rattle.std.specs.declared.cmp.Ordering.TheVariants.{Less, Equal, Greater}
 use Rattle.std.specs.FinMap.{nat_cmp-IsAntisymmetric}
 use Rattle.std.specs.FinMap.Entries.{find, put, find-put, is_sorted-put}
 use Rattle.std.proofs.lemmas.Bool.{cases_eq}
+use Rattle.std.proofs.lemmas.List.{append-nil}
 use Rattle.htl_event.specs.SlotOrder.{slot_cmp}
 use Rattle.htl_event.specs.OrderLaws.{slot_total, slot_same}
 use Rattle.htl_event.specs.declared.slot.Slot.{Slot}
 use Rattle.htl_event.specs.declared.slot.Count.{Count}
 use Rattle.htl_event.specs.Tallies.{zero_count, plus_count, total_of, IsPositive}
-use Rattle.htl_sorted.specs.Entries.{IsSorted, IsPlace, IsGap, Each}
+use Rattle.htl_sorted.specs.Entries.{Each}
 use Rattle.htl_sorted.proofs.Finds.{find_put_other, each_put}
 use Rattle.htl_tree.specs.declared.node.Node.{Node}
 use Rattle.htl_tree.specs.declared.row.Row.{Row}
-use Rattle.htl_tree.specs.Nodes.{tally, tally_of, no_tally, own, kids, count_in, at_child, IsNonEmpty, IsNormal, NormalAt}
+use Rattle.htl_tree.specs.Nodes.{Spot, tally, tally_of, no_tally, own, kids, count_in, at_child, IsNonEmpty, IsNormal, NormalAt}
+use Rattle.htl_tree.specs.Marks.{AreMarked}
+use Rattle.htl_tree.specs.Nodes.{frames, marks, top, inside, IsKept}
 use Rattle.htl_tree.specs.Rows.{entries_of, slot_sum, Gained, AddsRows, IsGained, IsChain}
-use Rattle.htl_tree.proofs.CountAdded.{normal_own, normal_kid, tally_kid, tally_else, nonempty_from, child_found}
+use Rattle.htl_tree.proofs.Spots.{find_before}
+use Rattle.htl_tree.proofs.CountAdded.{normal_own, normal_kid, tally_kid, tally_else, nonempty_from}
+use Rattle.htl_tree.proofs.CountAdded.{put_before, normal_after}
 use Rattle.htl_tree.proofs.CopiesAndSums.{zero_left, zero_right}
 use Rattle.htl_tree.proofs.SumsFromTally.{plus_assoc}
 
@@ -79,9 +83,6 @@ count_put counts row slot =
       | Greater ↦ λ c. zero_right (count_in counts slot)
     ]) refl
 
-pub gained_nothing : (counts : List (Slot × Count)) → IsSorted slot_cmp counts → Each IsPositive counts → Gained [] counts counts
-gained_nothing counts sorted positive = record { sorted = sorted; positive = positive; counts = λ slot. zero_right (count_in counts slot) }
-
 pub gained_more : (rows : List Row) (row : Row) (old mid new : List (Slot × Count)) → Gained rows old mid → IsPositive row.count
     → new ≡ put slot_cmp row.slot (plus_count (count_in mid row.slot) row.count) mid → Gained (rows ++ row ∷ []) old new
 gained_more rows row old mid new h some is =
@@ -97,28 +98,29 @@ gained_more rows row old mid new h some is =
 
 -- ---- a node with more
 
-module _ {A : Type 0} (n m : Node A) (rows : List Row) where
-  pub gained_own : kids m ≡ kids n → IsNormal n → Gained rows (own n) (own m) → IsGained [] rows n m
-  gained_own k h gained = record {
-    normal = normal_own n m k h gained.sorted gained.positive;
-    counts = record { here = gained.counts; elsewhere = elsewhere };
+module _ {A : Type 0} (n m : Spot A) (rows : List Row) where
+  pub gained_own : (es : List (Slot × Count)) (w : ℕ) → IsNormal n → own m ≡ es → marks m ≡ w → kids m ≡ kids n → Gained rows (own n) es
+      → AreMarked w es → IsGained [] rows n m
+  gained_own es w h o new k gained marked = record {
+    normal = normal_own n m k h (rw o gained.sorted) (rw o gained.positive) (rw (o, new) marked);
+    counts = record { here = λ s. ap (λ l. count_in l s) o ∙ gained.counts s; elsewhere = elsewhere };
   }
     where
       elsewhere : (p : List ℕ) (t : Slot) → p ≢ [] → tally p t m ≡ tally p t n
       elsewhere [] t differs = absurd (differs refl)
       elsewhere (f ∷ p) t differs = rw k refl
 
-  module _ (some : (slot : Slot) × IsPositive (slot_sum slot rows)) (f : ℕ) (c : Node A) (o : own m ≡ own n)
-      (k : kids m ≡ put nat_cmp f c (kids n)) (h : IsNormal n) where
+  module _ (some : (slot : Slot) × IsPositive (slot_sum slot rows)) (f : ℕ) (c : Spot A) (o : own m ≡ own n)
+      (w : marks m ≡ marks n) (k : kids m ≡ put nat_cmp f c (kids n)) (h : IsNormal n) where
     adds_below : (path : List ℕ) → AddsRows path rows (λ p t. at_child (λ c. tally p t c) (find nat_cmp f (kids n))) (tally_of c)
         → AddsRows (f ∷ path) rows (tally_of n) (tally_of m)
-    adds_below path adds = record { here = λ s. tally_kid n m f c o k h path s ∙ adds.here s; elsewhere = elsewhere }
+    adds_below path adds = record { here = λ s. tally_kid n m f c o w k h path s ∙ adds.here s; elsewhere = elsewhere }
       where
         elsewhere : (p : List ℕ) (t : Slot) → p ≢ f ∷ path → tally p t m ≡ tally p t n
         elsewhere [] t differs = rw o refl
         elsewhere (g ∷ p) t differs = elim (cases_eq g f) [
-          | inl same ↦ rw same (tally_kid n m f c o k h p t ∙ adds.elsewhere p t (λ e. differs (λ i. same i ∷ e i)))
-          | inr other ↦ tally_else n m f c o k h g p t other
+          | inl same ↦ rw same (tally_kid n m f c o w k h p t ∙ adds.elsewhere p t (λ e. differs (λ i. same i ∷ e i)))
+          | inr other ↦ tally_else n m f c o w k h g p t other
         ]
 
     -- the node that the path leads to counts something
@@ -128,16 +130,16 @@ module _ {A : Type 0} (n m : Node A) (rows : List Row) where
         let sum : IsPositive (plus_count (old path some.0) (slot_sum some.0 rows)) = omega (arith, positive) in
         nonempty_from c path some.0 (subst IsPositive (sym (adds.here some.0)) sum)
 
-    pub gained_below : (old : Node A) → find nat_cmp f (kids n) ≡ Some old → (path : List ℕ) → IsGained path rows old c
+    pub gained_below : (old : Spot A) → find nat_cmp f (kids n) ≡ Some old → (path : List ℕ) → IsGained path rows old c
         → IsGained (f ∷ path) rows n m
     gained_below old found path gained = record {
-      normal = normal_kid n m f c o k h gained.normal (filled path (tally_of old) gained.counts);
+      normal = normal_kid n m f c o w k h gained.normal (filled path (tally_of old) gained.counts);
       counts = adds_below path (rw found gained.counts);
     }
 
     pub gained_branch : find nat_cmp f (kids n) ≡ None → (path : List ℕ) → IsChain path rows c → IsGained (f ∷ path) rows n m
     gained_branch none path new = record {
-      normal = normal_kid n m f c o k h new.normal (filled path no_tally new.counts);
+      normal = normal_kid n m f c o w k h new.normal (filled path no_tally new.counts);
       counts = adds_below path (rw none new.counts);
     }
 
@@ -145,42 +147,32 @@ pub on_ok : {X E P Q : Type 0} (r : Result X E) → OnOk r P → (P → Q) → O
 on_ok (Ok x) h f = f h
 on_ok (Err e) h f = tt
 
--- at the place of a child
-pub gained_step : {A : Type 0} (n : Node A) → IsNormal n → (es : List (ℕ × Node A)) → es ≡ kids n → (f i : ℕ) → IsPlace nat_cmp es f i
-    → (d : ℕ × Node A) → d ≡ get_or (kids n) i d → (m c : Node A) → own m ≡ own n → kids m ≡ set (kids n) i (d.0, c)
-    → (path : List ℕ) (rows : List Row) → (slot : Slot) × IsPositive (slot_sum slot rows) → {X E : Type 0} (r : Result X E)
-    → OnOk r (IsGained path rows d.1 c) → OnOk r (IsGained (f ∷ path) rows n m)
-gained_step n h es e f i pl d is m c o k path rows some r result =
-    let place : IsPlace nat_cmp (kids n) f i = subst (λ l. IsPlace nat_cmp l f i) e pl in
-    let key : (get_or (kids n) i d).0 ≡ d.0 = ap (λ (x : ℕ × Node _). x.0) (sym is) in
-    let as_put : kids m ≡ put nat_cmp f c (kids n) = k ∙ ap (λ (x : ℕ). set (kids n) i (x, c)) (sym key) ∙ sym (place.puts d c) in
-    on_ok r result (λ gained. gained_below n m rows some f c o as_put h d.1 (child_found n h es e f i pl d is) path gained)
-
--- at the gap for a child
-pub gained_graft : {A : Type 0} (n : Node A) → IsNormal n → (es : List (ℕ × Node A)) → es ≡ kids n → (f i : ℕ) → IsGap nat_cmp es f i
-    → (m c : Node A) → own m ≡ own n → kids m ≡ insert (kids n) i (f, c) → (path : List ℕ) (rows : List Row)
-    → (slot : Slot) × IsPositive (slot_sum slot rows) → IsChain path rows c → IsGained (f ∷ path) rows n m
-gained_graft n h es e f i gap m c o k path rows some new =
-    let here = subst (λ l. IsGap nat_cmp l f i) e gap in
-    gained_branch n m rows some f c o (k ∙ sym (here.puts c)) h here.value path new
+-- rows that were added below a child
+pub gained_step : {A : Type 0} (n m : Spot A) → IsNormal n → (f : ℕ) (old new : Spot A) → find nat_cmp f (kids n) ≡ Some old
+    → own m ≡ own n → marks m ≡ marks n → kids m ≡ put nat_cmp f new (kids n) → (path : List ℕ) (rows : List Row)
+    → (slot : Slot) × IsPositive (slot_sum slot rows) → {X E : Type 0} (r : Result X E) → OnOk r (IsGained path rows old new)
+    → OnOk r (IsGained (f ∷ path) rows n m)
+gained_step n m h f old new found o w k path rows some r result =
+    on_ok r result (λ gained. gained_below n m rows some f new o w k h old found path gained)
 
 -- ---- chains
 
-pub chain_end : {A : Type 0} (m : Node A) (rows : List Row) → kids m ≡ [] → Gained rows [] (own m) → IsChain [] rows m
-chain_end {A} m rows k gained = record {
+pub chain_end : {A : Type 0} (m : Spot A) (rows : List Row) → kids m ≡ [] → Gained rows [] (own m) → AreMarked (marks m) (own m)
+    → IsChain [] rows m
+chain_end {A} m rows k gained marked = record {
   normal = record { everywhere = at };
   counts = record { here = gained.counts; elsewhere = elsewhere };
 }
   where
     at : (p : List ℕ) → NormalAt p m
-    at [] = record { slots = gained.sorted; positive = gained.positive; frames = rw k tt; nonempty = rw k tt }
+    at [] = record { slots = gained.sorted; positive = gained.positive; marked = marked; frames = rw k tt; nonempty = rw k tt }
     at (f ∷ p) = rw k tt
 
     elsewhere : (p : List ℕ) (t : Slot) → p ≢ [] → tally p t m ≡ zero_count
     elsewhere [] t differs = absurd (differs refl)
     elsewhere (f ∷ p) t differs = rw k refl
 
-pub chain_on : {A : Type 0} (m c : Node A) (f : ℕ) (path : List ℕ) (rows : List Row) → (slot : Slot) × IsPositive (slot_sum slot rows)
+pub chain_on : {A : Type 0} (m c : Spot A) (f : ℕ) (path : List ℕ) (rows : List Row) → (slot : Slot) × IsPositive (slot_sum slot rows)
     → own m ≡ [] → kids m ≡ (f, c) ∷ [] → IsChain path rows c → IsChain (f ∷ path) rows m
 chain_on m c f path rows some o k child = record {
   normal = record { everywhere = at };
@@ -194,7 +186,7 @@ chain_on m c f path rows some o k child = record {
         nonempty_from c path some.0 (subst IsPositive (sym (child.counts.here some.0)) sum)
 
     at : (p : List ℕ) → NormalAt p m
-    at [] = record { slots = rw o tt; positive = rw o tt; frames = rw k tt; nonempty = rw k (filled, tt) }
+    at [] = record { slots = rw o tt; positive = rw o tt; marked = rw o tt; frames = rw k tt; nonempty = rw k (filled, tt) }
     at (g ∷ p) = elim (cases_eq g f) [
       | inl same ↦ rw (k, same, tied_itself nat_cmp_total f) (child.normal.everywhere p)
       | inr other ↦ rw (k, find_put_other nat_cmp nat_cmp_total nat_cmp-IsAntisymmetric g f c [] other) tt
@@ -210,3 +202,35 @@ chain_on m c f path rows some o k child = record {
       | inr other ↦ rw k (ap (λ x. at_child (λ c. tally p t c) x)
           (find_put_other nat_cmp nat_cmp_total nat_cmp-IsAntisymmetric g f c [] other))
     ]
+
+-- ---- nodes seen from before their frames
+
+module _ {A : Type 0} (rows : List Row) (some : (slot : Slot) × IsPositive (slot_sum slot rows)) where
+  gained_before : (fs : List ℕ) (n m : Node A) → IsNormal (fs, n) → (path : List ℕ) → IsGained path rows (inside n) (inside m)
+      → IsGained (fs ++ path) rows (fs, n) (fs, m)
+  gained_before [] n m h path gained = gained
+  gained_before (f ∷ fs) n m h path gained =
+      gained_below (f ∷ fs, n) (f ∷ fs, m) rows some f (fs, m) refl refl (put_before f (fs, n) (fs, m)) h (fs, n) (find_before f (fs, n))
+      (fs ++ path) (gained_before fs n m (normal_after f (fs, n) h) path gained)
+
+  -- rows that were added inside a node after it was left only some of its frames
+  pub entered_gained : (old : Spot A) (n m : Node A) → IsKept old (top n) → frames m ≡ frames n → (path rest : List ℕ)
+      → path ≡ frames n ++ rest → IsGained rest rows (inside n) (inside m) → IsGained path rows old (top m)
+  entered_gained old n m kept same path rest is inner = subst (λ p. IsGained p rows old (top m)) (sym is) record {
+    normal = gained.normal;
+    counts = record {
+      here = λ s. gained.counts.here s ∙ ap (λ c. plus_count c (slot_sum s rows)) (kept.counts (frames n ++ rest) s);
+      elsewhere = λ p s other. gained.counts.elsewhere p s other ∙ kept.counts p s;
+    };
+  }
+    where
+      gained : IsGained (frames n ++ rest) rows (top n) (top m)
+      gained = subst (λ l. IsGained (frames n ++ rest) rows (top n) (l, m)) (sym same)
+          (gained_before (frames n) n m kept.normal rest inner)
+
+  chain_before : (fs : List ℕ) (m : Node A) (path : List ℕ) → IsChain path rows (inside m) → IsChain (fs ++ path) rows (fs, m)
+  chain_before [] m path new = new
+  chain_before (f ∷ fs) m path new = chain_on (f ∷ fs, m) (fs, m) f (fs ++ path) rows some refl refl (chain_before fs m path new)
+
+  pub chain_top : (m : Node A) → IsChain [] rows (inside m) → IsChain (frames m) rows (top m)
+  chain_top m new = subst (λ l. IsChain l rows (top m)) (append-nil (frames m)) (chain_before (frames m) m [] new)

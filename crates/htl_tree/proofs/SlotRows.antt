@@ -9,7 +9,7 @@ use Rattle.std.specs.Ordering.{is_eq, ordering_then}
 use Rattle.std.specs.Cmp.{tied_itself}
 use Rattle.std.specs.FinMap.Entries.{find, below_all}
 use Rattle.std.specs.declared.cmp.Ordering.TheVariants.{Less, Equal, Greater}
-use Rattle.std.proofs.lemmas.List.{drop_more, drop_all, map-append}
+use Rattle.std.proofs.lemmas.List.{drop_more, map-append}
 use Rattle.htl_event.specs.declared.slot.Slot.{Slot}
 use Rattle.htl_event.specs.declared.slot.Count.{Count}
 use Rattle.htl_event.specs.Slots.{same_slot}
@@ -19,14 +19,18 @@ use Rattle.htl_event.specs.Tallies.{zero_count, IsPositive, ByStack}
 use Rattle.htl_event.proofs.Members.{Contains-here, Contains-there, Contains-cases, Contains-nil}
 use Rattle.htl_sorted.specs.Entries.{IsSorted}
 use Rattle.htl_sorted.proofs.Bools.{both_left, both_right, less}
-use Rattle.htl_sorted.proofs.Finds.{find_below, below_tied, find_first, each_found}
-use Rattle.htl_tree.specs.declared.node.Node.{Node}
+use Rattle.htl_sorted.proofs.Finds.{find_first, each_found}
 use Rattle.htl_event.specs.SlotOrder.{slot_cmp}
 use Rattle.htl_event.specs.OrderLaws.{slot_total}
 use Rattle.htl_tree.specs.Trees.{Tree, AllShort, place_cmp, count_at, IsTree, ListsRows, ListsSlots, BySlot}
-use Rattle.htl_tree.specs.Nodes.{own, kids, below, rows, tree_of, rows_at, own_at, picked, IsShortFrom, slots_of}
+use Rattle.htl_tree.specs.declared.node.Node.{Node}
+use Rattle.htl_tree.specs.Nodes.{Spot, frames, counts_of, children_of, top, tops, inside, own, kids, below, rows, tree_at}
+use Rattle.htl_tree.specs.Nodes.{rows_at, own_at, picked, IsShortFrom, slots_of}
+use Rattle.htl_tree.proofs.ChangedKeys.{found_behind}
+use Rattle.htl_tree.proofs.Children.{IsChildAt, from_child}
 use Rattle.htl_tree.proofs.NodeRows.{own_rows, kid_rows, rows_is}
 use Rattle.htl_tree.proofs.TreesAsLists.{place_total, place_same, nothing_is_tree}
+use Rattle.htl_tree.proofs.Tops.{top_of}
 use Rattle.htl_tree.proofs.Under.{same_slot_Decides}
 
 abbrev Row : Type 0
@@ -56,23 +60,36 @@ module _ (p : Slot → Bool) where
       ∙ ap (λ l. cond (p e.0) (((e.0, reverse path), e.1) ∷ l) l) (rows_at-own path es)
 
   -- the rows of a node are its own and those of its children
-  pub rows_at-node : {A : Type 0} (n : Node A) (path : List ℕ)
+  pub rows_at-node : {A : Type 0} (n : Spot A) (path : List ℕ)
       → rows_at p path (rows n) ≡ own_at p path (own n) ++ rows_at p path (kid_rows (kids n))
   rows_at-node n path = ap (rows_at p path) (rows_is n) ∙ rows_at-append path (own_rows (own n)) (kid_rows (kids n))
       ∙ ap (λ l. l ++ rows_at p path (kid_rows (kids n))) (rows_at-own path (own n))
 
-  pub kid_rows_drop : {A : Type 0} (path : List ℕ) (ks : List (ℕ × Node A)) (i : ℕ) (k : ℕ × Node A) → i < length ks → k ≡ get_or ks i k
-      → rows_at p path (kid_rows (drop i ks)) ≡ rows_at p (path ++ k.0 ∷ []) (rows k.1) ++ rows_at p path (kid_rows (drop (i + 1) ks))
-  kid_rows_drop {A} path ks i k lt is =
-      ap (λ l. rows_at p path (kid_rows l)) (drop_more ks i k lt ∙ ap (λ (j : ℕ × Node A). j ∷ drop (i + 1) ks) (sym is))
-      ∙ rows_at-append path (map (λ row. below k.0 row) (rows k.1)) (kid_rows (drop (i + 1) ks))
-      ∙ ap (λ l. l ++ rows_at p path (kid_rows (drop (i + 1) ks))) (rows_at-below path k.0 (rows k.1))
+  -- the frames before a node are part of the path
+  pub rows_at-inside : {A : Type 0} (fs : List ℕ) (n : Node A) (path : List ℕ)
+      → rows_at p path (rows (fs, n)) ≡ rows_at p (path ++ fs) (rows (inside n))
+  rows_at-inside [] n path = ap (λ k. rows_at p k (rows (inside n))) (sym (append-nil path))
+  rows_at-inside (f ∷ fs) n path = rows_at-below path f (rows (fs, n)) ∙ rows_at-inside fs n (path ++ f ∷ [])
+      ∙ ap (λ k. rows_at p k (rows (inside n))) (append_assoc path (f ∷ []) fs)
 
-  pub kid_rows_end : {A : Type 0} (path : List ℕ) (ks : List (ℕ × Node A)) (i : ℕ) → length ks ≤ i
-      → rows_at p path (kid_rows (drop i ks)) ≡ []
-  kid_rows_end path ks i past = ap (λ l. rows_at p path (kid_rows l)) (drop_all i ks past)
+  -- a node with no children has rows at these slots only where it counts them itself
+  pub rows_at-leaf : {A : Type 0} (n : Node A) (path : List ℕ) → children_of n ≡ [] → own_at p (path ++ frames n) (counts_of n) ≡ []
+      → rows_at p path (rows (top n)) ≡ []
+  rows_at-leaf n path none nothing = rows_at-inside (frames n) n path ∙ rows_at-node (inside n) (path ++ frames n)
+      ∙ ap (λ l. l ++ rows_at p (path ++ frames n) (kid_rows (kids (inside n)))) nothing
+      ∙ ap (λ ks. rows_at p (path ++ frames n) (kid_rows (tops ks))) none
 
-  pub picked_tree : {A : Type 0} (n : Node A) → picked p (tree_of (Some n)) ≡ rows_at p [] (rows n)
+  -- those of the children from one on
+  pub child_rows : {A : Type 0} {n : Node A} {i : ℕ} {d : ℕ × Node A} → IsChildAt n i d → (path : List ℕ)
+      → rows_at p path (kid_rows (drop i (kids (inside n))))
+      ≡ rows_at p (path ++ d.0 ∷ []) (rows (top d.1)) ++ rows_at p path (kid_rows (drop (i + 1) (kids (inside n))))
+  child_rows {A} {n} {i} {d} at path =
+      let rest = kid_rows (drop (i + 1) (kids (inside n))) in
+      ap (λ l. rows_at p path (kid_rows l)) (from_child at)
+      ∙ rows_at-append path (map (λ row. below d.0 row) (rows (top d.1))) rest
+      ∙ ap (λ l. l ++ rows_at p path rest) (rows_at-below path d.0 (rows (top d.1)))
+
+  pub picked_tree : {A : Type 0} (n : Spot A) → picked p (tree_at n) ≡ rows_at p [] (rows n)
   picked_tree n = of (rows n)
     where
       of : (t : Tree) → picked p (map (λ row. ((reverse row.0.0, row.0.1), row.1)) t) ≡ rows_at p [] t
@@ -100,7 +117,7 @@ short_own depth [] i h lt = absurd (omega arith)
 short_own depth (e ∷ es) i h lt = omega (arith, h.0)
 
 -- a node with a count of its own is no deeper than a stack is long
-pub short_here : {A : Type 0} (n : Node A) (depth : ℕ) → IsShortFrom depth (rows n) → 0 < length (own n) → depth ≤ 64
+pub short_here : {A : Type 0} (n : Spot A) (depth : ℕ) → IsShortFrom depth (rows n) → 0 < length (own n) → depth ≤ 64
 short_here n depth h lt = short_own depth (own n) 0
     (all_left (λ (row : Row). depth + length row.0.0 ≤ 64) (own_rows (own n)) (kid_rows (kids n))
     (subst (λ t. IsShortFrom depth t) (rows_is n) h)) lt
@@ -109,21 +126,31 @@ pub short_below : (depth f : ℕ) (t : Tree) → IsShortFrom depth (map (λ row.
 short_below depth f [] h = tt
 short_below depth f (row ∷ t) h = (omega (arith, h.0), short_below depth f t h.1)
 
-short_kid : {A : Type 0} (depth : ℕ) (ks : List (ℕ × Node A)) (i : ℕ) (k : ℕ × Node A) → IsShortFrom depth (kid_rows ks) → i < length ks
+-- a node is as deep as the frames before it lead
+pub short_inside : {A : Type 0} (fs : List ℕ) (n : Node A) (depth : ℕ) → IsShortFrom depth (rows (fs, n))
+    → IsShortFrom (depth + length fs) (rows (inside n))
+short_inside [] n depth h =
+    let here : depth ≡ depth + length {A = ℕ} [] = omega arith in subst (λ d. IsShortFrom d (rows (inside n))) here h
+short_inside (f ∷ fs) n depth h =
+    let further : depth + 1 + length fs ≡ depth + length (f ∷ fs) = omega arith in
+    subst (λ d. IsShortFrom d (rows (inside n))) further (short_inside fs n (depth + 1) (short_below depth f (rows (fs, n)) h))
+
+short_kid : {A : Type 0} (depth : ℕ) (ks : List (ℕ × Spot A)) (i : ℕ) (k : ℕ × Spot A) → IsShortFrom depth (kid_rows ks) → i < length ks
     → k ≡ get_or ks i k → IsShortFrom (depth + 1) (rows k.1)
 short_kid depth [] i k h lt is = absurd (omega arith)
 short_kid {A} depth (j ∷ ks) zero k h lt is =
-    subst (λ (e : ℕ × Node A). IsShortFrom (depth + 1) (rows e.1)) (sym is)
+    subst (λ (e : ℕ × Spot A). IsShortFrom (depth + 1) (rows e.1)) (sym is)
     (short_below depth j.0 (rows j.1)
     (all_left (λ (row : Row). depth + length row.0.0 ≤ 64) (map (λ row. below j.0 row) (rows j.1)) (kid_rows ks) h))
 short_kid depth (j ∷ ks) (suc i) k h lt is = short_kid depth ks i k
     (all_right (λ (row : Row). depth + length row.0.0 ≤ 64) (map (λ row. below j.0 row) (rows j.1)) (kid_rows ks) h) (omega arith) is
 
-pub short_child : {A : Type 0} (n : Node A) (depth i : ℕ) (k : ℕ × Node A) → IsShortFrom depth (rows n) → i < length (kids n)
-    → k ≡ get_or (kids n) i k → IsShortFrom (depth + 1) (rows k.1)
-short_child n depth i k h lt is =
-    short_kid depth (kids n) i k (all_right (λ (row : Row). depth + length row.0.0 ≤ 64) (own_rows (own n)) (kid_rows (kids n))
-    (subst (λ t. IsShortFrom depth t) (rows_is n) h)) lt is
+pub short_child : {A : Type 0} {n : Node A} {i : ℕ} {d : ℕ × Node A} → IsChildAt n i d → (depth : ℕ) → IsShortFrom depth (rows (inside n))
+    → IsShortFrom (depth + 1) (rows (top d.1))
+short_child {A} {n} {i} {d} at depth h =
+    let ks : List (ℕ × Spot A) = kids (inside n) in
+    short_kid depth ks i (top_of d) (all_right (λ (row : Row). depth + length row.0.0 ≤ 64) (own_rows (own (inside n))) (kid_rows ks)
+    (subst (λ t. IsShortFrom depth t) (rows_is (inside n)) h)) at.within at.value
 
 pub short_root : (t : Tree) → AllShort t → IsShortFrom 0 t
 short_root [] h = tt
@@ -135,17 +162,6 @@ short_root (row ∷ t) h = (omega (arith, h.0), short_root t h.1)
 abbrev pub listed : Slot → Tree → List (List ℕ × Count)
 listed slot [] = []
 listed slot (row ∷ rows) = cond (same_slot slot row.0.1) ((row.0.0, row.1) ∷ listed slot rows) (listed slot rows)
-
--- what is found behind the first row is found in the whole
-pub found_later : (row : Row) (t : Tree) → IsSorted place_cmp (row ∷ t) → (k : List ℕ × Slot) (c : Count) → find place_cmp k t ≡ Some c
-    → find place_cmp k (row ∷ t) ≡ Some c
-found_later row t s k c found =
-    (elim (place_cmp k row.0) as (λ r. place_cmp k row.0 ≡ r → cond (is_eq r) (Some row.1) (find place_cmp k t) ≡ Some c) [
-      | Less ↦ λ e. found
-      | Equal ↦ λ e. absurd (let none : find place_cmp k t ≡ None = find_below place_cmp place_total k t
-          (below_tied place_cmp place_total k row.0 t e (both_left _ _ s)) in let never : None ≡ Some c = sym none ∙ found in cc)
-      | Greater ↦ λ e. found
-    ]) refl
 
 module _ (slot : Slot) where
   -- rows of one slot are in stack order
@@ -192,9 +208,9 @@ module _ (slot : Slot) where
               ap (λ (y : List ℕ × Count). find place_cmp (y.0, slot) (row ∷ t)) (sym is)
               ∙ ap (λ s. find place_cmp (row.0.0, s) (row ∷ t)) mine ∙ find_first place_cmp place_total row t
               ∙ ap (λ (y : List ℕ × Count). Some y.1) is
-          | inr there ↦ found_later row t s (x.0, slot) x.1 (listed_found t (both_right _ _ s) x there)
+          | inr there ↦ found_behind place_cmp place_total row t s (x.0, slot) x.1 (listed_found t (both_right _ _ s) x there)
         ]
-        | false ↦ λ e c. found_later row t s (x.0, slot) x.1 (listed_found t (both_right _ _ s) x c)
+        | false ↦ λ e c. found_behind place_cmp place_total row t s (x.0, slot) x.1 (listed_found t (both_right _ _ s) x c)
       ]) refl h
 
   found_listed : (t : Tree) (stack : List ℕ) (c : Count) → find place_cmp (stack, slot) t ≡ Some c → Contains (listed slot t) (stack, c)
@@ -240,7 +256,7 @@ module _ (slot : Slot) where
 
 -- ---- the slots of a whole tree
 
-pub slots_tree : {A : Type 0} (n : Node A) → slots_of (tree_of (Some n)) ≡ slots_of (rows n)
+pub slots_tree : {A : Type 0} (n : Spot A) → slots_of (tree_at n) ≡ slots_of (rows n)
 slots_tree n = of (rows n)
   where
     of : (t : Tree) → slots_of (map (λ row. ((reverse row.0.0, row.0.1), row.1)) t) ≡ slots_of t
@@ -254,31 +270,35 @@ slots_of-below : (f : ℕ) (t : Tree) → slots_of (map (λ row. below f row) t)
 slots_of-below f [] = refl
 slots_of-below f (row ∷ t) = ap (λ l. row.0.1 ∷ l) (slots_of-below f t)
 
+-- frames before a node have no slots
+pub slots_of-inside : {A : Type 0} (fs : List ℕ) (n : Node A) → slots_of (rows (fs, n)) ≡ slots_of (rows (inside n))
+slots_of-inside [] n = refl
+slots_of-inside (f ∷ fs) n = slots_of-below f (rows (fs, n)) ∙ slots_of-inside fs n
+
 slots_of-own : (es : List (Slot × Count)) → slots_of (own_rows es) ≡ map (λ (e : Slot × Count). e.0) es
 slots_of-own [] = refl
 slots_of-own (e ∷ es) = ap (λ l. e.0 ∷ l) (slots_of-own es)
 
 -- the slots of a node are its own and those of its children
-pub slots_of-node : {A : Type 0} (n : Node A) → slots_of (rows n) ≡ map (λ (e : Slot × Count). e.0) (own n) ++ slots_of (kid_rows (kids n))
+pub slots_of-node : {A : Type 0} (n : Spot A) → slots_of (rows n) ≡ map (λ (e : Slot × Count). e.0) (own n) ++ slots_of (kid_rows (kids n))
 slots_of-node n = ap slots_of (rows_is n) ∙ slots_of-append (own_rows (own n)) (kid_rows (kids n))
     ∙ ap (λ l. l ++ slots_of (kid_rows (kids n))) (slots_of-own (own n))
 
-pub kid_slots_drop : {A : Type 0} (ks : List (ℕ × Node A)) (i : ℕ) (k : ℕ × Node A) → i < length ks → k ≡ get_or ks i k
-    → slots_of (kid_rows (drop i ks)) ≡ slots_of (rows k.1) ++ slots_of (kid_rows (drop (i + 1) ks))
-kid_slots_drop {A} ks i k lt is =
-    ap (λ l. slots_of (kid_rows l)) (drop_more ks i k lt ∙ ap (λ (j : ℕ × Node A). j ∷ drop (i + 1) ks) (sym is))
-    ∙ slots_of-append (map (λ row. below k.0 row) (rows k.1)) (kid_rows (drop (i + 1) ks))
-    ∙ ap (λ l. l ++ slots_of (kid_rows (drop (i + 1) ks))) (slots_of-below k.0 (rows k.1))
-
-pub kid_slots_end : {A : Type 0} (ks : List (ℕ × Node A)) (i : ℕ) → length ks ≤ i → slots_of (kid_rows (drop i ks)) ≡ []
-kid_slots_end ks i past = ap (λ l. slots_of (kid_rows l)) (drop_all i ks past)
+-- those of the children from one on
+pub child_slots : {A : Type 0} {n : Node A} {i : ℕ} {d : ℕ × Node A} → IsChildAt n i d
+    → slots_of (kid_rows (drop i (kids (inside n)))) ≡ slots_of (rows (inside d.1)) ++ slots_of (kid_rows (drop (i + 1) (kids (inside n))))
+child_slots {A} {n} {i} {d} at =
+    let rest = kid_rows (drop (i + 1) (kids (inside n))) in
+    ap (λ l. slots_of (kid_rows l)) (from_child at)
+    ∙ slots_of-append (map (λ row. below d.0 row) (rows (top d.1))) rest
+    ∙ ap (λ l. l ++ slots_of rest) (slots_of-below d.0 (rows (top d.1)) ∙ slots_of-inside (frames d.1) d.1)
 
 slot_found : (t : Tree) → IsSorted place_cmp t → (slot : Slot) → Contains (slots_of t) slot
     → (stack : List ℕ) × (c : Count) × (find place_cmp (stack, slot) t ≡ Some c)
 slot_found [] s slot h = absurd (Contains-nil slot h)
 slot_found (row ∷ t) s slot h = elim (Contains-cases row.0.1 (slots_of t) slot h) [
   | inl is ↦ (row.0.0, row.1, ap (λ u. find place_cmp (row.0.0, u) (row ∷ t)) (sym is) ∙ find_first place_cmp place_total row t)
-  | inr there ↦ let r = slot_found t (both_right _ _ s) slot there in (r.0, r.1, found_later row t s (r.0, slot) r.1 r.2)
+  | inr there ↦ let r = slot_found t (both_right _ _ s) slot there in (r.0, r.1, found_behind place_cmp place_total row t s (r.0, slot) r.1 r.2)
 ]
 
 found_slot : (t : Tree) (slot : Slot) (stack : List ℕ) (c : Count) → find place_cmp (stack, slot) t ≡ Some c → Contains (slots_of t) slot
@@ -319,9 +339,6 @@ pub rising_strict : (slots : List Slot) → IsStrictlySortedBy slot_cmp slots �
 unfolding IsStrictlySortedBy
 rising_strict [] h = tt
 rising_strict (s ∷ slots) h = (h.0, rising_strict slots h.1)
-
-pub no_rows : (slot : Slot) → ListsRows [] slot []
-no_rows slot = lists_rows slot [] nothing_is_tree
 
 pub no_slots : ListsSlots [] []
 no_slots = lists_slots [] nothing_is_tree [] tt (λ slot. (λ h. h, λ h. h))

@@ -1,5 +1,5 @@
 -- Sums of counts over the rows of a node and of a tree.
-use Rattle.std.proofs.Common.{◌≡◌, ℕ, ◌+◌, ◌<◌, ◌≤◌, List, [], ◌∷◌, ◌++◌, length, map, reverse, drop, get_or, Option}
+use Rattle.std.proofs.Common.{◌≡◌, ℕ, ◌+◌, ◌≤◌, List, [], ◌∷◌, ◌++◌, map, reverse, drop, Option}
 use Rattle.std.proofs.Common.{Some, None, Bool, true, false, ◌&&◌, cond, nat_eq, unwrap_or, refl, sym, ◌∙◌, ap, arith}
 use Rattle.std.specs.Bool.{Decides}
 use Rattle.std.specs.List.{starts_with}
@@ -11,7 +11,7 @@ use Rattle.std.specs.FinMap.Entries.{find}
 use Rattle.std.specs.declared.cmp.Ordering.{Ordering}
 use Rattle.std.specs.declared.cmp.Ordering.TheVariants.{Less, Equal, Greater}
 use Rattle.std.proofs.lemmas.Bool.Decides.{nat_tests, same_from_decides}
-use Rattle.std.proofs.lemmas.List.{reverse-reverse, drop_more, drop_all}
+use Rattle.std.proofs.lemmas.List.{reverse-reverse}
 use Rattle.std.proofs.lemmas.List.Sums.{sum_by-cons}
 use Rattle.htl_event.specs.declared.slot.Slot.{Slot}
 use Rattle.htl_event.specs.declared.slot.Slot.TheVariants.{Tagged, Handles, Bad}
@@ -22,12 +22,15 @@ use Rattle.htl_event.specs.Tallies.{zero_count, plus_count, total_of}
 use Rattle.htl_sorted.specs.Entries.{IsSorted}
 use Rattle.htl_sorted.proofs.Bools.{both_left, both_right}
 use Rattle.htl_sorted.proofs.Finds.{find_below, below_tied}
-use Rattle.htl_tree.specs.declared.node.Node.{Node}
 use Rattle.htl_event.specs.SlotOrder.{slot_cmp}
 use Rattle.htl_event.specs.OrderLaws.{slot_total, slot_same}
 use Rattle.htl_tree.specs.Trees.{Tree, sum_where, count_under, total_count}
-use Rattle.htl_tree.specs.Nodes.{own, kids, count_in, at_child, below, rows, tree_of, sum_under, IsNormal}
+use Rattle.htl_tree.specs.declared.node.Node.{Node}
+use Rattle.htl_tree.specs.Nodes.{Spot, frames, inside, own, kids, count_in, at_child, below, rows, tree_at, sum_under, IsNormal}
+use Rattle.htl_tree.proofs.Spots.{before}
+use Rattle.htl_tree.proofs.Tops.{top_of}
 use Rattle.htl_tree.proofs.CountAdded.{normal_here}
+use Rattle.htl_tree.proofs.Children.{IsChildAt, from_child}
 use Rattle.htl_tree.proofs.NodeRows.{own_rows, kid_rows, rows_is}
 use Rattle.htl_tree.proofs.CopiesAndSums.{zero_right, zero_left}
 use Rattle.htl_tree.proofs.SumsFromTally.{plus_assoc}
@@ -127,24 +130,32 @@ module _ (slot : Slot) where
   -- ---- and of those below
 
   -- what children count in all
-  abbrev pub kid_sum : {A : Type 0} → List (ℕ × Node A) → Count
+  abbrev pub kid_sum : {A : Type 0} → List (ℕ × Spot A) → Count
   kid_sum ks = sum_where (λ p. starts_with nat_eq p []) slot (kid_rows ks)
 
-  pub kid_sum-cons : {A : Type 0} (k : ℕ × Node A) (ks : List (ℕ × Node A))
+  pub kid_sum-cons : {A : Type 0} (k : ℕ × Spot A) (ks : List (ℕ × Spot A))
       → kid_sum (k ∷ ks) ≡ plus_count (sum_under [] slot k.1) (kid_sum ks)
   kid_sum-cons k ks = sum_where-append (λ p. starts_with nat_eq p []) (map (λ row. below k.0 row) (rows k.1)) (kid_rows ks)
       ∙ ap (λ d. plus_count d (kid_sum ks)) (sum_where-map (λ q. k.0 ∷ q) (λ p. starts_with nat_eq p []) (rows k.1))
 
-  pub sum_node : {A : Type 0} (n : Node A) → IsNormal n → sum_under [] slot n ≡ plus_count (count_in (own n) slot) (kid_sum (kids n))
+  pub sum_node : {A : Type 0} (n : Spot A) → IsNormal n → sum_under [] slot n ≡ plus_count (count_in (own n) slot) (kid_sum (kids n))
   sum_node n h =
       ap (sum_where (λ p. starts_with nat_eq p []) slot) (rows_is n)
       ∙ sum_where-append (λ p. starts_with nat_eq p []) (own_rows (own n)) (kid_rows (kids n))
       ∙ ap (λ d. plus_count d (kid_sum (kids n))) (sum_own (own n) (normal_here n h).slots)
 
+  sum_before : {A : Type 0} (f : ℕ) (c : Spot A) → sum_under [] slot (before f c) ≡ sum_under [] slot c
+  sum_before f c = sum_where-map (λ q. f ∷ q) (λ p. starts_with nat_eq p []) (rows c)
+
+  -- frames before a node count nothing
+  pub sum_inside : {A : Type 0} (fs : List ℕ) (n : Node A) → sum_under [] slot (fs, n) ≡ sum_under [] slot (inside n)
+  sum_inside [] n = refl
+  sum_inside (f ∷ fs) n = sum_before f (fs, n) ∙ sum_inside fs n
+
   same_frame : (f : ℕ) → nat_eq f f ≡ true
   same_frame f = grind (arith, nat_tests)
 
-  kids_under : {A : Type 0} (f : ℕ) (p : List ℕ) (ks : List (ℕ × Node A)) → IsSorted nat_cmp ks
+  kids_under : {A : Type 0} (f : ℕ) (p : List ℕ) (ks : List (ℕ × Spot A)) → IsSorted nat_cmp ks
       → sum_where (λ q. starts_with nat_eq q (f ∷ p)) slot (kid_rows ks) ≡ at_child (λ c. sum_under p slot c) (find nat_cmp f ks)
   kids_under f p [] s = refl
   kids_under {A} f p (k ∷ ks) s =
@@ -180,7 +191,7 @@ module _ (slot : Slot) where
       apart f g differs = grind (arith, nat_tests, differs)
 
   -- the sum at a path is that of the child at its first frame
-  pub under_node : {A : Type 0} (n : Node A) → IsNormal n → (f : ℕ) (p : List ℕ)
+  pub under_node : {A : Type 0} (n : Spot A) → IsNormal n → (f : ℕ) (p : List ℕ)
       → sum_under (f ∷ p) slot n ≡ at_child (λ c. sum_under p slot c) (find nat_cmp f (kids n))
   under_node n h f p =
       let P : List ℕ → Bool = λ q. starts_with nat_eq q (f ∷ p) in
@@ -188,16 +199,22 @@ module _ (slot : Slot) where
       ∙ ap (λ d. plus_count d (sum_where P slot (kid_rows (kids n)))) (no_own f p (own n))
       ∙ sym (zero_left (sum_where P slot (kid_rows (kids n)))) ∙ kids_under f p (kids n) (normal_here n h).frames
 
-  pub under_tree : {A : Type 0} (n : Node A) (path : List ℕ) → count_under (tree_of (Some n)) path slot ≡ sum_under path slot n
+  pub under_tree : {A : Type 0} (n : Spot A) (path : List ℕ) → count_under (tree_at n) path slot ≡ sum_under path slot n
   under_tree n path =
       sum_where-map reverse (λ stack. starts_with nat_eq (outer stack) path) (rows n)
       ∙ sum_where-same (λ p. starts_with nat_eq (outer (reverse p)) path) (λ p. starts_with nat_eq p path)
       (λ p. ap (λ q. starts_with nat_eq q path) (reverse-reverse p)) (rows n)
 
-  pub kid_sum_drop : {A : Type 0} (ks : List (ℕ × Node A)) (i : ℕ) (k : ℕ × Node A) → i < length ks → k ≡ get_or ks i k
-      → kid_sum (drop i ks) ≡ plus_count (sum_under [] slot k.1) (kid_sum (drop (i + 1) ks))
-  kid_sum_drop {A} ks i k lt is = ap kid_sum (drop_more ks i k lt) ∙ kid_sum-cons (get_or ks i k) (drop (i + 1) ks)
-      ∙ ap (λ (j : ℕ × Node A). plus_count (sum_under [] slot j.1) (kid_sum (drop (i + 1) ks))) (sym is)
+  -- what the children from one on count, whose frames count nothing
+  pub child_sum : {A : Type 0} {n : Node A} {i : ℕ} {d : ℕ × Node A} → IsChildAt n i d
+      → kid_sum (drop i (kids (inside n))) ≡ plus_count (sum_under [] slot (inside d.1)) (kid_sum (drop (i + 1) (kids (inside n))))
+  child_sum {A} {n} {i} {d} at =
+      let rest : Count = kid_sum (drop (i + 1) (kids (inside n))) in
+      ap kid_sum (from_child at) ∙ kid_sum-cons (top_of d) (drop (i + 1) (kids (inside n)))
+      ∙ ap (λ c. plus_count c rest) (sum_inside (frames d.1) d.1)
 
-  pub kid_sum_end : {A : Type 0} (ks : List (ℕ × Node A)) (i : ℕ) → length ks ≤ i → kid_sum (drop i ks) ≡ zero_count
-  kid_sum_end ks i past = ap kid_sum (drop_all i ks past)
+  -- what was summed so far and what a child counts are no more than all
+  pub child_room : {A : Type 0} {n : Node A} {i : ℕ} {d : ℕ × Node A} → IsChildAt n i d → (so_far all : Count)
+      → plus_count so_far (kid_sum (drop i (kids (inside n)))) ≡ all
+      → total_of (plus_count so_far (sum_under [] slot (inside d.1))) ≤ total_of all
+  child_room at so_far all is = let whole = ap total_of (ap (plus_count so_far) (sym (child_sum at)) ∙ is) in omega (arith, whole)

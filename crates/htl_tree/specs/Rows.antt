@@ -10,9 +10,8 @@ use Rattle.htl_event.specs.declared.slot.Count.{Count}
 use Rattle.htl_event.specs.Tallies.{zero_count, plus_count, tally, IsPositive}
 use Rattle.htl_sorted.specs.Entries.{IsSorted, Each}
 use Rattle.htl_tree.specs.declared.row.Row.{Row}
-use Rattle.htl_tree.specs.declared.node.Node.{Node}
 use Rattle.htl_tree.specs.Trees.{Tree, place_cmp, bump, total_count, count_at, AllShort}
-use Rattle.htl_tree.specs.Nodes.{count_in, tally_of, no_tally, IsNormal}
+use Rattle.htl_tree.specs.Nodes.{Spot, count_in, tally_of, no_tally, IsNormal}
 
 -- rows as entries of a tree
 abbrev pub entries_of : List Row → Tree
@@ -71,12 +70,12 @@ pub record AddsRows (path : List ℕ) (rows : List Row) (old new : List ℕ → 
   pub here : (s : Slot) → new path s ≡ plus_count (old path s) (slot_sum s rows)
   pub elsewhere : (p : List ℕ) (s : Slot) → p ≢ path → new p s ≡ old p s
 
-pub record IsGained {A : Type 0} (path : List ℕ) (rows : List Row) (old new : Node A) : Type 0 where
+pub record IsGained {A : Type 0} (path : List ℕ) (rows : List Row) (old new : Spot A) : Type 0 where
   pub normal : IsNormal new
   pub counts : AddsRows path rows (tally_of old) (tally_of new)
 
 -- a node that counts the rows at the end of the path, and nothing else
-pub record IsChain {A : Type 0} (path : List ℕ) (rows : List Row) (node : Node A) : Type 0 where
+pub record IsChain {A : Type 0} (path : List ℕ) (rows : List Row) (node : Spot A) : Type 0 where
   pub normal : IsNormal node
   pub counts : AddsRows path rows no_tally (tally_of node)
 

@@ -1,6 +1,7 @@
 -- A tree as its tally: the counts that aren't zero, by stack and then by slot.
 use Rattle.std.specs.Prelude.{◌≡◌, ℕ, ◌+◌, ◌≤◌, List, [], ◌∷◌, Bool, true, ◌&&◌}
-use Rattle.std.specs.Prelude.{if◌then◌else◌, nat_eq, Option, Some, None, unwrap_or, length}
+use Rattle.std.specs.Prelude.{if◌then◌else◌, nat_eq, Option, Some, None, unwrap_or, length, map}
+use Rattle.std.specs.Borrow.{Bor}
 use Rattle.std.specs.List.{sum_by, starts_with, AllByRecursion}
 use Rattle.std.specs.Ordering.{on, then_cmp}
 use Rattle.std.specs.FinMap.Entries.{find, put}
@@ -79,6 +80,19 @@ IsSameTally tree other = (slot : Slot) (stack : List ℕ) → count_at tree slot
 abbrev pub IsSumTally : Tree → Tree → Tree → Type 0
 IsSumTally sum tree other = (slot : Slot) (stack : List ℕ)
     → count_at sum slot stack ≡ plus_count (count_at tree slot stack) (count_at other slot stack)
+
+-- what all of these trees count of the slot at the stack
+abbrev pub count_over : List Tree → Slot → List ℕ → Count
+count_over [] slot stack = zero_count
+count_over (tree ∷ trees) slot stack = plus_count (count_at tree slot stack) (count_over trees slot stack)
+
+-- the tallies of all of these trees add up to that of the first
+abbrev pub IsSumOfAll : Tree → List Tree → Type 0
+IsSumOfAll sum trees = (slot : Slot) (stack : List ℕ) → count_at sum slot stack ≡ count_over trees slot stack
+
+-- trees behind references
+abbrev pub lent : List (Bor Tree) → List Tree
+lent trees = map (λ tree. tree.now) trees
 
 -- the tree is the tally of the events
 abbrev pub HasTally : Tree → List Event → Type 0

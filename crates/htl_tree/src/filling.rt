@@ -6,9 +6,10 @@ ghost use Rattle.htl_event.specs.declared.slot.Slot.{Slot};
 ghost use Rattle.htl_event.specs.SlotOrder.{slot_cmp};
 ghost use Rattle.htl_event.specs.Tallies.{plus_count, total_of, IsPositive};
 ghost use Rattle.htl_sorted.specs.Entries.{IsSorted, Each};
-ghost use Rattle.htl_tree.specs.Nodes.{tally, count_in, IsNormal};
+ghost use Rattle.htl_tree.specs.Nodes.{top, tally, count_in, IsNormal};
 ghost use Rattle.htl_tree.specs.Rows.{entries_of, slot_sum, Gained, IsGained, IsChain};
 
+use crate::marks::marks_of;
 use crate::node::{Node, find_frame, find_slot, sum_of};
 use crate::row::Row;
 use htl_event::{Count, NoMemory, Slot};
@@ -21,35 +22,30 @@ impl<A: Allocator + Clone> Node<A> {
         requires some { 0 < length rows.now }
         requires positive { Each IsPositive (entries_of rows.now) }
         requires fits { (slot : Slot) → total_of (slot_sum slot rows.now) < 2 ^ 64 }
-        ensures { IfOk result (IsChain (reverse stack.now) rows.now) }
+        ensures { IfOk result (λ node. IsChain (reverse stack.now) rows.now (top node)) }
     {
         let mut counts = Vec::new(alloc.clone()?);
-        match stack.split_last() {
-            None => {
-                add_to_counts(&mut counts, rows)?;
-                let children = Vec::new(alloc.clone()?);
-                Ok(Node { counts, children })
-            }
-            Some((frame, rest)) => {
-                let child = Node::chain(alloc, rest, rows)?;
-                let mut children = Vec::with_capacity(alloc.clone()?, 1)?;
-                children.push((*frame, child))?;
-                Ok(Node { counts, children })
-            }
-        }
+        add_to_counts(&mut counts, rows)?;
+        Node::leaf(alloc, counts, stack)
     }
 
     /// Adds what the rows count at the end of the stack.
     pub fn add_rows(&mut self, stack: &[u64], rows: &[Row<'_>]) -> Result<(), NoMemory>
-        requires normal { IsNormal self.old }
+        requires normal { IsNormal (top self.old) }
         requires some { 0 < length rows.now }
         requires positive { Each IsPositive (entries_of rows.now) }
-        requires fits { (slot : Slot) → total_of (tally (reverse stack.now) slot self.old)
+        requires fits { (slot : Slot) → total_of (tally (reverse stack.now) slot (top self.old))
             + total_of (slot_sum slot rows.now) < 2 ^ 64 }
-        ensures { OnOk result (IsGained (reverse stack.now) rows.now self.old self.new) }
+        ensures { OnOk result
+            (IsGained (reverse stack.now) rows.now (top self.old) (top self.new)) }
     {
+        let stack = self.enter(stack)?;
         match stack.split_last() {
-            None => add_to_counts(&mut self.counts, rows),
+            None => {
+                add_to_counts(&mut self.counts, rows)?;
+                self.marks = marks_of(&self.counts);
+                Ok(())
+            }
             Some((frame, rest)) => match find_frame(&self.children, *frame) {
                 Ok(i) => self.children[i].1.add_rows(rest, rows),
                 Err(i) => {

@@ -8,10 +8,13 @@
 mod building;
 mod compare;
 mod counting;
+mod cursor;
 mod filling;
+mod gathering;
 mod hints;
 pub mod laws;
 mod listing;
+mod marks;
 mod node;
 mod order;
 mod prefix;
@@ -19,8 +22,6 @@ mod root;
 mod row;
 mod slots;
 mod sums;
-#[cfg(test)]
-mod tests;
 mod tree;
 
 pub use slots::Slots;

@@ -9,10 +9,11 @@ ghost use Rattle.htl_event.specs.Tallies.{IsPositive};
 ghost use Rattle.htl_sorted.specs.Entries.{Each};
 ghost use Rattle.htl_tree.specs.Trees.{BySlot, total_count};
 ghost use Rattle.htl_tree.specs.Asked.{has_slot};
-ghost use Rattle.htl_tree.specs.Nodes.{rows, rows_at, own_at, entries_at};
-ghost use Rattle.htl_tree.specs.Nodes.{AreSums, IsShortFrom, slots_of};
+ghost use Rattle.htl_tree.specs.Nodes.{counts_of, top, inside, rows, rows_at, own_at};
+ghost use Rattle.htl_tree.specs.Nodes.{entries_at, slots_of, AreSums, IsNormal, IsShortFrom};
 
 use crate::filling::add_count;
+use crate::marks::common_mark;
 use crate::node::Node;
 use crate::slots::Slots;
 use htl_event::{Count, MAX_FRAMES, NoMemory, SharedStack, Slot};
@@ -21,7 +22,7 @@ use std::cmp::Ordering;
 
 impl<A: Allocator> Node<A> {
     /// Adds the counts of these slots, at this node and below, by stack and then by slot. The path
-    /// leads to this node from the outermost frame, and is there again at the return.
+    /// leads to the node's frames from the outermost frame, and is there again at the return.
     pub fn list_rows(
         &self,
         alloc: Global,
@@ -29,23 +30,51 @@ impl<A: Allocator> Node<A> {
         path: &mut Vec<u64>,
         into: &mut Vec<((Slot, SharedStack), Count)>,
     ) -> Result<(), NoMemory>
-        requires { IsShortFrom (length path.old.items) (rows self.now) }
+        requires normal { IsNormal (top self.now) }
+        requires short { IsShortFrom (length path.old.items) (rows (top self.now)) }
         ensures path { OnOk result (path.new.items ≡ path.old.items) }
         ensures listed { OnOk result (into.new.items
-            ≡ into.old.items ++ rows_at (has_slot slots) path.old.items (rows self.now)) }
+            ≡ into.old.items
+            ++ rows_at (has_slot slots) path.old.items (rows (top self.now))) }
     {
-        list_own(alloc, &self.counts, slots, path, into)?;
+        if self.children.is_empty() && !self.may_count(common_mark(slots)) {
+            return Ok(());
+        }
+        let len = path.len();
+        path.extend_from_slice(&self.frames)?;
+        self.list_here(alloc, slots, path, into)?;
         for (frame, child) in &self.children {
             path.push(*frame)?;
             child.list_rows(alloc, slots, path, into)?;
             let _ = path.pop();
         }
+        path.truncate(len);
         Ok(())
+    }
+
+    /// Adds the counts of these slots at the node itself.
+    fn list_here(
+        &self,
+        alloc: Global,
+        slots: Slots,
+        path: &[u64],
+        into: &mut Vec<((Slot, SharedStack), Count)>,
+    ) -> Result<(), NoMemory>
+        requires normal { IsNormal (inside self.now) }
+        requires short { 0 < length (counts_of self.now) → length path.now ≤ MAX_FRAMES }
+        ensures { OnOk result (into.new.items
+            ≡ into.old.items ++ own_at (has_slot slots) path.now (counts_of self.now)) }
+    {
+        if !self.may_count(common_mark(slots)) {
+            return Ok(());
+        }
+        list_own(alloc, &self.counts, slots, path, into)
     }
 
     /// Adds the slots that are counted at this node and below, each as often as it is counted.
     pub fn list_slots(&self, into: &mut Vec<Slot>) -> Result<(), NoMemory>
-        ensures { OnOk result (into.new.items ≡ into.old.items ++ slots_of (rows self.now)) }
+        ensures { OnOk result (into.new.items
+            ≡ into.old.items ++ slots_of (rows (inside self.now))) }
     {
         list_own_slots(&self.counts, into)?;
         for (_, child) in &self.children {

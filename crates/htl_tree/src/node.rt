@@ -1,26 +1,37 @@
-//! A node: the counts of one stack, and the nodes one frame further in.
+//! A node: the counts of one stack, and the nodes further in.
 
-ghost use Rattle.std.specs.Prelude.{◌≡◌, ◌+◌, ◌<◌, ◌^◌, reverse, IfOk};
-ghost use Rattle.std.specs.Prelude.{IfErr, OnOk, OnErr, MatchResult};
+ghost use Rattle.std.specs.Prelude.{◌≡◌, ◌≢◌, ◌+◌, ◌-◌, ◌<◌, ◌≤◌, ◌^◌, [], ◌++◌, length, take};
+ghost use Rattle.std.specs.Prelude.{get_or, reverse, false, IfOk, IfErr, OnOk, OnErr, MatchResult};
+ghost use Rattle.std.specs.Int.Bits.{bit_and};
 ghost use Rattle.std.specs.Ordering.{nat_cmp};
 ghost use Rattle.htl_event.specs.Tallies.{total_of, plus_count};
 ghost use Rattle.htl_sorted.specs.Entries.{IsSorted, IsPlace, IsGap};
 ghost use Rattle.htl_event.specs.SlotOrder.{slot_cmp};
 ghost use Rattle.htl_tree.specs.Trees.{bump};
-ghost use Rattle.htl_tree.specs.Nodes.{tally, count_in, IsNormal, counted};
-ghost use Rattle.htl_tree.specs.Nodes.{IsBranch, IsAdded, IsKept};
+ghost use Rattle.htl_tree.specs.Marks.{AreMarked};
+ghost use Rattle.htl_tree.specs.Nodes.{frames, counts_of, children_of, marks_at, top, inside};
+ghost use Rattle.htl_tree.specs.Nodes.{tally, count_in};
+ghost use Rattle.htl_tree.specs.Nodes.{IsNormal, counted, IsBranch, IsAdded, IsKept};
 
+use crate::marks::{mark_of, marks_of};
 use crate::order::{ByFrame, BySlot};
 use htl_event::{Count, NoMemory, Sign, Slot};
 use htl_sorted::search;
 use std::alloc::Allocator;
+use std::mem;
 
-/// The root stands for the outermost end of all stacks. No count is zero, and no node below the
-/// root is empty, so that equal tallies have one tree.
+/// The root stands for the outermost end of all stacks. No count is zero, and no node is empty, so
+/// that equal tallies have one tree when it is seen frame by frame.
 #[derive(Drop)]
 pub struct Node<A: Allocator> {
+    /// The frames that lead to it, the outermost first, but for the one that its parent has it
+    /// under.
+    pub frames: Vec<u64, A>,
     pub counts: Vec<(Slot, Count), A>,
     pub children: Vec<(u64, Node<A>), A>,
+    /// The marks of the slots that are counted at the node itself. A walk that looks for slots
+    /// with other marks reads none of its counts.
+    pub marks: u64,
 }
 
 pub const ZERO: Count = Count { plus: 0, minus: 0 };
@@ -42,39 +53,36 @@ pub fn find_frame<A: Allocator>(children: &[(u64, Node<A>)], frame: u64) -> Resu
 }
 
 impl<A: Allocator> Node<A> {
-    /// The count at the end of the stack.
-    pub fn at(&self, slot: Slot, stack: &[u64]) -> Count
-        requires { IsNormal self.now }
-        ensures { result ≡ tally (reverse stack.now) slot self.now }
-    {
-        match stack.split_last() {
-            None => count_of(&self.counts, slot),
-            Some((frame, rest)) => match find_frame(&self.children, *frame) {
-                Ok(i) => self.children[i].1.at(slot, rest),
-                Err(_) => ZERO,
-            },
-        }
-    }
-
     /// A node with one count, at the end of the stack.
     pub fn branch(alloc: &A, slot: Slot, sign: Sign, stack: &[u64]) -> Result<Self, NoMemory>
     where
         A: Clone,
-        ensures { IfOk result (IsBranch (reverse stack.now) slot sign) }
+        ensures { IfOk result (λ node. IsBranch (reverse stack.now) slot sign (top node)) }
     {
-        let mut counts = Vec::new(alloc.clone()?);
-        let mut children = Vec::new(alloc.clone()?);
-        match stack.split_last() {
-            None => {
-                counts.push((slot, bumped(ZERO, sign)))?;
-                Ok(Node { counts, children })
-            }
-            Some((frame, rest)) => {
-                let child = Node::branch(alloc, slot, sign, rest)?;
-                children.push((*frame, child))?;
-                Ok(Node { counts, children })
-            }
-        }
+        let mut counts = Vec::with_capacity(alloc.clone()?, 1)?;
+        counts.push((slot, bumped(ZERO, sign)))?;
+        Node::leaf(alloc, counts, stack)
+    }
+
+    /// A node with these counts at the end of the stack. Its vectors have no room to spare.
+    pub fn leaf(alloc: &A, counts: Vec<(Slot, Count), A>, stack: &[u64]) -> Result<Self, NoMemory>
+    where
+        A: Clone,
+        ensures frames { IfOk result (λ node. frames node ≡ reverse stack.now) }
+        ensures counts { IfOk result (λ node. counts_of node ≡ counts.items) }
+        ensures children { IfOk result (λ node. children_of node ≡ []) }
+        ensures marks { IfOk result (λ node. AreMarked (marks_at node) (counts_of node)) }
+    {
+        let mut frames = Vec::from_slice(alloc.clone()?, stack)?;
+        frames.reverse();
+        let children = Vec::new(alloc.clone()?);
+        let marks = marks_of(&counts);
+        Ok(Node {
+            frames,
+            counts,
+            children,
+            marks,
+        })
     }
 
     /// Counts one more at the end of the stack. A missing branch is built apart and attached by one
@@ -82,13 +90,19 @@ impl<A: Allocator> Node<A> {
     pub fn add(&mut self, slot: Slot, sign: Sign, stack: &[u64]) -> Result<(), NoMemory>
     where
         A: Clone,
-        requires normal { IsNormal self.old }
-        requires fits { total_of (tally (reverse stack.now) slot self.old) + 1 < 2 ^ 64 }
-        ensures { MatchResult result (λ _. IsAdded (reverse stack.now) slot sign self.old self.new)
-            (λ _. IsKept self.old self.new) }
+        requires normal { IsNormal (top self.old) }
+        requires fits { total_of (tally (reverse stack.now) slot (top self.old)) + 1 < 2 ^ 64 }
+        ensures { MatchResult result
+            (λ _. IsAdded (reverse stack.now) slot sign (top self.old) (top self.new))
+            (λ _. IsKept (top self.old) (top self.new)) }
     {
+        let stack = self.enter(stack)?;
         match stack.split_last() {
-            None => count_one(&mut self.counts, slot, sign),
+            None => {
+                count_one(&mut self.counts, slot, sign)?;
+                self.marks |= mark_of(slot);
+                Ok(())
+            }
             Some((frame, rest)) => match find_frame(&self.children, *frame) {
                 Ok(i) => self.children[i].1.add(slot, sign, rest),
                 Err(i) => {
@@ -99,6 +113,101 @@ impl<A: Allocator> Node<A> {
             },
         }
     }
+
+    /// Leaves the node only frames that the stack begins with, and returns the rest of the stack.
+    /// What the node counts is the same.
+    pub fn enter<'a>(&mut self, stack: &'a [u64]) -> Result<&'a [u64], NoMemory>
+    where
+        A: Clone,
+        requires normal { IsNormal (top self.old) }
+        ensures kept { IsKept (top self.old) (top self.new) }
+        ensures rest { IfOk result (λ rest.
+            reverse stack.now ≡ frames self.new ++ reverse rest.now) }
+    {
+        let shared = shared_len(&self.frames, stack);
+        if shared < self.frames.len() {
+            self.split(shared)?;
+        }
+        Ok(&stack[..stack.len() - shared])
+    }
+
+    /// The slot's count at the node itself.
+    pub fn count(&self, slot: Slot) -> Count
+        requires { IsNormal (inside self.now) }
+        ensures { result ≡ count_in (counts_of self.now) slot }
+    {
+        if self.may_count(mark_of(slot)) {
+            count_of(&self.counts, slot)
+        } else {
+            ZERO
+        }
+    }
+
+    /// Whether the mark is among those of the node. Where it isn't, no slot that has it is counted
+    /// at the node itself.
+    pub fn may_count(&self, mark: u64) -> bool
+        ensures { result ≡ false → bit_and (marks_at self.now) mark ≢ mark }
+    {
+        self.marks & mark == mark
+    }
+
+    /// Leaves the node so many of its frames, and puts the rest of them, its counts and its
+    /// children into its only child.
+    fn split(&mut self, len: usize) -> Result<(), NoMemory>
+    where
+        A: Clone,
+        requires normal { IsNormal (top self.old) }
+        requires within { len < length (frames self.old) }
+        ensures kept { IsKept (top self.old) (top self.new) }
+        ensures frames { OnOk result (frames self.new ≡ take len (frames self.old)) }
+    {
+        let alloc = self.frames.allocator().clone()?;
+        let lower = Node {
+            frames: Vec::from_slice(alloc.clone()?, &self.frames[len + 1..])?,
+            counts: Vec::new(alloc.clone()?),
+            children: Vec::new(alloc.clone()?),
+            marks: 0,
+        };
+        let mut children = Vec::with_capacity(alloc.clone()?, 2)?;
+        children.push((self.frames[len], lower))?;
+        let frames = Vec::from_slice(alloc, &self.frames[..len])?;
+        self.swap_inside(&mut children[0].1);
+        self.children = children;
+        self.frames = frames;
+        Ok(())
+    }
+
+    /// Each node gets what the other counts and has below it, and keeps its frames.
+    fn swap_inside(&mut self, other: &mut Self)
+        ensures frames { frames self.new ≡ frames self.old }
+        ensures counts { counts_of self.new ≡ counts_of other.old }
+        ensures children { children_of self.new ≡ children_of other.old }
+        ensures marks { marks_at self.new ≡ marks_at other.old }
+        ensures other_frames { frames other.new ≡ frames other.old }
+        ensures other_counts { counts_of other.new ≡ counts_of self.old }
+        ensures other_children { children_of other.new ≡ children_of self.old }
+        ensures other_marks { marks_at other.new ≡ marks_at self.old }
+    {
+        mem::swap(&mut self.counts, &mut other.counts);
+        mem::swap(&mut self.children, &mut other.children);
+        mem::swap(&mut self.marks, &mut other.marks);
+    }
+}
+
+/// With how many of the frames the stack begins, read from its outermost frame.
+fn shared_len(frames: &[u64], stack: &[u64]) -> usize
+    ensures within { result ≤ length frames.now }
+    ensures stack { result ≤ length stack.now }
+    ensures shared { reverse stack.now
+        ≡ take result frames.now ++ reverse (take (length stack.now - result) stack.now) }
+    ensures no_more { result < length frames.now → result < length stack.now
+        → get_or frames.now result 0 ≢ get_or stack.now (length stack.now - 1 - result) 0 }
+{
+    let mut len = 0;
+    while len < frames.len() && len < stack.len() && frames[len] == stack[stack.len() - 1 - len] {
+        len += 1;
+    }
+    len
 }
 
 pub fn count_of(counts: &[(Slot, Count)], slot: Slot) -> Count

@@ -2,38 +2,42 @@
 
 ghost use Rattle.std.specs.Prelude.{◌≡◌, ◌<◌, ◌^◌, []};
 ghost use Rattle.htl_event.specs.Tallies.{total_of};
-ghost use Rattle.htl_tree.specs.Nodes.{IsNormal, sum_under};
+ghost use Rattle.htl_tree.specs.Nodes.{inside, spot, IsNormal, sum_under};
 
-use crate::node::{Node, ZERO, count_of, find_frame, sum_of};
+use crate::cursor::Cursor;
+use crate::node::{Node, ZERO, sum_of};
 use htl_event::{Count, Slot};
 use std::alloc::Allocator;
 
 impl<A: Allocator> Node<A> {
     /// The sum of the slot's counts at this node and below.
     pub fn sum(&self, slot: Slot) -> Count
-        requires normal { IsNormal self.now }
-        requires fits { total_of (sum_under [] slot self.now) < 2 ^ 64 }
-        ensures { result ≡ sum_under [] slot self.now }
+        requires normal { IsNormal (inside self.now) }
+        requires fits { total_of (sum_under [] slot (inside self.now)) < 2 ^ 64 }
+        ensures { result ≡ sum_under [] slot (inside self.now) }
     {
-        let mut sum = count_of(&self.counts, slot);
+        let mut sum = self.count(slot);
         for (_, child) in &self.children {
             let below = child.sum(slot);
             sum = sum_of(sum, below);
         }
         sum
     }
+}
 
-    /// The same at the node that the path leads to, from the outermost frame.
+impl<'a, A: Allocator> Cursor<'a, A> {
+    /// The sum of the slot's counts at the place that the path leads to, from the outermost frame,
+    /// and below.
     pub fn under(&self, path: &[u64], slot: Slot) -> Count
-        requires normal { IsNormal self.now }
-        requires fits { total_of (sum_under path.now slot self.now) < 2 ^ 64 }
-        ensures { result ≡ sum_under path.now slot self.now }
+        requires normal { IsNormal (spot self.now) }
+        requires fits { total_of (sum_under path.now slot (spot self.now)) < 2 ^ 64 }
+        ensures { result ≡ sum_under path.now slot (spot self.now) }
     {
         match path.split_first() {
-            None => self.sum(slot),
-            Some((frame, rest)) => match find_frame(&self.children, *frame) {
-                Ok(i) => self.children[i].1.under(rest, slot),
-                Err(_) => ZERO,
+            None => self.node.sum(slot),
+            Some((frame, rest)) => match self.child(*frame) {
+                Some(child) => child.under(rest, slot),
+                None => ZERO,
             },
         }
     }

@@ -1,70 +1,100 @@
 //! Nodes made of others: a copy, and the sum of two.
 
-ghost use Rattle.std.specs.Prelude.{◌≡◌, ◌+◌, ◌<◌, ◌^◌, IfOk, OnOk};
+ghost use Rattle.std.specs.Prelude.{◌≡◌, ◌+◌, ◌<◌, ◌≤◌, ◌^◌, ◌++◌, length, drop, take, IfOk, OnOk};
+ghost use Rattle.std.specs.Prelude.{◌≢◌, get_or};
 ghost use Rattle.std.specs.FinMap.Entries.{find};
 ghost use Rattle.htl_event.specs.declared.slot.Slot.{Slot};
 ghost use Rattle.htl_event.specs.Tallies.{plus_count, total_of};
 ghost use Rattle.htl_sorted.specs.Entries.{IsSorted, joined_at};
 ghost use Rattle.htl_event.specs.SlotOrder.{slot_cmp};
-ghost use Rattle.htl_tree.specs.Nodes.{IsNormal, IsCopy, EachNormal};
+ghost use Rattle.htl_tree.specs.Nodes.{top, tops, spot, kids, IsNormal, IsCopy};
 ghost use Rattle.htl_tree.specs.Nodes.{AppendsCopies, IsSum, FitsSum, count_in};
 
+use crate::cursor::Cursor;
 use crate::node::Node;
-use crate::order::{ByFrame, BySlot};
+use crate::order::BySlot;
 use htl_event::{Count, NoMemory, Slot};
-use htl_sorted::{merge, merged_len};
+use htl_sorted::merge;
 use std::alloc::Allocator;
 use std::cmp::Ordering;
 
-impl<A: Allocator + Clone> Node<A> {
+impl<'a, A: Allocator + Clone> Cursor<'a, A> {
+    /// A node that counts the same.
     #[cycle(copying)]
-    pub fn copy(&self, alloc: &A) -> Result<Self, NoMemory>
-        requires { IsNormal self.now }
-        ensures { IfOk result (IsCopy self.now) }
+    pub fn copy(&self, alloc: &A) -> Result<Node<A>, NoMemory>
+        requires { IsNormal (spot self.now) }
+        ensures { IfOk result (λ copy. IsCopy (spot self.now) (top copy)) }
     {
-        let counts = Vec::from_slice(alloc.clone()?, &self.counts)?;
-        let mut children = Vec::with_capacity(alloc.clone()?, self.children.len())?;
-        copy_children(alloc, &self.children, &mut children)?;
-        Ok(Node { counts, children })
+        let inside = self.skip(self.frames.len());
+        let mut children = Vec::with_capacity(alloc.clone()?, inside.children())?;
+        copy_children(alloc, &inside, 0, &mut children)?;
+        Ok(Node {
+            frames: Vec::from_slice(alloc.clone()?, self.frames)?,
+            counts: Vec::from_slice(alloc.clone()?, inside.counts())?,
+            children,
+            marks: inside.marks(),
+        })
     }
 
-    /// The node whose counts are the sums of both nodes' counts, made in one pass over both.
-    pub fn plus(&self, other: &Self, alloc: &A) -> Result<Self, NoMemory>
-        requires left { IsNormal self.now }
-        requires right { IsNormal other.now }
-        requires fits { FitsSum self.now other.now }
-        ensures { IfOk result (IsSum self.now other.now) }
+    /// The node whose counts are the sums of both places' counts, made in one pass over both.
+    pub fn plus(&self, other: &Self, alloc: &A) -> Result<Node<A>, NoMemory>
+        requires left { IsNormal (spot self.now) }
+        requires right { IsNormal (spot other.now) }
+        requires fits { FitsSum (spot self.now) (spot other.now) }
+        ensures { IfOk result (λ sum. IsSum (spot self.now) (spot other.now) (top sum)) }
     {
-        let counts = plus_counts(alloc.clone()?, &self.counts, &other.counts)?;
-        let left = self.children.as_slice();
-        let right = other.children.as_slice();
-        let len = merged_len::<ByFrame<A>>(left, right);
-        let mut children = Vec::with_capacity(alloc.clone()?, len)?;
+        let shared = common_len(self.frames, other.frames);
+        let left = self.skip(shared);
+        let right = other.skip(shared);
+        let frames = Vec::from_slice(alloc.clone()?, &self.frames[..shared])?;
+        let counts = plus_counts(alloc.clone()?, left.counts(), right.counts())?;
+        let room = left.children().max(right.children());
+        let mut children = Vec::with_capacity(alloc.clone()?, room)?;
         let mut i = 0;
         let mut j = 0;
-        while i < left.len() && j < right.len() {
-            let x = &left[i];
-            let y = &right[j];
-            match x.0.cmp(&y.0) {
+        while i < left.children() && j < right.children() {
+            let (x, a) = left.child_at(i);
+            let (y, b) = right.child_at(j);
+            match x.cmp(&y) {
                 Ordering::Less => {
-                    children.push((x.0, x.1.copy(alloc)?))?;
+                    children.push((x, a.copy(alloc)?))?;
                     i += 1;
                 }
                 Ordering::Greater => {
-                    children.push((y.0, y.1.copy(alloc)?))?;
+                    children.push((y, b.copy(alloc)?))?;
                     j += 1;
                 }
                 Ordering::Equal => {
-                    children.push((x.0, x.1.plus(&y.1, alloc)?))?;
+                    children.push((x, a.plus(&b, alloc)?))?;
                     i += 1;
                     j += 1;
                 }
             }
         }
-        copy_children(alloc, &left[i..], &mut children)?;
-        copy_children(alloc, &right[j..], &mut children)?;
-        Ok(Node { counts, children })
+        copy_children(alloc, &left, i, &mut children)?;
+        copy_children(alloc, &right, j, &mut children)?;
+        Ok(Node {
+            frames,
+            counts,
+            children,
+            marks: left.marks() | right.marks(),
+        })
     }
+}
+
+/// How many frames both begin with.
+pub fn common_len(left: &[u64], right: &[u64]) -> usize
+    ensures left { result ≤ length left.now }
+    ensures right { result ≤ length right.now }
+    ensures shared { take result left.now ≡ take result right.now }
+    ensures no_more { result < length left.now → result < length right.now
+        → get_or left.now result 0 ≢ get_or right.now result 0 }
+{
+    let mut len = 0;
+    while len < left.len() && len < right.len() && left[len] == right[len] {
+        len += 1;
+    }
+    len
 }
 
 fn plus_counts<A: Allocator>(
@@ -85,17 +115,21 @@ fn plus_counts<A: Allocator>(
     Ok(sums)
 }
 
+/// Adds copies of the children from this one on.
 #[cycle(copying)]
 fn copy_children<A: Allocator + Clone>(
     alloc: &A,
-    children: &[(u64, Node<A>)],
+    from: &Cursor<'_, A>,
+    start: usize,
     into: &mut Vec<(u64, Node<A>), A>,
 ) -> Result<(), NoMemory>
-    requires { EachNormal children.now }
-    ensures { OnOk result (AppendsCopies children.now into.old.items into.new.items) }
+    requires { IsNormal (spot from.now) }
+    ensures { OnOk result (AppendsCopies (drop start (kids (spot from.now)))
+        (tops into.old.items) (tops into.new.items)) }
 {
-    for (frame, child) in children {
-        into.push((*frame, child.copy(alloc)?))?;
+    for index in start..from.children() {
+        let (frame, child) = from.child_at(index);
+        into.push((frame, child.copy(alloc)?))?;
     }
     Ok(())
 }

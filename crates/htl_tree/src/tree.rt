@@ -5,10 +5,12 @@ ghost use Rattle.std.specs.List.{flat_map};
 
 use crate::building::{root_of, rows_in};
 use crate::counting::{Counting, number_of_events};
+use crate::cursor::Cursor;
 use crate::listing::{sums_of, without_slot};
 use crate::node::{Node, ZERO};
 use crate::root::{
-    add_to_root, copy_root, list_root_rows, list_root_slots, plus_roots, same_roots, under_root,
+    add_to_root, copy_root, list_root_rows, list_root_slots, plus_roots, same_roots, sum_of_tops,
+    under_root,
 };
 use crate::slots::Slots;
 use htl_event::{Count, NoMemory, Run, SharedEvent, SharedStack, Sign, Slot, Stack};
@@ -44,12 +46,14 @@ pub fn fits_events<R: Run>(runs: &[R]) -> bool
 
 impl<A: Allocator> StackTree<A> {
     ghost use Rattle.std.specs.Prelude.{◌≡◌, List, ◌+◌, ◌<◌, ◌≤◌, ◌^◌, [], ◌∷◌, ◌++◌};
-    ghost use Rattle.std.specs.Prelude.{◌↔◌, length, IsTrue, IfOk, OnOk, OnErr};
+    ghost use Rattle.std.specs.Prelude.{◌↔◌, None, length, IsTrue, IfOk, IfSome, OnOk, OnErr};
     ghost use Rattle.htl_tree.specs.Trees.{count_at, count_under, total_count};
     ghost use Rattle.htl_tree.specs.Trees.{with_one, with_event, IsTree, IsSameTally};
     ghost use Rattle.htl_tree.specs.Trees.{IsSumTally, HasTally, ListsRows, ListsRowsOf};
     ghost use Rattle.htl_tree.specs.Trees.{ListsSums, IsTallyOf, ListsSlots};
-    ghost use Rattle.std.specs.List.{flat_map};
+    ghost use Rattle.htl_tree.specs.Trees.{IsSumOfAll, lent};
+    ghost use Rattle.htl_tree.specs.Nodes.{spot, tree_at, IsNormalTop};
+    ghost use Rattle.std.specs.List.{flat_map, sum_by};
     ghost use Rattle.htl_event.specs.Events.{Event};
     ghost use Rattle.htl_event.specs.Tallies.{under};
 
@@ -103,7 +107,7 @@ impl<A: Allocator> StackTree<A> {
     {
         match &self.root {
             None => ZERO,
-            Some(root) => root.at(slot, stack.frames()),
+            Some(root) => root.top().at(slot, stack.frames()),
         }
     }
 
@@ -158,7 +162,41 @@ impl<A: Allocator> StackTree<A> {
         })
     }
 
-    /// Counts one more. A branch that isn't there is built apart and attached by one growth.
+    /// The tree that counts what all of these trees count, under this allocator. It is made in one
+    /// pass over all.
+    pub fn sum_of_all(alloc: A, trees: &[&Self]) -> Result<Self, NoMemory>
+    where
+        A: Clone,
+        requires { sum_by total_count (lent trees.now) < 2 ^ 64 }
+        ensures tally { IfOk result (λ sum. IsSumOfAll sum (lent trees.now)) }
+        ensures total { IfOk result (λ sum.
+            total_count sum ≡ sum_by total_count (lent trees.now)) }
+    {
+        let mut tops = Vec::with_capacity(alloc.clone()?, trees.len())?;
+        let mut total = 0;
+        for tree in trees {
+            total += tree.total();
+            if let Some(top) = tree.top() {
+                tops.push((0, top))?;
+            }
+        }
+        let root = sum_of_tops(&alloc, &tops)?;
+        Ok(StackTree { alloc, total, root })
+    }
+
+    /// The place from which all of its stacks lead, where it counts anything.
+    fn top(&self) -> Option<Cursor<'_, A>>
+        ensures some { IfSome result (λ top. IsNormalTop (spot top)
+            × (tree_at (spot top) ≡ self.now)) }
+        ensures none { result ≡ None → self.now ≡ [] }
+    {
+        match &self.root {
+            None => None,
+            Some(root) => Some(root.top()),
+        }
+    }
+
+    /// Counts one more. A branch that isn't there is built apart, and attached when it is whole.
     pub fn add(&mut self, slot: Slot, sign: Sign, stack: &Stack) -> Result<(), NoMemory>
     where
         A: Clone,

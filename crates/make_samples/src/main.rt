@@ -1,8 +1,9 @@
 //! Writes sample traces to standard output, as bundles of segments.
 //!
-//! `make_samples driver`, `object` and `exit` write small traces that tell a story. `make_samples
-//! trace MEGABYTES STACKS HANDLES PROCESSORS` writes a made-up trace of about that size, to measure
-//! with: each segment is made, written and let go, so it takes little memory whatever the size.
+//! `make_samples driver`, `object`, `exit` and `gap` write small traces that tell a story.
+//! `make_samples trace MEGABYTES STACKS HANDLES PROCESSORS` writes a made-up trace of about that
+//! size, to measure with: each segment is made, written and let go, so it takes little memory
+//! whatever the size.
 //!
 //! `stories.rt` has the stories, `sizes.rt` the sizes of made-up traces, and `writing.rt` writes
 //! both.
@@ -19,7 +20,7 @@ use std::{env, io};
 use stories::Story;
 
 const USAGE: &str =
-    "make_samples driver | object | exit | trace MEGABYTES STACKS HANDLES PROCESSORS";
+    "make_samples driver | object | exit | gap | trace MEGABYTES STACKS HANDLES PROCESSORS";
 
 fn main(rt: HostRuntime) -> Result<()> {
     let alloc = rt.alloc();

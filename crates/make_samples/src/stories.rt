@@ -34,6 +34,13 @@ impl Story {
                 },
                 lines: &EXIT,
             }),
+            "gap" => Some(Story {
+                trace: Trace {
+                    processors: 2,
+                    ..TRACE
+                },
+                lines: &GAP,
+            }),
             _ => None,
         }
     }
@@ -97,4 +104,25 @@ const EXIT: [&str; 3] = [
         O 5 0x10 process=1300 [0x30014 0x31064 0x40130 0x40030]",
     "0/1:
         O 7 0x14 process=1200 [0x30014 0x31064 0x40130 0x40030]",
+];
+
+/// A trace of two processors that lacks a segment, so that a handle only seems to be leaked.
+///
+/// Process 1200 opens its source and its target on processor 0 (1, 3). It closes both in segment 1
+/// of processor 0 (5, 6), which was overwritten before it was saved. It opens the next source, which
+/// gets the handle of the first one (9), finds it empty and closes it (11). Process 1300 does the
+/// same on processor 1, whose segments are all there (2, 4, 8, 10).
+const GAP: [&str; 4] = [
+    "0/0:
+        O 1 0x10 process=1200 [0x30014 0x31064 0x40130 0x40030],
+        O 3 0x14 process=1200 [0x30014 0x31064 0x40230 0x40048]",
+    "1/0:
+        O 2 0x10 process=1300 [0x30014 0x31064 0x40130 0x40030],
+        C 4 0x10 process=1300 [0x30034 0x31118 0x40388 0x40060]",
+    "1/1:
+        O 8 0x10 process=1300 [0x30014 0x31064 0x40130 0x40030],
+        C 10 0x10 process=1300 [0x30034 0x31118 0x40388 0x40060]",
+    "0/2:
+        O 9 0x10 process=1200 [0x30014 0x31064 0x40130 0x40030],
+        C 11 0x10 process=1200 [0x30034 0x31118 0x40388 0x40060]",
 ];

@@ -2,9 +2,9 @@
 
 ghost use Rattle.std.specs.Prelude.{◌≡◌, All, false};
 
-use super::rows::{PRINTED, Printed, STORED, STORED_TEXT};
+use super::rows::{PRINTED, Printed, STORED, STORED_COVERAGE, STORED_TEXT};
 use super::{OUTSTANDING, bundles, over_bytes, refusal};
-use crate::{Reading, RunFault, Source, Writing, run, run_from};
+use crate::{Coverage, Reading, RunFault, Source, Writing, run, run_from};
 use htl_command::Job;
 use htl_segment::{Fault, from_hex};
 use std::alloc::Global;
@@ -85,8 +85,9 @@ fn printed_from<'a>(
     job: &Job,
     sources: &mut [Reading<Pieces<'a>>],
     symbols: Option<&str>,
-) -> (Vec<u8>, Result<(), RunFault>)
-    requires { All (λ source. ⟦<Reading<Pieces<'a>> as Source>⟧.has_failed source ≡ false) sources.old }
+) -> (Vec<u8>, Result<Coverage, RunFault>)
+    requires { All (λ source. ⟦<Reading<Pieces<'a>> as Source>⟧.has_failed source ≡ false)
+        sources.old }
 {
     let mut written = Vec::new(alloc);
     let symbols = symbols.map(|text| text.as_bytes());
@@ -140,7 +141,7 @@ fn gathers_hexadecimal(rt: HostRuntime) {
     };
     let mut sources = [Reading::new(Pieces::new(STORED.as_bytes(), 7, 10_000))];
     let (written, ended) = printed_from(&rt, rt.alloc(), &job, &mut sources, None);
-    assert_eq!(rt; ended, Ok(()));
+    assert_eq!(rt; ended, Ok(STORED_COVERAGE));
     assert_eq!(rt; written.as_slice(), STORED_TEXT.as_bytes());
 }
 
@@ -232,7 +233,7 @@ fn printed_into(
     alloc: Global,
     piece: usize,
     most: usize,
-) -> Result<(Vec<u8>, Result<(), RunFault>), Fail> {
+) -> Result<(Vec<u8>, Result<Coverage, RunFault>), Fail> {
     let inputs = vec![in alloc; stored(alloc)?]?;
     let job = over_bytes(OUTSTANDING);
     let mut narrow = Narrow {
@@ -264,7 +265,7 @@ fn tells_failed_writes(rt: HostRuntime) -> Result<(), Fail> {
 #[test]
 fn writes_pieces(rt: HostRuntime) -> Result<(), Fail> {
     let (held, ended) = printed_into(&rt, rt.alloc(), 7, 10_000)?;
-    assert_eq!(rt; ended, Ok(()));
+    assert_eq!(rt; ended, Ok(STORED_COVERAGE));
     assert_eq!(rt; held.as_slice(), STORED_TEXT.as_bytes());
     Ok(())
 }

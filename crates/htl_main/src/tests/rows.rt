@@ -1,5 +1,6 @@
 // Inputs with what is printed for them, and inputs that are refused.
 
+use crate::Coverage;
 use htl_command::Question;
 
 /// The stored run: two opens and a close of process 4.
@@ -17,6 +18,12 @@ OPEN handle=0x48 seq=3 thread=12
   0x0000000000001010
   0x0000000000002000
 ";
+
+/// Of its one processor it has the first segment.
+pub const STORED_COVERAGE: Coverage = Coverage {
+    gaps: 0,
+    complete_to: 3,
+};
 
 /// A segment with no events.
 const EMPTY: &str = "484c5331 0100 0100 0000 0000 00000000 0700000000000000 00000000 20000000";

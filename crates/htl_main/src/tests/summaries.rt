@@ -1,6 +1,7 @@
-// Summaries of traces of several processors.
+// Summaries of traces of several processors, and how much of them is there.
 
 use super::{over_bytes, printed};
+use crate::Coverage;
 use htl_command::{Job, Question};
 use htl_samples::Trace;
 use htl_segment::encode;
@@ -11,6 +12,7 @@ use std::test::Fail;
 struct Summary {
     processors: u16,
     segments: &'static [&'static str],
+    coverage: Coverage,
     text: &'static str,
 }
 
@@ -25,6 +27,10 @@ const MISSING: Summary = Summary {
         "1/1: D 13 0x3000 Lky8, R 14 0x4000 Lky8, D 15 0x4000 Dflt",
         "1/3: exit 16 process=8",
     ],
+    coverage: Coverage {
+        gaps: 4,
+        complete_to: 0,
+    },
     text: "\
 summary processors=3 segments=5 events=16 complete_to=0 gaps=4 processes=3 objects=4 unbalanced=3
 GAP processor=0 from=0 to=0
@@ -40,9 +46,35 @@ OBJECT object=0x0000000000003000 tags=1 unbalanced=1 refs=0 derefs=1
 ",
 };
 
+/// Each processor's first two segments are there, the later of them without an event for one.
+const TORN: Summary = Summary {
+    processors: 2,
+    segments: &[
+        "0/0: S 1, S 4",
+        "0/1:",
+        "0/3: S 9",
+        "1/0: S 2",
+        "1/1: S 6",
+        "1/7: S 8",
+    ],
+    coverage: Coverage {
+        gaps: 2,
+        complete_to: 4,
+    },
+    text: "\
+summary processors=2 segments=6 events=6 complete_to=4 gaps=2 processes=0 objects=0 unbalanced=0
+GAP processor=0 from=2 to=2
+GAP processor=1 from=2 to=6
+",
+};
+
 const WHOLE: Summary = Summary {
     processors: 2,
     segments: &["1/0: S 3", "0/1: C 2 0x44", "0/0: O 1 0x44"],
+    coverage: Coverage {
+        gaps: 0,
+        complete_to: 2,
+    },
     text: "\
 summary processors=2 segments=3 events=3 complete_to=2 gaps=0 processes=1 objects=0 unbalanced=0
 PROCESS process=4 outstanding=0 opens=1 closes=1 bad=0 mark=3 exit=0
@@ -64,7 +96,7 @@ fn input(alloc: Global, row: &Summary) -> Result<Vec<Vec<u8>>, Fail> {
 
 #[test]
 fn prints_summaries(rt: HostRuntime) -> Result<(), Fail> {
-    for row in [MISSING, WHOLE] {
+    for row in [MISSING, TORN, WHOLE] {
         let inputs = input(rt.alloc(), &row)?;
         for workers in [1, 4] {
             let job = Job {
@@ -72,8 +104,24 @@ fn prints_summaries(rt: HostRuntime) -> Result<(), Fail> {
                 ..over_bytes(Question::Summary)
             };
             let (written, ended) = printed(&rt, rt.alloc(), &job, &inputs, None);
-            assert_eq!(rt; ended, Ok(()));
+            assert_eq!(rt; ended, Ok(row.coverage));
             assert_eq!(rt; written.as_slice(), row.text.as_bytes());
+        }
+    }
+    Ok(())
+}
+
+#[test]
+fn each_command_tells_the_coverage(rt: HostRuntime) -> Result<(), Fail> {
+    let listing = Question::Trace {
+        process: 4,
+        handle: 0x44,
+    };
+    for row in [MISSING, TORN, WHOLE] {
+        let inputs = input(rt.alloc(), &row)?;
+        for question in [listing, Question::Bad { process: 4 }] {
+            let (_, ended) = printed(&rt, rt.alloc(), &over_bytes(question), &inputs, None);
+            assert_eq!(rt; ended, Ok(row.coverage));
         }
     }
     Ok(())

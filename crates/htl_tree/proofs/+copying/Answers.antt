@@ -1,43 +1,70 @@
 -- A node whose counts and children are copied is a copy.
-use Rattle.std.proofs.Common.{rules, ◌≡◌, ◌+◌, ◌≤◌, ◌++◌, sym, ap, ◌∙◌, subst}
+use Rattle.std.proofs.Common.{rules, ◌≡◌, ℕ, ◌+◌, ◌-◌, ◌<◌, ◌≤◌, ◌++◌, List, [], length, append-nil}
+use Rattle.std.proofs.Common.{sym, ap, ◌∙◌, subst, arith}
 use Rattle.htl_sorted.specs.Made.{Made}
+use Rattle.htl_tree.specs.declared.cursor.Cursor.{Cursor}
+use Rattle.htl_tree.specs.declared.node.Node.{Node}
 use Rattle.htl_tree.specs.declared.node.Node.TheViews.{roll-Node}
-use Rattle.htl_tree.specs.Nodes.{kids, height, heights, IsNormal, IsCopy, EachNormal}
-use Rattle.htl_tree.proofs.CountAdded.{own_of, kids_of}
-use Rattle.htl_tree.proofs.NodeRows.{kids_normal}
-use Rattle.htl_tree.proofs.Children.{height_at, height_is, each_at, appends_more}
-use Rattle.htl_tree.proofs.CopiesAndSums.{copied}
+use Rattle.htl_tree.specs.Nodes.{Spot, spot, frames, top, tops, inside, own, marks, kids, height, heights, IsNormal, IsCopy}
+use Rattle.htl_tree.proofs.Children.{height_is, kid_normal, kid_height}
+use Rattle.htl_tree.proofs.CopiesAndSums.{normal_skip, height_skip, skip_all, copied, copied_along, appends_next, tops_push}
+use Rattle.htl_tree.proofs.Spots.{frames_of, own_of, marks_of, kids_of}
 use Rattle.htl_tree.proofs.+copying.Goals as goal
 
-pub node::Node::copy-copy_children-requires : goal.node::Node::copy-copy_children-requires
-node::Node::copy-copy_children-requires g t c κs within =
-    let n = c.args.self.now in
-    let normal : EachNormal c.deref-2.result.now = subst (λ l. EachNormal l) (sym c.deref-2.ensures.value) (kids_normal n c.requires) in
-    let all : height n ≡ heights (kids n) + 1 = height_is n in
-    let same : heights c.deref-2.result.now ≡ heights (kids n) = ap heights c.deref-2.ensures.value in
+pub cursor::Cursor::copy-copy_children-requires : goal.cursor::Cursor::copy-copy_children-requires
+cursor::Cursor::copy-copy_children-requires g t c κs within =
+    let all : Cursor g.row.A.Denot = c.args.self.now in
+    let i : Spot g.row.A.Denot = spot c.skip-inside.result in
+    let normal : IsNormal i = normal_skip all (length all.frames.now) i c.skip-inside.ensures c.requires in
+    let lower : height i ≤ height (spot all) = height_skip all (length all.frames.now) i c.skip-inside.ensures in
+    let further : height i ≡ heights (kids i) + 1 = height_is i in
     search rules
 
-pub node::Node::copy-returns : goal.node::Node::copy-returns
-node::Node::copy-returns g t c =
-    let n = c.args.self.now in
-    let A = g.row.A.Denot in
-    let m = roll-Node A record { counts = c.in_ok-counts.counts; children = c.copy_children.new.into } in
+pub cursor::Cursor::copy-returns : goal.cursor::Cursor::copy-returns
+cursor::Cursor::copy-returns g t c =
+    let fs : List ℕ = c.args.self.now.frames.now in
+    let n : Node g.row.A.Denot = c.args.self.now.node.now in
+    let m : Node g.row.A.Denot = roll-Node g.row.A.Denot record {
+      frames = c.in_ok-from_slice.field-0;
+      counts = c.in_ok-from_slice-2.field-0;
+      children = c.copy_children.new.into;
+      marks = c.marks.result;
+    } in
+    let i : Spot g.row.A.Denot = spot c.skip-inside.result in
+    let is : i ≡ inside n = skip_all c.args.self.now i c.skip-inside.ensures in
+    let normal : IsNormal (inside n) = subst (λ s. IsNormal s) is
+    (normal_skip c.args.self.now (length fs) i c.skip-inside.ensures c.requires) in
+    let counts : own (inside m) ≡ own (inside n) = own_of _ ∙ c.in_ok-from_slice-2.ensures.items ∙ c.counts.ensures ∙ ap own is in
+    let marked : marks (inside m) ≡ marks (inside n) = marks_of _ ∙ c.marks.ensures ∙ ap marks is in
     let made = c.in_ok-copy_children.ensures in
-    let is : kids m ≡ made.0 = kids_of _ ∙ made.1 ∙ ap (λ l. l ++ made.0) c.in_ok-children.ensures.items in
-    copied n m c.requires (own_of _ ∙ c.in_ok-counts.ensures.items ∙ c.deref.ensures.value)
-    (subst (λ l. Made (λ k c. IsCopy k c) (kids n) l) (sym is)
-    (subst (λ l. Made (λ k c. IsCopy k c) l made.0) c.deref-2.ensures.value made.2))
+    let children : kids (inside m) ≡ made.0 = kids_of _ ∙ made.1 ∙ ap (λ l. tops l ++ made.0) c.in_ok-children.ensures.items in
+    let inner : IsCopy (inside n) (inside m) = copied (inside n) (inside m) normal counts marked
+    (subst (λ l. Made (λ k c. IsCopy k c) (kids (inside n)) l) (sym children)
+    (subst (λ (s : Spot g.row.A.Denot). Made (λ k c. IsCopy k c) (kids s) made.0) is made.2)) in
+    let same : frames m ≡ fs = frames_of _ ∙ c.in_ok-from_slice.ensures.items in
+    subst (λ l. IsCopy (fs, n) (l, m)) (sym same) (copied_along fs n m c.requires inner)
+
+pub sums::copy_children-loop-index-init : goal.sums::copy_children-loop-index-init
+sums::copy_children-loop-index-init g t c =
+    let none : c.args.start - c.args.start ≡ 0 = omega arith in
+    rw none ([], sym (append-nil _), tt)
 
 pub sums::copy_children-copy-requires : goal.sums::copy_children-copy-requires
 sums::copy_children-copy-requires g t c κs within =
-    let ks = c.args.children.now in
-    let d = c.loop-frame-item.result in
-    let i = c.loop-frame.frame-index in
-    let normal : IsNormal d.1 = each_at (λ c. IsNormal c) ks c.requires i d c.loop-frame-test.true c.loop-frame-item.is in
-    let lower : height d.1 ≤ heights ks = height_at ks i d c.loop-frame-test.true c.loop-frame-item.is in
+    let n : Spot g.row.A.Denot = spot c.args.from.now in
+    let d : ℕ × Spot g.row.A.Denot = (c.child_at-frame.result.0, spot c.child_at-frame.result.1) in
+    let lt : c.loop-index.index < length (kids n) = search rules in
+    let normal : IsNormal d.1 = kid_normal n c.requires c.loop-index.index d lt c.child_at-frame.ensures in
+    let lower : height d.1 < height n = kid_height n c.loop-index.index d lt c.child_at-frame.ensures in
+    let all : height n ≡ heights (kids n) + 1 = height_is n in
     search rules
 
-pub sums::copy_children-loop-frame-preserved : goal.sums::copy_children-loop-frame-preserved
-sums::copy_children-loop-frame-preserved g t c =
-    appends_more c.args.children.now _ c.loop-frame.into.items _ c.loop-frame.frame-index c.loop-frame-item.result c.in_ok-copy.field-0
-    c.loop-frame.invariant c.loop-frame-test.true c.loop-frame-item.is c.in_ok-copy.ensures c.in_ok-push.ensures.items
+pub sums::copy_children-loop-index-preserved : goal.sums::copy_children-loop-index-preserved
+sums::copy_children-loop-index-preserved g t c =
+    let n : Spot g.row.A.Denot = spot c.args.from.now in
+    let d : ℕ × Spot g.row.A.Denot = (c.child_at-frame.result.0, spot c.child_at-frame.result.1) in
+    let lt : c.loop-index.index < length (kids n) = search rules in
+    let from : c.args.start ≤ c.loop-index.index = omega arith in
+    appends_next (kids n) (tops c.args.into.now.items) (tops c.loop-index.into.items) (tops c.push.new.self.items) c.args.start
+    c.loop-index.index d (top c.in_ok-copy.field-0) from c.loop-index.invariant lt c.child_at-frame.ensures c.in_ok-copy.ensures
+    (tops_push c.loop-index.into.items c.push.new.self.items d.0 c.in_ok-copy.field-0 c.in_ok-push.ensures.items)

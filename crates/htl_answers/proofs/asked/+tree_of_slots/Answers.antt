@@ -12,7 +12,8 @@ pub returns-clause-tally : goal.returns-clause-tally
 returns-clause-tally g t c =
     let parts = c.args.parts.now in
     IfOk-weaker c.plus.result _ _ (λ sum is.
-    counts_halves g.P.Part.contents (length parts / 2) parts _ _ c.split_at.ensures.front c.split_at.ensures.back (λ tree events. HasTally tree (filter (is_asked c.args.slots) events))
+    counts_halves g.P.Part.contents (length parts / 2) parts _ _ c.split_at.ensures.front c.split_at.ensures.back
+    (λ tree events. HasTally tree (filter (is_asked c.args.slots) events))
     (asked_append c.args.slots) sum c.in_ok-left.left c.in_ok-right.right is c.in_ok-left.ensures.tally c.in_ok-right.ensures.tally) c.plus.ensures.tally
 
 pub returns-clause-total : goal.returns-clause-total

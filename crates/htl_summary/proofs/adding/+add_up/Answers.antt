@@ -1,9 +1,9 @@
 -- Both halves in order, merged.
-use Rattle.std.proofs.Common.{rules, ◌≡◌, ◌++◌, ◌/◌, List, [], length, take, drop, Some, sym, ap, ◌∙◌, append-nil, append_assoc}
+use Rattle.std.proofs.Common.{rules, ◌≡◌, ◌++◌, ◌/◌, [], length, take, drop, sym, ap, ◌∙◌, append-nil, append_assoc}
 use Rattle.std.specs.FinMap.Entries.{find}
 use Rattle.std.proofs.lemmas.List.{take-append-drop}
 use Rattle.htl_sorted.specs.Entries.{entries, joined_at}
-use Rattle.htl_summary.specs.Totals.{total_at}
+use Rattle.htl_summary.specs.Totals.{total_at, CanAddUp}
 use Rattle.htl_summary.proofs.Totals.{total-append}
 use Rattle.htl_summary.proofs.adding.+add_up.Goals as goal
 
@@ -13,11 +13,7 @@ add_up-requires-2 g t c κs within =
     let half = length rows / 2 in
     let front = c.split_at.result.0.now in
     let back = c.split_at.result.1.now in
-    let fits : (before left right after : List g.row.L-Row.Denot) (k : g.row.L-Key.Denot) (x y : g.row.L-Value.Denot)
-    → back ≡ before ++ (left ++ (right ++ after))
-    → total_at g.L.Key.Ord.cmp g.L.Keyed.key_of g.L.Keyed.value_of g.L.Joined.joined k left ≡ Some x
-    → total_at g.L.Key.Ord.cmp g.L.Keyed.key_of g.L.Keyed.value_of g.L.Joined.joined k right ≡ Some y
-    → g.L.Joined.can_join x y =
+    let fits : CanAddUp g.L.Key.Ord.cmp g.L.Keyed.key_of g.L.Keyed.value_of g.L.Joined.joined g.L.Joined.can_join back =
     (λ before left right after k x y is one two.
     let cut : rows ≡ (front ++ before) ++ (left ++ (right ++ after)) = sym (take-append-drop half rows)
     ∙ ap (λ l. l ++ drop half rows) (sym c.split_at.ensures.front) ∙ ap (λ l. front ++ l) (sym c.split_at.ensures.back ∙ is)

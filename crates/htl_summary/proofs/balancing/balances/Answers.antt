@@ -1,7 +1,6 @@
 -- The rows are those of the definition, put in order, and their number is that of the objects.
-use Rattle.std.proofs.Common.{◌≡◌, List, map, nat_eq, length, sym, subst, ap, ◌∙◌}
+use Rattle.std.proofs.Common.{length, ap, ◌∙◌}
 use Rattle.std.specs.Prelude.{Contains, ◌↔◌, filter}
-use Rattle.std.specs.List.{IsDistinct}
 use Rattle.htl_event.specs.declared.summary.ObjectRow.{ObjectRow}
 use Rattle.htl_summary.specs.Sums.{ListsSlotSums}
 use Rattle.htl_summary.proofs.ObjectRows.{shows, are_objects, are_unbalanced}

@@ -1,5 +1,5 @@
 -- The rows are those of the definition, put in order.
-use Rattle.std.proofs.Common.{◌≡◌, List, map, nat_eq, sym, subst, ap, ◌∙◌}
+use Rattle.std.proofs.Common.{List, map, nat_eq, sym, subst, ap, ◌∙◌}
 use Rattle.std.specs.List.{IsDistinct}
 use Rattle.htl_summary.specs.declared.usage.Usage.{Usage}
 use Rattle.htl_summary.specs.Sums.{ListsSlotSums}

@@ -1,5 +1,5 @@
 -- The sums of the one tree are those of all events, and come to no more than the tree counts.
-use Rattle.std.proofs.Common.{◌≡◌, ◌<◌, ◌≤◌, ◌^◌, arith}
+use Rattle.std.proofs.Common.{arith}
 use Rattle.std.proofs.lemmas.Result.{IfOk-weaker}
 use Rattle.htl_summary.proofs.SlotSums.{sums_listed, sums_upto_total}
 use Rattle.htl_summary.proofs.sums.slot_sums.Goals as goal

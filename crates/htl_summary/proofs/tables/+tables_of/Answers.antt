@@ -1,9 +1,9 @@
 -- Both halves together.
-use Rattle.std.proofs.Common.{◌≡◌, ◌/◌, ◌++◌, List, map, length, take, drop, sym, ap, subst, ◌∙◌}
+use Rattle.std.proofs.Common.{◌/◌, map, length, take, drop, sym, subst}
 use Rattle.std.proofs.lemmas.Result.{IfOk-weaker}
-use Rattle.htl_event.specs.Events.{Event}
 use Rattle.htl_answers.specs.Parts.{AreEventsOf}
-use Rattle.htl_summary.proofs.JoinedTables.{halves, tables_halves}
+use Rattle.htl_answers.proofs.WholeLemmas.{halves}
+use Rattle.htl_summary.proofs.JoinedTables.{tables_halves}
 use Rattle.htl_summary.proofs.tables.+tables_of.Goals as goal
 
 pub returns : goal.returns

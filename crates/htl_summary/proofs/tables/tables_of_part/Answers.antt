@@ -1,5 +1,5 @@
 -- What is folded and what is held, joined.
-use Rattle.std.proofs.Common.{◌≡◌, List, subst}
+use Rattle.std.proofs.Common.{List, subst}
 use Rattle.htl_event.specs.Events.{Event}
 use Rattle.htl_summary.specs.Tables.{AreTablesOf}
 use Rattle.htl_summary.proofs.JoinedTables.{tables_joined, tables_folded}

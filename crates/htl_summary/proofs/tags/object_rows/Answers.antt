@@ -1,5 +1,5 @@
 -- The rows of all tags fit.
-use Rattle.std.proofs.Common.{◌≡◌, sym, ◌∙◌}
+use Rattle.std.proofs.Common.{sym, ◌∙◌}
 use Rattle.htl_summary.proofs.Fitting.{objects_fit}
 use Rattle.htl_summary.proofs.tags.object_rows.Goals as goal
 

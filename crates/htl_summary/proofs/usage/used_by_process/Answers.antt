@@ -1,5 +1,5 @@
 -- The usages of all slots fit.
-use Rattle.std.proofs.Common.{◌≡◌, sym, ◌∙◌}
+use Rattle.std.proofs.Common.{sym, ◌∙◌}
 use Rattle.htl_summary.proofs.Fitting.{usages_fit}
 use Rattle.htl_summary.proofs.usage.used_by_process.Goals as goal
 

@@ -3,7 +3,7 @@ use Rattle.std.proofs.Common.{◌+◌, ◌<◌, ◌^◌}
 use Rattle.std.proofs.Common.{get_or, Some, sym, ap, subst, arith}
 use Rattle.htl_event.specs.Tallies.{total_of}
 use Rattle.htl_tree.specs.Trees.{count_at}
-use Rattle.htl_tree.specs.Nodes.{tree_of, IsNormalRoot}
+use Rattle.htl_tree.specs.Nodes.{top, tree_of, IsNormalRoot}
 use Rattle.htl_tree.specs.Rows.{entries_of, sum_at, slot_sum, WithRows}
 use Rattle.htl_tree.proofs.RowsAdded.{on_ok}
 use Rattle.htl_tree.proofs.RowsOneMore.{no_row}
@@ -21,7 +21,7 @@ add_rows-requires-clause-fits g c slot =
     (sum_at (entries_of rows) slot stack) < 2 ^ 64 =
     subst (λ r. total_of (count_at (tree_of r) slot stack) + total_of (sum_at (entries_of rows) slot stack) < 2 ^ 64) c.in-Some.is
     (c.requires.fits slot stack) in
-    subst (λ k. total_of k + total_of (slot_sum slot rows) < 2 ^ 64) (count_tree c.in-Some.root h.normal slot stack)
+    subst (λ k. total_of k + total_of (slot_sum slot rows) < 2 ^ 64) (count_tree (top c.in-Some.root) h.normal slot stack)
     (subst (λ k. total_of (count_at (tree_of (Some c.in-Some.root)) slot stack) + total_of k < 2 ^ 64)
     (sym (group_sum rows stack alike slot)) fits)
 
@@ -31,7 +31,7 @@ returns-in-Some g c =
     let stack = (get_or rows 0 no_row).stack.now in
     let h : IsNormalRoot (Some c.in-Some.root) = subst (λ r. IsNormalRoot r) c.in-Some.is c.requires.normal in
     on_ok c.add_rows.result c.add_rows.ensures (λ gained.
-    let now = gained_tree c.in-Some.root c.add_rows.new.self h stack (first_short rows c.requires.group c.requires.rows) rows
+    let now = gained_tree (top c.in-Some.root) (top c.add_rows.new.self) h stack (first_short rows c.requires.group c.requires.rows) rows
     c.requires.group.some c.requires.rows.positive (first_alike rows c.requires.group) gained in
     (now.0, subst (λ r. WithRows (tree_of (Some c.add_rows.new.self)) (tree_of r) rows) (sym c.in-Some.is) now.1))
 
@@ -47,6 +47,6 @@ pub returns : goal.returns
 returns g c =
     let rows = c.args.group.now in
     let stack = (get_or rows 0 no_row).stack.now in
-    let now = chain_tree c.in_ok-chain.chain stack (first_short rows c.requires.group c.requires.rows) rows c.requires.group.some
+    let now = chain_tree (top c.in_ok-chain.chain) stack (first_short rows c.requires.group c.requires.rows) rows c.requires.group.some
     c.requires.rows.positive (first_alike rows c.requires.group) c.in_ok-chain.ensures in
     (now.0, subst (λ r. WithRows (tree_of (Some c.in_ok-chain.chain)) (tree_of r) rows) (sym c.in_default.is) now.1)

@@ -1,73 +1,96 @@
--- One more below a child is one more at the frame and the path below it.
-use Rattle.std.proofs.Common.{rules, sym, ◌+◌, ◌<◌, ◌^◌, ◌≡◌, ap, ◌∙◌, refl, reverse}
-use Rattle.std.specs.Vec.{with_item}
-use Rattle.htl_tree.specs.declared.node.Node.TheViews.{out-Node, roll-Node}
+-- One more inside the node is one more at its frames and the path from there on.
+use Rattle.std.proofs.Common.{rules, ◌+◌, ◌<◌, ◌^◌, ap, ◌∙◌, subst, reverse}
+use Rattle.std.specs.Int.Bits.{bit_or}
 use Rattle.htl_event.specs.Tallies.{total_of}
-use Rattle.htl_tree.specs.Nodes.{IsNormal, tally}
-use Rattle.htl_tree.proofs.CountAdded.{normal_here, kept_own, path_is, child_normal, child_tally, stepped}
-use Rattle.htl_tree.proofs.CountAdded.{grafted, own_of, kids_of, ended, refused}
-use Rattle.std.proofs.lemmas.List.{nil_from_length}
+use Rattle.htl_tree.specs.Nodes.{marks_at, tally, top, tops, inside}
+use Rattle.htl_tree.proofs.Spots.{frames_of, own_of, marks_of, kids_of, children_rolled}
+use Rattle.htl_tree.proofs.Tops.{children_sorted, found_top, set_top, no_top, insert_top}
+use Rattle.htl_tree.proofs.CountAdded.{normal_here, kept_own, added_own, added_branch, stepped, refused}
+use Rattle.htl_tree.proofs.Entered.{path_ends, path_goes_on, IsOnward, onward, normal_entered}
+use Rattle.htl_tree.proofs.Entered.{entered_tally, entered_added, entered_kept, entered_result}
 use Rattle.htl_tree.proofs.node.Node.+add.Goals as goal
 
 pub count_one-requires-clause-sorted : goal.count_one-requires-clause-sorted
-count_one-requires-clause-sorted g t c = let h = normal_here _ c.requires.normal in h.slots
+count_one-requires-clause-sorted g t c =
+    let n = c.enter.new.self in
+    let h = normal_here (inside n) (normal_entered (top c.args.self.now) n c.in_ok-stack.ensures.kept) in
+    h.slots
+
+pub count_one-requires-clause-fits : goal.count_one-requires-clause-fits
+count_one-requires-clause-fits g t c =
+    let path = path_ends c.args.stack.now _ _ c.in_ok-stack.ensures.rest c.in-None.ensures.cases in
+    subst (λ k. total_of k + 1 < 2 ^ 64)
+    (entered_tally (top c.args.self.now) c.enter.new.self c.in_ok-stack.ensures.kept _ _ path c.args.slot) c.requires.fits
 
 pub find_frame-requires : goal.find_frame-requires
-find_frame-requires g t c = let h = normal_here _ c.requires.normal in rw c.deref.ensures.value h.frames
+find_frame-requires g t c =
+    let n = c.enter.new.self in
+    rw c.deref.ensures.value (children_sorted n (normal_entered (top c.args.self.now) n c.in_ok-stack.ensures.kept))
 
 pub add-requires : goal.add-requires
 add-requires g t c κs within =
-    let n = c.args.self.now in
+    let n = c.enter.new.self in
     let d = c.index_mut.result.now in
-    let normal : IsNormal d.1 = child_normal n c.requires.normal c.deref.result.now c.deref.ensures.value _ _ c.in-Ok.ensures.found d
-    (search rules) in
-    let deeper : tally (reverse c.in-Some.rest.now) c.args.slot d.1 ≡ tally (reverse c.args.stack.now) c.args.slot n =
-    sym (ap (λ p. tally p c.args.slot n) (path_is c.args.stack.now c.in-Some.rest.now c.in-Some.frame.now c.in-Some.ensures.cases.0)
-    ∙ child_tally n c.requires.normal c.deref.result.now c.deref.ensures.value _ _ c.in-Ok.ensures.found d (search rules)
-    (reverse c.in-Some.rest.now) c.args.slot) in
-    let fits : total_of (tally (reverse c.in-Some.rest.now) c.args.slot d.1) + 1 < 2 ^ 64 = rw deeper c.requires.fits in
+    let rest = c.in-Some.rest.now in
+    let path = path_goes_on c.args.stack.now _ rest _ _ c.in_ok-stack.ensures.rest c.in-Some.ensures.cases.0 in
+    let child : IsOnward (top c.args.self.now) c.args.stack.now rest (top d.1) = onward (top c.args.self.now) n c.in_ok-stack.ensures.kept
+    c.args.stack.now rest _ path (top d.1) (found_top n _ c.deref.ensures.value _ _ c.in-Ok.ensures.found d (search rules)) in
+    let fits : total_of (tally (reverse rest) c.args.slot (top d.1)) + 1 < 2 ^ 64 =
+    subst (λ k. total_of k + 1 < 2 ^ 64) (child.counts c.args.slot) c.requires.fits in
     search rules
-
-pub returns-in_err-child-in-Err : goal.returns-in_err-child-in-Err
-returns-in_err-child-in-Err g t c =
-    refused _ _ c.from_residual.ensures.0 (kept_own c.args.self.now c.args.self.now c.requires.normal refl refl)
 
 pub returns-in_err-insert-in-Err : goal.returns-in_err-insert-in-Err
 returns-in_err-insert-in-Err g t c =
-    let n = c.args.self.now in
-    let A = g.row.A.Denot in
-    let m = roll-Node A record { counts = (out-Node A n).counts; children = c.insert.new.self } in
-    refused _ _ c.from_residual-in_err-insert-in-Err.ensures.0
-    (kept_own n m c.requires.normal (own_of _) (kids_of _ ∙ c.in_err-insert-in-Err.ensures.items))
+    let n = c.enter.new.self in
+    let kept = c.in_ok-stack.ensures.kept in
+    refused _ _ c.from_residual-in_err-insert-in-Err.ensures.0 (entered_kept (top c.args.self.now) n kept _ (frames_of _)
+    (kept_own (inside n) (inside _) (normal_entered (top c.args.self.now) n kept) (own_of _) (marks_of _)
+    (kids_of _ ∙ ap tops c.in_err-insert-in-Err.ensures.items)))
 
-pub returns-in-None : goal.returns-in-None
-returns-in-None g t c =
-    let n = c.args.self.now in
-    let A = g.row.A.Denot in
-    let m = roll-Node A record { counts = c.count_one.new.counts; children = (out-Node A n).children } in
-    rw (ap reverse (nil_from_length c.args.stack.now c.in-None.ensures.cases))
-    (ended n m c.requires.normal _ _ c.count_one.new.counts.items (own_of _)
-    (kids_of _) c.count_one.result c.count_one.ensures.ok c.count_one.ensures.err)
+pub returns-in_err-count_one-in-None : goal.returns-in_err-count_one-in-None
+returns-in_err-count_one-in-None g t c =
+    let n = c.enter.new.self in
+    let kept = c.in_ok-stack.ensures.kept in
+    refused _ _ c.from_residual-in_err-count_one-in-None.ensures.0 (entered_kept (top c.args.self.now) n kept _ (frames_of _)
+    (kept_own (inside n) (inside _) (normal_entered (top c.args.self.now) n kept) (own_of _ ∙ c.in_err-count_one-in-None.ensures.err)
+    (marks_of _) (kids_of _)))
+
+pub returns-in_ok-count_one-in-None : goal.returns-in_ok-count_one-in-None
+returns-in_ok-count_one-in-None g t c =
+    let n = c.enter.new.self in
+    let old = top c.args.self.now in
+    let kept = c.in_ok-stack.ensures.kept in
+    let path = path_ends c.args.stack.now _ _ c.in_ok-stack.ensures.rest c.in-None.ensures.cases in
+    entered_added old n kept _ _ path c.args.slot _ (frames_of _ ∙ frames_of _) c.args.sign
+    (added_own (inside n) (inside _) c.args.slot c.args.sign (normal_entered old n kept)
+    (own_of _ ∙ own_of _ ∙ c.in_ok-count_one-in-None.ensures.ok)
+    (marks_of _ ∙ ap (λ k. bit_or k c.mark_of.result) (marks_of _) ∙ ap (bit_or (marks_at n)) c.mark_of.ensures) (kids_of _ ∙ kids_of _))
 
 pub returns-in-Ok : goal.returns-in-Ok
 returns-in-Ok g t c =
-    let n = c.args.self.now in
+    let n = c.enter.new.self in
+    let old = top c.args.self.now in
     let d = c.index_mut.result.now in
-    let A = g.row.A.Denot in
-    let m = roll-Node A record {
-      counts = (out-Node A n).counts;
-      children =
-          with_item (out-Node A n).children c.in-Ok.i (d.0, c.add.new.self);
-    } in
-    rw (path_is c.args.stack.now c.in-Some.rest.now c.in-Some.frame.now c.in-Some.ensures.cases.0)
-    (stepped n c.requires.normal c.deref.result.now c.deref.ensures.value _ _ c.in-Ok.ensures.found d
-    (search rules) m c.add.new.self (own_of _) (kids_of _) _ _ _ _ c.add.ensures)
+    let kept = c.in_ok-stack.ensures.kept in
+    let same = c.deref.ensures.value in
+    let place = c.in-Ok.ensures.found in
+    let path = path_goes_on c.args.stack.now _ _ _ _ c.in_ok-stack.ensures.rest c.in-Some.ensures.cases.0 in
+    entered_result old n kept _ _ path c.args.slot c.args.sign _ (frames_of _) c.add.result
+    (stepped (inside n) (inside _) (normal_entered old n kept) _ (top d.1) (top c.add.new.self)
+    (found_top n _ same _ _ place d (search rules)) (own_of _) (marks_of _)
+    (set_top n _ same _ _ place d (search rules) _ c.add.new.self (children_rolled _)) (reverse c.in-Some.rest.now)
+    c.args.slot c.args.sign c.add.result c.add.ensures)
 
 pub returns-in_ok-insert-in-Err : goal.returns-in_ok-insert-in-Err
 returns-in_ok-insert-in-Err g t c =
-    let n = c.args.self.now in
-    let A = g.row.A.Denot in
-    let m = roll-Node A record { counts = (out-Node A n).counts; children = c.insert.new.self } in
-    rw (path_is c.args.stack.now c.in-Some.rest.now c.in-Some.frame.now c.in-Some.ensures.cases.0)
-    (grafted n c.requires.normal c.deref.result.now c.deref.ensures.value _ _ c.in-Err.ensures.absent m c.in_ok-child-in-Err.child
-    (own_of _) (kids_of _ ∙ c.in_ok-insert-in-Err.ensures.items) _ _ _ c.in_ok-child-in-Err.ensures)
+    let n = c.enter.new.self in
+    let old = top c.args.self.now in
+    let kept = c.in_ok-stack.ensures.kept in
+    let same = c.deref.ensures.value in
+    let gap = c.in-Err.ensures.absent in
+    let path = path_goes_on c.args.stack.now _ _ _ _ c.in_ok-stack.ensures.rest c.in-Some.ensures.cases.0 in
+    let child = c.in_ok-child-in-Err.child in
+    entered_added old n kept _ _ path c.args.slot _ (frames_of _) c.args.sign
+    (added_branch (inside n) (inside _) _ (top child) (own_of _) (marks_of _)
+    (insert_top n _ same _ _ gap _ child (children_rolled _ ∙ c.in_ok-insert-in-Err.ensures.items)) (normal_entered old n kept)
+    (reverse c.in-Some.rest.now) c.args.slot c.args.sign (no_top n _ same _ _ gap) c.in_ok-child-in-Err.ensures)

@@ -1,22 +1,41 @@
 -- The rows of a child follow those of the children before it.
-use Rattle.std.proofs.Common.{rules, ◌≡◌, ℕ, ◌+◌, ◌-◌, ◌<◌, ◌≤◌, List, [], ◌∷◌, ◌++◌, length}
-use Rattle.std.proofs.Common.{take, drop, get_or, vec_len, append_assoc, append-nil, length-append, sym, ap, ◌∙◌, subst, arith}
-use Rattle.std.proofs.lemmas.List.{take_at}
+use Rattle.std.proofs.Common.{rules, ◌≡◌, ℕ, ◌+◌, ◌-◌, ◌<◌, List, [], ◌∷◌, ◌++◌, length}
+use Rattle.std.proofs.Common.{take, drop, false, vec_len, append_assoc, append-nil, length-append, sym, ap, ◌∙◌, subst, arith}
+use Rattle.std.proofs.lemmas.List.{take_at, nil_from_length}
 use Rattle.htl_event.specs.declared.slot.Slot.{Slot}
 use Rattle.htl_event.specs.declared.slot.Count.{Count}
-use Rattle.htl_tree.specs.declared.node.Node.{Node}
 use Rattle.htl_tree.specs.Asked.{has_slot}
-use Rattle.htl_tree.specs.Nodes.{own, kids, rows, height, rows_at, own_at, IsShortFrom}
+use Rattle.htl_tree.specs.Nodes.{top, inside, frames, counts_of, children_of, marks_at, kids, rows, height, rows_at, own_at, IsNormal, IsShortFrom}
 use Rattle.htl_tree.proofs.NodeRows.{kid_rows}
-use Rattle.htl_tree.proofs.Children.{kid_height}
-use Rattle.htl_tree.proofs.SlotRows.{rows_at-node, kid_rows_drop, kid_rows_end, short_here, short_child}
+use Rattle.htl_tree.proofs.CountAdded.{normal_here, normal_inside}
+use Rattle.htl_tree.proofs.Children.{IsChildAt, child_at, no_child_at, child_normal, child_height, inside_height}
+use Rattle.htl_tree.proofs.Marked.{unmarked_rows}
+use Rattle.htl_tree.proofs.SlotRows.{rows_at-node, rows_at-inside, rows_at-leaf, child_rows, short_here, short_inside, short_child}
 use Rattle.htl_tree.proofs.node.Node.+list_rows.Goals as goal
 
-pub list_own-requires : goal.list_own-requires
-list_own-requires g t c some =
-    let same : length c.deref.result.now ≡ length (own c.args.self.now) = ap length c.deref.ensures.value in
-    let depth : length c.deref-2.result.now ≡ length c.args.path.now.items = ap length c.deref-2.ensures.value in
-    let short = short_here c.args.self.now (length c.args.path.now.items) c.requires (omega (arith, same, some)) in
+pub returns-then-not-may_count-clause-listed : goal.returns-then-not-may_count-clause-listed
+returns-then-not-may_count-clause-listed g t c =
+    let n = c.args.self.now in
+    let p = c.args.path.now.items in
+    let old : List ((Slot × List ℕ) × Count) = c.args.into.now.items in
+    let h = normal_here (inside n) (normal_inside (frames n) n c.requires.normal) in
+    let none : children_of n ≡ [] = nil_from_length (children_of n) (search rules) in
+    let missing : c.may_count.result ≡ false = c.if-not-may_count.true in
+    sym (append-nil old) ∙ ap (λ l. old ++ l) (sym (rows_at-leaf (has_slot c.args.slots) n p none
+    (unmarked_rows (marks_at n) c.args.slots (p ++ frames n) (counts_of n) h.marked
+    (λ s yes there. c.may_count.ensures missing (c.common_mark.ensures (marks_at n) s yes there)))))
+
+pub list_here-requires-clause-normal : goal.list_here-requires-clause-normal
+list_here-requires-clause-normal g t c = normal_inside (frames c.args.self.now) c.args.self.now c.requires.normal
+
+pub list_here-requires-clause-short : goal.list_here-requires-clause-short
+list_here-requires-clause-short g t c some =
+    let n = c.args.self.now in
+    let p = c.args.path.now.items in
+    let path : c.deref-2.result.now ≡ p ++ frames n = c.deref-2.ensures.value ∙ c.in_ok-extend_from_slice.ensures.items
+    ∙ ap (λ l. p ++ l) c.deref.ensures.value in
+    let depth : length c.deref-2.result.now ≡ length p + length (frames n) = ap length path ∙ length-append p (frames n) in
+    let short = short_here (inside n) (length p + length (frames n)) (short_inside (frames n) n (length p) c.requires.short) some in
     omega (arith, depth, short)
 
 pub loop-frame-init : goal.loop-frame-init
@@ -24,66 +43,77 @@ loop-frame-init g t c =
     let n = c.args.self.now in
     let s = has_slot c.args.slots in
     let p = c.args.path.now.items in
+    let q = p ++ frames n in
     let old = c.args.into.now.items in
-    let below : List ((Slot × List ℕ) × Count) = rows_at s p (kid_rows (kids n)) in
-    let mine : c.list_own.new.into.items ≡ old ++ own_at s p (own n) =
-    c.in_ok-list_own.ensures ∙ ap (λ k. old ++ own_at s k c.deref.result.now) c.deref-2.ensures.value
-    ∙ ap (λ es. old ++ own_at s p es) c.deref.ensures.value in
+    let own : List ((Slot × List ℕ) × Count) = own_at s q (counts_of n) in
+    let below : List ((Slot × List ℕ) × Count) = rows_at s q (kid_rows (kids (inside n))) in
+    let path : c.extend_from_slice.new.self.items ≡ q = c.in_ok-extend_from_slice.ensures.items
+    ∙ ap (λ l. p ++ l) c.deref.ensures.value in
+    let mine : c.list_here.new.into.items ≡ old ++ own = c.in_ok-list_here.ensures
+    ∙ ap (λ k. old ++ own_at s k (counts_of n)) (c.deref-2.ensures.value ∙ path) in
     record {
-      path = search rules;
-      listed = ap (λ l. l ++ below) mine ∙ append_assoc old (own_at s p (own n)) below ∙ ap (λ l. old ++ l) (sym (rows_at-node s n p));
+      path = path;
+      listed = ap (λ l. l ++ below) mine ∙ append_assoc old own below
+          ∙ ap (λ l. old ++ l) (sym (rows_at-inside s (frames n) n p ∙ rows_at-node s (inside n) q));
     }
 
 pub list_rows-requires : goal.list_rows-requires
 list_rows-requires g t c κs within =
     let n = c.args.self.now in
-    let i = c.loop-frame.frame-index in
     let d = c.loop-frame-item.result in
-    let lt : i < length (kids n) = subst (λ (l : List (ℕ × Node g.row.A.Denot)). i < length l) c.deref-frame-items.ensures.value
-    c.loop-frame-test.true in
-    let is : d ≡ get_or (kids n) i d = c.loop-frame-item.is ∙ ap (λ l. get_or l i d) c.deref-frame-items.ensures.value in
-    let lower : height d.1 < height n = kid_height n i d lt is in
-    let grown : c.push.new.self.items ≡ c.args.path.now.items ++ d.0 ∷ [] = c.in_ok-push.ensures.items
+    let p = c.args.path.now.items in
+    let fs = frames n in
+    let path = p ++ fs in
+    let at : IsChildAt n c.loop-frame.frame-index d =
+    child_at n _ c.deref-frame-items.ensures.value _ d c.loop-frame-test.true c.loop-frame-item.is in
+    let lower : height (top d.1) < height (top n) = omega (arith, child_height at, inside_height fs n) in
+    let normal : IsNormal (top d.1) = child_normal at (normal_inside fs n c.requires.normal) in
+    let grown : c.push.new.self.items ≡ path ++ d.0 ∷ [] = c.in_ok-push.ensures.items
     ∙ ap (λ l. l ++ d.0 ∷ []) c.loop-frame.invariant.path in
-    let depth : length c.push.new.self.items ≡ length c.args.path.now.items + 1 = ap length grown
-    ∙ length-append c.args.path.now.items (d.0 ∷ []) in
-    let short : IsShortFrom (length c.push.new.self.items) (rows d.1) =
-    subst (λ k. IsShortFrom k (rows d.1)) (sym depth) (short_child n (length c.args.path.now.items) i d c.requires lt is) in
+    let depth : length c.push.new.self.items ≡ length p + length fs + 1 = ap length grown ∙ length-append path (d.0 ∷ [])
+    ∙ ap (λ l. l + 1) (length-append p fs) in
+    let short : IsShortFrom (length c.push.new.self.items) (rows (top d.1)) = subst (λ l. IsShortFrom l (rows (top d.1))) (sym depth)
+    (short_child at (length p + length fs) (short_inside fs n (length p) c.requires.short)) in
     search rules
 
 pub loop-frame-preserved : goal.loop-frame-preserved
 loop-frame-preserved g t c =
     let n = c.args.self.now in
-    let s = has_slot c.args.slots in
-    let p = c.args.path.now.items in
     let i = c.loop-frame.frame-index in
     let d = c.loop-frame-item.result in
-    let lt : i < length (kids n) = subst (λ (l : List (ℕ × Node g.row.A.Denot)). i < length l) c.deref-frame-items.ensures.value
-    c.loop-frame-test.true in
-    let is : d ≡ get_or (kids n) i d = c.loop-frame-item.is ∙ ap (λ l. get_or l i d) c.deref-frame-items.ensures.value in
-    let grown : c.push.new.self.items ≡ p ++ d.0 ∷ [] = c.in_ok-push.ensures.items ∙ ap (λ l. l ++ d.0 ∷ []) c.loop-frame.invariant.path in
-    let kept : c.list_rows.new.path.items ≡ p ++ d.0 ∷ [] = c.in_ok-list_rows.ensures.path ∙ grown in
-    let whole : length c.list_rows.new.path.items ≡ length p + 1 = ap length kept ∙ length-append p (d.0 ∷ []) in
-    let len : vec_len c.list_rows.new.path - 1 ≡ length p = omega (arith, whole, c.list_rows.new.path.ok.0) in
-    let back : c.pop.new.self.items ≡ p = c.pop.ensures.rest ∙ ap (λ l. take (vec_len c.list_rows.new.path - 1) l) kept
-    ∙ take_at p (d.0 ∷ []) (vec_len c.list_rows.new.path - 1) (sym len) in
-    let below : List ((Slot × List ℕ) × Count) = rows_at s (p ++ d.0 ∷ []) (rows d.1) in
-    let rest : List ((Slot × List ℕ) × Count) = rows_at s p (kid_rows (drop (i + 1) (kids n))) in
-    let listed : c.list_rows.new.into.items ≡ c.loop-frame.into.items ++ below = c.in_ok-list_rows.ensures.listed
-    ∙ ap (λ k. c.loop-frame.into.items ++ rows_at s k (rows d.1)) grown in
+    let at : IsChildAt n i d = child_at n _ c.deref-frame-items.ensures.value i d c.loop-frame-test.true c.loop-frame-item.is in
+    let path = c.args.path.now.items ++ frames n in
+    let s = has_slot c.args.slots in
+    let old : List ((Slot × List ℕ) × Count) = c.loop-frame.into.items in
+    let grown : c.push.new.self.items ≡ path ++ d.0 ∷ [] = c.in_ok-push.ensures.items
+    ∙ ap (λ l. l ++ d.0 ∷ []) c.loop-frame.invariant.path in
+    let kept : c.list_rows.new.path.items ≡ path ++ d.0 ∷ [] = c.in_ok-list_rows.ensures.path ∙ grown in
+    let whole : length c.list_rows.new.path.items ≡ length path + 1 = ap length kept ∙ length-append path (d.0 ∷ []) in
+    let len : vec_len c.list_rows.new.path - 1 ≡ length path = omega (arith, whole, c.list_rows.new.path.ok.0) in
+    let back : c.pop.new.self.items ≡ path = c.pop.ensures.rest ∙ ap (λ l. take (vec_len c.list_rows.new.path - 1) l) kept
+    ∙ take_at path (d.0 ∷ []) (vec_len c.list_rows.new.path - 1) (sym len) in
+    let below : List ((Slot × List ℕ) × Count) = rows_at s (path ++ d.0 ∷ []) (rows (top d.1)) in
+    let rest : List ((Slot × List ℕ) × Count) = rows_at s path (kid_rows (drop (i + 1) (kids (inside n)))) in
+    let listed : c.list_rows.new.into.items ≡ old ++ below = c.in_ok-list_rows.ensures.listed
+    ∙ ap (λ l. old ++ rows_at s l (rows (top d.1))) grown in
     record {
       path = back;
-      listed = ap (λ l. l ++ rest) listed ∙ append_assoc c.loop-frame.into.items below rest
-          ∙ ap (λ l. c.loop-frame.into.items ++ l) (sym (kid_rows_drop s p (kids n) i d lt is)) ∙ c.loop-frame.invariant.listed;
+      listed = ap (λ l. l ++ rest) listed ∙ append_assoc old below rest
+          ∙ ap (λ l. old ++ l) (sym (child_rows s at path)) ∙ c.loop-frame.invariant.listed;
     }
+
+pub returns-clause-path : goal.returns-clause-path
+returns-clause-path g t c =
+    let p = c.args.path.now.items in
+    let len : length p ≡ c.len-len.result = omega (arith, c.len-len.ensures, c.args.path.now.ok.0) in
+    c.truncate.ensures.items ∙ ap (λ l. take c.len-len.result l) c.loop-frame.invariant.path
+    ∙ take_at p (frames c.args.self.now) c.len-len.result len
 
 pub returns-clause-listed : goal.returns-clause-listed
 returns-clause-listed g t c =
     let n = c.args.self.now in
-    let past : length (kids n) ≤ c.loop-frame.frame-index =
-    subst (λ (l : List (ℕ × Node g.row.A.Denot)). length l ≤ c.loop-frame.frame-index) c.deref-frame-items.ensures.value
-    c.loop-frame-test.false in
+    let path = c.args.path.now.items ++ frames n in
+    let none = no_child_at n _ c.deref-frame-items.ensures.value _ c.loop-frame-test.false in
     sym (append-nil c.loop-frame.into.items)
-    ∙ ap (λ l. c.loop-frame.into.items ++ l)
-    (sym (kid_rows_end (has_slot c.args.slots) c.args.path.now.items (kids n) c.loop-frame.frame-index past))
+    ∙ ap (λ ks. c.loop-frame.into.items ++ rows_at (has_slot c.args.slots) path (kid_rows ks)) (sym none)
     ∙ c.loop-frame.invariant.listed

@@ -15,6 +15,8 @@ use Rattle.htl_tree.specs.Nodes.{tree_of, IsNormalRoot}
 use Rattle.htl_tree.specs.Rows.{entries_of, sum_at, AreRows, HaveTally}
 use Rattle.htl_tree.proofs.SumsFromTally.{weigh_rows}
 use Rattle.htl_tree.proofs.Roots.{root_is_tree}
+use Rattle.htl_tree.proofs.tree.StackTree.of.Given.{Over}
+use Rattle.htl_tree.proofs.tree.StackTree.of.Goals.{In_ok-root}
 use Rattle.htl_tree.proofs.tree.StackTree.of.Goals as goal
 
 pub count_all-requires-clause-room : goal.count_all-requires-clause-room
@@ -57,43 +59,29 @@ made root total rows events h counts are tallied =
     (λ k c d. omega arith) (tree_of root) (root_is_tree root h) (entries_of rows) are.each.positive counts in
     (λ slot stack. counts slot stack ∙ tallied slot stack, are.counted ∙ sym is)
 
+-- the tree of the rows has the tally of the events of all runs
+whole : (g : Over) (c : In_ok-root g) → HasTally (tree_of c.in_ok-root.root) (flat_map g.R.Run.events_of c.args.runs.now)
+    × (c.into_rows-rows.result.1 ≡ total_count (tree_of c.in_ok-root.root))
+    × (c.into_rows-rows.result.1 ≤ length (flat_map g.R.Run.events_of c.args.runs.now))
+whole g c =
+    let same = ap (λ v. v.items) c.into_rows-rows.ensures.rows in
+    let tree = made c.in_ok-root.root c.loop-run.counting.total c.loop-run.counting.rows.items
+    (flat_map g.R.Run.events_of (take c.loop-run.run-index c.args.runs.now)) c.in_ok-root.ensures.normal
+    (λ slot stack. c.in_ok-root.ensures.counts slot stack ∙ ap (λ (l : List Row). sum_at (entries_of l) slot stack) same)
+    c.loop-run.invariant.rows c.loop-run.invariant.tally in
+    let all = ap (flat_map g.R.Run.events_of) (take_all c.loop-run.run-index c.args.runs.now c.loop-run-test.false) in (
+      subst (λ (l : List Event). HasTally (tree_of c.in_ok-root.root) l) all tree.0,
+      c.into_rows-rows.ensures.total ∙ tree.1,
+      omega (arith, c.into_rows-rows.ensures.total, c.loop-run.invariant.total, ap length all),
+    )
+
 pub invariant_of-result : goal.invariant_of-result
 invariant_of-result g c =
-    let runs = c.args.runs.now in
-    let rows : List Row = c.loop-run.counting.rows.items in
-    let same : c.into_rows-rows.result.0.items ≡ rows = ap (λ v. v.items) c.into_rows-rows.ensures.rows in
-    let whole = made c.in_ok-root.root c.loop-run.counting.total rows
-    (flat_map g.R.Run.events_of (take c.loop-run.run-index runs)) c.in_ok-root.ensures.normal
-    (λ slot stack. c.in_ok-root.ensures.counts slot stack ∙ ap (λ (l : List Row). sum_at (entries_of l) slot stack) same)
-    c.loop-run.invariant.rows c.loop-run.invariant.tally in
-    let all = ap (λ l. length (flat_map g.R.Run.events_of l)) (take_all c.loop-run.run-index runs c.loop-run-test.false) in
-    record {
-      normal = c.in_ok-root.ensures.normal;
-      counted = c.into_rows-rows.ensures.total ∙ whole.1;
-      fits = omega (arith, c.into_rows-rows.ensures.total, c.loop-run.invariant.total, c.requires, all);
-    }
+    let w = whole g (goal.at.invariant_of-result g c).In_ok-root in
+    record { normal = c.in_ok-root.ensures.normal; counted = w.1; fits = omega (arith, w.2, c.requires) }
 
 pub returns-clause-tally : goal.returns-clause-tally
-returns-clause-tally g c =
-    let runs = c.args.runs.now in
-    let rows : List Row = c.loop-run.counting.rows.items in
-    let same : c.into_rows-rows.result.0.items ≡ rows = ap (λ v. v.items) c.into_rows-rows.ensures.rows in
-    let whole = made c.in_ok-root.root c.loop-run.counting.total rows
-    (flat_map g.R.Run.events_of (take c.loop-run.run-index runs)) c.in_ok-root.ensures.normal
-    (λ slot stack. c.in_ok-root.ensures.counts slot stack ∙ ap (λ (l : List Row). sum_at (entries_of l) slot stack) same)
-    c.loop-run.invariant.rows c.loop-run.invariant.tally in
-    subst (λ (l : List Event). HasTally (tree_of c.in_ok-root.root) l)
-    (ap (flat_map g.R.Run.events_of) (take_all c.loop-run.run-index runs c.loop-run-test.false)) whole.0
+returns-clause-tally g c = (whole g (goal.at.returns-clause-tally g c).In_ok-root).0
 
 pub returns-clause-total : goal.returns-clause-total
-returns-clause-total g c =
-    let runs = c.args.runs.now in
-    let rows : List Row = c.loop-run.counting.rows.items in
-    let same : c.into_rows-rows.result.0.items ≡ rows = ap (λ v. v.items) c.into_rows-rows.ensures.rows in
-    let whole = made c.in_ok-root.root c.loop-run.counting.total rows
-    (flat_map g.R.Run.events_of (take c.loop-run.run-index runs)) c.in_ok-root.ensures.normal
-    (λ slot stack. c.in_ok-root.ensures.counts slot stack ∙ ap (λ (l : List Row). sum_at (entries_of l) slot stack) same)
-    c.loop-run.invariant.rows c.loop-run.invariant.tally in
-    let is = whole.1 in
-    let all = ap (λ l. length (flat_map g.R.Run.events_of l)) (take_all c.loop-run.run-index runs c.loop-run-test.false) in
-    omega (arith, is, c.loop-run.invariant.total, all)
+returns-clause-total g c = let w = whole g (goal.at.returns-clause-total g c).In_ok-root in omega (arith, w.1, w.2)

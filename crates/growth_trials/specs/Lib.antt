@@ -1,0 +1,3 @@
+-- What public contracts cite: want of memory, and lists that are compared.
+pub mod Refusals
+pub mod Lists

@@ -1,0 +1,321 @@
+// Which job a line asks for, and which lines are refused.
+use super::words;
+use htl_command::{Job, ParseFault, Question, parse};
+use std::test::Fail;
+
+/// Lines and their questions.
+const QUESTIONS: [(&str, Question); 28] = [
+    ("summary", Question::Summary),
+    ("summary|a.hls", Question::Summary),
+    (
+        "outstanding|--process|4",
+        Question::Outstanding { process: 4 },
+    ),
+    ("bad|--process|4", Question::Bad { process: 4 }),
+    ("leaks|--process|4", Question::Leaks { process: 4 }),
+    (
+        "diff|--process|4",
+        Question::Diff {
+            process: 4,
+            since: None,
+        },
+    ),
+    (
+        "diff|--process|4|--since|5",
+        Question::Diff {
+            process: 4,
+            since: Some(5),
+        },
+    ),
+    ("tags|--object|ff", Question::Tags { object: 0xff }),
+    (
+        "stacks|--object|ff|--tag|Lky8",
+        Question::Stacks {
+            object: 0xff,
+            tag: *b"Lky8",
+        },
+    ),
+    (
+        "trace|--process|4|--handle|44",
+        Question::Trace {
+            process: 4,
+            handle: 0x44,
+        },
+    ),
+    // the least and the greatest of each kind
+    ("bad|--process|0", Question::Bad { process: 0 }),
+    (
+        "bad|--process|4294967295",
+        Question::Bad {
+            process: 0xffff_ffff,
+        },
+    ),
+    (
+        "bad|--process|0000000000000000000000004",
+        Question::Bad { process: 4 },
+    ),
+    (
+        "diff|--process|4|--since|0",
+        Question::Diff {
+            process: 4,
+            since: Some(0),
+        },
+    ),
+    (
+        "diff|--process|4|--since|18446744073709551615",
+        Question::Diff {
+            process: 4,
+            since: Some(u64::MAX),
+        },
+    ),
+    (
+        "trace|--process|4|--handle|0x44",
+        Question::Trace {
+            process: 4,
+            handle: 0x44,
+        },
+    ),
+    (
+        "trace|--process|4|--handle|0",
+        Question::Trace {
+            process: 4,
+            handle: 0,
+        },
+    ),
+    (
+        "trace|--process|4|--handle|FFFFFFFF",
+        Question::Trace {
+            process: 4,
+            handle: 0xffff_ffff,
+        },
+    ),
+    ("tags|--object|0", Question::Tags { object: 0 }),
+    (
+        "tags|--object|0xffffA00000001000",
+        Question::Tags {
+            object: 0xffff_a000_0000_1000,
+        },
+    ),
+    (
+        "tags|--object|ffffffffffffffff",
+        Question::Tags { object: u64::MAX },
+    ),
+    // a tag: four bytes, or eight digits in the order of the bytes
+    (
+        "stacks|--object|1|--tag|0x4c6b7938",
+        Question::Stacks {
+            object: 1,
+            tag: *b"Lky8",
+        },
+    ),
+    (
+        "stacks|--object|1|--tag|0x41",
+        Question::Stacks {
+            object: 1,
+            tag: *b"0x41",
+        },
+    ),
+    (
+        "stacks|--object|1|--tag|0x00FF00ff",
+        Question::Stacks {
+            object: 1,
+            tag: [0, 0xff, 0, 0xff],
+        },
+    ),
+    (
+        "stacks|--object|1|--tag|éü",
+        Question::Stacks {
+            object: 1,
+            tag: [0xc3, 0xa9, 0xc3, 0xbc],
+        },
+    ),
+    // other ways to write a line
+    ("bad|--process=4", Question::Bad { process: 4 }),
+    ("bad|a.hls|--process|4|b.hls", Question::Bad { process: 4 }),
+    (
+        "trace|--handle|44|--process|4",
+        Question::Trace {
+            process: 4,
+            handle: 0x44,
+        },
+    ),
+];
+
+/// Lines with the options that every command has.
+const OPTIONS: [(&str, bool, u32, &[&str], Option<&str>); 9] = [
+    ("summary|--workers|4|a.hls", false, 4, &["a.hls"], None),
+    ("bad|--process|4", false, 1, &[], None),
+    ("bad|--process|4|--hex", true, 1, &[], None),
+    ("bad|--process|4|--workers|1", false, 1, &[], None),
+    ("bad|--process|4|--workers|8", false, 8, &[], None),
+    (
+        "bad|--process|4|a.hls|b.hls|a.hls",
+        false,
+        1,
+        &["a.hls", "b.hls", "a.hls"],
+        None,
+    ),
+    (
+        "bad|--process|4|--symbols|names.csv|-",
+        false,
+        1,
+        &["-"],
+        Some("names.csv"),
+    ),
+    (
+        "bad|a.hls|--hex|b.hls|--workers|2|--process|4|--symbols|",
+        true,
+        2,
+        &["a.hls", "b.hls"],
+        Some(""),
+    ),
+    (
+        "bad|--process|4|--|--hex|--|-x",
+        false,
+        1,
+        &["--hex", "--", "-x"],
+        None,
+    ),
+];
+
+/// Lines that are refused, and what their text names.
+const REFUSED: [(&str, &str); 51] = [
+    // values
+    (
+        "bad|--process|4294967296",
+        "'4294967296' for '--process <N>'",
+    ),
+    ("bad|--process|", "'' for '--process <N>'"),
+    ("bad|--process|+4", "'+4' for '--process <N>'"),
+    ("bad|--process| 4", "' 4' for '--process <N>'"),
+    ("bad|--process|4 ", "'4 ' for '--process <N>'"),
+    ("bad|--process|4x", "'4x' for '--process <N>'"),
+    ("bad|--process|0x4", "'0x4' for '--process <N>'"),
+    ("bad|--process|4_0", "'4_0' for '--process <N>'"),
+    ("bad|--process|٤", "'٤' for '--process <N>'"),
+    ("bad|--process|-4", "'-4'"),
+    ("outstanding|--process|x", "'x' for '--process <N>'"),
+    ("leaks|--process|x", "'x' for '--process <N>'"),
+    ("diff|--process|x", "'x' for '--process <N>'"),
+    (
+        "diff|--process|4|--since|18446744073709551616",
+        "for '--since <N>'",
+    ),
+    ("diff|--process|4|--since|+1", "'+1' for '--since <N>'"),
+    ("diff|--process|4|--since|", "'' for '--since <N>'"),
+    ("trace|--process|4|--handle|zz", "'zz' for '--handle <HEX>'"),
+    ("trace|--process|4|--handle|0x", "'0x' for '--handle <HEX>'"),
+    (
+        "trace|--process|4|--handle|0X44",
+        "'0X44' for '--handle <HEX>'",
+    ),
+    (
+        "trace|--process|4|--handle|+44",
+        "'+44' for '--handle <HEX>'",
+    ),
+    (
+        "trace|--process|4|--handle|100000000",
+        "'100000000' for '--handle <HEX>'",
+    ),
+    ("tags|--object|", "'' for '--object <HEX>'"),
+    (
+        "tags|--object|00000000000000001",
+        "'00000000000000001' for '--object <HEX>'",
+    ),
+    ("stacks|--object|zz|--tag|Lky8", "'zz' for '--object <HEX>'"),
+    ("stacks|--object|1|--tag|abc", "'abc' for '--tag <TAG>'"),
+    ("stacks|--object|1|--tag|abcde", "'abcde' for '--tag <TAG>'"),
+    ("stacks|--object|1|--tag|", "'' for '--tag <TAG>'"),
+    (
+        "stacks|--object|1|--tag|0xgggggggg",
+        "'0xgggggggg' for '--tag <TAG>'",
+    ),
+    (
+        "stacks|--object|1|--tag|0X4c6b7938",
+        "'0X4c6b7938' for '--tag <TAG>'",
+    ),
+    (
+        "stacks|--object|1|--tag|0x4c6b793",
+        "'0x4c6b793' for '--tag <TAG>'",
+    ),
+    ("bad|--process|4|--workers|0", "'0' for '--workers <N>'"),
+    ("bad|--process|4|--workers|9", "'9' for '--workers <N>'"),
+    ("bad|--process|4|--workers|", "'' for '--workers <N>'"),
+    // options
+    ("outstanding", "--process <N>"),
+    ("diff|--since|1", "--process <N>"),
+    ("tags", "--object <HEX>"),
+    ("bad", "--process <N>"),
+    ("leaks|a.hls", "--process <N>"),
+    ("stacks|--tag|Lky8", "--object <HEX>"),
+    ("stacks|--object|1", "--tag <TAG>"),
+    ("trace|--handle|44", "--process <N>"),
+    ("trace|--process|4", "--handle <HEX>"),
+    ("tags|--object|1|--process|4", "'--process'"),
+    ("summary|--process|4", "'--process'"),
+    ("summary|--workers|9", "'9' for '--workers <N>'"),
+    ("bad|--process|4|--process|4", "'--process <N>'"),
+    ("bad|--process|4|--hex|--hex", "'--hex'"),
+    ("summary|--hex|--hex", "'--hex'"),
+    ("bad|--process|4|--workers", "'--workers <N>'"),
+    // commands
+    ("", "''"),
+    ("--process|4", "'--process'"),
+];
+
+#[test]
+fn lines_ask_questions(rt: HostRuntime) -> Result<(), Fail> {
+    for (line, question) in QUESTIONS {
+        let asked = parse(rt.alloc(), words(rt.alloc(), line)?)?;
+        let job = Job {
+            question,
+            hex: false,
+            workers: 1,
+        };
+        assert_eq!(rt; asked.job, job, "of {line}");
+    }
+    Ok(())
+}
+
+#[test]
+fn lines_have_options(rt: HostRuntime) -> Result<(), Fail> {
+    for (line, hex, workers, files, symbols) in OPTIONS {
+        let asked = parse(rt.alloc(), words(rt.alloc(), line)?)?;
+        assert_eq!(rt; asked.job.hex, hex, "of {line}");
+        assert_eq!(rt; asked.job.workers, workers, "of {line}");
+        let same = asked
+            .files
+            .iter()
+            .map(|file| file.as_str())
+            .eq(files.iter().copied());
+        assert!(rt; same, "the files of {line}");
+        assert_eq!(rt; asked.symbols.as_deref(), symbols, "of {line}");
+    }
+    Ok(())
+}
+
+#[test]
+fn no_words_ask_for_the_stored_job(rt: HostRuntime) -> Result<(), Fail> {
+    let stored = parse(rt.alloc(), Vec::new(rt.alloc()))?;
+    let written = parse(
+        rt.alloc(),
+        words(rt.alloc(), "outstanding|--process|4|--hex")?,
+    )?;
+    assert_eq!(rt; stored, written);
+    assert_eq!(rt; stored.job.workers, 1);
+    assert!(rt; stored.files.is_empty());
+    Ok(())
+}
+
+#[test]
+fn refused_lines_name_what_is_wrong(rt: HostRuntime) -> Result<(), Fail> {
+    for (line, named) in REFUSED {
+        let asked = parse(rt.alloc(), words(rt.alloc(), line)?);
+        let fault = asked.err().ok_or("it is a job")?;
+        assert!(rt; matches!(fault, ParseFault::Usage(_)), "of {line}");
+        let text = fault.to_string(rt.alloc())?;
+        assert!(rt; text.as_str().contains(named), "of {line}: {text}");
+        assert!(rt; text.as_str().ends_with("--help'.\n"), "of {line}: {text}");
+    }
+    Ok(())
+}

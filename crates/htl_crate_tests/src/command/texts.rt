@@ -1,0 +1,314 @@
+// The texts of help and of refusals, as a person reads them in a terminal of 80 columns.
+use super::words;
+use htl_command::{ParseFault, parse};
+use std::test::Fail;
+
+const PROGRAM: &str = "\
+Finds handles that were opened and never closed, and object references that
+were never dropped, in trace segments. Its questions are those of the Windows
+debugger's !htrace and !obtrace.
+
+Usage: hleak <COMMAND>
+
+Commands:
+  summary      What leaks at all: processes, objects, and missing segments
+  outstanding  Handles that are open, each with the stack that opened it
+  diff         Handles opened since a snapshot and still open (!htrace -diff)
+  tags         References and dereferences of an object, by tag (!obtrace)
+  bad          References to invalid handles, by stack (BAD REF of !htrace)
+  leaks        Stacks by how many of their handles are still open, most first
+  stacks       Stacks behind one tag of an object (!obtrace)
+  trace        Each open, close and bad reference of a handle (!htrace HANDLE)
+  help         Print this message or the help of the given subcommand(s)
+
+Options:
+  -h, --help     Print help
+  -V, --version  Print version
+
+Options of every command:
+      --symbols <FILE>  Names for addresses: CSV of start,end,module,name
+      --workers <N>     How many threads take in segments: 1 to 8 [default: 1]
+      --hex             The files hold hexadecimal digits, not bytes
+  [FILES]...            Trace segments; standard input where no file is given
+
+Exit status:
+  0  done                        4  the segments are not of one trace
+  2  wrong command line          5  a read or a write failed
+  3  not a segment               6  out of memory or of threads
+                                 7  not a symbol table
+
+Examples:
+  hleak summary cpu0.hls cpu1.hls
+  hleak outstanding --process 4 cpu0.hls cpu1.hls
+  hleak tags --object 0xffffa00000001000 --symbols names.csv cpu0.hls cpu1.hls
+
+'hleak COMMAND --help' tells the options of a command. No word at all stands for
+'hleak outstanding --process 4 --hex'.
+";
+
+const VERSION: &str = "\
+hleak 0.1.0
+";
+
+const SUMMARY: &str = "\
+What leaks at all: processes, objects, and missing segments
+
+Usage: hleak summary [OPTIONS] [FILES]...
+
+Arguments:
+  [FILES]...  Trace segments; standard input where no file is given
+
+Options:
+      --symbols <FILE>  Names for addresses: CSV of start,end,module,name
+      --workers <N>     How many threads take in segments: 1 to 8 [default: 1]
+      --hex             The files hold hexadecimal digits, not bytes
+  -h, --help            Print help
+
+Example:
+  hleak summary cpu0.hls cpu1.hls
+";
+
+const OUTSTANDING: &str = "\
+Handles that are open, each with the stack that opened it
+
+Usage: hleak outstanding [OPTIONS] --process <N> [FILES]...
+
+Arguments:
+  [FILES]...  Trace segments; standard input where no file is given
+
+Options:
+      --process <N>     The process: decimal, at most 4294967295
+      --symbols <FILE>  Names for addresses: CSV of start,end,module,name
+      --workers <N>     How many threads take in segments: 1 to 8 [default: 1]
+      --hex             The files hold hexadecimal digits, not bytes
+  -h, --help            Print help
+
+Example:
+  hleak outstanding --process 4 --symbols names.csv cpu0.hls cpu1.hls
+";
+
+const DIFF: &str = "\
+Handles opened since a snapshot and still open (!htrace -diff)
+
+Usage: hleak diff [OPTIONS] --process <N> [FILES]...
+
+Arguments:
+  [FILES]...  Trace segments; standard input where no file is given
+
+Options:
+      --process <N>     The process: decimal, at most 4294967295
+      --since <N>       Handles opened after this sequence: decimal, at most
+                        18446744073709551615 [default: the last snapshot's]
+      --symbols <FILE>  Names for addresses: CSV of start,end,module,name
+      --workers <N>     How many threads take in segments: 1 to 8 [default: 1]
+      --hex             The files hold hexadecimal digits, not bytes
+  -h, --help            Print help
+
+Example:
+  hleak diff --process 4 --since 1200 cpu0.hls cpu1.hls
+";
+
+const TAGS: &str = "\
+References and dereferences of an object, by tag (!obtrace)
+
+Usage: hleak tags [OPTIONS] --object <HEX> [FILES]...
+
+Arguments:
+  [FILES]...  Trace segments; standard input where no file is given
+
+Options:
+      --object <HEX>    The object's address: 1 to 16 hexadecimal digits, with
+                        or without 0x
+      --symbols <FILE>  Names for addresses: CSV of start,end,module,name
+      --workers <N>     How many threads take in segments: 1 to 8 [default: 1]
+      --hex             The files hold hexadecimal digits, not bytes
+  -h, --help            Print help
+
+Example:
+  hleak tags --object 0xffffa00000001000 cpu0.hls cpu1.hls
+";
+
+const BAD: &str = "\
+References to invalid handles, by stack (BAD REF of !htrace)
+
+Usage: hleak bad [OPTIONS] --process <N> [FILES]...
+
+Arguments:
+  [FILES]...  Trace segments; standard input where no file is given
+
+Options:
+      --process <N>     The process: decimal, at most 4294967295
+      --symbols <FILE>  Names for addresses: CSV of start,end,module,name
+      --workers <N>     How many threads take in segments: 1 to 8 [default: 1]
+      --hex             The files hold hexadecimal digits, not bytes
+  -h, --help            Print help
+
+Example:
+  hleak bad --process 4 --symbols names.csv cpu0.hls cpu1.hls
+";
+
+const LEAKS: &str = "\
+Stacks by how many of their handles are still open, most first
+
+Usage: hleak leaks [OPTIONS] --process <N> [FILES]...
+
+Arguments:
+  [FILES]...  Trace segments; standard input where no file is given
+
+Options:
+      --process <N>     The process: decimal, at most 4294967295
+      --symbols <FILE>  Names for addresses: CSV of start,end,module,name
+      --workers <N>     How many threads take in segments: 1 to 8 [default: 1]
+      --hex             The files hold hexadecimal digits, not bytes
+  -h, --help            Print help
+
+Example:
+  hleak leaks --process 4 --workers 4 cpu0.hls cpu1.hls
+";
+
+const STACKS: &str = "\
+Stacks behind one tag of an object (!obtrace)
+
+Usage: hleak stacks [OPTIONS] --object <HEX> --tag <TAG> [FILES]...
+
+Arguments:
+  [FILES]...  Trace segments; standard input where no file is given
+
+Options:
+      --object <HEX>    The object's address: 1 to 16 hexadecimal digits, with
+                        or without 0x
+      --tag <TAG>       The tag: four bytes of text, as Lky8, or 0x and eight
+                        hexadecimal digits, as 0x4c6b7938
+      --symbols <FILE>  Names for addresses: CSV of start,end,module,name
+      --workers <N>     How many threads take in segments: 1 to 8 [default: 1]
+      --hex             The files hold hexadecimal digits, not bytes
+  -h, --help            Print help
+
+Example:
+  hleak stacks --object 0xffffa00000001000 --tag Lky8 cpu0.hls cpu1.hls
+";
+
+const TRACE: &str = "\
+Each open, close and bad reference of a handle (!htrace HANDLE)
+
+Usage: hleak trace [OPTIONS] --process <N> --handle <HEX> [FILES]...
+
+Arguments:
+  [FILES]...  Trace segments; standard input where no file is given
+
+Options:
+      --process <N>     The process: decimal, at most 4294967295
+      --handle <HEX>    The handle: 1 to 16 hexadecimal digits, with or without
+                        0x, at most 0xffffffff
+      --symbols <FILE>  Names for addresses: CSV of start,end,module,name
+      --workers <N>     How many threads take in segments: 1 to 8 [default: 1]
+      --hex             The files hold hexadecimal digits, not bytes
+  -h, --help            Print help
+
+The low two bits of a handle are ignored.
+
+Example:
+  hleak trace --process 4 --handle 0x44 cpu0.hls cpu1.hls
+";
+
+const VALUE: &str = "\
+error: invalid value '100000000' for '--handle <HEX>'
+  [expected: 1 to 16 hexadecimal digits, with or without 0x, at most 0xffffffff]
+
+For more information, try 'hleak trace --help'.
+";
+
+const MISSPELT_COMMAND: &str = "\
+error: unrecognized subcommand 'outstandin'
+
+  tip: a similar subcommand exists: 'outstanding'
+
+Usage: hleak <COMMAND>
+
+For more information, try '--help'.
+";
+
+const MISSPELT_OPTION: &str = "\
+error: unexpected argument '--proces' found
+
+  tip: a similar argument exists: '--process'
+
+Usage: hleak bad --process <N> [FILES]...
+
+For more information, try '--help'.
+";
+
+const MISSING_OPTION: &str = "\
+error: the following required arguments were not provided:
+  --process <N>
+
+Usage: hleak diff --process <N> [FILES]...
+
+For more information, try '--help'.
+";
+
+/// Lines that ask for help, and what they are answered.
+const HELP: [(&str, &str); 13] = [
+    ("--help", PROGRAM),
+    ("--version", VERSION),
+    ("summary|--help", SUMMARY),
+    ("outstanding|--help", OUTSTANDING),
+    ("diff|--help", DIFF),
+    ("tags|--help", TAGS),
+    ("bad|--help", BAD),
+    ("leaks|--help", LEAKS),
+    ("stacks|--help", STACKS),
+    ("trace|--help", TRACE),
+    ("-h", PROGRAM),
+    ("help|diff", DIFF),
+    ("diff|--process|4|--help", DIFF),
+];
+
+/// Lines that are refused, and what they are answered.
+const USAGE: [(&str, &str); 4] = [
+    ("trace|--process|4|--handle|100000000", VALUE),
+    ("outstandin", MISSPELT_COMMAND),
+    ("bad|--proces|4", MISSPELT_OPTION),
+    ("diff", MISSING_OPTION),
+];
+
+/// Each line fits into 80 columns.
+fn fits(text: &str) -> bool {
+    text.lines().all(|line| line.chars().count() <= 80)
+}
+
+#[test]
+fn help_is_shown(rt: HostRuntime) -> Result<(), Fail> {
+    for (line, help) in HELP {
+        let asked = parse(rt.alloc(), words(rt.alloc(), line)?);
+        let fault = asked.err().ok_or("it is a job")?;
+        assert!(rt; matches!(fault, ParseFault::Help(_)), "of {line}");
+        assert_eq!(rt; fault.status(), 0);
+        assert_eq!(rt; fault.to_string(rt.alloc())?.as_str(), help, "of {line}");
+        assert!(rt; fits(help), "of {line}");
+    }
+    Ok(())
+}
+
+#[test]
+fn refusals_say_what_is_wrong(rt: HostRuntime) -> Result<(), Fail> {
+    for (line, usage) in USAGE {
+        let asked = parse(rt.alloc(), words(rt.alloc(), line)?);
+        let fault = asked.err().ok_or("it is a job")?;
+        assert!(rt; matches!(fault, ParseFault::Usage(_)), "of {line}");
+        assert_eq!(rt; fault.status(), 2);
+        assert_eq!(rt; fault.to_string(rt.alloc())?.as_str(), usage, "of {line}");
+        assert!(rt; fits(usage), "of {line}");
+    }
+    Ok(())
+}
+
+#[test]
+fn want_of_memory_has_a_line(rt: HostRuntime) -> Result<(), Fail> {
+    assert_eq!(rt; ParseFault::Memory.status(), 6);
+    assert_eq!(rt;
+        ParseFault::Memory.to_string(rt.alloc())?.as_str(),
+        "hleak: out of memory"
+    );
+    Ok(())
+}

@@ -1,0 +1,36 @@
+-- Inputs have one coverage, and a summary tells the same.
+use Rattle.std.proofs.Common.{◌≡◌, ℕ, Bool, List, length, ap, sym, ◌∙◌, subst}
+use Rattle.htl_segment.specs.Content.{Content}
+use Rattle.htl_segment.specs.Traces.{Trace, HasKey}
+use Rattle.htl_case.proofs.Outcomes.{one_case}
+use Rattle.htl_case.specs.Cases.{IsCaseOf}
+use Rattle.htl_taken.specs.Gaps.{IsGaps}
+use Rattle.htl_taken.specs.declared.gap.Gap.{Gap}
+use Rattle.htl_report.specs.declared.summary.Totals.{Totals}
+use Rattle.htl_main.specs.Coverages.{Covers, IsCoverage}
+use Rattle.htl_main.specs.Summaries.{AreTotals}
+use Rattle.htl_main.specs.declared.coverage.Coverage.{Coverage}
+use Rattle.htl_main.proofs.OneOutcome.{one_decoding}
+use Rattle.htl_main.proofs.OneSummary.{one_complete, one_gaps}
+
+abbrev coverage_of : ℕ → ℕ → Coverage
+coverage_of gaps complete_to = record { gaps = gaps; complete_to = complete_to }
+
+of_trace : (T : Trace) (a b : Coverage) → IsCoverage T a → IsCoverage T b → a ≡ b
+of_trace T a b p q =
+    let gaps : a.gaps ≡ b.gaps = p.counted ∙ ap length (one_gaps T p.gaps q.gaps p.are_gaps q.are_gaps) ∙ sym q.counted in
+    let complete_to = one_complete T a.complete_to b.complete_to p.complete_to q.complete_to in
+    ap (λ (n : ℕ). coverage_of n a.complete_to) gaps ∙ ap (λ (n : ℕ). coverage_of b.gaps n) complete_to
+
+pub one_coverage : (hex : Bool) (inputs : List (List ℕ)) (a b : Coverage) → Covers hex inputs a → Covers hex inputs b → a ≡ b
+one_coverage hex inputs a b p q =
+    let same = one_decoding hex inputs p.0 q.0 p.1 q.1 in
+    let trace = one_case q.0 p.2.0 q.2.0 (subst (λ (ss : List Content). IsCaseOf ss p.2.0) same p.2.1) q.2.1 in
+    of_trace q.2.0 a b (subst (λ (T : Trace). IsCoverage T a) trace p.2.2) q.2.2
+
+pub summary_tells : (T : Trace) (coverage : Coverage) (totals : Totals) (gaps : List Gap) → IsCoverage T coverage → AreTotals T totals
+    → IsGaps (HasKey T) T.processors gaps → (coverage.gaps ≡ length gaps) × (coverage.complete_to ≡ totals.complete_to)
+summary_tells T coverage totals gaps is told listed = (
+  is.counted ∙ ap length (one_gaps T is.gaps gaps is.are_gaps listed),
+  one_complete T coverage.complete_to totals.complete_to is.complete_to told.complete_to,
+)

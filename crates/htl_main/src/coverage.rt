@@ -1,0 +1,108 @@
+//! How much of its trace a case has. Nothing here takes memory or looks at more than the last event
+//! of a segment.
+
+ghost use Rattle.std.specs.Prelude.{◌≡◌, ◌<◌, ◌≤◌, ◌+◌, ◌++◌, ℕ, length, take, All, Contains};
+ghost use Rattle.htl_event.specs.Handles.{IsGreatestSequence};
+ghost use Rattle.htl_segment.specs.Traces.{AreInOrder, all_events};
+ghost use Rattle.htl_taken.specs.GapLists.{gaps_of};
+ghost use Rattle.htl_taken.specs.Rising.{reach_from};
+ghost use Rattle.htl_main.specs.Numbers.{numbers_of};
+
+use htl_case::Case;
+use htl_segment::Segment;
+
+/// How much of its trace a case has. An answer over a case with a gap holds for the segments that
+/// are there.
+#[derive(Clone, Copy, Debug, PartialEq, Eq)]
+pub struct Coverage {
+    /// How many gaps there are: longest unbroken runs of missing segment numbers below a
+    /// processor's greatest one, and processors without a segment.
+    pub gaps: u64,
+    /// The sequence up to which no segment is missing.
+    pub complete_to: u64,
+}
+
+impl Coverage {
+    ghost use Rattle.htl_main.specs.Coverages.{IsCoverage};
+
+    /// That of a case.
+    pub(crate) fn of(case: &Case) -> Coverage
+        ensures { IsCoverage case.now result }
+    {
+        let mut gaps = 0;
+        let mut complete_to = u64::MAX;
+        let mut rest = case.segments();
+        for processor in 0..case.processors() {
+            let (own, behind) = split_at_processor(rest, processor);
+            gaps += gap_count(own);
+            complete_to = greatest_sequence(unbroken(own)).min(complete_to);
+            rest = behind;
+        }
+        Coverage { gaps, complete_to }
+    }
+}
+
+/// The segments of the processor, and those of the processors behind it, where there are none of
+/// the processors before it.
+fn split_at_processor(segments: &[Segment], processor: u16) -> (&[Segment], &[Segment])
+    requires in_order { AreInOrder segments.now }
+    requires none_before { All (λ s. processor ≤ s.processor) segments.now }
+    ensures parts { result.0.now ++ result.1.now ≡ segments.now }
+    ensures own { All (λ s. s.processor ≡ processor) result.0.now }
+    ensures behind { All (λ s. processor < s.processor) result.1.now }
+{
+    segments.split_at(segments.partition_point(|segment| segment.processor() <= processor))
+}
+
+/// How many gaps a processor with these segments has.
+fn gap_count(own: &[Segment]) -> u64
+    ensures value { (p : ℕ) → result ≡ length (gaps_of p 0 (numbers_of own.now)) }
+    ensures few { result ≤ length own.now + 1 }
+{
+    if own.is_empty() {
+        return 1;
+    }
+    let mut next = 0;
+    let mut gaps = 0;
+    for segment in own {
+        let number = u64::from(segment.number());
+        if next < number {
+            gaps += 1;
+        }
+        next = number + 1;
+    }
+    gaps
+}
+
+/// The segments of a processor before the first that is missing.
+fn unbroken(own: &[Segment]) -> &[Segment]
+    ensures { result.now ≡ take (reach_from 0 (numbers_of own.now)) own.now }
+{
+    for (place, segment) in own.iter().enumerate() {
+        if segment.number() as usize != place {
+            return &own[..place];
+        }
+    }
+    own
+}
+
+/// The greatest sequence of the segments, 0 where they have no event.
+fn greatest_sequence(segments: &[Segment]) -> u64
+    ensures { IsGreatestSequence (Contains (all_events segments.now)) result }
+{
+    let mut greatest = 0;
+    for segment in segments {
+        greatest = last_sequence(segment).max(greatest);
+    }
+    greatest
+}
+
+/// The greatest sequence of a segment, which its last event has.
+fn last_sequence(segment: &Segment) -> u64
+    ensures { IsGreatestSequence (Contains segment.now.events) result }
+{
+    match segment.events().last() {
+        Some(last) => last.sequence,
+        None => 0,
+    }
+}

@@ -1,0 +1,142 @@
+//! Summaries by plain scans of a list of events, which stand in any order, and of a list of keys.
+
+use crate::plain::{NONE, last, latest, under};
+use htl_event::{Kind, NoMemory, ObjectRow, ProcessRow, SharedEvent, Slot};
+use htl_taken::Gap;
+use std::alloc::Global;
+use std::cmp::Reverse;
+
+/// The row of each process that has an open, a close or a bad reference.
+pub fn processes(alloc: Global, events: &[SharedEvent]) -> Result<Vec<ProcessRow>, NoMemory> {
+    let mut rows: Vec<ProcessRow> = Vec::new(alloc);
+    for event in events {
+        let is_of_handle = event.kind.opens_or_closes() || event.kind == Kind::BadRef;
+        if is_of_handle && !rows.iter().any(|row| row.process == event.process) {
+            rows.push(process_row(events, event.process))?;
+        }
+    }
+    rows.sort_by_key(|row| (Reverse(row.outstanding), row.process))?;
+    Ok(rows)
+}
+
+fn process_row(events: &[SharedEvent], process: u32) -> ProcessRow {
+    let times = |kind: Kind| {
+        events
+            .iter()
+            .filter(|event| event.kind == kind && event.process == process)
+            .count() as u64
+    };
+    ProcessRow {
+        process,
+        outstanding: outstanding(events, process),
+        opens: times(Kind::Opened),
+        closes: times(Kind::Closed),
+        bad: times(Kind::BadRef),
+        mark: last(events, Kind::Snapshot, process),
+        exit: last(events, Kind::Exited, process),
+    }
+}
+
+fn outstanding(events: &[SharedEvent], process: u32) -> u64 {
+    let exit = last(events, Kind::Exited, process);
+    events
+        .iter()
+        .filter(|event| {
+            event.process == process && event.sequence > exit && is_last_open(events, event)
+        })
+        .count() as u64
+}
+
+/// Whether the event is an open that no later open or close of its handle follows.
+fn is_last_open(events: &[SharedEvent], event: &SharedEvent) -> bool {
+    event.kind == Kind::Opened && latest(events, event.process, event.handle) == Some(event)
+}
+
+/// The row of each object, by object.
+pub fn objects(alloc: Global, events: &[SharedEvent]) -> Result<Vec<ObjectRow>, NoMemory> {
+    let mut rows: Vec<ObjectRow> = Vec::new(alloc);
+    for event in events {
+        let is_of_object = matches!(event.kind, Kind::Ref | Kind::Deref);
+        if is_of_object && !rows.iter().any(|row| row.object == event.object) {
+            rows.push(object_row(alloc, events, event.object)?)?;
+        }
+    }
+    rows.sort_by_key(|row| row.object)?;
+    Ok(rows)
+}
+
+/// The rows with an unbalanced tag, the most of these first and then by object.
+pub fn unbalanced(rows: &mut Vec<ObjectRow>) -> Result<(), NoMemory> {
+    rows.retain(|row| row.unbalanced > 0);
+    rows.sort_by_key(|row| Reverse(row.unbalanced))?;
+    Ok(())
+}
+
+fn object_row(alloc: Global, events: &[SharedEvent], object: u64) -> Result<ObjectRow, NoMemory> {
+    let mut row = ObjectRow {
+        object,
+        tags: 0,
+        unbalanced: 0,
+        refs: 0,
+        derefs: 0,
+    };
+    for tag in tags_of(alloc, events, object)? {
+        let count = under(events, Slot::Tagged { object, tag }, &[]);
+        row.tags = row.tags.wrapping_add(1);
+        row.unbalanced = row
+            .unbalanced
+            .wrapping_add(u64::from(count.plus != count.minus));
+        row.refs = row.refs.wrapping_add(count.plus);
+        row.derefs = row.derefs.wrapping_add(count.minus);
+    }
+    Ok(row)
+}
+
+/// The tags that the object has an event under.
+fn tags_of(alloc: Global, events: &[SharedEvent], object: u64) -> Result<Vec<[u8; 4]>, NoMemory> {
+    let mut tags = Vec::new(alloc);
+    for event in events {
+        let slot = Slot::Tagged {
+            object,
+            tag: event.tag,
+        };
+        if under(events, slot, &[]) != NONE && !tags.contains(&event.tag) {
+            tags.push(event.tag)?;
+        }
+    }
+    Ok(tags)
+}
+
+/// The gaps of a list of keys, which are processors and numbers below `numbers`.
+pub fn gaps(
+    alloc: Global,
+    keys: &[(u16, u32)],
+    processors: u16,
+    numbers: u32,
+) -> Result<Vec<Gap>, NoMemory> {
+    let mut gaps = Vec::new(alloc);
+    for processor in 0..processors {
+        if !keys.iter().any(|key| key.0 == processor) {
+            gaps.push(Gap::Absent { processor })?;
+        }
+        for from in 0..numbers {
+            for to in from..numbers {
+                if is_gap(keys, processor, from, to) {
+                    gaps.push(Gap::Between {
+                        processor,
+                        from,
+                        to,
+                    })?;
+                }
+            }
+        }
+    }
+    Ok(gaps)
+}
+
+/// Whether none of these numbers is there, the one behind them is, and no longer run ends with them.
+fn is_gap(keys: &[(u16, u32)], processor: u16, from: u32, to: u32) -> bool {
+    let has = |number: u32| keys.contains(&(processor, number));
+    let begins = from == 0 || has(from.wrapping_sub(1));
+    begins && (from..=to).all(|number| !has(number)) && has(to.wrapping_add(1))
+}

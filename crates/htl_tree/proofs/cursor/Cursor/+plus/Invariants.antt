@@ -1,0 +1,17 @@
+-- The children so far are sums or copies of both sides.
+use Rattle.std.proofs.Common.{◌+◌, ◌-◌, length}
+use Rattle.std.specs.Ordering.{nat_cmp}
+use Rattle.htl_sorted.proofs.SideBySide.{Carries}
+use Rattle.htl_tree.specs.Nodes.{spot, tops, kids, height}
+use Rattle.htl_tree.proofs.CopiesAndSums.{SumOf}
+use Rattle.htl_tree.proofs.cursor.Cursor.+plus.Given as goal
+
+abbrev pub decreases-plus : goal.decreases-plus
+decreases-plus g l = height (spot l.self.now)
+
+abbrev pub invariant-loop-i : goal.invariant-loop-i
+invariant-loop-i g l =
+    Carries nat_cmp (λ sides sum. SumOf sides sum) (kids (spot l.left)) (kids (spot l.right)) l.i l.j (tops l.children.items)
+
+abbrev pub decreases-loop-i : goal.decreases-loop-i
+decreases-loop-i g l = (length (kids (spot l.left)) - l.i) + (length (kids (spot l.right)) - l.j)

@@ -1,0 +1,6 @@
+-- The path gets shorter.
+use Rattle.std.proofs.Common.{length}
+use Rattle.htl_tree.proofs.cursor.Cursor.+under.Given as goal
+
+abbrev pub decreases-under : goal.decreases-under
+decreases-under g l = length l.path.now

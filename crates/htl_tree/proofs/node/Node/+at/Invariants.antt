@@ -1,6 +1,0 @@
--- The stack gets shorter.
-use Rattle.std.proofs.Common.{length}
-use Rattle.htl_tree.proofs.node.Node.+at.Given as goal
-
-abbrev pub decreases-at : goal.decreases-at
-decreases-at g l = length l.stack.now

@@ -34,7 +34,7 @@ pub use desk::{Collected, Desk, Posted};
 pub use exchange::Exchange;
 pub use fault::{CloseFault, StartFault, SurveyFault, Why};
 pub use gate::{Free, Gate};
-pub use surveying::survey;
+pub use surveying::{survey, survey_owned};
 
 /// The most desks that an exchange has.
 pub const MAX_DESKS: u32 = 8;

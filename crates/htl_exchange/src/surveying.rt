@@ -1,5 +1,6 @@
 //! Surveys: workers in threads of their own take in a whole case.
-ghost use Rattle.std.specs.Prelude.{◌≡◌, ◌<◌, ◌↔◌, ◌⊎◌, IfOk, IfSome, Err, vec_len, vec_capacity};
+ghost use Rattle.std.specs.Prelude.{◌≡◌, ◌≢◌, ◌<◌, ◌↔◌, ◌⊎◌, IfOk, IfSome, Err};
+ghost use Rattle.std.specs.Prelude.{vec_len, vec_capacity};
 ghost use Rattle.htl_exchange.specs.Desks.{AreDesksOf, IsDeskOf, parts_at, IsWholeStanding};
 
 use crate::desk::{Collected, Desk};
@@ -28,22 +29,74 @@ pub fn survey<G: Gate + Sync, R: Threads + Wait + Sync>(
     ensures whole { IfOk result (λ analyst. IsWholeStanding case.now analyst) }
     ensures workers { (result ≡ Err SurveyFault.Workers) ↔ ((workers ≡ 0) ⊎ (8 < workers)) }
 {
-    let (exchange, desks) = match Exchange::start(rt, alloc, case, workers) {
-        Ok(started) => started,
-        Err(StartFault::Desks) => return Err(SurveyFault::Workers),
-        Err(StartFault::NoMemory) => return Err(SurveyFault::NoMemory),
+    let (exchange, desks) = start(rt, alloc, case, workers)?;
+    take_in(rt, exchange, gate, most_turns(case), desks)
+}
+
+/// The same of a case that nobody needs any longer. It is dropped before the workers start, so that
+/// the events of a processor are gone once they are folded, and what is left of it need not lie
+/// beside the whole answer. A fault drops it too.
+pub fn survey_owned<G: Gate + Sync, R: Threads + Wait + Sync>(
+    rt: &R,
+    alloc: Global,
+    case: Case,
+    workers: u32,
+    gate: &G,
+) -> Result<Analyst<Global>, SurveyFault>
+    ensures whole { IfOk result (λ analyst. IsWholeStanding case analyst) }
+    ensures workers { (result ≡ Err SurveyFault.Workers) ↔ ((workers ≡ 0) ⊎ (8 < workers)) }
+{
+    let (exchange, desks) = start(rt, alloc, &case, workers)?;
+    let turns = most_turns(&case);
+    drop(case);
+    take_in(rt, exchange, gate, turns, desks)
+}
+
+// An exchange of the case, and a desk for each worker.
+fn start<R: Wait>(
+    rt: &R,
+    alloc: Global,
+    case: &Case,
+    workers: u32,
+) -> Result<(Exchange, Vec<Desk>), SurveyFault>
+    ensures of { IfOk result (λ r. (r.0.trace ≡ case.now) × AreDesksOf r.0 r.1.items) }
+    ensures all { IfOk result (λ r. (parts_at r.1.items ≡ 8) × (vec_len r.1 < 9)) }
+    ensures workers { (result ≡ Err SurveyFault.Workers) ↔ ((workers ≡ 0) ⊎ (8 < workers)) }
+{
+    match Exchange::start(rt, alloc, case, workers) {
+        Ok(started) => Ok(started),
+        Err(StartFault::Desks) => Err(SurveyFault::Workers),
+        Err(StartFault::NoMemory) => Err(SurveyFault::NoMemory),
+    }
+}
+
+// One more than there are processors.
+fn most_turns(case: &Case) -> u32 {
+    u32::from(case.processors()) + 1
+}
+
+// Lets a worker at each desk, all at once, and puts together what they took in.
+fn take_in<G: Gate + Sync, R: Threads + Wait + Sync>(
+    rt: &R,
+    exchange: Exchange,
+    gate: &G,
+    turns: u32,
+    desks: Vec<Desk>,
+) -> Result<Analyst<Global>, SurveyFault>
+    requires { AreDesksOf exchange desks.items × (parts_at desks.items ≡ 8) × (vec_len desks < 9) }
+    ensures whole { IfOk result (λ analyst. IsWholeStanding exchange.trace analyst) }
+    ensures workers { result ≢ Err SurveyFault.Workers }
+{
+    let Some(desks) = work_together(rt, &exchange, gate, turns, desks) else {
+        return Err(SurveyFault::NoThread);
     };
-    let turns = u32::from(case.processors()) + 1;
-    match work_together(rt, &exchange, gate, turns, desks) {
-        Some(desks) => match exchange.close(rt, desks) {
-            Ok(analyst) => Ok(analyst),
-            Err(fault) => match fault.why {
-                Why::NoMemory => Err(SurveyFault::NoMemory),
-                // All desks came back.
-                Why::DesksOut(_, _) => unreachable!(),
-            },
+    match exchange.close(rt, desks) {
+        Ok(analyst) => Ok(analyst),
+        Err(fault) => match fault.why {
+            Why::NoMemory => Err(SurveyFault::NoMemory),
+            // All desks came back.
+            Why::DesksOut(_, _) => unreachable!(),
         },
-        None => Err(SurveyFault::NoThread),
     }
 }
 

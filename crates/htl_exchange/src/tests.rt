@@ -2,7 +2,9 @@
 
 ghost use Rattle.std.specs.Prelude.{◌≡◌, ◌<◌};
 
-use crate::{Collected, Exchange, Free, Gate, Posted, StartFault, SurveyFault, Why, survey};
+use crate::{
+    Collected, Exchange, Free, Gate, Posted, StartFault, SurveyFault, Why, survey, survey_owned,
+};
 use htl_analyst::Analyst;
 use htl_case::Case;
 use htl_samples::{SampleFault, TRACE, Trace};
@@ -194,6 +196,8 @@ fn two_workers_at_a_gate(rt: HostRuntime) -> Result<(), Fail> {
     assert!(rt; matches!(&none, Err(SurveyFault::Workers)));
     let nine = survey(&rt, alloc, &case, 9, &Free);
     assert!(rt; matches!(&nine, Err(SurveyFault::Workers)));
+    let owned = survey_owned(&rt, alloc, case, 2, &Free).expect(&rt, "there is memory");
+    assert!(rt; owned.same(&two));
     Ok(())
 }
 

@@ -12,28 +12,28 @@ ghost use Rattle.htl_main.specs.Printed.{IsText, IsTextOver, WorkersFit};
 ghost use Rattle.htl_main.specs.Questions.{IsOfAnalyst};
 
 use crate::fault::RunFault;
-use crate::summarizing::summary;
+use crate::summarizing::{Sizes, summary};
 use htl_analyst::Analyst;
 use htl_case::Case;
 use htl_command::{Job, Question};
 use htl_event::NoMemory;
-use htl_exchange::{Free, survey};
+use htl_exchange::{Free, survey_owned};
 use htl_report::Answer;
 use std::alloc::Global;
 use std::sync::Wait;
 use std::thread::Threads;
 
 /// The answer to the job's question. A listing is made from the case itself, and every other answer
-/// by an analyst that has taken the whole case; a summary by both.
+/// by an analyst that has taken the whole case. Of the case only its sizes are kept until then.
 pub(crate) fn answer<Rt: Threads + Wait + Sync>(
     rt: &Rt,
     alloc: Global,
     job: &Job,
-    case: &Case,
+    case: Case,
 ) -> Result<Answer, RunFault>
     requires { WorkersFit job.now.workers }
     ensures ok { IfOk result (λ answer. (table : List Range)
-        → IsText case.now table job.now.question (text_of table answer)) }
+        → IsText case table job.now.question (text_of table answer)) }
     ensures err { IfErr result (λ fault. (fault ≡ RunFault.Memory) ⊎ (fault ≡ RunFault.NoThread)) }
 {
     match job.question {
@@ -43,8 +43,9 @@ pub(crate) fn answer<Rt: Threads + Wait + Sync>(
             rows: case.trace(alloc, process, handle)?,
         }),
         Question::Summary => {
+            let sizes = Sizes::of(&case);
             let analyst = standing(rt, alloc, case, job.workers)?;
-            Ok(summary(alloc, case, &analyst)?)
+            Ok(summary(alloc, sizes, &analyst)?)
         }
         question => {
             let analyst = standing(rt, alloc, case, job.workers)?;
@@ -57,14 +58,14 @@ pub(crate) fn answer<Rt: Threads + Wait + Sync>(
 fn standing<Rt: Threads + Wait + Sync>(
     rt: &Rt,
     alloc: Global,
-    case: &Case,
+    case: Case,
     workers: u32,
 ) -> Result<Analyst<Global>, RunFault>
     requires { WorkersFit workers }
-    ensures ok { IfOk result (IsWholeStanding case.now) }
+    ensures ok { IfOk result (IsWholeStanding case) }
     ensures err { IfErr result (λ fault. (fault ≡ RunFault.Memory) ⊎ (fault ≡ RunFault.NoThread)) }
 {
-    Ok(survey(rt, alloc, case, workers, &Free)?)
+    Ok(survey_owned(rt, alloc, case, workers, &Free)?)
 }
 
 /// The answer of an analyst to a question about events.

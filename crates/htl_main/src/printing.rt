@@ -89,8 +89,9 @@ pub(crate) fn answered<Rt: Threads + Wait + Sync>(
 {
     let case = Case::of(alloc, segments)?;
     let symbols = read_symbols(alloc, symbols)?;
-    let answer = answer(rt, alloc, job, &case)?;
-    Ok((text(alloc, &answer, &symbols)?, Coverage::of(&case)))
+    let coverage = Coverage::of(&case);
+    let answer = answer(rt, alloc, job, case)?;
+    Ok((text(alloc, &answer, &symbols)?, coverage))
 }
 
 /// The symbols of a table's bytes, or none where no table is given.

@@ -1,12 +1,13 @@
 //! The summary of a case.
 
 ghost use Rattle.std.specs.Prelude.{◌≡◌, ◌<◌, ◌^◌, List, IfOk, length};
-ghost use Rattle.htl_segment.specs.Traces.{all_events};
+ghost use Rattle.htl_segment.specs.Traces.{Trace, all_events};
 ghost use Rattle.htl_symbols.specs.Ranges.{Range};
 ghost use Rattle.htl_event.specs.Summaries.{IsNumberOfObjects};
 ghost use Rattle.htl_report.specs.Texts.{text_of};
 ghost use Rattle.htl_exchange.specs.Desks.{IsWholeStanding};
 ghost use Rattle.htl_main.specs.Printed.{IsText};
+ghost use Rattle.htl_main.specs.Sizes.{AreSizes};
 ghost use Rattle.htl_main.specs.Summaries.{AreTotals};
 ghost use Rattle.htl_command.specs.declared.question.Question.TheVariants as asked;
 
@@ -18,36 +19,58 @@ use htl_segment::Segment;
 use htl_summary::Objects;
 use std::alloc::Global;
 
-/// The summary of the case, by the analyst that has taken in the whole of it.
+/// How many processors, segments and events a case has.
+#[derive(Clone, Copy, Debug, PartialEq, Eq)]
+pub(crate) struct Sizes {
+    pub(crate) processors: u16,
+    pub(crate) segments: u64,
+    pub(crate) events: u64,
+}
+
+impl Sizes {
+    ghost use Rattle.htl_main.specs.Sizes.{AreSizes};
+
+    /// Those of the case.
+    pub(crate) fn of(case: &Case) -> Sizes
+        ensures { AreSizes case.now result }
+    {
+        Sizes {
+            processors: case.processors(),
+            segments: case.segments().len() as u64,
+            events: event_count(case.segments()),
+        }
+    }
+}
+
+/// The summary of a case of these sizes, by the analyst that has taken in the whole of it.
 pub(crate) fn summary(
     alloc: Global,
-    case: &Case,
+    sizes: Sizes,
     analyst: &Analyst<Global>,
 ) -> Result<Answer, NoMemory>
-    requires { IsWholeStanding case.now analyst.now }
-    ensures { IfOk result (λ answer. (table : List Range)
-        → IsText case.now table asked.Summary (text_of table answer)) }
+    ensures { IfOk result (λ answer. (T : Trace) → AreSizes T sizes
+        → IsWholeStanding T analyst.now → (table : List Range)
+        → IsText T table asked.Summary (text_of table answer)) }
 {
     let Objects { number, unbalanced } = analyst.objects(alloc)?;
     let gaps = analyst.gaps(alloc)?;
     let processes = analyst.processes(alloc)?;
     Ok(Answer::Summary {
-        totals: totals(case, analyst, number),
+        totals: totals(sizes, analyst, number),
         gaps,
         processes,
         objects: unbalanced,
     })
 }
 
-fn totals(case: &Case, analyst: &Analyst<Global>, objects: u64) -> Totals
-    requires whole { IsWholeStanding case.now analyst.now }
-    requires objects { IsNumberOfObjects (all_events case.now.segments) objects }
-    ensures { AreTotals case.now result }
+fn totals(sizes: Sizes, analyst: &Analyst<Global>, objects: u64) -> Totals
+    ensures { (T : Trace) → AreSizes T sizes → IsWholeStanding T analyst.now
+        → IsNumberOfObjects (all_events T.segments) objects → AreTotals T result }
 {
     Totals {
-        processors: case.processors(),
-        segments: case.segments().len() as u64,
-        events: event_count(case.segments()),
+        processors: sizes.processors,
+        segments: sizes.segments,
+        events: sizes.events,
         complete_to: analyst.complete_to(),
         objects,
     }

@@ -8,7 +8,9 @@ use anyhow::Result;
 use growth_trials::{Equal, Hand, Refusal, Same, Trials};
 use htl_analyst::Analyst;
 use htl_case::Case;
-use htl_exchange::{CloseFault, Collected, Desk, Exchange, Free, Posted, Why, survey};
+use htl_exchange::{
+    CloseFault, Collected, Desk, Exchange, Free, Posted, Why, survey, survey_owned,
+};
 use htl_samples::{RandomTrace, SMALL};
 use std::alloc::Global;
 use std::marker::Model;
@@ -33,6 +35,11 @@ pub fn try_all<R: Threads + Wait + Sync>(
         "survey by two workers",
         case,
         |alloc, case: &Case| surveyed(rt, alloc, case),
+    )?;
+    trials.reads(
+        "survey of a case of its own",
+        case,
+        |alloc, case: &Case| surveyed_owned(rt, alloc, case),
     )
 }
 
@@ -255,4 +262,17 @@ fn surveyed<R: Threads + Wait + Sync>(
     case: &Case,
 ) -> Result<Analyst<Global>, Refusal> {
     Ok(survey(rt, alloc, case, 2, &Free)?)
+}
+
+/// The survey of another case of the same segments.
+fn surveyed_owned<R: Threads + Wait + Sync>(
+    rt: &R,
+    alloc: Global,
+    case: &Case,
+) -> Result<Analyst<Global>, Refusal> {
+    let mut segments = Vec::new(alloc);
+    for segment in case.segments() {
+        segments.push(segment.copy()?)?;
+    }
+    Ok(survey_owned(rt, alloc, Case::of(alloc, segments)?, 2, &Free)?)
 }

@@ -29,6 +29,7 @@ fn try_trees(trials: &mut Trials<'_, HostRuntime>) -> Result<()> {
     trials.changes("StackTree::add, a branch", tree, add)?;
     trials.changes("StackTree::note", noting, note)?;
     trials.reads("StackTree::plus", two_trees, sum)?;
+    trials.reads("StackTree::sum_of_all", two_trees, sum_of_all)?;
     trials.reads("StackTree::copy", tree, copy)
 }
 
@@ -97,6 +98,13 @@ fn sum(_alloc: Global, (one, two): &(Tree, Tree)) -> Result<Tree, Refusal> {
         return Err(Refusal::Other);
     }
     Ok(one.plus(two)?)
+}
+
+fn sum_of_all(alloc: Global, (one, two): &(Tree, Tree)) -> Result<Tree, Refusal> {
+    if !one.fits(two.total()) {
+        return Err(Refusal::Other);
+    }
+    Ok(StackTree::sum_of_all(alloc, &[one, two])?)
 }
 
 fn copy(_alloc: Global, tree: &Tree) -> Result<Tree, Refusal> {

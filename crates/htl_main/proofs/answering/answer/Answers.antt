@@ -9,7 +9,7 @@ use Rattle.htl_main.proofs.answering.answer.Goals as goal
 
 pub returns-in_ok-answer_of-in_default : goal.returns-in_ok-answer_of-in_default
 returns-in_ok-answer_of-in_default g c =
-    let T = c.args.case.now in
+    let T = c.args.case in
     let question = c.args.job.now.question in
     let answer = c.in_ok-answer_of-in_default.field-0 in
     let whole = c.in_ok-analyst-in_default.ensures.ok in

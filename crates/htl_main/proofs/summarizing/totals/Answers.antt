@@ -1,22 +1,12 @@
--- The totals are those of the trace's segments, and of an analyst that has taken them all.
-use Rattle.std.proofs.Common.{◌∙◌, List, ap, length}
-use Rattle.htl_segment.specs.Content.{Content}
-use Rattle.htl_segment.specs.Traces.{all_events}
-use Rattle.htl_main.proofs.FewSegments.{few_events}
+-- The totals are the case's sizes, and what an analyst that has taken it all is complete to.
 use Rattle.htl_main.proofs.WholeLaws.{complete}
 use Rattle.htl_main.proofs.summarizing.totals.Goals as goal
 
-pub event_count-requires : goal.event_count-requires
-event_count-requires c =
-    rw c.segments-2.ensures.value (few_events c.args.case.now c.segments-2.ensures.is_case.trace)
-
 pub returns : goal.returns
-returns c = record {
-  processors = c.processors.ensures;
-  segments = ap length c.segments.ensures.value;
-  events = c.event_count.ensures ∙ ap (λ (ss : List Content). length (all_events ss)) c.segments-2.ensures.value;
-  complete_to =
-      complete c.args.case.now c.args.analyst.now c.complete_to.result c.requires.whole
-      (c.complete_to.ensures.complete c.args.case.now c.requires.whole.standing.right);
-  objects = c.requires.objects;
+returns c T sizes whole objects = record {
+  processors = sizes.processors;
+  segments = sizes.segments;
+  events = sizes.events;
+  complete_to = complete T c.args.analyst.now c.complete_to.result whole (c.complete_to.ensures.complete T whole.standing.right);
+  objects = objects;
 }

@@ -20,13 +20,13 @@ use Rattle.htl_tree.specs.declared.cursor.Cursor.{Cursor}
 use Rattle.htl_tree.specs.declared.node.Node.{Node}
 use Rattle.htl_event.specs.SlotOrder.{slot_cmp}
 use Rattle.htl_event.specs.OrderLaws.{slot_total}
-use Rattle.htl_tree.specs.Nodes.{Spot, spot, top, tops, inside, tally, own, marks, kids, height, at_child, AtChild, NormalAt}
+use Rattle.htl_tree.specs.Nodes.{Spot, spot, marks_at, top, tops, inside, tally, own, marks, kids, height, at_child, AtChild, NormalAt}
 use Rattle.htl_tree.specs.Nodes.{IsNormal, IsNonEmpty, IsKept, IsCopy, IsSum, AppendsCopies, FitsSum}
 use Rattle.htl_tree.proofs.Canonical.{inhabited}
 use Rattle.htl_tree.proofs.ChangedKeys.{each_from_found}
 use Rattle.htl_tree.proofs.CountAdded.{normal_here, normal_child, normal_inside, nonempty_from, kept_before}
 use Rattle.htl_tree.proofs.Children.{appends_more}
-use Rattle.htl_tree.proofs.Marked.{marked_joined}
+use Rattle.htl_tree.proofs.MarkedPlaces.{marked_same, marked_sum}
 use Rattle.htl_tree.proofs.Spots.{before, find_before}
 
 -- ---- copies
@@ -70,19 +70,19 @@ module _ {A : Type 0} (n m : Spot A) (h : IsNormal n) (same : own m ≡ own n) (
   pub copied : IsCopy n m
   copied = record { normal = record { everywhere = at }; counts = counts }
     where
+      counts : (p : List ℕ) (s : Slot) → tally p s m ≡ tally p s n
+      counts [] s = rw same refl
+      counts (f ∷ p) s = copied_tally p s (find nat_cmp f (kids n)) (find nat_cmp f (kids m)) (copy_at f)
+
       at : (p : List ℕ) → NormalAt p m
       at [] = let here = normal_here n h in record {
         slots = rw same here.slots;
         positive = rw same here.positive;
-        marked = rw (same, marked) here.marked;
+        marked = marked_same n m marked counts here.marked;
         frames = frames_sorted;
         nonempty = each_from_found nat_cmp nat_cmp_total (λ c. IsNonEmpty c) (kids m) frames_sorted kid_nonempty;
       }
       at (f ∷ p) = copied_normal p (find nat_cmp f (kids n)) (find nat_cmp f (kids m)) (copy_at f)
-
-      counts : (p : List ℕ) (s : Slot) → tally p s m ≡ tally p s n
-      counts [] s = rw same refl
-      counts (f ∷ p) s = copied_tally p s (find nat_cmp f (kids n)) (find nat_cmp f (kids m)) (copy_at f)
 
 -- ---- places further along a node's frames
 
@@ -238,20 +238,20 @@ module _ {A : Type 0} (a b c : Spot A) (g : IsNormal a) (h : IsNormal b)
   pub summed : IsSum a b c
   summed = record { normal = record { everywhere = at }; counts = counts }
     where
-      at : (p : List ℕ) → NormalAt p c
-      at [] = record {
-        slots = sorted;
-        positive = each_from_found slot_cmp slot_total IsPositive (own c) sorted sum_positive;
-        marked = rw marked (marked_joined (marks a) (marks b) (own a) (own b) (own c) (normal_here a g).marked (normal_here b h).marked sorted values);
-        frames = sum_frames;
-        nonempty = each_from_found nat_cmp nat_cmp_total (λ c. IsNonEmpty c) (kids c) sum_frames sum_nonempty;
-      }
-      at (f ∷ p) = sum_normal p (find nat_cmp f (kids a)) (find nat_cmp f (kids b)) (find nat_cmp f (kids c)) (sum_at f)
-
       counts : (p : List ℕ) (s : Slot) → tally p s c ≡ plus_count (tally p s a) (tally p s b)
       counts [] s = ap (λ (o : Option Count). unwrap_or o zero_count) (values s)
           ∙ joined_count (find slot_cmp s (own a)) (find slot_cmp s (own b))
       counts (f ∷ p) s = sum_tally p s (find nat_cmp f (kids a)) (find nat_cmp f (kids b)) (find nat_cmp f (kids c)) (sum_at f)
+
+      at : (p : List ℕ) → NormalAt p c
+      at [] = record {
+        slots = sorted;
+        positive = each_from_found slot_cmp slot_total IsPositive (own c) sorted sum_positive;
+        marked = marked_sum a b c marked counts (normal_here a g).marked (normal_here b h).marked;
+        frames = sum_frames;
+        nonempty = each_from_found nat_cmp nat_cmp_total (λ c. IsNonEmpty c) (kids c) sum_frames sum_nonempty;
+      }
+      at (f ∷ p) = sum_normal p (find nat_cmp f (kids a)) (find nat_cmp f (kids b)) (find nat_cmp f (kids c)) (sum_at f)
 
 -- ---- the children of a sum, made in one pass
 
@@ -333,32 +333,33 @@ fits_skip c d k at by same left right fits =
     subst (λ s. FitsSum s by) (sym left) (subst (λ s. FitsSum (drop k c.frames.now, c.node.now) s) (sym right)
     (fits_drop k c.frames.now d.frames.now c.node.now d.node.now same fits))
 
-summed_before : {A : Type 0} (f : ℕ) (a b c : Spot A) → IsNormal (before f a) → IsNormal (before f b) → IsSum a b c
-    → IsSum (before f a) (before f b) (before f c)
-summed_before {A} f a b c g h sum =
+summed_before : {A : Type 0} (f : ℕ) (a b c : Spot A) → marks c ≡ bit_or (marks a) (marks b) → IsNormal (before f a)
+    → IsNormal (before f b) → IsSum a b c → IsSum (before f a) (before f b) (before f c)
+summed_before {A} f a b c w g h sum =
     let both : join nat_cmp (kids (before f a)) (kids (before f b)) ≡ (f, (Some a, Some b)) ∷ [] =
     rw (tied_itself nat_cmp_total f) refl in
-    summed (before f a) (before f b) (before f c) g h tt refl (λ s. refl)
+    summed (before f a) (before f b) (before f c) g h tt w (λ s. refl)
     (subst (λ l. Made (λ sides sum. SumOf sides sum) l (kids (before f c))) (sym both) (refl, sum, tt))
 
-summed_along : {A : Type 0} (k : ℕ) (fs gs : List ℕ) (a b c : Node A) → take k fs ≡ take k gs → IsNormal (fs, a)
-    → IsNormal (gs, b) → IsSum (drop k fs, a) (drop k gs, b) (inside c) → IsSum (fs, a) (gs, b) (take k fs, c)
-summed_along zero fs gs a b c same g h sum = sum
-summed_along (suc k) [] [] a b c same g h sum = sum
-summed_along (suc k) [] (f ∷ gs) a b c same g h sum = absurd (cc)
-summed_along (suc k) (f ∷ fs) [] a b c same g h sum = absurd (cc)
-summed_along {A} (suc k) (f ∷ fs) (e ∷ gs) a b c same g h sum =
+summed_along : {A : Type 0} (k : ℕ) (fs gs : List ℕ) (a b c : Node A) → take k fs ≡ take k gs
+    → marks_at c ≡ bit_or (marks_at a) (marks_at b) → IsNormal (fs, a) → IsNormal (gs, b) → IsSum (drop k fs, a) (drop k gs, b) (inside c) → IsSum (fs, a) (gs, b) (take k fs, c)
+summed_along zero fs gs a b c same w g h sum = sum
+summed_along (suc k) [] [] a b c same w g h sum = sum
+summed_along (suc k) [] (f ∷ gs) a b c same w g h sum = absurd (cc)
+summed_along (suc k) (f ∷ fs) [] a b c same w g h sum = absurd (cc)
+summed_along {A} (suc k) (f ∷ fs) (e ∷ gs) a b c same w g h sum =
     let frame : e ≡ f = sym (ap (λ l. get_or l 0 f) same) in
     let right : IsNormal (before f (gs, b)) = subst (λ d. IsNormal (before d (gs, b))) frame h in
     let further : IsSum (fs, a) (gs, b) (take k fs, c) =
-    summed_along k fs gs a b c (ap (λ l. drop 1 l) same) (normal_drop 1 (f ∷ fs) a g) (normal_drop 1 (e ∷ gs) b h) sum in
+    summed_along k fs gs a b c (ap (λ l. drop 1 l) same) w (normal_drop 1 (f ∷ fs) a g) (normal_drop 1 (e ∷ gs) b h) sum in
     subst (λ d. IsSum (f ∷ fs, a) (before d (gs, b)) (f ∷ take k fs, c)) (sym frame)
-    (summed_before f (fs, a) (gs, b) (take k fs, c) g right further)
+    (summed_before f (fs, a) (gs, b) (take k fs, c) w g right further)
 
 -- the sum of what two places have behind frames that they share, with these before it
 pub summed_skip : {A : Type 0} (c d : Cursor A) (k : ℕ) (at by : Spot A) (n : Node A) → take k c.frames.now ≡ take k d.frames.now
-    → at ≡ (drop k c.frames.now, c.node.now) → by ≡ (drop k d.frames.now, d.node.now) → IsNormal (spot c) → IsNormal (spot d)
-    → IsSum at by (inside n) → IsSum (spot c) (spot d) (take k c.frames.now, n)
-summed_skip c d k at by n same left right g h sum =
-    summed_along k c.frames.now d.frames.now c.node.now d.node.now n same g h
+    → at ≡ (drop k c.frames.now, c.node.now) → by ≡ (drop k d.frames.now, d.node.now) → marks_at n ≡ bit_or (marks at) (marks by)
+    → IsNormal (spot c) → IsNormal (spot d) → IsSum at by (inside n) → IsSum (spot c) (spot d) (take k c.frames.now, n)
+summed_skip c d k at by n same left right w g h sum =
+    summed_along k c.frames.now d.frames.now c.node.now d.node.now n same
+    (w ∙ (λ i. bit_or (marks (left i)) (marks (right i)))) g h
     (subst (λ s. IsSum s (drop k d.frames.now, d.node.now) (inside n)) left (subst (λ s. IsSum at s (inside n)) right sum))

@@ -19,11 +19,12 @@ use Rattle.htl_event.specs.SlotOrder.{slot_cmp}
 use Rattle.htl_event.specs.OrderLaws.{slot_total, slot_same}
 use Rattle.htl_tree.specs.declared.node.Node.{Node}
 use Rattle.htl_tree.specs.Trees.{bump}
-use Rattle.htl_tree.specs.Marks.{mark, AreMarked}
+use Rattle.htl_tree.specs.Marks.{mark, HasMarksOf, AreMarked}
 use Rattle.htl_tree.specs.Nodes.{Spot, frames, counts_of, children_of, marks_at, marks, top, tops, inside}
-use Rattle.htl_tree.specs.Nodes.{tally, tally_of, own, kids, at_child, IsNonEmpty, IsNormal, IsNormalSpot}
+use Rattle.htl_tree.specs.Nodes.{tally, tally_of, own, kids, at_child, IsNonEmpty, HasMarks, IsNormal, IsNormalSpot}
 use Rattle.htl_tree.specs.Nodes.{AtChild, NormalAt, AddsOne, counted, IsAdded, IsKept, IsBranch}
 use Rattle.htl_tree.proofs.Marked.{marked_counted}
+use Rattle.htl_tree.proofs.MarkedPlaces.{has_left, own_marked, marked_end, marked_on, marked_before, marked_own}
 use Rattle.htl_tree.proofs.Spots.{before, find_before, frames_before}
 
 pub normal_here : {A : Type 0} (n : Spot A) → IsNormal n → IsNormalSpot n
@@ -47,12 +48,18 @@ nonempty_from n (f ∷ p) s h o k = let none : tally (f ∷ p) s n ≡ zero_coun
 module _ {A : Type 0} (n m : Spot A) where
   -- the same children
   pub normal_own : kids m ≡ kids n → IsNormal n → IsSorted slot_cmp (own m) → Each IsPositive (own m) → AreMarked (marks m) (own m)
-      → IsNormal m
-  normal_own k h sorted positive marked = record { everywhere = at }
+      → HasMarksOf (marks m) (marks n) → IsNormal m
+  normal_own k h sorted positive marked more = record { everywhere = at }
     where
       at : (p : List ℕ) → NormalAt p m
       at [] = let here = normal_here n h in
-          record { slots = sorted; positive = positive; marked = marked; frames = rw k here.frames; nonempty = rw k here.nonempty }
+          record {
+            slots = sorted;
+            positive = positive;
+            marked = marked_own n m k marked more here.marked;
+            frames = rw k here.frames;
+            nonempty = rw k here.nonempty;
+          }
       at (f ∷ p) = rw k (h.everywhere (f ∷ p))
 
   pub added_own : (s : Slot) (sign : Sign) → IsNormal n → own m ≡ counted s sign (own n) → marks m ≡ bit_or (marks n) (mark s)
@@ -62,7 +69,8 @@ module _ {A : Type 0} (n m : Spot A) where
       record {
         normal = normal_own k h (rw more (is_sorted-put slot_cmp slot_total s _ (own n) here.slots))
             (rw more (each_put slot_cmp IsPositive s _ (own n) (bump_positive sign _) here.positive))
-            (rw (more, new) (marked_counted (marks n) s sign (own n) here.marked));
+            (rw (more, new) (marked_counted (marks n) s sign (own n) (own_marked n here)))
+            (rw new (has_left (marks n) (mark s)));
         counts = record {
           here = rw (more, find_put_same slot_cmp slot_total s _ (own n)) refl;
           elsewhere = elsewhere;
@@ -77,7 +85,7 @@ module _ {A : Type 0} (n m : Spot A) where
   kept_own h o w k =
       let here = normal_here n h in
       record {
-        normal = normal_own k h (rw o here.slots) (rw o here.positive) (rw (o, w) here.marked);
+        normal = normal_own k h (rw o here.slots) (rw o here.positive) (rw (o, w) (own_marked n here)) (λ s there. rw w there);
         counts = same;
         nonempty = λ some p q. some (sym o ∙ p) (sym k ∙ q);
       }
@@ -86,7 +94,7 @@ module _ {A : Type 0} (n m : Spot A) where
       same [] t = rw o refl
       same (f ∷ p) t = rw k refl
 
-  module _ (f : ℕ) (c : Spot A) (o : own m ≡ own n) (w : marks m ≡ marks n) (k : kids m ≡ put nat_cmp f c (kids n)) (h : IsNormal n) where
+  module _ (f : ℕ) (c : Spot A) (o : own m ≡ own n) (w : HasMarks c → HasMarks m) (k : kids m ≡ put nat_cmp f c (kids n)) (h : IsNormal n) where
     pub normal_kid : IsNormal c → IsNonEmpty c → IsNormal m
     normal_kid good some = record { everywhere = at }
       where
@@ -94,7 +102,7 @@ module _ {A : Type 0} (n m : Spot A) where
         at [] = let here = normal_here n h in record {
           slots = rw o here.slots;
           positive = rw o here.positive;
-          marked = rw (o, w) here.marked;
+          marked = w (normal_here c good).marked;
           frames = rw k (is_sorted-put nat_cmp nat_cmp_total f c (kids n) here.frames);
           nonempty = rw k (each_put nat_cmp (λ c. IsNonEmpty c) f c (kids n) some here.nonempty);
         }
@@ -161,7 +169,7 @@ nonempty_child n h f c found = each_found nat_cmp (λ c. IsNonEmpty c) f c (kids
 
 -- a count that was added below a child, or refused
 pub stepped : {A : Type 0} (n m : Spot A) → IsNormal n → (f : ℕ) (old new : Spot A) → find nat_cmp f (kids n) ≡ Some old
-    → own m ≡ own n → marks m ≡ marks n → kids m ≡ put nat_cmp f new (kids n) → (path : List ℕ) (s : Slot) (sign : Sign)
+    → own m ≡ own n → (HasMarks new → HasMarks m) → kids m ≡ put nat_cmp f new (kids n) → (path : List ℕ) (s : Slot) (sign : Sign)
     → {X E : Type 0} (r : Result X E) → MatchResult r (λ _. IsAdded path s sign old new) (λ _. IsKept old new)
     → MatchResult r (λ _. IsAdded (f ∷ path) s sign n m) (λ _. IsKept n m)
 stepped n m h f old new found o w k path s sign r result = match_result r result
@@ -184,7 +192,7 @@ branch_end {A} m s sign o marked k = record {
     at [] = record {
       slots = rw o tt;
       positive = rw o (bump_positive sign zero_count, tt);
-      marked = marked;
+      marked = marked_end m marked k;
       frames = rw k tt;
       nonempty = rw k tt;
     }
@@ -197,8 +205,8 @@ branch_end {A} m s sign o marked k = record {
 
 -- a node above it
 pub branch_on : {A : Type 0} (m c : Spot A) (f : ℕ) (path : List ℕ) (s : Slot) (sign : Sign) → own m ≡ [] → kids m ≡ (f, c) ∷ []
-    → IsBranch path s sign c → IsBranch (f ∷ path) s sign m
-branch_on m c f path s sign o k child = record {
+    → HasMarksOf (marks m) (marks c) → IsBranch path s sign c → IsBranch (f ∷ path) s sign m
+branch_on m c f path s sign o k w child = record {
   normal = record { everywhere = at };
   counts = record { here = here path s ∙ child.counts.here; elsewhere = elsewhere };
 }
@@ -207,7 +215,7 @@ branch_on m c f path s sign o k child = record {
     at [] = record {
       slots = rw o tt;
       positive = rw o tt;
-      marked = rw o tt;
+      marked = marked_on m c f o k w (normal_here c child.normal).marked;
       frames = rw k tt;
       nonempty =
           rw k (nonempty_from c path s (rw child.counts.here (bump_positive sign zero_count)), tt);
@@ -248,7 +256,8 @@ module _ {A : Type 0} where
   kept_along (f ∷ fs) c k h kept =
       let old = frames_before fs c in
       let new = frames_before fs k in
-      kept_below (before f old) (before f new) f new refl refl (put_before f old new) h old (find_before f old)
+      kept_below (before f old) (before f new) f new refl (marked_before f new)
+      (put_before f old new) h old (find_before f old)
       (kept_along fs c k (normal_after f old h) kept) (nonempty_child (before f old) h f old (find_before f old))
 
   -- what is normal at frames before a node is normal at the node
@@ -264,7 +273,7 @@ module _ {A : Type 0} where
   branch_before : (fs : List ℕ) (m : Node A) (path : List ℕ) (s : Slot) (sign : Sign) → IsBranch path s sign (inside m)
       → IsBranch (fs ++ path) s sign (fs, m)
   branch_before [] m path s sign new = new
-  branch_before (f ∷ fs) m path s sign new = branch_on (f ∷ fs, m) (fs, m) f (fs ++ path) s sign refl refl
+  branch_before (f ∷ fs) m path s sign new = branch_on (f ∷ fs, m) (fs, m) f (fs ++ path) s sign refl refl (λ t is. is)
       (branch_before fs m path s sign new)
 
   pub branch_top : (m : Node A) (s : Slot) (sign : Sign) → IsBranch [] s sign (inside m) → IsBranch (frames m) s sign (top m)
@@ -274,9 +283,9 @@ module _ {A : Type 0} where
 
 -- the rest of its frames lead to a node of its own, which has all that was inside
 pub parted : {A : Type 0} (n upper lower : Node A) (fs gs : List ℕ) (f : ℕ) → IsNormal (top n) → frames n ≡ fs ++ f ∷ gs
-    → frames upper ≡ fs → counts_of upper ≡ [] → children_of upper ≡ (f, lower) ∷ [] → marks_at upper ≡ 0 → frames lower ≡ gs
+    → frames upper ≡ fs → counts_of upper ≡ [] → children_of upper ≡ (f, lower) ∷ [] → marks_at upper ≡ marks_at n → frames lower ≡ gs
     → counts_of lower ≡ counts_of n → children_of lower ≡ children_of n → marks_at lower ≡ marks_at n → IsKept (top n) (top upper)
-parted {A} n upper lower fs gs f h all first none only unmarked rest counts children marked =
+parted {A} n upper lower fs gs f h all first none only as_marked rest counts children marked =
     subst (λ l. IsKept (l, n) (top upper)) (sym all) (subst (λ l. IsKept (fs ++ f ∷ gs, n) (l, upper)) (append-nil fs ∙ sym first)
     (kept_along fs (f ∷ gs, n) (inside upper) normal below))
   where
@@ -290,9 +299,13 @@ parted {A} n upper lower fs gs f h all first none only unmarked rest counts chil
     moved = kept_before gs n lower (normal_after f (gs, n) here)
         (kept_own (inside n) (inside lower) (normal_inside (frames n) n h) counts marked (ap tops children))
 
+    further : kids (inside upper) ≡ (f, (gs, lower)) ∷ []
+    further = ap tops only ∙ ap (λ l. (f, (l, lower)) ∷ []) rest
+
     below : IsKept (f ∷ gs, n) (inside upper)
-    below = kept_below (f ∷ gs, n) (inside upper) f (gs, lower) none unmarked
-        (ap tops only ∙ ap (λ l. (f, (l, lower)) ∷ []) rest ∙ put_before f (gs, n) (gs, lower)) here (gs, n) (find_before f (gs, n)) moved
+    below = kept_below (f ∷ gs, n) (inside upper) f (gs, lower) none
+        (λ there. marked_on (inside upper) (gs, lower) f none further (λ s is. rw (as_marked, sym marked) is) there)
+        (further ∙ put_before f (gs, n) (gs, lower)) here (gs, n) (find_before f (gs, n)) moved
         (nonempty_child (f ∷ gs, n) here f (gs, n) (find_before f (gs, n)))
 
 -- what is known of a node by its parts

@@ -11,6 +11,7 @@ use Rattle.htl_tree.specs.Trees.{bump}
 use Rattle.htl_tree.specs.Nodes.{Spot, frames, top, inside, tally, kids, at_child, IsNormal, IsAdded, IsKept}
 use Rattle.htl_tree.proofs.Spots.{find_before, tally_along}
 use Rattle.htl_tree.proofs.CountAdded.{normal_child, normal_after, normal_inside, put_before, added_below, kept_before, match_result}
+use Rattle.htl_tree.proofs.MarkedPlaces.{marked_before}
 
 -- ---- the path of a stack behind these frames
 
@@ -33,8 +34,8 @@ added_before : {A : Type 0} (fs : List ℕ) (n m : Node A) → IsNormal (fs, n) 
     → IsAdded path s sign (inside n) (inside m) → IsAdded (fs ++ path) s sign (fs, n) (fs, m)
 added_before [] n m h path s sign added = added
 added_before (f ∷ fs) n m h path s sign added =
-    added_below (f ∷ fs, n) (f ∷ fs, m) f (fs, m) refl refl (put_before f (fs, n) (fs, m)) h (fs, n) (find_before f (fs, n)) (fs ++ path) s
-    sign (added_before fs n m (normal_after f (fs, n) h) path s sign added)
+    added_below (f ∷ fs, n) (f ∷ fs, m) f (fs, m) refl (marked_before f (fs, m)) (put_before f (fs, n) (fs, m)) h (fs, n)
+    (find_before f (fs, n)) (fs ++ path) s sign (added_before fs n m (normal_after f (fs, n) h) path s sign added)
 
 kept_kept : {A : Type 0} (a b c : Spot A) → IsKept a b → IsKept b c → IsKept a c
 kept_kept a b c first second = record {

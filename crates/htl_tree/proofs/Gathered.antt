@@ -17,8 +17,8 @@ use Rattle.htl_event.specs.OrderLaws.{slot_total, slot_same}
 use Rattle.htl_sorted.specs.Entries.{Each}
 use Rattle.htl_sorted.proofs.Finds.{each_found, each_put}
 use Rattle.htl_tree.specs.declared.node.Node.{Node}
-use Rattle.htl_tree.specs.Marks.{AreMarked}
-use Rattle.htl_tree.specs.Nodes.{Spot, inside, own, marks, count_in, kids, tally, at_child, AtChild, NormalAt, IsNormal, IsNonEmpty}
+use Rattle.htl_tree.specs.Marks.{HasMarksOf}
+use Rattle.htl_tree.specs.Nodes.{Spot, inside, own, marks, count_in, kids, tally, at_child, AtChild, HasMarks, NormalAt, IsNormal, IsNonEmpty}
 use Rattle.htl_tree.specs.Nodes.{skipped, all_own, all_kids, sum_over, sum_at_key, counts_at, height, heights, AllShare, EachNormal}
 use Rattle.htl_tree.specs.Nodes.{IsSumOf, FitSumOf, FitByFrame, AreAddedUp, AreSumsByFrame}
 use Rattle.htl_tree.proofs.Canonical.{inhabited}
@@ -28,6 +28,7 @@ use Rattle.htl_tree.proofs.ChangedKeys.{AllBelow, sorted_append, each_from_found
 use Rattle.htl_tree.proofs.CountAdded.{normal_here, normal_child, normal_after, nonempty_from, nonempty_child}
 use Rattle.htl_tree.proofs.EachValue.{each_weaker, each_append, each_moved}
 use Rattle.htl_tree.proofs.KeyedSums.{sum_at_key-append, sum_at_key-permutation, sum_at_key-sorted, sum_at_key-part}
+use Rattle.htl_tree.proofs.MarkedPlaces.{marked_before, marked_sum_of}
 use Rattle.htl_tree.proofs.RowGroups.{take-plus}
 use Rattle.htl_tree.proofs.Spots.{before, frames_before, find_before, tally_along}
 
@@ -262,7 +263,13 @@ module _ {A : Type 0} where
       nonempty = some_sum ks sum some (all_after f ks h) (all_some f ks h) is
 
       at : (p : List ℕ) → NormalAt p (before f sum)
-      at [] = record { slots = tt; positive = tt; marked = tt; frames = tt; nonempty = (nonempty, tt) }
+      at [] = record {
+        slots = tt;
+        positive = tt;
+        marked = marked_before f sum (normal_here sum is.normal).marked;
+        frames = tt;
+        nonempty = (nonempty, tt);
+      }
       at (e ∷ p) = elim (eq_by_cmp nat_cmp e f) as (λ b. AtChild (λ c. NormalAt p c) (cond b (Some sum) None)) [
         | true ↦ is.normal.everywhere p
         | false ↦ tt
@@ -329,6 +336,11 @@ module _ {A : Type 0} where
   skipped_normal n [] h = tt
   skipped_normal n (k ∷ ks) h = (normal_drop n k.1.0 k.1.1 h.0, skipped_normal n ks h.1)
 
+  pub skipped_marks : (w n : ℕ) (ks : List (ℕ × Spot A)) → Each (λ c. HasMarksOf w (marks c)) ks
+      → Each (λ c. HasMarksOf w (marks c)) (skipped n ks)
+  skipped_marks w n [] h = tt
+  skipped_marks w n (k ∷ ks) h = (h.0, skipped_marks w n ks h.1)
+
   pub skipped_fit : (n : ℕ) (fs : List ℕ) (ks : List (ℕ × Spot A)) → AllShare n fs ks → FitSumOf ks → FitSumOf (skipped n ks)
   skipped_fit n fs ks shared fit p s = subst (λ c. total_of c < 2 ^ 64) (same ks shared) (fit (take n fs ++ p) s)
     where
@@ -353,7 +365,7 @@ module _ {A : Type 0} where
   own_fit ks h fit s = subst (λ c. total_of c < 2 ^ 64) (sym (own_counts s ks h)) (fit [] s)
 
   pub summed_up : (ks js : List (ℕ × Spot A)) (m : Spot A) → EachNormal ks → AreAddedUp (all_own ks) (own m)
-      → AreMarked (marks m) (own m) → IsPermutation (all_kids ks) js → AreSumsByFrame js (kids m) → IsSumOf ks m
+      → Each (λ c. HasMarksOf (marks m) (marks c)) ks → IsPermutation (all_kids ks) js → AreSumsByFrame js (kids m) → IsSumOf ks m
   summed_up ks js m h added marked moved sums = record { normal = record { everywhere = at }; counts = counts }
     where
       normal_at : (p : List ℕ) (f : ℕ) (o : Option (Spot A)) → find nat_cmp f (kids m) ≡ o → AtChild (λ c. NormalAt p c) o
@@ -361,22 +373,24 @@ module _ {A : Type 0} where
       normal_at p f (Some c) is =
           let normal : IsNormal c = each_found nat_cmp (λ k. IsNormal k) f c (kids m) sums.normal is in normal.everywhere p
 
-      at : (p : List ℕ) → NormalAt p m
-      at [] = record {
-        slots = added.sorted;
-        positive = added.positive;
-        marked = marked;
-        frames = sums.sorted;
-        nonempty = sums.nonempty;
-      }
-      at (f ∷ p) = normal_at p f (find nat_cmp f (kids m)) refl
-
       counts : (p : List ℕ) (s : Slot) → tally p s m ≡ sum_over (λ c. tally p s c) ks
       counts [] s = added.values s ∙ own_counts s ks h
       counts (f ∷ p) s =
           let g : Spot A → Count = λ c. tally p s c in
           sym (sum_at_key-sorted nat_cmp g nat_cmp_total f (kids m) sums.sorted) ∙ sums.counts f p s
           ∙ sum_at_key-permutation nat_cmp g (all_kids ks) js moved f ∙ kid_counts f p s ks h
+
+      at : (p : List ℕ) → NormalAt p m
+      at [] = record {
+        slots = added.sorted;
+        positive = added.positive;
+        marked = λ p s some. marked_sum_of (marks m) ks
+            (each_weaker (λ c. IsNormal c) (λ c. HasMarks c) (λ c normal. (normal_here c normal).marked) ks h) marked p s
+            (subst IsPositive (counts p s) some);
+        frames = sums.sorted;
+        nonempty = sums.nonempty;
+      }
+      at (f ∷ p) = normal_at p f (find nat_cmp f (kids m)) refl
 
   -- ---- heights
 

@@ -1,4 +1,5 @@
 pub mod Marked
+pub mod MarkedPlaces
 pub mod CountAdded
 pub mod Entered
 pub mod ChangedKeys
@@ -15,6 +16,7 @@ pub mod Tops
 pub mod Under
 pub mod Events
 pub mod SlotRows
+pub mod MarkedRows
 pub mod Spots
 pub mod Depth
 pub mod Roots

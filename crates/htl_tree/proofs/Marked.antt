@@ -1,24 +1,25 @@
--- Numbers that have the marks of slots: a mark stays where others are added, and a slot whose mark is missing isn't counted.
-use Rattle.std.proofs.Common.{◌≡◌, ◌≢◌, ℕ, List, [], ◌∷◌, ◌++◌, Option, Some, None, true, false, cond, unwrap_or, reverse}
-use Rattle.std.proofs.Common.{refl, sym, ◌∙◌, ap, subst, arith}
+-- Numbers that have the marks of slots: a mark stays where others are added, and a slot that is counted has its mark there.
+use Rattle.std.proofs.Common.{◌≡◌, ℕ, List, [], ◌∷◌, ◌++◌, Option, Some, None, cond, unwrap_or}
+use Rattle.std.proofs.Common.{refl, sym, ap, subst, arith, inl, inr}
+use Rattle.std.specs.Prelude.{◌⊎◌}
 use Rattle.std.specs.Int.Bits.{bit_and, bit_or}
 use Rattle.std.specs.Ordering.{is_eq}
 use Rattle.std.specs.FinMap.Entries.{find, put, by_order}
 use Rattle.std.specs.declared.cmp.Ordering.TheVariants.{Less, Equal, Greater}
+use Rattle.std.proofs.lemmas.Bool.{cases_lt}
 use Rattle.std.proofs.lemmas.Nat.{and_or_self}
 use Rattle.std.proofs.lemmas.Nat.Bits.{bit_at_or, bit_at_and, same_from_bits}
 use Rattle.std.specs.Int.{bit_at}
 use Rattle.htl_event.specs.SlotOrder.{slot_cmp}
 use Rattle.htl_event.specs.OrderLaws.{slot_total, slot_same}
-use Rattle.htl_event.specs.Tallies.{zero_count, plus_count}
+use Rattle.htl_event.specs.Tallies.{zero_count, plus_count, total_of, IsPositive}
 use Rattle.htl_event.specs.declared.slot.Slot.{Slot}
 use Rattle.htl_event.specs.declared.slot.Sign.{Sign}
 use Rattle.htl_event.specs.declared.slot.Count.{Count}
-use Rattle.htl_sorted.specs.Entries.{IsSorted, joined_at}
-use Rattle.htl_tree.specs.Asked.{has_slot}
+use Rattle.htl_sorted.specs.Entries.{IsSorted, Each}
+use Rattle.htl_sorted.proofs.Finds.{each_found}
 use Rattle.htl_tree.specs.Marks.{mark, HasMark, AreMarked}
-use Rattle.htl_tree.specs.Nodes.{count_in, counted, own_at}
-use Rattle.htl_tree.specs.declared.slots.Slots.{Slots}
+use Rattle.htl_tree.specs.Nodes.{count_in, counted}
 use Rattle.htl_tree.proofs.ChangedKeys.{all_from_found}
 
 -- bits that either number has are in both together
@@ -30,11 +31,18 @@ pub or_right : (a b m : ℕ) → bit_and b m ≡ m → bit_and (bit_or a b) m �
 or_right a b m h = same_from_bits _ _
     (λ i. omega (arith, bit_at_and (bit_or a b) m i, bit_at_or a b i, bit_at_and b m i, ap (λ n. bit_at n i) h))
 
+pub not_zero : IsPositive zero_count → ⊥
+not_zero h = omega (arith, h)
+
 -- ---- lists whose slots have their marks in a number
 
 pub marked_more : (m n : ℕ) (es : List (Slot × Count)) → AreMarked m es → AreMarked (bit_or m n) es
 marked_more m n [] h = tt
 marked_more m n (e ∷ es) h = (or_left m n (mark e.0) h.0, marked_more m n es h.1)
+
+pub marked_also : (m n : ℕ) (es : List (Slot × Count)) → AreMarked n es → AreMarked (bit_or m n) es
+marked_also m n [] h = tt
+marked_also m n (e ∷ es) h = (or_right m n (mark e.0) h.0, marked_also m n es h.1)
 
 pub marked_push : (m : ℕ) (es : List (Slot × Count)) (e : Slot × Count) → AreMarked m es → HasMark m e.0 → AreMarked m (es ++ e ∷ [])
 marked_push m [] e h new = (new, tt)
@@ -65,36 +73,25 @@ found_marked m s v (e ∷ es) h found = (elim (slot_cmp s e.0)
       | Greater ↦ λ c is. found_marked m s v es h.1 is
     ]) refl found
 
--- counts of two lists that were joined, and the marks of both
-pub marked_joined : (m n : ℕ) (left right both : List (Slot × Count)) → AreMarked m left → AreMarked n right → IsSorted slot_cmp both
-    → ((s : Slot) → find slot_cmp s both ≡ joined_at plus_count (find slot_cmp s left) (find slot_cmp s right))
-    → AreMarked (bit_or m n) both
-marked_joined m n left right both g h sorted values = all_from_found slot_cmp slot_total (λ s v. HasMark (bit_or m n) s) both sorted at
+-- a slot that is counted has its mark there
+pub counted_marked : (m : ℕ) (s : Slot) (es : List (Slot × Count)) → AreMarked m es → IsPositive (count_in es s) → HasMark m s
+counted_marked m s es h some = of (find slot_cmp s es) refl
   where
-    of : (s : Slot) (v : Count) (o q : Option Count) → find slot_cmp s left ≡ o → find slot_cmp s right ≡ q
-        → joined_at plus_count o q ≡ Some v → HasMark (bit_or m n) s
-    of s v None None no_left no_right is = cc
-    of s v (Some x) q at_left at_right is = or_left m n (mark s) (found_marked m s x left g at_left)
-    of s v None (Some y) no_left at_right is = or_right m n (mark s) (found_marked n s y right h at_right)
+    of : (o : Option Count) → find slot_cmp s es ≡ o → HasMark m s
+    of None none = absurd (not_zero (subst IsPositive (ap (λ (o : Option Count). unwrap_or o zero_count) none) some))
+    of (Some v) found = found_marked m s v es h found
 
-    at : (s : Slot) (v : Count) → find slot_cmp s both ≡ Some v → HasMark (bit_or m n) s
-    at s v found = of s v (find slot_cmp s left) (find slot_cmp s right) refl refl (sym (values s) ∙ found)
+-- and a list whose counted slots have their marks there is one with these marks
+pub marked_list : (m : ℕ) (es : List (Slot × Count)) → IsSorted slot_cmp es → Each IsPositive es
+    → ((s : Slot) → IsPositive (count_in es s) → HasMark m s) → AreMarked m es
+marked_list m es sorted positive h = all_from_found slot_cmp slot_total (λ s v. HasMark m s) es sorted
+    (λ s v found. h s (subst IsPositive (sym (ap (λ (o : Option Count). unwrap_or o zero_count) found))
+    (each_found slot_cmp IsPositive s v es positive found)))
 
--- ---- slots whose marks are missing
+-- ---- sums that count something
 
-pub unmarked_count : (m : ℕ) (s : Slot) (es : List (Slot × Count)) → AreMarked m es → bit_and m (mark s) ≢ mark s
-    → count_in es s ≡ zero_count
-unmarked_count m s es h missing = of (find slot_cmp s es) refl
-  where
-    of : (o : Option Count) → find slot_cmp s es ≡ o → count_in es s ≡ zero_count
-    of None none = ap (λ (o : Option Count). unwrap_or o zero_count) none
-    of (Some v) found = absurd (missing (found_marked m s v es h found))
-
-pub unmarked_rows : (m : ℕ) (slots : Slots) (path : List ℕ) (es : List (Slot × Count)) → AreMarked m es
-    → ((s : Slot) → has_slot slots s ≡ true → HasMark m s → ⊥) → own_at (has_slot slots) path es ≡ []
-unmarked_rows m slots path [] h missing = refl
-unmarked_rows m slots path (e ∷ es) h missing = (elim (has_slot slots e.0) as (λ b. has_slot slots e.0 ≡ b
-    → cond b (((e.0, reverse path), e.1) ∷ own_at (has_slot slots) path es) (own_at (has_slot slots) path es) ≡ []) [
-      | true ↦ λ yes. absurd (missing e.0 yes h.0)
-      | false ↦ λ no. unmarked_rows m slots path es h.1 missing
-    ]) refl
+pub either_positive : (x y : Count) → IsPositive (plus_count x y) → IsPositive x ⊎ IsPositive y
+either_positive x y some = elim (cases_lt 0 (total_of x)) [
+  | inl here ↦ inl here
+  | inr none ↦ inr (omega (arith, some, none))
+]

@@ -3,14 +3,17 @@ use Rattle.std.proofs.Common.{◌≡◌, ℕ, zero, suc, ◌+◌, ◌<◌, ◌�
 use Rattle.std.proofs.Common.{refl, sym, ◌∙◌, ap, subst, arith}
 use Rattle.std.specs.List.{AllByRecursion, take-map, drop-map}
 use Rattle.std.specs.List.Sorted.{IsNonDecreasingBy, IsPermutation}
+use Rattle.std.specs.Int.Bits.{bit_or}
 use Rattle.std.proofs.lemmas.List.{take_more, length-take, map_push}
 use Rattle.std.proofs.lemmas.List.Sorted.{IsPermutation-map}
 use Rattle.htl_event.proofs.Members.{AllByRecursion-weaker}
 use Rattle.htl_sorted.specs.Entries.{Each}
 use Rattle.htl_sorted.proofs.Rows.{rest_is}
 use Rattle.htl_tree.specs.declared.cursor.Cursor.{Cursor}
-use Rattle.htl_tree.specs.Nodes.{Spot, spot, spots, AllShare, InFrameOrder}
+use Rattle.htl_tree.specs.Marks.{HasMarksOf}
+use Rattle.htl_tree.specs.Nodes.{Spot, spot, spots, marks, AllShare, InFrameOrder}
 use Rattle.htl_tree.proofs.EachValue.{each_weaker, each_append}
+use Rattle.htl_tree.proofs.MarkedPlaces.{has_left, has_right}
 
 -- fewer frames of those at the start
 fewer_frames : (n m : ℕ) (fs : List ℕ) → m ≤ n → take m (take n fs) ≡ take m fs
@@ -74,6 +77,19 @@ module _ {A : Type 0} where
       (sym (spots_more xs i d lt ∙ ap (λ (e : ℕ × Cursor A). spots (take i xs) ++ (e.0, spot e.1) ∷ []) (sym is)))
       (each_append (λ (c : Spot A). (m ≤ length c.0) × (take m c.0 ≡ take m fs)) (spots (take i xs)) ((d.0, spot d.1) ∷ []) before
       ((right, sym same ∙ fewer), tt))
+
+  -- ---- the marks of all
+
+  pub marks_more : (all w : ℕ) (xs : List (ℕ × Cursor A)) (i : ℕ) (d : ℕ × Cursor A) → i < length xs → d ≡ get_or xs i d
+      → w ≡ marks (spot d.1) → Each (λ c. HasMarksOf all (marks c)) (spots (take i xs))
+      → Each (λ c. HasMarksOf (bit_or all w) (marks c)) (spots (take (i + 1) xs))
+  marks_more all w xs i d lt is of h =
+      subst (λ (l : List (ℕ × Spot A)). Each (λ c. HasMarksOf (bit_or all w) (marks c)) l)
+      (sym (spots_more xs i d lt ∙ ap (λ (e : ℕ × Cursor A). spots (take i xs) ++ (e.0, spot e.1) ∷ []) (sym is)))
+      (each_append (λ c. HasMarksOf (bit_or all w) (marks c)) (spots (take i xs)) ((d.0, spot d.1) ∷ [])
+      (each_weaker (λ c. HasMarksOf all (marks c)) (λ c. HasMarksOf (bit_or all w) (marks c))
+      (λ c there s here. has_left all w s (there s here)) (spots (take i xs)) h)
+      (subst (λ v. HasMarksOf (bit_or all w) v) of (has_right all w), tt))
 
   -- ---- the order of their frames
 

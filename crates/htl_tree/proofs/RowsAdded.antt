@@ -5,6 +5,7 @@ use Rattle.std.specs.Cmp.{tied_itself, nat_cmp_total}
 use Rattle.std.specs.Ordering.{nat_cmp, is_eq, eq_by_cmp}
 use Rattle.std.specs.declared.cmp.Ordering.TheVariants.{Less, Equal, Greater}
 use Rattle.std.specs.FinMap.{nat_cmp-IsAntisymmetric}
+use Rattle.std.specs.Int.Bits.{bit_or}
 use Rattle.std.specs.FinMap.Entries.{find, put, find-put, is_sorted-put}
 use Rattle.std.proofs.lemmas.Bool.{cases_eq}
 use Rattle.std.proofs.lemmas.List.{append-nil}
@@ -18,11 +19,13 @@ use Rattle.htl_sorted.proofs.Finds.{find_put_other, each_put}
 use Rattle.htl_tree.specs.declared.node.Node.{Node}
 use Rattle.htl_tree.specs.declared.row.Row.{Row}
 use Rattle.htl_tree.specs.Nodes.{Spot, tally, tally_of, no_tally, own, kids, count_in, at_child, IsNonEmpty, IsNormal, NormalAt}
-use Rattle.htl_tree.specs.Marks.{AreMarked}
-use Rattle.htl_tree.specs.Nodes.{frames, marks, top, inside, IsKept}
+use Rattle.htl_tree.specs.Marks.{HasMarksOf, AreMarked}
+use Rattle.htl_tree.specs.Nodes.{frames, marks, top, inside, HasMarks, IsKept}
 use Rattle.htl_tree.specs.Rows.{entries_of, slot_sum, Gained, AddsRows, IsGained, IsChain}
+use Rattle.htl_tree.proofs.Marked.{marked_also}
+use Rattle.htl_tree.proofs.MarkedPlaces.{has_left, marked_end, marked_on, marked_before}
 use Rattle.htl_tree.proofs.Spots.{find_before}
-use Rattle.htl_tree.proofs.CountAdded.{normal_own, normal_kid, tally_kid, tally_else, nonempty_from}
+use Rattle.htl_tree.proofs.CountAdded.{normal_here, normal_own, normal_kid, tally_kid, tally_else, nonempty_from}
 use Rattle.htl_tree.proofs.CountAdded.{put_before, normal_after}
 use Rattle.htl_tree.proofs.CopiesAndSums.{zero_left, zero_right}
 use Rattle.htl_tree.proofs.SumsFromTally.{plus_assoc}
@@ -99,10 +102,11 @@ gained_more rows row old mid new h some is =
 -- ---- a node with more
 
 module _ {A : Type 0} (n m : Spot A) (rows : List Row) where
-  pub gained_own : (es : List (Slot × Count)) (w : ℕ) → IsNormal n → own m ≡ es → marks m ≡ w → kids m ≡ kids n → Gained rows (own n) es
-      → AreMarked w es → IsGained [] rows n m
+  pub gained_own : (es : List (Slot × Count)) (w : ℕ) → IsNormal n → own m ≡ es → marks m ≡ bit_or (marks n) w → kids m ≡ kids n
+      → Gained rows (own n) es → AreMarked w es → IsGained [] rows n m
   gained_own es w h o new k gained marked = record {
-    normal = normal_own n m k h (rw o gained.sorted) (rw o gained.positive) (rw (o, new) marked);
+    normal = normal_own n m k h (rw o gained.sorted) (rw o gained.positive) (rw (o, new) (marked_also (marks n) w es marked))
+        (rw new (has_left (marks n) w));
     counts = record { here = λ s. ap (λ l. count_in l s) o ∙ gained.counts s; elsewhere = elsewhere };
   }
     where
@@ -111,7 +115,7 @@ module _ {A : Type 0} (n m : Spot A) (rows : List Row) where
       elsewhere (f ∷ p) t differs = rw k refl
 
   module _ (some : (slot : Slot) × IsPositive (slot_sum slot rows)) (f : ℕ) (c : Spot A) (o : own m ≡ own n)
-      (w : marks m ≡ marks n) (k : kids m ≡ put nat_cmp f c (kids n)) (h : IsNormal n) where
+      (w : HasMarks c → HasMarks m) (k : kids m ≡ put nat_cmp f c (kids n)) (h : IsNormal n) where
     adds_below : (path : List ℕ) → AddsRows path rows (λ p t. at_child (λ c. tally p t c) (find nat_cmp f (kids n))) (tally_of c)
         → AddsRows (f ∷ path) rows (tally_of n) (tally_of m)
     adds_below path adds = record { here = λ s. tally_kid n m f c o w k h path s ∙ adds.here s; elsewhere = elsewhere }
@@ -149,7 +153,7 @@ on_ok (Err e) h f = tt
 
 -- rows that were added below a child
 pub gained_step : {A : Type 0} (n m : Spot A) → IsNormal n → (f : ℕ) (old new : Spot A) → find nat_cmp f (kids n) ≡ Some old
-    → own m ≡ own n → marks m ≡ marks n → kids m ≡ put nat_cmp f new (kids n) → (path : List ℕ) (rows : List Row)
+    → own m ≡ own n → (HasMarks new → HasMarks m) → kids m ≡ put nat_cmp f new (kids n) → (path : List ℕ) (rows : List Row)
     → (slot : Slot) × IsPositive (slot_sum slot rows) → {X E : Type 0} (r : Result X E) → OnOk r (IsGained path rows old new)
     → OnOk r (IsGained (f ∷ path) rows n m)
 gained_step n m h f old new found o w k path rows some r result =
@@ -165,7 +169,13 @@ chain_end {A} m rows k gained marked = record {
 }
   where
     at : (p : List ℕ) → NormalAt p m
-    at [] = record { slots = gained.sorted; positive = gained.positive; marked = marked; frames = rw k tt; nonempty = rw k tt }
+    at [] = record {
+      slots = gained.sorted;
+      positive = gained.positive;
+      marked = marked_end m marked k;
+      frames = rw k tt;
+      nonempty = rw k tt;
+    }
     at (f ∷ p) = rw k tt
 
     elsewhere : (p : List ℕ) (t : Slot) → p ≢ [] → tally p t m ≡ zero_count
@@ -173,8 +183,8 @@ chain_end {A} m rows k gained marked = record {
     elsewhere (f ∷ p) t differs = rw k refl
 
 pub chain_on : {A : Type 0} (m c : Spot A) (f : ℕ) (path : List ℕ) (rows : List Row) → (slot : Slot) × IsPositive (slot_sum slot rows)
-    → own m ≡ [] → kids m ≡ (f, c) ∷ [] → IsChain path rows c → IsChain (f ∷ path) rows m
-chain_on m c f path rows some o k child = record {
+    → own m ≡ [] → kids m ≡ (f, c) ∷ [] → HasMarksOf (marks m) (marks c) → IsChain path rows c → IsChain (f ∷ path) rows m
+chain_on m c f path rows some o k w child = record {
   normal = record { everywhere = at };
   counts = record { here = λ s. here path s ∙ child.counts.here s; elsewhere = elsewhere };
 }
@@ -186,7 +196,13 @@ chain_on m c f path rows some o k child = record {
         nonempty_from c path some.0 (subst IsPositive (sym (child.counts.here some.0)) sum)
 
     at : (p : List ℕ) → NormalAt p m
-    at [] = record { slots = rw o tt; positive = rw o tt; marked = rw o tt; frames = rw k tt; nonempty = rw k (filled, tt) }
+    at [] = record {
+      slots = rw o tt;
+      positive = rw o tt;
+      marked = marked_on m c f o k w (normal_here c child.normal).marked;
+      frames = rw k tt;
+      nonempty = rw k (filled, tt);
+    }
     at (g ∷ p) = elim (cases_eq g f) [
       | inl same ↦ rw (k, same, tied_itself nat_cmp_total f) (child.normal.everywhere p)
       | inr other ↦ rw (k, find_put_other nat_cmp nat_cmp_total nat_cmp-IsAntisymmetric g f c [] other) tt
@@ -210,8 +226,8 @@ module _ {A : Type 0} (rows : List Row) (some : (slot : Slot) × IsPositive (slo
       → IsGained (fs ++ path) rows (fs, n) (fs, m)
   gained_before [] n m h path gained = gained
   gained_before (f ∷ fs) n m h path gained =
-      gained_below (f ∷ fs, n) (f ∷ fs, m) rows some f (fs, m) refl refl (put_before f (fs, n) (fs, m)) h (fs, n) (find_before f (fs, n))
-      (fs ++ path) (gained_before fs n m (normal_after f (fs, n) h) path gained)
+      gained_below (f ∷ fs, n) (f ∷ fs, m) rows some f (fs, m) refl (marked_before f (fs, m)) (put_before f (fs, n) (fs, m)) h (fs, n)
+      (find_before f (fs, n)) (fs ++ path) (gained_before fs n m (normal_after f (fs, n) h) path gained)
 
   -- rows that were added inside a node after it was left only some of its frames
   pub entered_gained : (old : Spot A) (n m : Node A) → IsKept old (top n) → frames m ≡ frames n → (path rest : List ℕ)
@@ -230,7 +246,8 @@ module _ {A : Type 0} (rows : List Row) (some : (slot : Slot) × IsPositive (slo
 
   chain_before : (fs : List ℕ) (m : Node A) (path : List ℕ) → IsChain path rows (inside m) → IsChain (fs ++ path) rows (fs, m)
   chain_before [] m path new = new
-  chain_before (f ∷ fs) m path new = chain_on (f ∷ fs, m) (fs, m) f (fs ++ path) rows some refl refl (chain_before fs m path new)
+  chain_before (f ∷ fs) m path new =
+      chain_on (f ∷ fs, m) (fs, m) f (fs ++ path) rows some refl refl (λ s is. is) (chain_before fs m path new)
 
   pub chain_top : (m : Node A) → IsChain [] rows (inside m) → IsChain (frames m) rows (top m)
   chain_top m new = subst (λ l. IsChain l rows (top m)) (append-nil (frames m)) (chain_before (frames m) m [] new)

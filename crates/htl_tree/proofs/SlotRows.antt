@@ -72,13 +72,6 @@ module _ (p : Slot → Bool) where
   rows_at-inside (f ∷ fs) n path = rows_at-below path f (rows (fs, n)) ∙ rows_at-inside fs n (path ++ f ∷ [])
       ∙ ap (λ k. rows_at p k (rows (inside n))) (append_assoc path (f ∷ []) fs)
 
-  -- a node with no children has rows at these slots only where it counts them itself
-  pub rows_at-leaf : {A : Type 0} (n : Node A) (path : List ℕ) → children_of n ≡ [] → own_at p (path ++ frames n) (counts_of n) ≡ []
-      → rows_at p path (rows (top n)) ≡ []
-  rows_at-leaf n path none nothing = rows_at-inside (frames n) n path ∙ rows_at-node (inside n) (path ++ frames n)
-      ∙ ap (λ l. l ++ rows_at p (path ++ frames n) (kid_rows (kids (inside n)))) nothing
-      ∙ ap (λ ks. rows_at p (path ++ frames n) (kid_rows (tops ks))) none
-
   -- those of the children from one on
   pub child_rows : {A : Type 0} {n : Node A} {i : ℕ} {d : ℕ × Node A} → IsChildAt n i d → (path : List ℕ)
       → rows_at p path (kid_rows (drop i (kids (inside n))))

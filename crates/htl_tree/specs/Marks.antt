@@ -20,6 +20,10 @@ mark (Bad process handle) = bit_of process
 abbrev pub HasMark : ℕ → Slot → Type 0
 HasMark marks slot = bit_and marks (mark slot) ≡ mark slot
 
+-- all marks of the second number are in the first
+abbrev pub HasMarksOf : ℕ → ℕ → Type 0
+HasMarksOf marks others = (slot : Slot) → HasMark others slot → HasMark marks slot
+
 -- the marks of all these slots are in the number
 abbrev pub AreMarked : ℕ → List (Slot × Count) → Type 0
 AreMarked marks counts = AllByRecursion (λ (e : Slot × Count). HasMark marks e.0) counts

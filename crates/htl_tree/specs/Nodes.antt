@@ -18,7 +18,7 @@ use Rattle.htl_tree.specs.declared.node.Node.TheViews.{out-Node}
 use Rattle.htl_tree.specs.declared.node.Node.TheFolds.{fold-Node}
 use Rattle.htl_event.specs.SlotOrder.{slot_cmp}
 use Rattle.htl_event.specs.Members.{IsRising}
-use Rattle.htl_tree.specs.Marks.{AreMarked}
+use Rattle.htl_tree.specs.Marks.{HasMark}
 use Rattle.htl_tree.specs.Trees.{Tree, AllShort, bump, count_at, total_count, sum_where}
 
 abbrev pub frames : {A : Type 0} → Node A → List ℕ
@@ -61,13 +61,9 @@ own_from (f ∷ fs) n = []
 abbrev pub own : {A : Type 0} → Spot A → List (Slot × Count)
 own c = own_from c.0 c.1
 
-abbrev pub marks_from : {A : Type 0} → List ℕ → Node A → ℕ
-marks_from [] n = marks_at n
-marks_from (f ∷ fs) n = 0
-
--- the marks at a place
+-- the marks at a place, which are those of the node
 abbrev pub marks : {A : Type 0} → Spot A → ℕ
-marks c = marks_from c.0 c.1
+marks c = marks_at c.1
 
 abbrev pub kids_from : {A : Type 0} → List ℕ → Node A → List (ℕ × Spot A)
 kids_from [] n = tops (children_of n)
@@ -93,10 +89,14 @@ tally (f ∷ p) s n = at_child (λ c. tally p s c) (find nat_cmp f (kids n))
 abbrev pub IsNonEmpty : {A : Type 0} → Spot A → Type 0
 IsNonEmpty n = own n ≡ [] → kids n ≢ []
 
+-- the marks at a place are those of all slots that are counted here or further in
+abbrev pub HasMarks : {A : Type 0} → Spot A → Type 0
+HasMarks n = (p : List ℕ) (s : Slot) → IsPositive (tally p s n) → HasMark (marks n) s
+
 pub record IsNormalSpot {A : Type 0} (n : Spot A) : Type 0 where
   pub slots : IsSorted slot_cmp (own n)
   pub positive : Each IsPositive (own n)
-  pub marked : AreMarked (marks n) (own n)
+  pub marked : HasMarks n
   pub frames : IsSorted nat_cmp (kids n)
   pub nonempty : Each (λ c. IsNonEmpty c) (kids n)
 

@@ -54,15 +54,11 @@ impl<'a, A: Allocator> Cursor<'a, A> {
         }
     }
 
-    /// The marks of the slots that are counted here.
+    /// The marks of the slots that are counted here and further in.
     pub fn marks(&self) -> u64
         ensures { result ≡ marks (spot self.now) }
     {
-        if self.frames.is_empty() {
-            self.node.marks
-        } else {
-            0
-        }
+        self.node.marks
     }
 
     /// How many places are one frame further in. Before the node it is one.

@@ -43,14 +43,21 @@ impl<A: Allocator + Clone> Node<A> {
         match stack.split_last() {
             None => {
                 add_to_counts(&mut self.counts, rows)?;
-                self.marks = marks_of(&self.counts);
+                self.marks |= marks_of(&self.counts);
                 Ok(())
             }
             Some((frame, rest)) => match find_frame(&self.children, *frame) {
-                Ok(i) => self.children[i].1.add_rows(rest, rows),
+                Ok(i) => {
+                    let child = &mut self.children[i].1;
+                    child.add_rows(rest, rows)?;
+                    self.marks |= child.marks;
+                    Ok(())
+                }
                 Err(i) => {
                     let child = Node::chain(self.children.allocator(), rest, rows)?;
+                    let marks = child.marks;
                     self.children.insert(i, (*frame, child))?;
+                    self.marks |= marks;
                     Ok(())
                 }
             },

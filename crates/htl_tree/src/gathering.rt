@@ -7,13 +7,13 @@ ghost use Rattle.std.specs.List.Sorted.{IsPermutation};
 ghost use Rattle.htl_event.specs.declared.slot.Slot.{Slot};
 ghost use Rattle.htl_event.specs.Tallies.{total_of, IsPositive};
 ghost use Rattle.htl_sorted.specs.Entries.{Each};
-ghost use Rattle.htl_tree.specs.Nodes.{Spot, spot, spots, top, tops, kids, skipped, all_own};
+ghost use Rattle.htl_tree.specs.Marks.{HasMarksOf};
+ghost use Rattle.htl_tree.specs.Nodes.{Spot, spot, spots, marks, top, tops, kids, skipped, all_own};
 ghost use Rattle.htl_tree.specs.Nodes.{all_kids, counts_at, InFrameOrder, AllShare, EachNormal, IsNonEmpty, IsSumOf};
 ghost use Rattle.htl_tree.specs.Nodes.{FitSumOf, FitByFrame, AreAddedUp, AreSumsByFrame};
 
 use crate::cursor::Cursor;
 use crate::filling::add_count;
-use crate::marks::marks_of;
 use crate::node::Node;
 use crate::sums::common_len;
 use htl_event::{Count, NoMemory, Slot};
@@ -40,13 +40,23 @@ pub fn sum_of_places<A: Allocator + Clone>(
     let mut inner = gather_children(alloc, places, shared)?;
     sort_by_frame(&mut inner);
     let children = sums_by_frame(alloc, &inner)?;
-    let marks = marks_of(&counts);
     Ok(Node {
         frames: Vec::from_slice(alloc.clone()?, &first.frames[..shared])?,
         counts,
         children,
-        marks,
+        marks: marks_of_all(places),
     })
+}
+
+/// The marks of all these places.
+fn marks_of_all<A: Allocator>(places: &[(u64, Cursor<'_, A>)]) -> u64
+    ensures { Each (λ c. HasMarksOf result (marks c)) (spots places.now) }
+{
+    let mut all = 0;
+    for (_, place) in places {
+        all |= place.marks();
+    }
+    all
 }
 
 /// The sum of the places of each frame, in frame order.

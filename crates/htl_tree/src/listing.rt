@@ -37,12 +37,12 @@ impl<A: Allocator> Node<A> {
             ≡ into.old.items
             ++ rows_at (has_slot slots) path.old.items (rows (top self.now))) }
     {
-        if self.children.is_empty() && !self.may_count(common_mark(slots)) {
+        if !self.may_count(common_mark(slots)) {
             return Ok(());
         }
         let len = path.len();
         path.extend_from_slice(&self.frames)?;
-        self.list_here(alloc, slots, path, into)?;
+        list_own(alloc, &self.counts, slots, path, into)?;
         for (frame, child) in &self.children {
             path.push(*frame)?;
             child.list_rows(alloc, slots, path, into)?;
@@ -50,25 +50,6 @@ impl<A: Allocator> Node<A> {
         }
         path.truncate(len);
         Ok(())
-    }
-
-    /// Adds the counts of these slots at the node itself.
-    fn list_here(
-        &self,
-        alloc: Global,
-        slots: Slots,
-        path: &[u64],
-        into: &mut Vec<((Slot, SharedStack), Count)>,
-    ) -> Result<(), NoMemory>
-        requires normal { IsNormal (inside self.now) }
-        requires short { 0 < length (counts_of self.now) → length path.now ≤ MAX_FRAMES }
-        ensures { OnOk result (into.new.items
-            ≡ into.old.items ++ own_at (has_slot slots) path.now (counts_of self.now)) }
-    {
-        if !self.may_count(common_mark(slots)) {
-            return Ok(());
-        }
-        list_own(alloc, &self.counts, slots, path, into)
     }
 
     /// Adds the slots that are counted at this node and below, each as often as it is counted.

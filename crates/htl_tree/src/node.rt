@@ -29,8 +29,8 @@ pub struct Node<A: Allocator> {
     pub frames: Vec<u64, A>,
     pub counts: Vec<(Slot, Count), A>,
     pub children: Vec<(u64, Node<A>), A>,
-    /// The marks of the slots that are counted at the node itself. A walk that looks for slots
-    /// with other marks reads none of its counts.
+    /// The marks of the slots that are counted at the node and below it. A walk that looks for
+    /// slots with other marks goes no further.
     pub marks: u64,
 }
 
@@ -104,10 +104,17 @@ impl<A: Allocator> Node<A> {
                 Ok(())
             }
             Some((frame, rest)) => match find_frame(&self.children, *frame) {
-                Ok(i) => self.children[i].1.add(slot, sign, rest),
+                Ok(i) => {
+                    let child = &mut self.children[i].1;
+                    let added = child.add(slot, sign, rest);
+                    self.marks |= child.marks;
+                    added
+                }
                 Err(i) => {
                     let child = Node::branch(self.children.allocator(), slot, sign, rest)?;
+                    let marks = child.marks;
                     self.children.insert(i, (*frame, child))?;
+                    self.marks |= marks;
                     Ok(())
                 }
             },
@@ -131,20 +138,8 @@ impl<A: Allocator> Node<A> {
         Ok(&stack[..stack.len() - shared])
     }
 
-    /// The slot's count at the node itself.
-    pub fn count(&self, slot: Slot) -> Count
-        requires { IsNormal (inside self.now) }
-        ensures { result ≡ count_in (counts_of self.now) slot }
-    {
-        if self.may_count(mark_of(slot)) {
-            count_of(&self.counts, slot)
-        } else {
-            ZERO
-        }
-    }
-
     /// Whether the mark is among those of the node. Where it isn't, no slot that has it is counted
-    /// at the node itself.
+    /// at the node or below it.
     pub fn may_count(&self, mark: u64) -> bool
         ensures { result ≡ false → bit_and (marks_at self.now) mark ≢ mark }
     {
@@ -152,7 +147,7 @@ impl<A: Allocator> Node<A> {
     }
 
     /// Leaves the node so many of its frames, and puts the rest of them, its counts and its
-    /// children into its only child.
+    /// children into its only child. Both have all of its marks.
     fn split(&mut self, len: usize) -> Result<(), NoMemory>
     where
         A: Clone,
@@ -166,7 +161,7 @@ impl<A: Allocator> Node<A> {
             frames: Vec::from_slice(alloc.clone()?, &self.frames[len + 1..])?,
             counts: Vec::new(alloc.clone()?),
             children: Vec::new(alloc.clone()?),
-            marks: 0,
+            marks: self.marks,
         };
         let mut children = Vec::with_capacity(alloc.clone()?, 2)?;
         children.push((self.frames[len], lower))?;
@@ -177,20 +172,19 @@ impl<A: Allocator> Node<A> {
         Ok(())
     }
 
-    /// Each node gets what the other counts and has below it, and keeps its frames.
+    /// Each node gets what the other counts and has below it, and keeps its frames and marks.
     fn swap_inside(&mut self, other: &mut Self)
         ensures frames { frames self.new ≡ frames self.old }
+        ensures marks { marks_at self.new ≡ marks_at self.old }
         ensures counts { counts_of self.new ≡ counts_of other.old }
         ensures children { children_of self.new ≡ children_of other.old }
-        ensures marks { marks_at self.new ≡ marks_at other.old }
         ensures other_frames { frames other.new ≡ frames other.old }
+        ensures other_marks { marks_at other.new ≡ marks_at other.old }
         ensures other_counts { counts_of other.new ≡ counts_of self.old }
         ensures other_children { children_of other.new ≡ children_of self.old }
-        ensures other_marks { marks_at other.new ≡ marks_at self.old }
     {
         mem::swap(&mut self.counts, &mut other.counts);
         mem::swap(&mut self.children, &mut other.children);
-        mem::swap(&mut self.marks, &mut other.marks);
     }
 }
 

@@ -5,7 +5,8 @@ ghost use Rattle.htl_event.specs.Tallies.{total_of};
 ghost use Rattle.htl_tree.specs.Nodes.{inside, spot, IsNormal, sum_under};
 
 use crate::cursor::Cursor;
-use crate::node::{Node, ZERO, sum_of};
+use crate::marks::mark_of;
+use crate::node::{Node, ZERO, count_of, sum_of};
 use htl_event::{Count, Slot};
 use std::alloc::Allocator;
 
@@ -16,7 +17,10 @@ impl<A: Allocator> Node<A> {
         requires fits { total_of (sum_under [] slot (inside self.now)) < 2 ^ 64 }
         ensures { result ≡ sum_under [] slot (inside self.now) }
     {
-        let mut sum = self.count(slot);
+        if !self.may_count(mark_of(slot)) {
+            return ZERO;
+        }
+        let mut sum = count_of(&self.counts, slot);
         for (_, child) in &self.children {
             let below = child.sum(slot);
             sum = sum_of(sum, below);

@@ -8,12 +8,12 @@ use Rattle.htl_sorted.proofs.Rows.{rest_is}
 use Rattle.htl_tree.specs.declared.cursor.Cursor.{Cursor}
 use Rattle.htl_tree.specs.declared.node.Node.{Node}
 use Rattle.htl_tree.specs.declared.node.Node.TheViews.{roll-Node}
-use Rattle.htl_tree.specs.Marks.{AreMarked}
+use Rattle.htl_tree.specs.Marks.{HasMarksOf}
 use Rattle.htl_tree.specs.Nodes.{Spot, spot, spots, frames, top, tops, inside, own, marks, kids, skipped, all_own, all_kids, heights}
 use Rattle.htl_tree.specs.Nodes.{InFrameOrder, EachNormal, IsNonEmpty, IsSumOf, FitSumOf, FitByFrame, AreAddedUp, AreSumsByFrame}
 use Rattle.htl_tree.proofs.CopiesAndSums.{tops_push}
 use Rattle.htl_tree.proofs.EachValue.{each_moved, each_take, each_behind}
-use Rattle.htl_tree.proofs.Gathered.{own_positive, own_fit, inner_fit, all_kids_normal, all_kids_nonempty, skipped_normal, skipped_fit}
+use Rattle.htl_tree.proofs.Gathered.{own_positive, own_fit, inner_fit, all_kids_normal, all_kids_nonempty, skipped_normal, skipped_marks, skipped_fit}
 use Rattle.htl_tree.proofs.Gathered.{inner_lower, heights_within, each_low, summed_up, sum_along, group_fit, some_sum, sums_more}
 use Rattle.htl_tree.proofs.PlaceLists.{some_spots, rest_spots, group_spots, moved_spots, share_within, order_behind, least_first, some_alike}
 use Rattle.htl_tree.proofs.Spots.{frames_of, own_of, marks_of, kids_of}
@@ -74,14 +74,14 @@ sum_of_places-returns g t c =
       frames = c.in_ok-from_slice.field-0;
       counts = c.in_ok-counts.counts;
       children = c.in_ok-children.children;
-      marks = c.marks_of-marks.result;
+      marks = c.marks_of_all.result;
     } in
     let inner : EachNormal (skipped n ks) = skipped_normal n ks c.requires.normal in
     let moved : IsPermutation (all_kids (skipped n ks)) js = moved_spots c.in_ok-inner.inner.items c.sort_by_frame.new.places.items
     c.deref.result.now (all_kids (skipped n ks)) c.in_ok-inner.ensures c.sort_by_frame.ensures.moved c.deref.ensures.value in
     let o : own (inside m) ≡ c.in_ok-counts.counts.items = own_of _ in
-    let marked : AreMarked (marks (inside m)) (own (inside m)) = subst (λ k. AreMarked k (own (inside m))) (sym (marks_of _))
-    (subst (λ es. AreMarked c.marks_of-marks.result es) (c.deref-2.ensures.value ∙ sym o) c.marks_of-marks.ensures) in
+    let marked : Each (λ k. HasMarksOf (marks (inside m)) (marks k)) (skipped n ks) = skipped_marks (marks (inside m)) n ks
+    (subst (λ w. Each (λ k. HasMarksOf w (marks k)) ks) (sym (marks_of _)) c.marks_of_all.ensures) in
     let children : kids (inside m) ≡ tops c.in_ok-children.children.items = kids_of _ in
     let behind : IsSumOf (skipped n ks) (inside m) = summed_up (skipped n ks) js (inside m) inner
     (subst (λ es. AreAddedUp (all_own (skipped n ks)) es) (sym o) c.in_ok-counts.ensures) marked moved

@@ -161,4 +161,4 @@ returns g t c =
     let shared : frames m ≡ take k a.frames.now = frames_of _ ∙ c.in_ok-frames.ensures.items in
     subst (λ l. IsSum (spot a) (spot b) (l, m)) (sym shared)
     (summed_skip a b k left right m c.common_len-shared.ensures.shared c.skip-left.ensures
-    c.skip-right.ensures c.requires.left c.requires.right inner)
+    c.skip-right.ensures marked c.requires.left c.requires.right inner)

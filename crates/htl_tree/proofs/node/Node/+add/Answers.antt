@@ -6,6 +6,7 @@ use Rattle.htl_tree.specs.Nodes.{marks_at, tally, top, tops, inside}
 use Rattle.htl_tree.proofs.Spots.{frames_of, own_of, marks_of, kids_of, children_rolled}
 use Rattle.htl_tree.proofs.Tops.{children_sorted, found_top, set_top, no_top, insert_top}
 use Rattle.htl_tree.proofs.CountAdded.{normal_here, kept_own, added_own, added_branch, stepped, refused}
+use Rattle.htl_tree.proofs.MarkedPlaces.{more_marks}
 use Rattle.htl_tree.proofs.Entered.{path_ends, path_goes_on, IsOnward, onward, normal_entered}
 use Rattle.htl_tree.proofs.Entered.{entered_tally, entered_added, entered_kept, entered_result}
 use Rattle.htl_tree.proofs.node.Node.+add.Goals as goal
@@ -27,8 +28,8 @@ find_frame-requires g t c =
     let n = c.enter.new.self in
     rw c.deref.ensures.value (children_sorted n (normal_entered (top c.args.self.now) n c.in_ok-stack.ensures.kept))
 
-pub add-requires : goal.add-requires
-add-requires g t c κs within =
+pub add-added-requires : goal.add-added-requires
+add-added-requires g t c κs within =
     let n = c.enter.new.self in
     let d = c.index_mut.result.now in
     let rest = c.in-Some.rest.now in
@@ -75,11 +76,14 @@ returns-in-Ok g t c =
     let same = c.deref.ensures.value in
     let place = c.in-Ok.ensures.found in
     let path = path_goes_on c.args.stack.now _ _ _ _ c.in_ok-stack.ensures.rest c.in-Some.ensures.cases.0 in
-    entered_result old n kept _ _ path c.args.slot c.args.sign _ (frames_of _) c.add.result
-    (stepped (inside n) (inside _) (normal_entered old n kept) _ (top d.1) (top c.add.new.self)
-    (found_top n _ same _ _ place d (search rules)) (own_of _) (marks_of _)
-    (set_top n _ same _ _ place d (search rules) _ c.add.new.self (children_rolled _)) (reverse c.in-Some.rest.now)
-    c.args.slot c.args.sign c.add.result c.add.ensures)
+    entered_result old n kept _ _ path c.args.slot c.args.sign _ (frames_of _ ∙ frames_of _) c.add-added.result
+    (stepped (inside n) (inside _) (normal_entered old n kept) _ (top d.1) (top c.add-added.new.self)
+    (found_top n _ same _ _ place d (search rules)) (own_of _ ∙ own_of _)
+    (more_marks n _ (top c.add-added.new.self) _ (own_of _ ∙ own_of _)
+    (set_top n _ same _ _ place d (search rules) _ c.add-added.new.self (children_rolled _ ∙ children_rolled _))
+    (marks_of _ ∙ ap (λ k. bit_or k (marks_at c.add-added.new.self)) (marks_of _)) (normal_entered old n kept))
+    (set_top n _ same _ _ place d (search rules) _ c.add-added.new.self (children_rolled _ ∙ children_rolled _)) (reverse c.in-Some.rest.now)
+    c.args.slot c.args.sign c.add-added.result c.add-added.ensures)
 
 pub returns-in_ok-insert-in-Err : goal.returns-in_ok-insert-in-Err
 returns-in_ok-insert-in-Err g t c =
@@ -90,7 +94,11 @@ returns-in_ok-insert-in-Err g t c =
     let gap = c.in-Err.ensures.absent in
     let path = path_goes_on c.args.stack.now _ _ _ _ c.in_ok-stack.ensures.rest c.in-Some.ensures.cases.0 in
     let child = c.in_ok-child-in-Err.child in
-    entered_added old n kept _ _ path c.args.slot _ (frames_of _) c.args.sign
-    (added_branch (inside n) (inside _) _ (top child) (own_of _) (marks_of _)
-    (insert_top n _ same _ _ gap _ child (children_rolled _ ∙ c.in_ok-insert-in-Err.ensures.items)) (normal_entered old n kept)
+    entered_added old n kept _ _ path c.args.slot _ (frames_of _ ∙ frames_of _) c.args.sign
+    (added_branch (inside n) (inside _) _ (top child) (own_of _ ∙ own_of _)
+    (more_marks n _ (top child) _ (own_of _ ∙ own_of _)
+    (insert_top n _ same _ _ gap _ child (children_rolled _ ∙ children_rolled _ ∙ c.in_ok-insert-in-Err.ensures.items))
+    (marks_of _ ∙ ap (λ k. bit_or k (marks_at child)) (marks_of _)) (normal_entered old n kept))
+    (insert_top n _ same _ _ gap _ child (children_rolled _ ∙ children_rolled _ ∙ c.in_ok-insert-in-Err.ensures.items))
+    (normal_entered old n kept)
     (reverse c.in-Some.rest.now) c.args.slot c.args.sign (no_top n _ same _ _ gap) c.in_ok-child-in-Err.ensures)

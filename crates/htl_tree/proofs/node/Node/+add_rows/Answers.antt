@@ -1,15 +1,17 @@
 -- What is added inside the node is added at its frames and the path from there on.
-use Rattle.std.proofs.Common.{rules, ◌+◌, ◌<◌, ◌^◌, ◌∙◌, subst, reverse, arith}
+use Rattle.std.proofs.Common.{rules, ◌+◌, ◌<◌, ◌^◌, ap, ◌∙◌, subst, reverse, arith}
 use Rattle.htl_event.specs.declared.slot.Slot.{Slot}
+use Rattle.std.specs.Int.Bits.{bit_or}
 use Rattle.htl_event.specs.Tallies.{total_of}
 use Rattle.htl_tree.specs.Marks.{AreMarked}
-use Rattle.htl_tree.specs.Nodes.{tally, top, inside}
+use Rattle.htl_tree.specs.Nodes.{marks_at, tally, top, inside}
 use Rattle.htl_tree.specs.Rows.{slot_sum}
 use Rattle.htl_tree.proofs.Spots.{frames_of, own_of, marks_of, kids_of, children_rolled}
 use Rattle.htl_tree.proofs.Tops.{children_sorted, found_top, set_top, no_top, insert_top}
 use Rattle.htl_tree.proofs.CountAdded.{normal_here}
+use Rattle.htl_tree.proofs.MarkedPlaces.{more_marks}
 use Rattle.htl_tree.proofs.Entered.{path_ends, path_goes_on, IsOnward, onward, normal_entered, entered_tally}
-use Rattle.htl_tree.proofs.RowsAdded.{some_slot, gained_own, gained_step, gained_branch, on_ok, entered_gained}
+use Rattle.htl_tree.proofs.RowsAdded.{some_slot, gained_own, gained_below, gained_branch, entered_gained}
 use Rattle.htl_tree.proofs.node.Node.+add_rows.Goals as goal
 
 pub add_to_counts-requires-clause-sorted : goal.add_to_counts-requires-clause-sorted
@@ -58,12 +60,13 @@ returns-in_ok-add_to_counts-in-None g t c =
     let kept = c.in_ok-stack.ensures.kept in
     let path = path_ends c.args.stack.now _ _ c.in_ok-stack.ensures.rest c.in-None.ensures.cases in
     entered_gained rows (some_slot rows c.requires.some c.requires.positive) old n _ kept (frames_of _ ∙ frames_of _) _ _ path
-    (gained_own (inside n) (inside _) rows _ _ (normal_entered old n kept) (own_of _ ∙ own_of _) (marks_of _) (kids_of _ ∙ kids_of _)
+    (gained_own (inside n) (inside _) rows _ _ (normal_entered old n kept) (own_of _ ∙ own_of _)
+    (marks_of _ ∙ ap (λ k. bit_or k c.marks_of.result) (marks_of _)) (kids_of _ ∙ kids_of _)
     c.in_ok-add_to_counts-in-None.ensures
-    (subst (λ l. AreMarked c.marks_of-self.result l) (c.deref.ensures.value ∙ own_of _) c.marks_of-self.ensures))
+    (subst (λ l. AreMarked c.marks_of.result l) (c.deref.ensures.value ∙ own_of _) c.marks_of.ensures))
 
-pub returns-in-Ok : goal.returns-in-Ok
-returns-in-Ok g t c =
+pub returns-in_ok-add_rows-in-Ok : goal.returns-in_ok-add_rows-in-Ok
+returns-in_ok-add_rows-in-Ok g t c =
     let n = c.enter.new.self in
     let old = top c.args.self.now in
     let rows = c.args.rows.now in
@@ -73,12 +76,14 @@ returns-in-Ok g t c =
     let same = c.deref-in-Some.ensures.value in
     let place = c.in-Ok.ensures.found in
     let path = path_goes_on c.args.stack.now _ _ _ _ c.in_ok-stack.ensures.rest c.in-Some.ensures.cases.0 in
-    on_ok c.add_rows.result
-    (gained_step (inside n) (inside _) (normal_entered old n kept) _ (top d.1) (top c.add_rows.new.self)
-    (found_top n _ same _ _ place d (search rules)) (own_of _) (marks_of _)
-    (set_top n _ same _ _ place d (search rules) _ c.add_rows.new.self (children_rolled _)) (reverse c.in-Some.rest.now)
-    rows some c.add_rows.result c.add_rows.ensures)
-    (λ gained. entered_gained rows some old n _ kept (frames_of _) _ _ path gained)
+    let new = c.add_rows.new.self in
+    entered_gained rows some old n _ kept (frames_of _ ∙ frames_of _) _ _ path
+    (gained_below (inside n) (inside _) rows some _ (top new) (own_of _ ∙ own_of _)
+    (more_marks n _ (top new) _ (own_of _ ∙ own_of _)
+    (set_top n _ same _ _ place d (search rules) _ new (children_rolled _ ∙ children_rolled _))
+    (marks_of _ ∙ ap (λ k. bit_or k (marks_at new)) (marks_of _)) (normal_entered old n kept))
+    (set_top n _ same _ _ place d (search rules) _ new (children_rolled _ ∙ children_rolled _)) (normal_entered old n kept) (top d.1)
+    (found_top n _ same _ _ place d (search rules)) (reverse c.in-Some.rest.now) c.in_ok-add_rows-in-Ok.ensures)
 
 pub returns-in_ok-insert-in-Err : goal.returns-in_ok-insert-in-Err
 returns-in_ok-insert-in-Err g t c =
@@ -91,7 +96,11 @@ returns-in_ok-insert-in-Err g t c =
     let some = some_slot rows c.requires.some c.requires.positive in
     let path = path_goes_on c.args.stack.now _ _ _ _ c.in_ok-stack.ensures.rest c.in-Some.ensures.cases.0 in
     let child = c.in_ok-child-in-Err.child in
-    entered_gained rows some old n _ kept (frames_of _) _ _ path
-    (gained_branch (inside n) (inside _) rows some _ (top child) (own_of _) (marks_of _)
-    (insert_top n _ same _ _ gap _ child (children_rolled _ ∙ c.in_ok-insert-in-Err.ensures.items)) (normal_entered old n kept)
+    entered_gained rows some old n _ kept (frames_of _ ∙ frames_of _) _ _ path
+    (gained_branch (inside n) (inside _) rows some _ (top child) (own_of _ ∙ own_of _)
+    (more_marks n _ (top child) _ (own_of _ ∙ own_of _)
+    (insert_top n _ same _ _ gap _ child (children_rolled _ ∙ children_rolled _ ∙ c.in_ok-insert-in-Err.ensures.items))
+    (marks_of _ ∙ ap (λ k. bit_or k (marks_at child)) (marks_of _)) (normal_entered old n kept))
+    (insert_top n _ same _ _ gap _ child (children_rolled _ ∙ children_rolled _ ∙ c.in_ok-insert-in-Err.ensures.items))
+    (normal_entered old n kept)
     (no_top n _ same _ _ gap) (reverse c.in-Some.rest.now) c.in_ok-child-in-Err.ensures)

@@ -1,16 +1,16 @@
 -- The rows of a child follow those of the children before it.
 use Rattle.std.proofs.Common.{rules, ◌≡◌, ℕ, ◌+◌, ◌-◌, ◌<◌, List, [], ◌∷◌, ◌++◌, length}
 use Rattle.std.proofs.Common.{take, drop, false, vec_len, append_assoc, append-nil, length-append, sym, ap, ◌∙◌, subst, arith}
-use Rattle.std.proofs.lemmas.List.{take_at, nil_from_length}
+use Rattle.std.proofs.lemmas.List.{take_at}
 use Rattle.htl_event.specs.declared.slot.Slot.{Slot}
 use Rattle.htl_event.specs.declared.slot.Count.{Count}
 use Rattle.htl_tree.specs.Asked.{has_slot}
 use Rattle.htl_tree.specs.Nodes.{top, inside, frames, counts_of, children_of, marks_at, kids, rows, height, rows_at, own_at, IsNormal, IsShortFrom}
 use Rattle.htl_tree.proofs.NodeRows.{kid_rows}
-use Rattle.htl_tree.proofs.CountAdded.{normal_here, normal_inside}
+use Rattle.htl_tree.proofs.CountAdded.{normal_inside}
 use Rattle.htl_tree.proofs.Children.{IsChildAt, child_at, no_child_at, child_normal, child_height, inside_height}
-use Rattle.htl_tree.proofs.Marked.{unmarked_rows}
-use Rattle.htl_tree.proofs.SlotRows.{rows_at-node, rows_at-inside, rows_at-leaf, child_rows, short_here, short_inside, short_child}
+use Rattle.htl_tree.proofs.MarkedRows.{rows_marked, unmarked_rows}
+use Rattle.htl_tree.proofs.SlotRows.{rows_at-node, rows_at-inside, child_rows, short_here, short_inside, short_child}
 use Rattle.htl_tree.proofs.node.Node.+list_rows.Goals as goal
 
 pub returns-then-not-may_count-clause-listed : goal.returns-then-not-may_count-clause-listed
@@ -18,24 +18,20 @@ returns-then-not-may_count-clause-listed g t c =
     let n = c.args.self.now in
     let p = c.args.path.now.items in
     let old : List ((Slot × List ℕ) × Count) = c.args.into.now.items in
-    let h = normal_here (inside n) (normal_inside (frames n) n c.requires.normal) in
-    let none : children_of n ≡ [] = nil_from_length (children_of n) (search rules) in
     let missing : c.may_count.result ≡ false = c.if-not-may_count.true in
-    sym (append-nil old) ∙ ap (λ l. old ++ l) (sym (rows_at-leaf (has_slot c.args.slots) n p none
-    (unmarked_rows (marks_at n) c.args.slots (p ++ frames n) (counts_of n) h.marked
-    (λ s yes there. c.may_count.ensures missing (c.common_mark.ensures (marks_at n) s yes there)))))
+    sym (append-nil old) ∙ ap (λ l. old ++ l) (sym (unmarked_rows (marks_at n) c.args.slots p (rows (top n))
+    (rows_marked (top n) c.requires.normal)
+    (λ s yes there. c.may_count.ensures missing (c.common_mark.ensures (marks_at n) s yes there))))
 
-pub list_here-requires-clause-normal : goal.list_here-requires-clause-normal
-list_here-requires-clause-normal g t c = normal_inside (frames c.args.self.now) c.args.self.now c.requires.normal
-
-pub list_here-requires-clause-short : goal.list_here-requires-clause-short
-list_here-requires-clause-short g t c some =
+pub list_own-requires : goal.list_own-requires
+list_own-requires g t c some =
     let n = c.args.self.now in
     let p = c.args.path.now.items in
-    let path : c.deref-2.result.now ≡ p ++ frames n = c.deref-2.ensures.value ∙ c.in_ok-extend_from_slice.ensures.items
+    let own : 0 < length (counts_of n) = subst (λ (es : List (Slot × Count)). 0 < length es) c.deref-2.ensures.value some in
+    let path : c.deref-3.result.now ≡ p ++ frames n = c.deref-3.ensures.value ∙ c.in_ok-extend_from_slice.ensures.items
     ∙ ap (λ l. p ++ l) c.deref.ensures.value in
-    let depth : length c.deref-2.result.now ≡ length p + length (frames n) = ap length path ∙ length-append p (frames n) in
-    let short = short_here (inside n) (length p + length (frames n)) (short_inside (frames n) n (length p) c.requires.short) some in
+    let depth : length c.deref-3.result.now ≡ length p + length (frames n) = ap length path ∙ length-append p (frames n) in
+    let short = short_here (inside n) (length p + length (frames n)) (short_inside (frames n) n (length p) c.requires.short) own in
     omega (arith, depth, short)
 
 pub loop-frame-init : goal.loop-frame-init
@@ -49,8 +45,9 @@ loop-frame-init g t c =
     let below : List ((Slot × List ℕ) × Count) = rows_at s q (kid_rows (kids (inside n))) in
     let path : c.extend_from_slice.new.self.items ≡ q = c.in_ok-extend_from_slice.ensures.items
     ∙ ap (λ l. p ++ l) c.deref.ensures.value in
-    let mine : c.list_here.new.into.items ≡ old ++ own = c.in_ok-list_here.ensures
-    ∙ ap (λ k. old ++ own_at s k (counts_of n)) (c.deref-2.ensures.value ∙ path) in
+    let mine : c.list_own.new.into.items ≡ old ++ own = c.in_ok-list_own.ensures
+    ∙ ap (λ es. old ++ own_at s c.deref-3.result.now es) c.deref-2.ensures.value
+    ∙ ap (λ k. old ++ own_at s k (counts_of n)) (c.deref-3.ensures.value ∙ path) in
     record {
       path = path;
       listed = ap (λ l. l ++ below) mine ∙ append_assoc old own below

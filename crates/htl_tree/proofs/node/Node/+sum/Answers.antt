@@ -1,20 +1,37 @@
 -- A child more is added.
-use Rattle.std.proofs.Common.{rules, ◌+◌, ◌<◌, ◌^◌, [], drop, sym, ap, ◌∙◌, arith}
+use Rattle.std.proofs.Common.{rules, ◌≡◌, ◌+◌, ◌<◌, ◌^◌, [], drop, false, sym, ap, ◌∙◌, subst, arith}
+use Rattle.std.specs.Int.Bits.{bit_and}
+use Rattle.htl_event.specs.SlotOrder.{slot_cmp}
+use Rattle.htl_sorted.specs.Entries.{IsSorted}
 use Rattle.htl_event.specs.declared.slot.Count.{Count}
 use Rattle.htl_event.specs.Tallies.{plus_count, total_of}
-use Rattle.htl_tree.specs.Nodes.{frames, inside, kids, height, sum_under, IsNormal}
-use Rattle.htl_tree.proofs.CountAdded.{normal_inside}
+use Rattle.htl_tree.specs.Nodes.{frames, marks_at, inside, kids, count_in, rows, height, sum_under, IsNormal}
+use Rattle.htl_tree.proofs.CountAdded.{normal_here, normal_inside}
+use Rattle.htl_tree.proofs.MarkedRows.{rows_marked, unmarked_sum}
 use Rattle.htl_tree.proofs.Children.{IsChildAt, child_at, no_child_at, child_normal, child_height, inside_height}
 use Rattle.htl_tree.proofs.CopiesAndSums.{zero_right}
 use Rattle.htl_tree.proofs.SumsFromTally.{plus_assoc}
 use Rattle.htl_tree.proofs.Under.{kid_sum, child_sum, child_room, sum_node}
 use Rattle.htl_tree.proofs.node.Node.+sum.Goals as goal
 
+pub returns-then-not-may_count : goal.returns-then-not-may_count
+returns-then-not-may_count g t c =
+    let n = c.args.self.now in
+    let missing : c.may_count.result ≡ false = c.if-not-may_count.true in
+    sym (unmarked_sum (marks_at n) c.args.slot [] (rows (inside n)) (rows_marked (inside n) c.requires.normal)
+    (λ there. c.may_count.ensures missing (ap (bit_and (marks_at n)) c.mark_of.ensures ∙ there ∙ sym c.mark_of.ensures)))
+
+pub count_of-sum-requires : goal.count_of-sum-requires
+count_of-sum-requires g t c =
+    let here = normal_here (inside c.args.self.now) c.requires.normal in
+    subst (λ es. IsSorted slot_cmp es) (sym c.deref.ensures.value) here.slots
+
 pub loop-child-init : goal.loop-child-init
 loop-child-init g t c =
     let n = c.args.self.now in
     let s = c.args.slot in
-    ap (λ d. plus_count d (kid_sum s (kids (inside n)))) c.count-sum.ensures ∙ sym (sum_node s (inside n) c.requires.normal)
+    ap (λ d. plus_count d (kid_sum s (kids (inside n)))) (c.count_of-sum.ensures ∙ ap (λ es. count_in es s) c.deref.ensures.value)
+    ∙ sym (sum_node s (inside n) c.requires.normal)
 
 pub sum-below-requires : goal.sum-below-requires
 sum-below-requires g t c κs within =

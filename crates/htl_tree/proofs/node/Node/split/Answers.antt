@@ -13,7 +13,7 @@ returns-clause-kept g c =
     let n = c.args.self.now in
     let len = c.args.len in
     let A = g.row.A.Denot in
-    let bare : Node A = roll-Node A record { frames = c.in_ok-from_slice.field-0; counts = c.new.result; children = c.new-2.result; marks = 0 } in
+    let bare : Node A = roll-Node A record { frames = c.in_ok-from_slice.field-0; counts = c.new.result; children = c.new-2.result; marks = marks_at n } in
     let f = c.index.result.now in
     let only : c.push.new.self.items ≡ (f, bare) ∷ [] = c.in_ok-push.ensures.items
     ∙ ap (λ l. l ++ (f, bare) ∷ []) c.in_ok-children.ensures.items in
@@ -30,8 +30,8 @@ returns-clause-kept g c =
     (own_of _ ∙ own_of _ ∙ c.swap_inside.ensures.counts ∙ ap (λ (k : ℕ × Node A). counts_of k.1) was ∙ own_of _ ∙ c.new.ensures.items)
     (children_rolled _ ∙ children_rolled _ ∙ ap (λ l. set l 0 (c.index_mut.result.now.0, c.swap_inside.new.other)) only
     ∙ ap (λ (k : ℕ × Node A). (k.0, c.swap_inside.new.other) ∷ []) was)
-    (marks_of _ ∙ marks_of _ ∙ c.swap_inside.ensures.marks ∙ ap (λ (k : ℕ × Node A). marks_at k.1) was ∙ marks_of _)
+    (marks_of _ ∙ marks_of _ ∙ c.swap_inside.ensures.marks)
     (c.swap_inside.ensures.other_frames ∙ ap (λ (k : ℕ × Node A). frames k.1) was ∙ frames_of _ ∙ rest)
     (c.swap_inside.ensures.other_counts)
     (c.swap_inside.ensures.other_children)
-    (c.swap_inside.ensures.other_marks)
+    (c.swap_inside.ensures.other_marks ∙ ap (λ (k : ℕ × Node A). marks_at k.1) was ∙ marks_of _)

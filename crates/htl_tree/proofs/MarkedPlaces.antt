@@ -8,7 +8,7 @@ use Rattle.std.specs.Int.Bits.{bit_or}
 use Rattle.std.proofs.lemmas.Bool.{cases_eq}
 use Rattle.htl_event.specs.declared.slot.Slot.{Slot}
 use Rattle.htl_event.specs.declared.slot.Count.{Count}
-use Rattle.htl_event.specs.Tallies.{zero_count, plus_count, IsPositive}
+use Rattle.htl_event.specs.Tallies.{plus_count, IsPositive}
 use Rattle.htl_sorted.specs.Entries.{Each}
 use Rattle.htl_sorted.proofs.Finds.{find_put_same, find_put_other}
 use Rattle.htl_tree.specs.Marks.{mark, HasMark, HasMarksOf, AreMarked}

@@ -24,7 +24,7 @@ use Rattle.htl_event.specs.SlotOrder.{slot_cmp}
 use Rattle.htl_event.specs.OrderLaws.{slot_total}
 use Rattle.htl_tree.specs.Trees.{Tree, AllShort, place_cmp, count_at, IsTree, ListsRows, ListsSlots, BySlot}
 use Rattle.htl_tree.specs.declared.node.Node.{Node}
-use Rattle.htl_tree.specs.Nodes.{Spot, frames, counts_of, children_of, top, tops, inside, own, kids, below, rows, tree_at}
+use Rattle.htl_tree.specs.Nodes.{Spot, frames, top, inside, own, kids, below, rows, tree_at}
 use Rattle.htl_tree.specs.Nodes.{rows_at, own_at, picked, IsShortFrom, slots_of}
 use Rattle.htl_tree.proofs.ChangedKeys.{found_behind}
 use Rattle.htl_tree.proofs.Children.{IsChildAt, from_child}

@@ -10,7 +10,7 @@ ghost use Rattle.htl_tree.specs.Nodes.{top, tally, count_in, IsNormal};
 ghost use Rattle.htl_tree.specs.Rows.{entries_of, slot_sum, Gained, IsGained, IsChain};
 
 use crate::marks::marks_of;
-use crate::node::{Node, find_frame, find_slot, sum_of};
+use crate::node::{Node, find_frame, find_slot, insert_child, sum_of};
 use crate::row::Row;
 use htl_event::{Count, NoMemory, Slot};
 use std::alloc::Allocator;
@@ -56,7 +56,7 @@ impl<A: Allocator + Clone> Node<A> {
                 Err(i) => {
                     let child = Node::chain(self.children.allocator(), rest, rows)?;
                     let marks = child.marks;
-                    self.children.insert(i, (*frame, child))?;
+                    insert_child(&mut self.children, i, *frame, child)?;
                     self.marks |= marks;
                     Ok(())
                 }

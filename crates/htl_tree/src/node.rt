@@ -2,6 +2,8 @@
 
 ghost use Rattle.std.specs.Prelude.{◌≡◌, ◌≢◌, ◌+◌, ◌-◌, ◌<◌, ◌≤◌, ◌^◌, [], ◌++◌, length, take};
 ghost use Rattle.std.specs.Prelude.{get_or, reverse, false, IfOk, IfErr, OnOk, OnErr, MatchResult};
+ghost use Rattle.std.specs.Prelude.{vec_len};
+ghost use Rattle.std.specs.List.{insert};
 ghost use Rattle.std.specs.Int.Bits.{bit_and};
 ghost use Rattle.std.specs.Ordering.{nat_cmp};
 ghost use Rattle.htl_event.specs.Tallies.{total_of, plus_count};
@@ -35,6 +37,9 @@ pub struct Node<A: Allocator> {
 }
 
 pub const ZERO: Count = Count { plus: 0, minus: 0 };
+
+/// While a node has fewer children than this, its list of them has no room to spare.
+const FEW_CHILDREN: usize = 8;
 
 pub fn find_slot(counts: &[(Slot, Count)], slot: Slot) -> Result<usize, usize>
     requires { IsSorted slot_cmp counts.now }
@@ -113,7 +118,7 @@ impl<A: Allocator> Node<A> {
                 Err(i) => {
                     let child = Node::branch(self.children.allocator(), slot, sign, rest)?;
                     let marks = child.marks;
-                    self.children.insert(i, (*frame, child))?;
+                    insert_child(&mut self.children, i, *frame, child)?;
                     self.marks |= marks;
                     Ok(())
                 }
@@ -186,6 +191,25 @@ impl<A: Allocator> Node<A> {
         mem::swap(&mut self.counts, &mut other.counts);
         mem::swap(&mut self.children, &mut other.children);
     }
+}
+
+/// Puts in a child under its frame. Most nodes of a tree are children of forks with few of them.
+pub fn insert_child<A: Allocator>(
+    children: &mut Vec<(u64, Node<A>), A>,
+    place: usize,
+    frame: u64,
+    child: Node<A>,
+) -> Result<(), NoMemory>
+    requires { place ≤ vec_len children.old }
+    ensures ok { OnOk result
+        (children.new.items ≡ insert children.old.items place (frame, child)) }
+    ensures err { OnErr result (children.new.items ≡ children.old.items) }
+{
+    if children.len() < FEW_CHILDREN {
+        children.reserve_exact(1)?;
+    }
+    children.insert(place, (frame, child))?;
+    Ok(())
 }
 
 /// With how many of the frames the stack begins, read from its outermost frame.

@@ -40,13 +40,13 @@ add-added-requires g t c κs within =
     subst (λ k. total_of k + 1 < 2 ^ 64) (child.counts c.args.slot) c.requires.fits in
     search rules
 
-pub returns-in_err-insert-in-Err : goal.returns-in_err-insert-in-Err
-returns-in_err-insert-in-Err g t c =
+pub returns-in_err-insert_child-in-Err : goal.returns-in_err-insert_child-in-Err
+returns-in_err-insert_child-in-Err g t c =
     let n = c.enter.new.self in
     let kept = c.in_ok-stack.ensures.kept in
-    refused _ _ c.from_residual-in_err-insert-in-Err.ensures.0 (entered_kept (top c.args.self.now) n kept _ (frames_of _)
+    refused _ _ c.from_residual-in_err-insert_child-in-Err.ensures.0 (entered_kept (top c.args.self.now) n kept _ (frames_of _)
     (kept_own (inside n) (inside _) (normal_entered (top c.args.self.now) n kept) (own_of _) (marks_of _)
-    (kids_of _ ∙ ap tops c.in_err-insert-in-Err.ensures.items)))
+    (kids_of _ ∙ ap tops c.in_err-insert_child-in-Err.ensures.err)))
 
 pub returns-in_err-count_one-in-None : goal.returns-in_err-count_one-in-None
 returns-in_err-count_one-in-None g t c =
@@ -85,8 +85,8 @@ returns-in-Ok g t c =
     (set_top n _ same _ _ place d (search rules) _ c.add-added.new.self (children_rolled _ ∙ children_rolled _)) (reverse c.in-Some.rest.now)
     c.args.slot c.args.sign c.add-added.result c.add-added.ensures)
 
-pub returns-in_ok-insert-in-Err : goal.returns-in_ok-insert-in-Err
-returns-in_ok-insert-in-Err g t c =
+pub returns-in_ok-insert_child-in-Err : goal.returns-in_ok-insert_child-in-Err
+returns-in_ok-insert_child-in-Err g t c =
     let n = c.enter.new.self in
     let old = top c.args.self.now in
     let kept = c.in_ok-stack.ensures.kept in
@@ -97,8 +97,8 @@ returns-in_ok-insert-in-Err g t c =
     entered_added old n kept _ _ path c.args.slot _ (frames_of _ ∙ frames_of _) c.args.sign
     (added_branch (inside n) (inside _) _ (top child) (own_of _ ∙ own_of _)
     (more_marks n _ (top child) _ (own_of _ ∙ own_of _)
-    (insert_top n _ same _ _ gap _ child (children_rolled _ ∙ children_rolled _ ∙ c.in_ok-insert-in-Err.ensures.items))
+    (insert_top n _ same _ _ gap _ child (children_rolled _ ∙ children_rolled _ ∙ c.in_ok-insert_child-in-Err.ensures.ok))
     (marks_of _ ∙ ap (λ k. bit_or k (marks_at child)) (marks_of _)) (normal_entered old n kept))
-    (insert_top n _ same _ _ gap _ child (children_rolled _ ∙ children_rolled _ ∙ c.in_ok-insert-in-Err.ensures.items))
+    (insert_top n _ same _ _ gap _ child (children_rolled _ ∙ children_rolled _ ∙ c.in_ok-insert_child-in-Err.ensures.ok))
     (normal_entered old n kept)
     (reverse c.in-Some.rest.now) c.args.slot c.args.sign (no_top n _ same _ _ gap) c.in_ok-child-in-Err.ensures)

@@ -85,8 +85,8 @@ returns-in_ok-add_rows-in-Ok g t c =
     (set_top n _ same _ _ place d (search rules) _ new (children_rolled _ ∙ children_rolled _)) (normal_entered old n kept) (top d.1)
     (found_top n _ same _ _ place d (search rules)) (reverse c.in-Some.rest.now) c.in_ok-add_rows-in-Ok.ensures)
 
-pub returns-in_ok-insert-in-Err : goal.returns-in_ok-insert-in-Err
-returns-in_ok-insert-in-Err g t c =
+pub returns-in_ok-insert_child-in-Err : goal.returns-in_ok-insert_child-in-Err
+returns-in_ok-insert_child-in-Err g t c =
     let n = c.enter.new.self in
     let old = top c.args.self.now in
     let rows = c.args.rows.now in
@@ -99,8 +99,8 @@ returns-in_ok-insert-in-Err g t c =
     entered_gained rows some old n _ kept (frames_of _ ∙ frames_of _) _ _ path
     (gained_branch (inside n) (inside _) rows some _ (top child) (own_of _ ∙ own_of _)
     (more_marks n _ (top child) _ (own_of _ ∙ own_of _)
-    (insert_top n _ same _ _ gap _ child (children_rolled _ ∙ children_rolled _ ∙ c.in_ok-insert-in-Err.ensures.items))
+    (insert_top n _ same _ _ gap _ child (children_rolled _ ∙ children_rolled _ ∙ c.in_ok-insert_child-in-Err.ensures.ok))
     (marks_of _ ∙ ap (λ k. bit_or k (marks_at child)) (marks_of _)) (normal_entered old n kept))
-    (insert_top n _ same _ _ gap _ child (children_rolled _ ∙ children_rolled _ ∙ c.in_ok-insert-in-Err.ensures.items))
+    (insert_top n _ same _ _ gap _ child (children_rolled _ ∙ children_rolled _ ∙ c.in_ok-insert_child-in-Err.ensures.ok))
     (normal_entered old n kept)
     (no_top n _ same _ _ gap) (reverse c.in-Some.rest.now) c.in_ok-child-in-Err.ensures)

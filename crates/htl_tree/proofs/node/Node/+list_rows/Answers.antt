@@ -5,7 +5,7 @@ use Rattle.std.proofs.lemmas.List.{take_at}
 use Rattle.htl_event.specs.declared.slot.Slot.{Slot}
 use Rattle.htl_event.specs.declared.slot.Count.{Count}
 use Rattle.htl_tree.specs.Asked.{has_slot}
-use Rattle.htl_tree.specs.Nodes.{top, inside, frames, counts_of, children_of, marks_at, kids, rows, height, rows_at, own_at, IsNormal, IsShortFrom}
+use Rattle.htl_tree.specs.Nodes.{top, inside, frames, counts_of, marks_at, kids, rows, height, rows_at, own_at, IsNormal, IsShortFrom}
 use Rattle.htl_tree.proofs.NodeRows.{kid_rows}
 use Rattle.htl_tree.proofs.CountAdded.{normal_inside}
 use Rattle.htl_tree.proofs.Children.{IsChildAt, child_at, no_child_at, child_normal, child_height, inside_height}

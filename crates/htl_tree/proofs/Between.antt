@@ -1,16 +1,13 @@
 -- The counts of some slots, and their sums.
-use Rattle.std.proofs.Common.{◌≡◌, ℕ, zero, suc, ◌+◌, ◌<◌, ◌≤◌, List, [], ◌∷◌, ◌++◌, length}
-use Rattle.std.proofs.Common.{map, take, get_or, Option, Some, None, Result, Ok, Err, IfOk, T, Bool, true}
+use Rattle.std.proofs.Common.{◌≡◌, ℕ, ◌≤◌, List, [], ◌∷◌}
+use Rattle.std.proofs.Common.{map, Option, Some, None, Result, Ok, Err, IfOk, T, Bool, true}
 use Rattle.std.proofs.Common.{false, ◌&&◌, cond, unwrap_or, refl, sym, ◌∙◌, ap, subst, arith, inl, inr}
 use Rattle.std.specs.Prelude.{Contains}
 use Rattle.std.specs.List.{AllByRecursion}
-use Rattle.std.specs.List.Sorted.{IsPermutation}
-use Rattle.std.specs.Ordering.{is_eq}
-use Rattle.std.specs.FinMap.Entries.{find, put, find-put, is_sorted-put, below_all}
+use Rattle.std.specs.Ordering.{is_eq, eq_by_cmp}
+use Rattle.std.specs.FinMap.Entries.{find, below_all}
 use Rattle.std.specs.declared.cmp.Ordering.TheVariants.{Less, Equal, Greater}
-use Rattle.std.proofs.lemmas.List.{map-append, take_more, take-map}
-use Rattle.std.proofs.lemmas.List.Sums.{sum_by-cons, sum_by-take-le}
-use Rattle.std.proofs.lemmas.List.Sorted.{sum_by-IsPermutation, IsPermutation-map, IsPermutation-sym, Contains-permutation}
+use Rattle.std.proofs.lemmas.List.Sums.{sum_by-cons}
 use Rattle.htl_event.specs.SlotOrder.{slot_cmp}
 use Rattle.htl_event.specs.OrderLaws.{slot_total, slot_same}
 use Rattle.htl_event.specs.declared.slot.Slot.{Slot}
@@ -19,22 +16,20 @@ use Rattle.htl_event.specs.declared.slot.Count.{Count}
 use Rattle.htl_event.specs.Slots.{same_slot}
 use Rattle.htl_event.specs.Members.{IsRising}
 use Rattle.htl_event.specs.Tallies.{zero_count, plus_count, total_of, IsPositive}
-use Rattle.htl_event.proofs.Members.{Contains-here, Contains-there, Contains-cases, Contains-nil, at_member, each_member}
+use Rattle.htl_event.proofs.Members.{Contains-here, Contains-there, Contains-cases, Contains-nil}
 use Rattle.htl_sorted.specs.Entries.{IsSorted, Each}
 use Rattle.htl_sorted.proofs.Bools.{both_left, both_right, less}
-use Rattle.htl_sorted.proofs.Finds.{find_first, each_found, each_put}
+use Rattle.htl_sorted.proofs.Finds.{find_first, each_found}
 use Rattle.htl_tree.specs.Trees.{Tree, place_cmp, count_at, count_under, sum_where, total_count}
 use Rattle.htl_tree.specs.Trees.{IsTree, ByStackAndSlot, ListsRowsOf, BySlot, ListsSums}
 use Rattle.htl_tree.specs.declared.slots.Slots.{Slots}
 use Rattle.htl_tree.specs.declared.slots.Slots.TheVariants.{One}
 use Rattle.htl_tree.specs.Asked.{has_slot}
-use Rattle.htl_tree.specs.Nodes.{count_in, picked, entries_at, sum_of_slot, AreSums}
+use Rattle.htl_tree.specs.Nodes.{count_in, counts_at, picked, entries_at, asked_of, counts_in, AreAddedUp}
 use Rattle.htl_tree.proofs.TreesAsLists.{place_total, place_same}
-use Rattle.htl_tree.proofs.CopiesAndSums.{zero_right}
 use Rattle.htl_tree.proofs.ChangedKeys.{found_behind}
 use Rattle.htl_tree.proofs.SlotRows.{listed}
-use Rattle.htl_tree.proofs.Under.{same_slot_Decides, same_slot_tied, sum_where-append, sum_where_le_total}
-use Rattle.htl_tree.proofs.Events.{same_sides, side_sum, weight}
+use Rattle.htl_tree.proofs.Under.{same_slot_Decides, same_slot_tied, sum_where_le_total}
 
 abbrev At : Type 0
 At = (Slot × List ℕ) × Count
@@ -143,73 +138,6 @@ lists_rows_of t h slots = record { rising = rising (has_slot slots) t h.ordered;
 
 -- ---- sums
 
--- one row adds to its slot alone
-one_sum : (s : Slot) (x : At) → sum_of_slot s (x ∷ []) ≡ cond (same_slot s x.0.0) x.1 zero_count
-one_sum s x = elim (same_slot s x.0.0) as (λ b. cond (b && true) (plus_count x.1 zero_count) zero_count ≡ cond b x.1 zero_count) [
-  | true ↦ sym (zero_right x.1)
-  | false ↦ refl
-]
-
-sum_of_slot-append : (s : Slot) (xs ys : List At) → sum_of_slot s (xs ++ ys) ≡ plus_count (sum_of_slot s xs) (sum_of_slot s ys)
-sum_of_slot-append s xs ys = ap (λ (t : Tree). sum_where whole s t) (map-append (λ (row : At). ((row.0.1, row.0.0), row.1)) xs ys)
-    ∙ sum_where-append s whole (entries_at xs) (entries_at ys)
-
--- it doesn't turn on the order of the rows
-sum_moved : (s : Slot) (xs ys : List At) → IsPermutation xs ys → sum_of_slot s ys ≡ sum_of_slot s xs
-sum_moved s xs ys moved = same_sides _ _
-    (λ sign. side_sum whole s sign (entries_at ys)
-    ∙ sum_by-IsPermutation (λ (row : (List ℕ × Slot) × Count). weight whole s sign row.0 row.1) (entries_at xs) (entries_at ys)
-    (IsPermutation-map (λ (row : At). ((row.0.1, row.0.0), row.1)) xs ys moved) ∙ sym (side_sum whole s sign (entries_at xs)))
-
-put_sum : (sums : List (Slot × Count)) (x : At) (s : Slot) → count_in (put slot_cmp x.0.0 (plus_count (count_in sums x.0.0) x.1) sums) s
-    ≡ plus_count (count_in sums s) (cond (same_slot s x.0.0) x.1 zero_count)
-put_sum sums x s =
-    let v : Count = plus_count (count_in sums x.0.0) x.1 in
-    ap (λ (o : Option Count). unwrap_or o zero_count) (find-put slot_cmp slot_total s x.0.0 v sums)
-    ∙ (elim (slot_cmp s x.0.0) as (λ r. slot_cmp s x.0.0 ≡ r → unwrap_or (cond (is_eq r) (Some v) (find slot_cmp s sums)) zero_count
-    ≡ plus_count (count_in sums s) (cond (is_eq r) x.1 zero_count)) [
-      | Less ↦ λ c. zero_right (count_in sums s)
-      | Equal ↦ λ c. ap (λ t. plus_count (count_in sums t) x.1) (sym (slot_same s x.0.0 c))
-      | Greater ↦ λ c. zero_right (count_in sums s)
-    ]) refl
-    ∙ ap (λ b. plus_count (count_in sums s) (cond b x.1 zero_count)) (sym (same_slot_tied s x.0.0))
-
-pub sums_more : (xs : List At) (x : At) (old new : List (Slot × Count)) → AreSums xs old → IsPositive x.1
-    → new ≡ put slot_cmp x.0.0 (plus_count (count_in old x.0.0) x.1) old → AreSums (xs ++ x ∷ []) new
-sums_more xs x old new h some is =
-    let v : Count = plus_count (count_in old x.0.0) x.1 in
-    let more : IsPositive v = omega (arith, some) in
-    subst (λ l. AreSums (xs ++ x ∷ []) l) (sym is) record {
-      sorted = is_sorted-put slot_cmp slot_total x.0.0 v old h.sorted;
-      positive = each_put slot_cmp IsPositive x.0.0 v old more h.positive;
-      counts = λ s. put_sum old x s ∙ ap (λ c. plus_count c (cond (same_slot s x.0.0) x.1 zero_count)) (h.counts s)
-          ∙ ap (plus_count (sum_of_slot s xs)) (sym (one_sum s x)) ∙ sym (sum_of_slot-append s xs (x ∷ []));
-    }
-
-pub sums_moved : (xs ys : List At) (sums : List (Slot × Count)) → IsPermutation xs ys → AreSums ys sums → AreSums xs sums
-sums_moved xs ys sums moved h = record { sorted = h.sorted; positive = h.positive; counts = λ s. h.counts s ∙ sum_moved s xs ys moved }
-
--- the rows so far and the next count no more than all
-pub sums_room : (xs : List At) (i : ℕ) (d : At) (old : List (Slot × Count)) → i < length xs → AreSums (take i xs) old
-    → total_of (count_in old (get_or xs i d).0.0) + total_of (get_or xs i d).1 ≤ total_count (entries_at xs)
-sums_room xs i d old lt h =
-    let x : At = get_or xs i d in
-    let s : Slot = x.0.0 in
-    let mine : sum_of_slot s (x ∷ []) ≡ x.1 = one_sum s x ∙ ap (λ b. cond b x.1 zero_count) ((same_slot_Decides s s).1 refl) in
-    let both : sum_of_slot s (take (i + 1) xs) ≡ plus_count (sum_of_slot s (take i xs)) x.1 = ap (sum_of_slot s) (take_more xs i d lt)
-    ∙ sum_of_slot-append s (take i xs) (x ∷ []) ∙ ap (plus_count (sum_of_slot s (take i xs))) mine in
-    let now = ap total_of both in
-    let was = ap total_of (h.counts s) in
-    let most = sum_where_le_total s whole (entries_at (take (i + 1) xs)) in
-    let cut = ap total_count (take-map (λ (row : At). ((row.0.1, row.0.0), row.1)) (i + 1) xs) in
-    let all = sum_by-take-le (λ (row : (List ℕ × Slot) × Count). total_of row.1) (entries_at xs) (i + 1) in
-    omega (arith, now, was, most, cut, all)
-
-pub at_positive : (xs : List At) (i : ℕ) (d : At) → i < length xs → Each IsPositive (entries_at xs) → IsPositive (get_or xs i d).1
-at_positive [] i d lt h = absurd (omega arith)
-at_positive (x ∷ xs) zero d lt h = h.0
-at_positive (x ∷ xs) (suc i) d lt h = at_positive xs i d (omega arith) h.1
-
 -- what the rows of a range add up to
 pub picked_total : (p : Slot → Bool) (t : Tree) → total_count (entries_at (picked p t)) ≤ total_count t
 picked_total p [] = omega arith
@@ -231,29 +159,53 @@ picked_positive p (row ∷ t) h =
       | false ↦ picked_positive p t h.1
     ]
 
-picked_sum : (p : Slot → Bool) (s : Slot) (t : Tree) → sum_of_slot s (picked p t) ≡ cond (p s) (sum_where whole s t) zero_count
-picked_sum p s [] = elim (p s) as (λ b. zero_count ≡ cond b zero_count zero_count) [ true ↦ refl | false ↦ refl ]
-picked_sum p s (row ∷ t) =
-    let rest = picked_sum p s t in
-    (elim (same_slot s row.0.1) as (λ c. same_slot s row.0.1 ≡ c → sum_of_slot s (picked p (row ∷ t))
-    ≡ cond (p s) (cond (c && true) (plus_count row.1 (sum_where whole s t)) (sum_where whole s t)) zero_count) [
+-- counts of slots that pass add up to those of the tree
+asked_sum : (slots : Slots) (s : Slot) (t : Tree)
+    → counts_at s (asked_of slots (counts_in t)) ≡ cond (has_slot slots s) (sum_where whole s t) zero_count
+asked_sum slots s [] = elim (has_slot slots s) as (λ b. zero_count ≡ cond b zero_count zero_count) [ true ↦ refl | false ↦ refl ]
+asked_sum slots s (row ∷ t) =
+    let rest = asked_sum slots s t in
+    let kept : List (Slot × Count) = asked_of slots (counts_in t) in
+    let here : Slot × Count = (row.0.1, row.1) in
+    (elim (same_slot s row.0.1) as (λ c. same_slot s row.0.1 ≡ c → counts_at s (asked_of slots (counts_in (row ∷ t)))
+    ≡ cond (has_slot slots s) (cond (c && true) (plus_count row.1 (sum_where whole s t)) (sum_where whole s t)) zero_count) [
       | true ↦ λ e.
-          let same : p row.0.1 ≡ p s = ap p (sym ((same_slot_Decides s row.0.1).0 e)) in
-          ap (λ b. sum_of_slot s (cond b (((row.0.1, row.0.0), row.1) ∷ picked p t) (picked p t))) same
-          ∙ (elim (p s) as (λ b. sum_of_slot s (picked p t) ≡ cond b (sum_where whole s t) zero_count
-          → sum_of_slot s (cond b (((row.0.1, row.0.0), row.1) ∷ picked p t) (picked p t))
-          ≡ cond b (plus_count row.1 (sum_where whole s t)) zero_count) [
-            | true ↦ λ r. ap (λ b. cond (b && true) (plus_count row.1 (sum_of_slot s (picked p t))) (sum_of_slot s (picked p t))) e
-                ∙ ap (plus_count row.1) r
+          let same : has_slot slots row.0.1 ≡ has_slot slots s = ap (has_slot slots) (sym ((same_slot_Decides s row.0.1).0 e)) in
+          let tied : eq_by_cmp slot_cmp s row.0.1 ≡ true = sym (same_slot_tied s row.0.1) ∙ e in
+          ap (λ b. counts_at s (cond b (here ∷ kept) kept)) same
+          ∙ (elim (has_slot slots s) as (λ b. counts_at s kept ≡ cond b (sum_where whole s t) zero_count
+          → counts_at s (cond b (here ∷ kept) kept) ≡ cond b (plus_count row.1 (sum_where whole s t)) zero_count) [
+            | true ↦ λ r. ap (λ b. cond b (plus_count row.1 (counts_at s kept)) (counts_at s kept)) tied ∙ ap (plus_count row.1) r
             | false ↦ λ r. r
           ]) rest
       | false ↦ λ e.
-          (elim (p row.0.1) as (λ b. sum_of_slot s (cond b (((row.0.1, row.0.0), row.1) ∷ picked p t) (picked p t))
-          ≡ sum_of_slot s (picked p t)) [
-            | true ↦ ap (λ b. cond (b && true) (plus_count row.1 (sum_of_slot s (picked p t))) (sum_of_slot s (picked p t))) e
+          let apart : eq_by_cmp slot_cmp s row.0.1 ≡ false = sym (same_slot_tied s row.0.1) ∙ e in
+          (elim (has_slot slots row.0.1) as (λ b. counts_at s (cond b (here ∷ kept) kept) ≡ counts_at s kept) [
+            | true ↦ ap (λ b. cond b (plus_count row.1 (counts_at s kept)) (counts_at s kept)) apart
             | false ↦ refl
           ]) ∙ rest
     ]) refl
+
+-- and no slot's to more than the tree's total
+pub asked_total : (slots : Slots) (s : Slot) (t : Tree) → total_of (counts_at s (asked_of slots (counts_in t))) ≤ total_count t
+asked_total slots s t =
+    let is = ap total_of (asked_sum slots s t) in
+    let most = sum_where_le_total s whole t in
+    elim (has_slot slots s)
+    as (λ b. total_of (counts_at s (asked_of slots (counts_in t))) ≡ total_of (cond b (sum_where whole s t) zero_count)
+    → total_of (counts_at s (asked_of slots (counts_in t))) ≤ total_count t) [
+      | true ↦ λ same. omega (arith, same, most)
+      | false ↦ λ same. omega (arith, same)
+    ] is
+
+pub asked_positive : (slots : Slots) (t : Tree) → Each IsPositive t → Each IsPositive (asked_of slots (counts_in t))
+asked_positive slots [] h = tt
+asked_positive slots (row ∷ t) h =
+    let kept : List (Slot × Count) = asked_of slots (counts_in t) in
+    elim (has_slot slots row.0.1) as (λ b. Each IsPositive (cond b ((row.0.1, row.1) ∷ kept) kept)) [
+      | true ↦ (h.0, asked_positive slots t h.1)
+      | false ↦ asked_positive slots t h.1
+    ]
 
 -- ---- entries in slot order as a list
 
@@ -289,12 +241,12 @@ found_sum (e ∷ es) k c found =
     ]) refl found
 
 -- sums of a range of slots
-pub lists_sums : (t : Tree) (slots : Slots) (sums : List (Slot × Count)) → AreSums (picked (has_slot slots) t) sums
+pub lists_sums : (t : Tree) (slots : Slots) (sums : List (Slot × Count)) → AreAddedUp (asked_of slots (counts_in t)) sums
     → ListsSums t slots sums
 lists_sums t slots sums h = record { rising = sums_rise sums h.sorted; members = λ x. (into x, out x) }
   where
     value : (s : Slot) → count_in sums s ≡ cond (has_slot slots s) (count_under t [] s) zero_count
-    value s = h.counts s ∙ picked_sum (has_slot slots) s t
+    value s = h.values s ∙ asked_sum slots s t
 
     into : (x : Slot × Count) → Contains sums x → (x.1 ≡ count_under t [] x.0) × IsPositive x.1 × (has_slot slots x.0 ≡ true)
     into x c =
@@ -326,36 +278,3 @@ no_count = (Tagged 0 [], zero_count)
 pub if_ok : {X E : Type 0} {P Q : X → Type 0} (r : Result X E) → IfOk r P → ((x : X) → P x → Q x) → IfOk r Q
 if_ok (Ok x) h f = f x h
 if_ok (Err e) h f = tt
-
--- the sums with the next row
-pub sums_step : (xs : List At) (i : ℕ) (x : At) (old new : List (Slot × Count)) → i < length xs → x ≡ get_or xs i x
-    → Each IsPositive (entries_at xs) → AreSums (take i xs) old → new ≡ put slot_cmp x.0.0 (plus_count (count_in old x.0.0) x.1) old
-    → AreSums (take (i + 1) xs) new
-sums_step xs i x old new lt is each h put_in =
-    let some : IsPositive x.1 = subst (λ (y : At). IsPositive y.1) (sym is) (at_positive xs i x lt each) in
-    subst (λ (l : List At). AreSums l new) (sym (take_more xs i x lt ∙ ap (λ (y : At). take i xs ++ y ∷ []) (sym is)))
-    (sums_more (take i xs) x old new h some put_in)
-
-pub sums_fit : (xs : List At) (i : ℕ) (x : At) (old : List (Slot × Count)) → i < length xs → x ≡ get_or xs i x → AreSums (take i xs) old
-    → total_of (count_in old x.0.0) + total_of x.1 ≤ total_count (entries_at xs)
-sums_fit xs i x old lt is h = subst (λ (y : At). total_of (count_in old y.0.0) + total_of y.1 ≤ total_count (entries_at xs)) (sym is)
-    (sums_room xs i x old lt h)
-
--- rows in another order add up to as much, and each of them counts something
-pub moved_total : (xs ys : List At) → IsPermutation xs ys → total_count (entries_at ys) ≡ total_count (entries_at xs)
-moved_total xs ys moved = sum_by-IsPermutation (λ (row : (List ℕ × Slot) × Count). total_of row.1) (entries_at xs) (entries_at ys)
-    (IsPermutation-map (λ (row : At). ((row.0.1, row.0.0), row.1)) xs ys moved)
-
-pub moved_positive : (xs ys : List At) → IsPermutation xs ys → Each IsPositive (entries_at xs) → Each IsPositive (entries_at ys)
-moved_positive xs ys moved h =
-    back ys (each_member (λ (x : At). IsPositive x.1) ys
-    (λ x there. at_member (λ (x : At). IsPositive x.1) xs x (into xs h)
-    (Contains-permutation ys xs x (IsPermutation-sym xs ys moved) there)))
-  where
-    into : (zs : List At) → Each IsPositive (entries_at zs) → AllByRecursion (λ (x : At). IsPositive x.1) zs
-    into [] e = tt
-    into (z ∷ zs) e = (e.0, into zs e.1)
-
-    back : (zs : List At) → AllByRecursion (λ (x : At). IsPositive x.1) zs → Each IsPositive (entries_at zs)
-    back [] e = tt
-    back (z ∷ zs) e = (e.0, back zs e.1)

@@ -74,6 +74,12 @@ added_room xs i d old lt h =
     let same = ap total_of now in
     omega (arith, most, same)
 
+-- the counts that were gathered, and those that are added up
+pub sorted_counts : (all gathered sorted added : List (Slot × Count)) → gathered ≡ all → IsPermutation gathered sorted → added ≡ sorted
+    → IsPermutation all added
+sorted_counts all gathered sorted added is moved same =
+    subst (λ (l : List (Slot × Count)). IsPermutation all l) (sym same) (subst (λ (l : List (Slot × Count)). IsPermutation l sorted) is moved)
+
 pub added_moved : (xs ys sums : List (Slot × Count)) → IsPermutation xs ys → AreAddedUp ys sums → AreAddedUp xs sums
 added_moved xs ys sums moved h = record {
   sorted = h.sorted;

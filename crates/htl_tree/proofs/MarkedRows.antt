@@ -10,7 +10,7 @@ use Rattle.htl_sorted.proofs.Finds.{each_found}
 use Rattle.htl_tree.specs.Asked.{has_slot}
 use Rattle.htl_tree.specs.Marks.{HasMark}
 use Rattle.htl_tree.specs.Trees.{Tree, sum_where}
-use Rattle.htl_tree.specs.Nodes.{Spot, marks, rows, rows_at, IsNormal}
+use Rattle.htl_tree.specs.Nodes.{Spot, marks, rows, rows_at, asked_of, counts_in, IsNormal}
 use Rattle.htl_tree.specs.declared.slots.Slots.{Slots}
 use Rattle.htl_tree.proofs.ChangedKeys.{all_from_found}
 use Rattle.htl_tree.proofs.CountAdded.{normal_here}
@@ -45,4 +45,13 @@ unmarked_sum m s path (row ∷ t) h missing =
     → cond (b && starts_with nat_eq row.0.0 path) (plus_count row.1 rest) rest ≡ zero_count) [
       | true ↦ λ yes. absurd (missing (subst (λ k. HasMark m k) (sym ((same_slot_Decides s row.0.1).0 yes)) h.0))
       | false ↦ λ no. unmarked_sum m s path t h.1 missing
+    ]) refl
+
+pub unmarked_counts : (m : ℕ) (slots : Slots) (t : Tree) → AreMarkedRows m t → ((s : Slot) → has_slot slots s ≡ true → HasMark m s → ⊥)
+    → asked_of slots (counts_in t) ≡ []
+unmarked_counts m slots [] h missing = refl
+unmarked_counts m slots (row ∷ t) h missing = (elim (has_slot slots row.0.1) as (λ b. has_slot slots row.0.1 ≡ b
+    → cond b ((row.0.1, row.1) ∷ asked_of slots (counts_in t)) (asked_of slots (counts_in t)) ≡ []) [
+      | true ↦ λ yes. absurd (missing row.0.1 yes h.0)
+      | false ↦ λ no. unmarked_counts m slots t h.1 missing
     ]) refl

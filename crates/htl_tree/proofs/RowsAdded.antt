@@ -151,14 +151,6 @@ pub on_ok : {X E P Q : Type 0} (r : Result X E) → OnOk r P → (P → Q) → O
 on_ok (Ok x) h f = f h
 on_ok (Err e) h f = tt
 
--- rows that were added below a child
-pub gained_step : {A : Type 0} (n m : Spot A) → IsNormal n → (f : ℕ) (old new : Spot A) → find nat_cmp f (kids n) ≡ Some old
-    → own m ≡ own n → (HasMarks new → HasMarks m) → kids m ≡ put nat_cmp f new (kids n) → (path : List ℕ) (rows : List Row)
-    → (slot : Slot) × IsPositive (slot_sum slot rows) → {X E : Type 0} (r : Result X E) → OnOk r (IsGained path rows old new)
-    → OnOk r (IsGained (f ∷ path) rows n m)
-gained_step n m h f old new found o w k path rows some r result =
-    on_ok r result (λ gained. gained_below n m rows some f new o w k h old found path gained)
-
 -- ---- chains
 
 pub chain_end : {A : Type 0} (m : Spot A) (rows : List Row) → kids m ≡ [] → Gained rows [] (own m) → AreMarked (marks m) (own m)

@@ -10,6 +10,7 @@ use Rattle.std.specs.Cmp.{tied_itself}
 use Rattle.std.specs.FinMap.Entries.{find, below_all}
 use Rattle.std.specs.declared.cmp.Ordering.TheVariants.{Less, Equal, Greater}
 use Rattle.std.proofs.lemmas.List.{drop_more, map-append}
+use Rattle.std.proofs.lemmas.List.Elements.{filter-append}
 use Rattle.htl_event.specs.declared.slot.Slot.{Slot}
 use Rattle.htl_event.specs.declared.slot.Count.{Count}
 use Rattle.htl_event.specs.Slots.{same_slot}
@@ -25,7 +26,9 @@ use Rattle.htl_event.specs.OrderLaws.{slot_total}
 use Rattle.htl_tree.specs.Trees.{Tree, AllShort, place_cmp, count_at, IsTree, ListsRows, ListsSlots, BySlot}
 use Rattle.htl_tree.specs.declared.node.Node.{Node}
 use Rattle.htl_tree.specs.Nodes.{Spot, frames, top, inside, own, kids, below, rows, tree_at}
-use Rattle.htl_tree.specs.Nodes.{rows_at, own_at, picked, IsShortFrom, slots_of}
+use Rattle.htl_tree.specs.Asked.{has_slot}
+use Rattle.htl_tree.specs.declared.slots.Slots.{Slots}
+use Rattle.htl_tree.specs.Nodes.{rows_at, own_at, picked, asked_of, counts_in, IsShortFrom, slots_of}
 use Rattle.htl_tree.proofs.ChangedKeys.{found_behind}
 use Rattle.htl_tree.proofs.Children.{IsChildAt, from_child}
 use Rattle.htl_tree.proofs.NodeRows.{own_rows, kid_rows, rows_is}
@@ -285,6 +288,52 @@ child_slots {A} {n} {i} {d} at =
     ap (λ l. slots_of (kid_rows l)) (from_child at)
     ∙ slots_of-append (map (λ row. below d.0 row) (rows (top d.1))) rest
     ∙ ap (λ l. l ++ slots_of rest) (slots_of-below d.0 (rows (top d.1)) ∙ slots_of-inside (frames d.1) d.1)
+
+-- ---- counts whatever their stacks
+
+pub counts_tree : {A : Type 0} (n : Spot A) → counts_in (tree_at n) ≡ counts_in (rows n)
+counts_tree n = of (rows n)
+  where
+    of : (t : Tree) → counts_in (map (λ row. ((reverse row.0.0, row.0.1), row.1)) t) ≡ counts_in t
+    of [] = refl
+    of (row ∷ t) = ap (λ l. (row.0.1, row.1) ∷ l) (of t)
+
+counts_in-append : (xs ys : Tree) → counts_in (xs ++ ys) ≡ counts_in xs ++ counts_in ys
+counts_in-append xs ys = map-append (λ (row : Row). (row.0.1, row.1)) xs ys
+
+counts_in-below : (f : ℕ) (t : Tree) → counts_in (map (λ row. below f row) t) ≡ counts_in t
+counts_in-below f [] = refl
+counts_in-below f (row ∷ t) = ap (λ l. (row.0.1, row.1) ∷ l) (counts_in-below f t)
+
+-- frames before a node count nothing
+pub counts_in-inside : {A : Type 0} (fs : List ℕ) (n : Node A) → counts_in (rows (fs, n)) ≡ counts_in (rows (inside n))
+counts_in-inside [] n = refl
+counts_in-inside (f ∷ fs) n = counts_in-below f (rows (fs, n)) ∙ counts_in-inside fs n
+
+counts_in-own : (es : List (Slot × Count)) → counts_in (own_rows es) ≡ es
+counts_in-own [] = refl
+counts_in-own (e ∷ es) = ap (λ l. e ∷ l) (counts_in-own es)
+
+-- the counts from a node on are its own and those of its children
+pub asked_of-node : {A : Type 0} (slots : Slots) (n : Spot A)
+    → asked_of slots (counts_in (rows n)) ≡ asked_of slots (own n) ++ asked_of slots (counts_in (kid_rows (kids n)))
+asked_of-node slots n =
+    ap (asked_of slots) (ap counts_in (rows_is n) ∙ counts_in-append (own_rows (own n)) (kid_rows (kids n))
+    ∙ ap (λ l. l ++ counts_in (kid_rows (kids n))) (counts_in-own (own n)))
+    ∙ filter-append (λ (e : Slot × Count). has_slot slots e.0) (own n) (counts_in (kid_rows (kids n)))
+
+-- those of the children from one on
+pub child_counts : {A : Type 0} (slots : Slots) {n : Node A} {i : ℕ} {d : ℕ × Node A} → IsChildAt n i d
+    → asked_of slots (counts_in (kid_rows (drop i (kids (inside n)))))
+    ≡ asked_of slots (counts_in (rows (inside d.1))) ++ asked_of slots (counts_in (kid_rows (drop (i + 1) (kids (inside n)))))
+child_counts {A} slots {n} {i} {d} at =
+    let rest = kid_rows (drop (i + 1) (kids (inside n))) in
+    ap (asked_of slots) (ap (λ l. counts_in (kid_rows l)) (from_child at)
+    ∙ counts_in-append (map (λ row. below d.0 row) (rows (top d.1))) rest
+    ∙ ap (λ l. l ++ counts_in rest) (counts_in-below d.0 (rows (top d.1)) ∙ counts_in-inside (frames d.1) d.1))
+    ∙ filter-append (λ (e : Slot × Count). has_slot slots e.0) (counts_in (rows (inside d.1))) (counts_in rest)
+
+-- ---- slots as a list
 
 slot_found : (t : Tree) → IsSorted place_cmp t → (slot : Slot) → Contains (slots_of t) slot
     → (stack : List ℕ) × (c : Count) × (find place_cmp (stack, slot) t ≡ Some c)

@@ -1,6 +1,6 @@
 -- What a tree's nodes count, and which are in normal form.
-use Rattle.std.specs.Prelude.{◌≡◌, ℕ, ◌+◌, ◌<◌, ◌≤◌, max, ◌^◌, ◌≢◌, List, [], ◌∷◌, ◌++◌, map, reverse}
-use Rattle.std.specs.Prelude.{length, take, drop, Option, Some, None, unwrap_or, nat_eq, Bool, true, if◌then◌else◌}
+use Rattle.std.specs.Prelude.{◌≡◌, ℕ, ◌+◌, ◌<◌, ◌≤◌, max, ◌^◌, ◌≢◌, List, [], ◌∷◌, ◌++◌, map, filter, reverse}
+use Rattle.std.specs.Prelude.{length, take, drop, Option, Some, None, unwrap_or, nat_eq, Bool, if◌then◌else◌}
 use Rattle.std.specs.List.{flat_map, starts_with, AllByRecursion}
 use Rattle.std.specs.Ordering.{nat_cmp, eq_by_cmp}
 use Rattle.std.specs.declared.cmp.Ordering.{Ordering}
@@ -19,6 +19,8 @@ use Rattle.htl_tree.specs.declared.node.Node.TheFolds.{fold-Node}
 use Rattle.htl_event.specs.SlotOrder.{slot_cmp}
 use Rattle.htl_event.specs.Members.{IsRising}
 use Rattle.htl_tree.specs.Marks.{HasMark}
+use Rattle.htl_tree.specs.Asked.{has_slot}
+use Rattle.htl_tree.specs.declared.slots.Slots.{Slots}
 use Rattle.htl_tree.specs.Trees.{Tree, AllShort, bump, count_at, total_count, sum_where}
 
 abbrev pub frames : {A : Type 0} → Node A → List ℕ
@@ -341,15 +343,13 @@ picked passes (row ∷ rows) = if passes row.0.1 then ((row.0.1, row.0.0), row.1
 abbrev pub entries_at : List ((Slot × List ℕ) × Count) → Tree
 entries_at rows = map (λ row. ((row.0.1, row.0.0), row.1)) rows
 
--- how often the slot came in these rows
-abbrev pub sum_of_slot : Slot → List ((Slot × List ℕ) × Count) → Count
-sum_of_slot slot rows = sum_where (λ stack. true) slot (entries_at rows)
+-- the counts of these rows, whatever their stacks
+abbrev pub counts_in : Tree → List (Slot × Count)
+counts_in t = map (λ row. (row.0.1, row.1)) t
 
--- these are the sums of the rows by slot
-pub record AreSums (rows : List ((Slot × List ℕ) × Count)) (sums : List (Slot × Count)) : Type 0 where
-  pub sorted : IsSorted slot_cmp sums
-  pub positive : Each IsPositive sums
-  pub counts : (slot : Slot) → count_in sums slot ≡ sum_of_slot slot rows
+-- those of the slots that are asked for
+abbrev pub asked_of : Slots → List (Slot × Count) → List (Slot × Count)
+asked_of slots counts = filter (λ e. has_slot slots e.0) counts
 
 -- below so many frames no stack is longer than a stack may be
 abbrev pub IsShortFrom : ℕ → Tree → Type 0

@@ -95,6 +95,13 @@ fn shared_by_all<A: Allocator>(frames: &[u64], places: &[(u64, Cursor<'_, A>)]) 
     shared
 }
 
+/// Puts counts in slot order.
+pub fn sort_by_slot<A: Allocator>(counts: &mut Vec<(Slot, Count), A>)
+    ensures { IsPermutation counts.old.items counts.new.items }
+{
+    counts.sort_unstable_by(|a, b| a.0.cmp(&b.0));
+}
+
 /// What these places count so many frames further in, added up by slot.
 fn add_up_counts<A: Allocator + Clone>(
     alloc: &A,
@@ -109,7 +116,7 @@ fn add_up_counts<A: Allocator + Clone>(
         (λ sums. AreAddedUp (all_own (skipped skip (spots places.now))) sums.items) }
 {
     let mut counts = gather_counts(alloc, places, skip)?;
-    counts.sort_unstable_by(|a, b| a.0.cmp(&b.0));
+    sort_by_slot(&mut counts);
     add_up(alloc, &counts)
 }
 
@@ -130,7 +137,7 @@ fn gather_counts<A: Allocator + Clone>(
 }
 
 /// The counts added up by slot. Where they are in slot order, each is added at the end.
-fn add_up<A: Allocator + Clone>(
+pub fn add_up<A: Allocator + Clone>(
     alloc: &A,
     counts: &[(Slot, Count)],
 ) -> Result<Vec<(Slot, Count), A>, NoMemory>

@@ -9,10 +9,9 @@ ghost use Rattle.htl_event.specs.Tallies.{IsPositive};
 ghost use Rattle.htl_sorted.specs.Entries.{Each};
 ghost use Rattle.htl_tree.specs.Trees.{BySlot, total_count};
 ghost use Rattle.htl_tree.specs.Asked.{has_slot};
-ghost use Rattle.htl_tree.specs.Nodes.{counts_of, top, inside, rows, rows_at, own_at};
-ghost use Rattle.htl_tree.specs.Nodes.{entries_at, slots_of, AreSums, IsNormal, IsShortFrom};
+ghost use Rattle.htl_tree.specs.Nodes.{top, inside, rows, rows_at, own_at};
+ghost use Rattle.htl_tree.specs.Nodes.{asked_of, counts_in, slots_of, IsNormal, IsShortFrom};
 
-use crate::filling::add_count;
 use crate::marks::common_mark;
 use crate::node::Node;
 use crate::slots::Slots;
@@ -52,6 +51,22 @@ impl<A: Allocator> Node<A> {
         Ok(())
     }
 
+    /// Adds the counts of these slots, at this node and below, whatever their stacks.
+    pub fn list_counts(&self, slots: Slots, into: &mut Vec<(Slot, Count)>) -> Result<(), NoMemory>
+        requires { IsNormal (inside self.now) }
+        ensures { OnOk result (into.new.items
+            ≡ into.old.items ++ asked_of slots (counts_in (rows (inside self.now)))) }
+    {
+        if !self.may_count(common_mark(slots)) {
+            return Ok(());
+        }
+        list_own_counts(&self.counts, slots, into)?;
+        for (_, child) in &self.children {
+            child.list_counts(slots, into)?;
+        }
+        Ok(())
+    }
+
     /// Adds the slots that are counted at this node and below, each as often as it is counted.
     pub fn list_slots(&self, into: &mut Vec<Slot>) -> Result<(), NoMemory>
         ensures { OnOk result (into.new.items
@@ -63,6 +78,21 @@ impl<A: Allocator> Node<A> {
         }
         Ok(())
     }
+}
+
+fn list_own_counts(
+    counts: &[(Slot, Count)],
+    slots: Slots,
+    into: &mut Vec<(Slot, Count)>,
+) -> Result<(), NoMemory>
+    ensures { OnOk result (into.new.items ≡ into.old.items ++ asked_of slots counts.now) }
+{
+    for (slot, count) in counts {
+        if slots.contains(*slot) {
+            into.push((*slot, *count))?;
+        }
+    }
+    Ok(())
 }
 
 fn list_own_slots(counts: &[(Slot, Count)], into: &mut Vec<Slot>) -> Result<(), NoMemory>
@@ -142,27 +172,4 @@ pub fn without_slot(
         stacks.push((stack.copy()?, *count))?;
     }
     Ok(stacks)
-}
-
-/// How often each slot came in the rows, in slot order.
-pub fn sums_of(
-    alloc: Global,
-    rows: &mut Vec<((Slot, SharedStack), Count)>,
-) -> Result<Vec<(Slot, Count)>, NoMemory>
-    requires fits { total_count (entries_at rows.old.items) < 2 ^ 64 }
-    requires positive { Each IsPositive (entries_at rows.old.items) }
-    ensures { IfOk result (λ sums. AreSums rows.old.items sums.items) }
-{
-    rows.sort_unstable_by(|a, b| by_slot(a, b));
-    let mut sums = Vec::new(alloc);
-    for ((slot, _), count) in rows.as_slice() {
-        add_count(&mut sums, *slot, *count)?;
-    }
-    Ok(sums)
-}
-
-fn by_slot(a: &((Slot, SharedStack), Count), b: &((Slot, SharedStack), Count)) -> Ordering {
-    let ((slot, _), _) = a;
-    let ((other, _), _) = b;
-    slot.cmp(other)
 }

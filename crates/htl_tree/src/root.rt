@@ -8,7 +8,7 @@ ghost use Rattle.htl_tree.specs.Trees.{IsSameTally, IsSumTally, ListsSlots};
 ghost use Rattle.htl_tree.specs.Asked.{has_slot};
 ghost use Rattle.htl_event.specs.declared.slot.Slot.{Slot};
 ghost use Rattle.htl_sorted.specs.Entries.{Each};
-ghost use Rattle.htl_tree.specs.Nodes.{tree_of, spots, picked, count_of_tops};
+ghost use Rattle.htl_tree.specs.Nodes.{tree_of, spots, picked, asked_of, counts_in, count_of_tops};
 ghost use Rattle.htl_tree.specs.Nodes.{IsNormalTop, IsNormalRoot, IsSumOfTops};
 
 use crate::cursor::Cursor;
@@ -129,6 +129,25 @@ pub fn list_root_rows<A: Allocator>(
             let mut path = Vec::with_capacity(alloc, MAX_FRAMES)?;
             root.list_rows(alloc, slots, &mut path, &mut rows)?;
             Ok(rows)
+        }
+    }
+}
+
+pub fn list_root_counts<A: Allocator>(
+    root: &Option<Node<A>>,
+    alloc: Global,
+    slots: Slots,
+) -> Result<Vec<(Slot, Count)>, NoMemory>
+    requires { IsNormalRoot root.now }
+    ensures { IfOk result (λ counts.
+        counts.items ≡ asked_of slots (counts_in (tree_of root.now))) }
+{
+    let mut counts = Vec::new(alloc);
+    match root {
+        None => Ok(counts),
+        Some(root) => {
+            root.list_counts(slots, &mut counts)?;
+            Ok(counts)
         }
     }
 }

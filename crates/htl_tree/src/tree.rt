@@ -6,11 +6,12 @@ ghost use Rattle.std.specs.List.{flat_map};
 use crate::building::{root_of, rows_in};
 use crate::counting::{Counting, number_of_events};
 use crate::cursor::Cursor;
-use crate::listing::{sums_of, without_slot};
+use crate::gathering::{add_up, sort_by_slot};
+use crate::listing::without_slot;
 use crate::node::{Node, ZERO};
 use crate::root::{
-    add_to_root, copy_root, list_root_rows, list_root_slots, plus_roots, same_roots, sum_of_tops,
-    under_root,
+    add_to_root, copy_root, list_root_counts, list_root_rows, list_root_slots, plus_roots,
+    same_roots, sum_of_tops, under_root,
 };
 use crate::slots::Slots;
 use htl_event::{Count, NoMemory, Run, SharedEvent, SharedStack, Sign, Slot, Stack};
@@ -260,13 +261,14 @@ impl<A: Allocator> StackTree<A> {
     }
 
     /// How often each of these slots came, with whatever stack, in slot order. The sums are found
-    /// by one walk over the tree.
+    /// by one walk over the tree, which makes no stack.
     pub fn sums_of(&self, alloc: Global, slots: Slots) -> Result<Vec<(Slot, Count)>, NoMemory>
         ensures sums { IfOk result (λ sums. ListsSums self.now slots sums.items) }
         ensures tree { IsTree self.now }
     {
-        let mut rows = list_root_rows(&self.root, alloc, slots)?;
-        sums_of(alloc, &mut rows)
+        let mut counts = list_root_counts(&self.root, alloc, slots)?;
+        sort_by_slot(&mut counts);
+        add_up(&alloc, &counts)
     }
 
     /// The tree that counts what this one counts of these slots, and nothing else, under a clone of

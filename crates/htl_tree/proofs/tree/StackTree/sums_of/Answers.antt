@@ -1,43 +1,52 @@
--- The sums of the rows are the tree's.
-use Rattle.std.proofs.Common.{ℕ, List, sym, ap, subst, arith}
+-- The counts of the slots that are asked for, in slot order, add up to the tree's sums.
+use Rattle.std.proofs.Common.{◌<◌, ◌^◌, List, sym, subst, arith}
 use Rattle.htl_event.specs.declared.slot.Slot.{Slot}
 use Rattle.htl_event.specs.declared.slot.Count.{Count}
-use Rattle.htl_event.specs.Tallies.{IsPositive}
-use Rattle.htl_sorted.specs.Entries.{Each}
-use Rattle.htl_tree.specs.Trees.{Tree, IsTree, ListsSums, total_count}
-use Rattle.htl_tree.specs.Asked.{has_slot}
-use Rattle.htl_tree.specs.Nodes.{tree_of, entries_at, AreSums}
+use Rattle.htl_event.specs.SlotOrder.{slot_cmp}
+use Rattle.htl_event.specs.Tallies.{IsPositive, total_of}
+use Rattle.htl_tree.specs.Trees.{Tree, IsTree, ListsSums}
+use Rattle.htl_tree.specs.Nodes.{tree_of, asked_of, counts_in}
+use Rattle.htl_tree.proofs.Between.{if_ok, lists_sums, asked_total, asked_positive}
+use Rattle.htl_tree.proofs.EachValue.{each_moved}
+use Rattle.htl_tree.proofs.Gathered.{sorted_counts, added_moved}
+use Rattle.htl_tree.proofs.KeyedSums.{sum_at_key-permutation}
 use Rattle.htl_tree.proofs.Roots.{root_is_tree}
-use Rattle.htl_tree.proofs.Between.{if_ok, lists_sums, picked_total, picked_positive}
 use Rattle.htl_tree.proofs.tree.StackTree.sums_of.Goals as goal
 
-abbrev At : Type 0
-At = (Slot × List ℕ) × Count
+abbrev Counts : Type 0
+Counts = List (Slot × Count)
 
-pub sums_of-requires-clause-fits : goal.sums_of-requires-clause-fits
-sums_of-requires-clause-fits g c =
+pub add_up-requires-clause-positive : goal.add_up-requires-clause-positive
+add_up-requires-clause-positive g c =
     let t : Tree = tree_of c.self.inside.root in
-    let most = picked_total (has_slot c.args.slots) t in
-    let is = ap (λ (l : List At). total_count (entries_at l)) c.in_ok-rows.ensures in
-    omega (arith, most, is, c.self.invariant.counted, c.self.invariant.fits)
-
-pub sums_of-requires-clause-positive : goal.sums_of-requires-clause-positive
-sums_of-requires-clause-positive g c =
-    let t : Tree = tree_of c.self.inside.root in
+    let all : Counts = asked_of c.args.slots (counts_in t) in
     let h = root_is_tree c.self.inside.root c.self.invariant.normal in
-    subst (λ (l : List At). Each IsPositive (entries_at l)) (sym c.in_ok-rows.ensures)
-    (picked_positive (has_slot c.args.slots) t h.positive)
+    let moved = sorted_counts all c.in_ok-counts.counts.items c.sort_by_slot.new.counts.items c.deref.result.now
+    c.in_ok-counts.ensures c.sort_by_slot.ensures c.deref.ensures.value in
+    each_moved IsPositive all c.deref.result.now moved (asked_positive c.args.slots t h.positive)
+
+pub add_up-requires-clause-fit : goal.add_up-requires-clause-fit
+add_up-requires-clause-fit g c slot =
+    let t : Tree = tree_of c.self.inside.root in
+    let all : Counts = asked_of c.args.slots (counts_in t) in
+    let moved = sorted_counts all c.in_ok-counts.counts.items c.sort_by_slot.new.counts.items c.deref.result.now
+    c.in_ok-counts.ensures c.sort_by_slot.ensures c.deref.ensures.value in
+    let most = asked_total c.args.slots slot t in
+    subst (λ d. total_of d < 2 ^ 64) (sym (sum_at_key-permutation slot_cmp (λ d. d) all c.deref.result.now moved slot))
+    (omega (arith, most, c.self.invariant.counted, c.self.invariant.fits))
 
 pub returns-clause-sums : goal.returns-clause-sums
 returns-clause-sums g c =
     let t : Tree = tree_of c.self.inside.root in
-    let p = has_slot c.args.slots in
-    if_ok c.sums_of.result c.sums_of.ensures (λ sums are.
+    let all : Counts = asked_of c.args.slots (counts_in t) in
+    let moved = sorted_counts all c.in_ok-counts.counts.items c.sort_by_slot.new.counts.items c.deref.result.now
+    c.in_ok-counts.ensures c.sort_by_slot.ensures c.deref.ensures.value in
+    if_ok c.add_up.result c.add_up.ensures (λ sums added.
     subst (λ (u : Tree). ListsSums u c.args.slots sums.items) c.self.view_is
-    (lists_sums t c.args.slots sums.items (subst (λ (l : List At). AreSums l sums.items) c.in_ok-rows.ensures are)))
+    (lists_sums t c.args.slots sums.items (added_moved all c.deref.result.now sums.items moved added)))
 
 pub returns-clause-tree : goal.returns-clause-tree
 returns-clause-tree g c = subst (λ t. IsTree t) c.self.view_is (root_is_tree c.self.inside.root c.self.invariant.normal)
 
-pub returns-in_err-rows-clause-tree : goal.returns-in_err-rows-clause-tree
-returns-in_err-rows-clause-tree g c = subst (λ t. IsTree t) c.self.view_is (root_is_tree c.self.inside.root c.self.invariant.normal)
+pub returns-in_err-counts-clause-tree : goal.returns-in_err-counts-clause-tree
+returns-in_err-counts-clause-tree g c = subst (λ t. IsTree t) c.self.view_is (root_is_tree c.self.inside.root c.self.invariant.normal)

@@ -86,7 +86,10 @@ fn refused(rt: &HostRuntime, fault: &ParseFault) -> ExitCode {
     };
     match told {
         Ok(()) => ExitCode::from(fault.status()),
-        Err(_) => ExitCode::from(RunFault::Write.status()),
+        Err(_) => {
+            let _ = eprintln!(rt; "{}", RunFault::Write);
+            ExitCode::from(RunFault::Write.status())
+        }
     }
 }
 

@@ -1,13 +1,11 @@
 //! Lists of what a node counts.
 
-ghost use Rattle.std.specs.Prelude.{◌≡◌, ℕ, ◌<◌, ◌≤◌, ◌^◌, List, [], ◌++◌, ◌↔◌, length};
+ghost use Rattle.std.specs.Prelude.{◌≡◌, ℕ, ◌<◌, ◌≤◌, List, [], ◌++◌, ◌↔◌, length};
 ghost use Rattle.std.specs.Prelude.{map, reverse, false, Contains, IfOk, OnOk};
 ghost use Rattle.htl_event.specs.declared.slot.Slot.{Slot};
 ghost use Rattle.htl_event.specs.declared.slot.Count.{Count};
 ghost use Rattle.htl_event.specs.Members.{IsRising};
-ghost use Rattle.htl_event.specs.Tallies.{IsPositive};
-ghost use Rattle.htl_sorted.specs.Entries.{Each};
-ghost use Rattle.htl_tree.specs.Trees.{BySlot, total_count};
+ghost use Rattle.htl_tree.specs.Trees.{BySlot};
 ghost use Rattle.htl_tree.specs.Asked.{has_slot};
 ghost use Rattle.htl_tree.specs.Nodes.{top, inside, rows, rows_at, own_at};
 ghost use Rattle.htl_tree.specs.Nodes.{asked_of, counts_in, slots_of, IsNormal, IsShortFrom};
@@ -17,7 +15,6 @@ use crate::node::Node;
 use crate::slots::Slots;
 use htl_event::{Count, MAX_FRAMES, NoMemory, SharedStack, Slot};
 use std::alloc::{Allocator, Global};
-use std::cmp::Ordering;
 
 impl<A: Allocator> Node<A> {
     /// Adds the counts of these slots, at this node and below, by stack and then by slot. The path

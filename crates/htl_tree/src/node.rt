@@ -1,8 +1,7 @@
 //! A node: the counts of one stack, and the nodes further in.
 
 ghost use Rattle.std.specs.Prelude.{◌≡◌, ◌≢◌, ◌+◌, ◌-◌, ◌<◌, ◌≤◌, ◌^◌, [], ◌++◌, length, take};
-ghost use Rattle.std.specs.Prelude.{get_or, reverse, false, IfOk, IfErr, OnOk, OnErr, MatchResult};
-ghost use Rattle.std.specs.Prelude.{vec_len};
+ghost use Rattle.std.specs.Prelude.{get_or, reverse, false, vec_len, IfOk, IfErr, OnOk, OnErr, MatchResult};
 ghost use Rattle.std.specs.List.{insert};
 ghost use Rattle.std.specs.Int.Bits.{bit_and};
 ghost use Rattle.std.specs.Ordering.{nat_cmp};
@@ -11,7 +10,7 @@ ghost use Rattle.htl_sorted.specs.Entries.{IsSorted, IsPlace, IsGap};
 ghost use Rattle.htl_event.specs.SlotOrder.{slot_cmp};
 ghost use Rattle.htl_tree.specs.Trees.{bump};
 ghost use Rattle.htl_tree.specs.Marks.{AreMarked};
-ghost use Rattle.htl_tree.specs.Nodes.{frames, counts_of, children_of, marks_at, top, inside};
+ghost use Rattle.htl_tree.specs.Nodes.{frames, counts_of, children_of, marks_at, top};
 ghost use Rattle.htl_tree.specs.Nodes.{tally, count_in};
 ghost use Rattle.htl_tree.specs.Nodes.{IsNormal, counted, IsBranch, IsAdded, IsKept};
 

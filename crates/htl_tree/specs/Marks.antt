@@ -5,6 +5,8 @@ use Rattle.std.specs.Int.Bits.{bit_and}
 use Rattle.htl_event.specs.declared.slot.Slot.{Slot}
 use Rattle.htl_event.specs.declared.slot.Slot.TheVariants.{Tagged, Handles, Bad}
 use Rattle.htl_event.specs.declared.slot.Count.{Count}
+use Rattle.htl_tree.specs.declared.slots.Slots.{Slots}
+use Rattle.htl_tree.specs.declared.slots.Slots.TheVariants.{All, One, OfObject, BadOf}
 
 -- the bit of an object or a process: objects are multiples of 16 and processes of 4, so the product spreads them
 unfoldable pub bit_of : ℕ → ℕ
@@ -15,6 +17,13 @@ abbrev pub mark : Slot → ℕ
 mark (Tagged object tag) = bit_of object
 mark (Handles process) = bit_of process
 mark (Bad process handle) = bit_of process
+
+-- what the marks of the slots that are asked for have in common
+abbrev pub common : Slots → ℕ
+common All = 0
+common (One slot) = mark slot
+common (OfObject object) = bit_of object
+common (BadOf process) = bit_of process
 
 -- the slot's mark is in the number
 abbrev pub HasMark : ℕ → Slot → Type 0

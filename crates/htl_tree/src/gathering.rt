@@ -3,8 +3,10 @@
 
 ghost use Rattle.std.specs.Prelude.{◌≡◌, ℕ, ◌<◌, ◌≤◌, ◌^◌, ◌++◌, length, take, drop, IfOk, OnOk};
 ghost use Rattle.std.specs.List.{AllByRecursion};
-ghost use Rattle.std.specs.List.Sorted.{IsPermutation};
+ghost use Rattle.std.specs.List.Sorted.{IsPermutation, IsSortedByKey};
+ghost use Rattle.htl_event.specs.SlotOrder.{slot_cmp};
 ghost use Rattle.htl_event.specs.declared.slot.Slot.{Slot};
+ghost use Rattle.htl_event.specs.declared.slot.Count.{Count};
 ghost use Rattle.htl_event.specs.Tallies.{total_of, IsPositive};
 ghost use Rattle.htl_sorted.specs.Entries.{Each};
 ghost use Rattle.htl_tree.specs.Marks.{HasMarksOf};
@@ -97,9 +99,10 @@ fn shared_by_all<A: Allocator>(frames: &[u64], places: &[(u64, Cursor<'_, A>)]) 
 
 /// Puts counts in slot order.
 pub fn sort_by_slot<A: Allocator>(counts: &mut Vec<(Slot, Count), A>)
-    ensures { IsPermutation counts.old.items counts.new.items }
+    ensures moved { IsPermutation counts.old.items counts.new.items }
+    ensures sorted { IsSortedByKey (λ (e : Slot × Count). e.0) slot_cmp counts.new.items }
 {
-    counts.sort_unstable_by(|a, b| a.0.cmp(&b.0));
+    counts.sort_unstable_by_key(|count| count.0);
 }
 
 /// What these places count so many frames further in, added up by slot.

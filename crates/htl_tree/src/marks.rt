@@ -5,7 +5,7 @@ ghost use Rattle.std.specs.Prelude.{◌≡◌, ℕ, true};
 ghost use Rattle.std.specs.Int.Bits.{bit_and};
 ghost use Rattle.htl_event.specs.declared.slot.Slot.{Slot};
 ghost use Rattle.htl_tree.specs.Asked.{has_slot};
-ghost use Rattle.htl_tree.specs.Marks.{bit_of, mark, HasMark, AreMarked};
+ghost use Rattle.htl_tree.specs.Marks.{bit_of, mark, common, HasMark, AreMarked};
 
 use crate::slots::Slots;
 use htl_event::{Count, Slot};
@@ -37,8 +37,9 @@ pub fn marks_of(counts: &[(Slot, Count)]) -> u64
 
 /// What the marks of these slots have in common: one bit, or none where all slots are asked for.
 pub fn common_mark(slots: Slots) -> u64
-    ensures { (marks : ℕ) (slot : Slot) → has_slot slots slot ≡ true → HasMark marks slot
-        → bit_and marks result ≡ result }
+    ensures value { result ≡ common slots }
+    ensures of_each { (marks : ℕ) (slot : Slot) → has_slot slots slot ≡ true
+        → HasMark marks slot → bit_and marks result ≡ result }
 {
     match slots {
         Slots::All => 0,

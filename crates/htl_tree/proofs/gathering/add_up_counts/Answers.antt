@@ -18,14 +18,14 @@ pub add_up-requires-clause-positive : goal.add_up-requires-clause-positive
 add_up-requires-clause-positive g c =
     let all : Counts = all_own (skipped c.args.skip (spots c.args.places.now)) in
     let moved = sorted_counts all c.in_ok-counts.counts.items c.sort_by_slot.new.counts.items c.deref.result.now
-    c.in_ok-counts.ensures c.sort_by_slot.ensures c.deref.ensures.value in
+    c.in_ok-counts.ensures c.sort_by_slot.ensures.moved c.deref.ensures.value in
     each_moved IsPositive all c.deref.result.now moved c.requires.positive
 
 pub add_up-requires-clause-fit : goal.add_up-requires-clause-fit
 add_up-requires-clause-fit g c slot =
     let all : Counts = all_own (skipped c.args.skip (spots c.args.places.now)) in
     let moved = sorted_counts all c.in_ok-counts.counts.items c.sort_by_slot.new.counts.items c.deref.result.now
-    c.in_ok-counts.ensures c.sort_by_slot.ensures c.deref.ensures.value in
+    c.in_ok-counts.ensures c.sort_by_slot.ensures.moved c.deref.ensures.value in
     subst (λ d. total_of d < 2 ^ 64) (sym (sum_at_key-permutation slot_cmp (λ d. d) all c.deref.result.now moved slot))
     (c.requires.fit slot)
 
@@ -33,5 +33,5 @@ pub returns : goal.returns
 returns g c =
     let all : Counts = all_own (skipped c.args.skip (spots c.args.places.now)) in
     let moved = sorted_counts all c.in_ok-counts.counts.items c.sort_by_slot.new.counts.items c.deref.result.now
-    c.in_ok-counts.ensures c.sort_by_slot.ensures c.deref.ensures.value in
+    c.in_ok-counts.ensures c.sort_by_slot.ensures.moved c.deref.ensures.value in
     IfOk-weaker c.add_up.result _ _ (λ sums added. added_moved all c.deref.result.now sums.items moved added) c.add_up.ensures

@@ -17,7 +17,7 @@ returns-then-not-may_count g t c =
     let missing : c.may_count.result ≡ false = c.if-not-may_count.true in
     sym (append-nil old) ∙ ap (λ l. old ++ l) (sym (unmarked_counts (marks_at n) c.args.slots (rows (inside n))
     (rows_marked (inside n) c.requires)
-    (λ s yes there. c.may_count.ensures missing (c.common_mark.ensures (marks_at n) s yes there))))
+    (λ s yes there. c.may_count.ensures missing (c.common_mark.ensures.of_each (marks_at n) s yes there))))
 
 pub loop-child-init : goal.loop-child-init
 loop-child-init g t c =

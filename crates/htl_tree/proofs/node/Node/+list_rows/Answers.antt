@@ -21,7 +21,7 @@ returns-then-not-may_count-clause-listed g t c =
     let missing : c.may_count.result ≡ false = c.if-not-may_count.true in
     sym (append-nil old) ∙ ap (λ l. old ++ l) (sym (unmarked_rows (marks_at n) c.args.slots p (rows (top n))
     (rows_marked (top n) c.requires.normal)
-    (λ s yes there. c.may_count.ensures missing (c.common_mark.ensures (marks_at n) s yes there))))
+    (λ s yes there. c.may_count.ensures missing (c.common_mark.ensures.of_each (marks_at n) s yes there))))
 
 pub list_own-requires : goal.list_own-requires
 list_own-requires g t c some =

@@ -22,7 +22,7 @@ add_up-requires-clause-positive g c =
     let all : Counts = asked_of c.args.slots (counts_in t) in
     let h = root_is_tree c.self.inside.root c.self.invariant.normal in
     let moved = sorted_counts all c.in_ok-counts.counts.items c.sort_by_slot.new.counts.items c.deref.result.now
-    c.in_ok-counts.ensures c.sort_by_slot.ensures c.deref.ensures.value in
+    c.in_ok-counts.ensures c.sort_by_slot.ensures.moved c.deref.ensures.value in
     each_moved IsPositive all c.deref.result.now moved (asked_positive c.args.slots t h.positive)
 
 pub add_up-requires-clause-fit : goal.add_up-requires-clause-fit
@@ -30,7 +30,7 @@ add_up-requires-clause-fit g c slot =
     let t : Tree = tree_of c.self.inside.root in
     let all : Counts = asked_of c.args.slots (counts_in t) in
     let moved = sorted_counts all c.in_ok-counts.counts.items c.sort_by_slot.new.counts.items c.deref.result.now
-    c.in_ok-counts.ensures c.sort_by_slot.ensures c.deref.ensures.value in
+    c.in_ok-counts.ensures c.sort_by_slot.ensures.moved c.deref.ensures.value in
     let most = asked_total c.args.slots slot t in
     subst (λ d. total_of d < 2 ^ 64) (sym (sum_at_key-permutation slot_cmp (λ d. d) all c.deref.result.now moved slot))
     (omega (arith, most, c.self.invariant.counted, c.self.invariant.fits))
@@ -40,7 +40,7 @@ returns-clause-sums g c =
     let t : Tree = tree_of c.self.inside.root in
     let all : Counts = asked_of c.args.slots (counts_in t) in
     let moved = sorted_counts all c.in_ok-counts.counts.items c.sort_by_slot.new.counts.items c.deref.result.now
-    c.in_ok-counts.ensures c.sort_by_slot.ensures c.deref.ensures.value in
+    c.in_ok-counts.ensures c.sort_by_slot.ensures.moved c.deref.ensures.value in
     if_ok c.add_up.result c.add_up.ensures (λ sums added.
     subst (λ (u : Tree). ListsSums u c.args.slots sums.items) c.self.view_is
     (lists_sums t c.args.slots sums.items (added_moved all c.deref.result.now sums.items moved added)))

@@ -342,7 +342,8 @@ summed_before {A} f a b c w g h sum =
     (subst (λ l. Made (λ sides sum. SumOf sides sum) l (kids (before f c))) (sym both) (refl, sum, tt))
 
 summed_along : {A : Type 0} (k : ℕ) (fs gs : List ℕ) (a b c : Node A) → take k fs ≡ take k gs
-    → marks_at c ≡ bit_or (marks_at a) (marks_at b) → IsNormal (fs, a) → IsNormal (gs, b) → IsSum (drop k fs, a) (drop k gs, b) (inside c) → IsSum (fs, a) (gs, b) (take k fs, c)
+    → marks_at c ≡ bit_or (marks_at a) (marks_at b) → IsNormal (fs, a) → IsNormal (gs, b)
+    → IsSum (drop k fs, a) (drop k gs, b) (inside c) → IsSum (fs, a) (gs, b) (take k fs, c)
 summed_along zero fs gs a b c same w g h sum = sum
 summed_along (suc k) [] [] a b c same w g h sum = sum
 summed_along (suc k) [] (f ∷ gs) a b c same w g h sum = absurd (cc)

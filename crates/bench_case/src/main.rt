@@ -13,7 +13,7 @@ use std::time::Clock;
 /// How many segments all processors have.
 const SEGMENTS: u32 = 64;
 
-/// What is measured: a made-up trace, and how many events it has.
+/// What is measured: a generated trace, and how many events it has.
 #[derive(Drop)]
 struct Sample {
     trace: RandomTrace,

@@ -1,4 +1,4 @@
-//! How long the answers of a summary take: `bench_summary THOUSANDS` (4 by default), over made-up
+//! How long the answers of a summary take: `bench_summary THOUSANDS` (4 by default), over generated
 //! traces of 4 processors, at a quarter of their size and at all of it. One trace has so many
 //! thousand objects, one has 50 processes for each thousand, and one lacks 100 segments for each.
 //! Counts go to standard output, times to standard error.

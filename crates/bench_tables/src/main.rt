@@ -1,4 +1,4 @@
-//! How long tables take that are made of made-up segments, copied and joined, and sets of numbers
+//! How long tables take that are made of generated segments, copied and joined, and sets of numbers
 //! that are filled and united. The argument is the number of segments, 2 where there is none, of
 //! 4,096 events each. Standard error tells how long each step took, standard output how large its
 //! result is.

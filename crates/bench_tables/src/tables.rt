@@ -1,7 +1,7 @@
 //! Tables of segments.
 
 use bench_clock::Stopwatch;
-use htl_event::{Run, SharedEvent};
+use htl_event::{EventList, SharedEvent};
 use htl_samples::{RandomTrace, SMALL};
 use htl_segment::Segment;
 use htl_tables::{Exits, Latest, Marks};

@@ -1,3 +1,3 @@
--- What public contracts cite: want of memory, and lists that are compared.
+-- What public contracts cite: out of memory, and lists that are compared.
 pub mod Refusals
 pub mod Lists

@@ -1,7 +1,7 @@
 //! Refuses the growths of each call in turn.
 //!
 //! Each call is made with its first growth of memory refused, then with its second, and on, each
-//! time on what is made anew, until it meets no refusal. A call that meets one tells want of memory
+//! time on what is made anew, until it meets no refusal. A call that meets one reports out of memory
 //! and leaves what it was made on as it was; made again, now with memory, it does what it does
 //! where nothing is refused. Where the call makes up for the growth, as for a cache's, it answers
 //! as ever. How many growths were refused in each call is printed. A trial fails at a call that
@@ -9,7 +9,7 @@
 //!
 //! Growths are refused from outside (`hand`). Where nobody does it, as in a stored run, each call
 //! is made once. `trials` has the one loop that tries calls, `same` says what is compared, and
-//! `refusal` what tells want of memory.
+//! `refusal` what reports out of memory.
 #![tactic(auto)]
 
 mod hand;

@@ -37,7 +37,7 @@ pub enum Refusal {
 }
 
 impl Refusal {
-    /// The refusal of a fault that tells want of memory, or tells something else.
+    /// The refusal of a fault that reports out of memory, or tells something else.
     pub fn of(wants_memory: bool) -> Refusal
         ensures { IsWant result ↔ IsTrue wants_memory }
     {

@@ -13,7 +13,7 @@ use Rattle.htl_event.proofs.Members.{Contains-here, Contains-there, Contains-cas
 use Rattle.htl_event.proofs.Members.{Contains-map, Contains-from_map, at_member, each_member}
 use Rattle.htl_segment.specs.Content.{Content, Fits}
 use Rattle.htl_segment.specs.Keys.{run_below}
-use Rattle.htl_segment.specs.Traces.{Trace, AreInOrder, IsBefore, has_key, all_events, events_of}
+use Rattle.htl_segment.specs.Traces.{Trace, AreInOrder, IsBefore, key_is_in, all_events, events_of}
 use Rattle.htl_segment.proofs.Traces.{events_of-agree, events_of-skip}
 use Rattle.htl_taken.specs.Numbers.{Numbers, numbers_at, front_at, loose_at}
 use Rattle.htl_taken.specs.declared.TheConstants.{MAX_FRONT}
@@ -60,7 +60,7 @@ taken_keys a p n (inr h) =
 -- the same keys, the same events
 pub agree : Agree
 agree T a b ra rb into from =
-    events_of-agree (keys a) (keys b) T.segments (each_member (λ s. has_key (keys a) s ≡ has_key (keys b) s) T.segments (λ s h.
+    events_of-agree (keys a) (keys b) T.segments (each_member (λ s. key_is_in (keys a) s ≡ key_is_in (keys b) s) T.segments (λ s h.
     both_ways (keys a s.processor s.number) (keys b s.processor s.number)
     (λ e. taken_keys b s.processor s.number (into s.processor s.number (keys_taken a s.processor s.number e)))
     (λ e. taken_keys a s.processor s.number (from s.processor s.number (keys_taken b s.processor s.number e)))))
@@ -168,10 +168,10 @@ module _ (T : Trace) (a : State) (right : IsRight a T) (p : ℕ) (lt : p < a.pro
   ss = T.segments
 
   abbrev run : List Content
-  run = filter (has_key (run_below p q.front)) ss
+  run = filter (key_is_in (run_below p q.front)) ss
 
   abbrev rest : List Content
-  rest = filter (has_key (from_on (p + 1) (keys a))) ss
+  rest = filter (key_is_in (from_on (p + 1) (keys a))) ss
 
   is : IsLane a.trace_id a.processors p q (lane_at a.lanes p)
   is = right.state.each p lt
@@ -187,13 +187,13 @@ module _ (T : Trace) (a : State) (right : IsRight a T) (p : ℕ) (lt : p < a.pro
 
   in_run : (s : Content) → Contains run s → Contains ss s × (s.processor ≡ p) × (s.number < q.front)
   in_run s h =
-      let k = Contains-from_filter (has_key (run_below p q.front)) ss s h in
+      let k = Contains-from_filter (key_is_in (run_below p q.front)) ss s h in
       let both = and_parts (eqb s.processor p) (ltb s.number q.front) k.1 in
       (k.0, eqb-true s.processor p both.0, ltb-true s.number q.front both.1)
 
   in_rest : (s : Content) → Contains rest s → Contains ss s × (p + 1 ≤ s.processor) × (keys a s.processor s.number ≡ true)
   in_rest s h =
-      let k = Contains-from_filter (has_key (from_on (p + 1) (keys a))) ss s h in
+      let k = Contains-from_filter (key_is_in (from_on (p + 1) (keys a))) ss s h in
       let both = of_from_on (keys a) (p + 1) s.processor s.number k.1 in
       (k.0, both.0, both.1)
 
@@ -202,7 +202,7 @@ module _ (T : Trace) (a : State) (right : IsRight a T) (p : ℕ) (lt : p < a.pro
       append_ordered held rest
       (held_ordered p q.front MAX_FRONT held (subst (Rises q.front MAX_FRONT) (sym is.numbers) is.proper.rises)
       (each_member (λ s. s.processor ≡ p) held owner))
-      (filter_ordered (has_key (from_on (p + 1) (keys a))) ss right.trace.in_order)
+      (filter_ordered (key_is_in (from_on (p + 1) (keys a))) ss right.trace.in_order)
       (λ x y h k. let e = owner x h in let r = in_rest y k in inl (omega (arith, e, r.1)))
 
   after_run : (x y : Content) → Contains run x → Contains (held ++ rest) y → IsBefore x y
@@ -218,7 +218,7 @@ module _ (T : Trace) (a : State) (right : IsRight a T) (p : ℕ) (lt : p < a.pro
 
   whole_ordered : AreInOrder (run ++ (held ++ rest))
   whole_ordered =
-      append_ordered run (held ++ rest) (filter_ordered (has_key (run_below p q.front)) ss right.trace.in_order) tail_ordered after_run
+      append_ordered run (held ++ rest) (filter_ordered (key_is_in (run_below p q.front)) ss right.trace.in_order) tail_ordered after_run
 
   -- a segment of a loose number is held
   found : (s : Content) → Contains ss s → s.processor ≡ p → Contains q.loose s.number → Contains held s
@@ -226,23 +226,23 @@ module _ (T : Trace) (a : State) (right : IsRight a T) (p : ℕ) (lt : p < a.pro
       let f = Contains-from_map number held s.number (subst (λ (ns : List ℕ). Contains ns s.number) (sym is.numbers) loose_s) in
       subst (Contains held) (one_segment ss right.trace.in_order f.0 s (in_trace f.0 f.1) h (owner f.0 f.1 ∙ sym e) f.2) f.1
 
-  into : (s : Content) → Contains (filter (has_key (from_on p (keys a))) ss) s → Contains (run ++ (held ++ rest)) s
+  into : (s : Content) → Contains (filter (key_is_in (from_on p (keys a))) ss) s → Contains (run ++ (held ++ rest)) s
   into s h =
-      let k = Contains-from_filter (has_key (from_on p (keys a))) ss s h in
+      let k = Contains-from_filter (key_is_in (from_on p (keys a))) ss s h in
       let both = of_from_on (keys a) p s.processor s.number k.1 in
       elim (cases_eq s.processor p) [
         | inl e ↦ elim (subst (λ (r : ℕ). HasTaken a r s.number) e (keys_taken a s.processor s.number both.1)) [
           | inl low ↦ Contains-append_left run (held ++ rest) s
-              (Contains-filter (has_key (run_below p q.front)) ss s k.0
+              (Contains-filter (key_is_in (run_below p q.front)) ss s k.0
               (and_from (eqb s.processor p) (ltb s.number q.front) (eq-eqb s.processor p e) (lt-ltb s.number q.front low)))
           | inr loose_s ↦ Contains-append_right run (held ++ rest) s (Contains-append_left held rest s (found s k.0 e loose_s))
         ]
         | inr ne ↦ Contains-append_right run (held ++ rest) s (Contains-append_right held rest s
-            (Contains-filter (has_key (from_on (p + 1) (keys a))) ss s k.0
+            (Contains-filter (key_is_in (from_on (p + 1) (keys a))) ss s k.0
             (in_from_on (keys a) (p + 1) s.processor s.number (let le = both.0 in omega (arith, le, ne)) both.1)))
       ]
 
-  from : (s : Content) → Contains (run ++ (held ++ rest)) s → Contains (filter (has_key (from_on p (keys a))) ss) s
+  from : (s : Content) → Contains (run ++ (held ++ rest)) s → Contains (filter (key_is_in (from_on p (keys a))) ss) s
   from s h =
       elim (Contains-append_cases run (held ++ rest) s h) [
         | inl r ↦
@@ -260,17 +260,17 @@ module _ (T : Trace) (a : State) (right : IsRight a T) (p : ℕ) (lt : p < a.pro
         ]
       ] where
         put : (s : Content) → Contains ss s → p ≤ s.processor → HasTaken a s.processor s.number
-            → Contains (filter (has_key (from_on p (keys a))) ss) s
+            → Contains (filter (key_is_in (from_on p (keys a))) ss) s
         put s h le taken =
-            Contains-filter (has_key (from_on p (keys a))) ss s h
+            Contains-filter (key_is_in (from_on p (keys a))) ss s h
             (in_from_on (keys a) p s.processor s.number le (taken_keys a s.processor s.number taken))
 
   -- the events of the processors from p on
   pub events_from : events_of (from_on p (keys a)) ss ≡ run_events T p q.front ++
       (all_events held ++ events_of (from_on (p + 1) (keys a)) ss)
   events_from =
-      ap all_events (ordered_same (filter (has_key (from_on p (keys a))) ss) (run ++ (held ++ rest))
-      (filter_ordered (has_key (from_on p (keys a))) ss right.trace.in_order) whole_ordered into from)
+      ap all_events (ordered_same (filter (key_is_in (from_on p (keys a))) ss) (run ++ (held ++ rest))
+      (filter_ordered (key_is_in (from_on p (keys a))) ss right.trace.in_order) whole_ordered into from)
       ∙ flat_map-append (λ (s : Content). s.events) run (held ++ rest)
       ∙ ap (λ (es : List Event). run_events T p q.front ++ es) (flat_map-append (λ (s : Content). s.events) held rest)
 
@@ -293,5 +293,5 @@ events_past T a right p le = none_from (keys a) p T.segments (λ s h.
 pub events_all : (T : Trace) (a : State) → events_of (from_on 0 (keys a)) T.segments ≡ events_of (keys a) T.segments
 events_all T a =
     events_of-agree (from_on 0 (keys a)) (keys a) T.segments
-    (each_member (λ s. has_key (from_on 0 (keys a)) s ≡ has_key (keys a) s) T.segments
+    (each_member (λ s. key_is_in (from_on 0 (keys a)) s ≡ key_is_in (keys a) s) T.segments
     (λ s h. rw (le-ltb s.processor 0 (omega arith)) refl))

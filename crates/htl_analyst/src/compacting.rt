@@ -21,7 +21,7 @@ impl<A: Allocator + Clone> Analyst<A> {
     ghost use Rattle.htl_analyst.specs.StepParts.{IsCompactedAt, run_length, run_of, settled_with};
 
     /// Moves every front to the least number that wasn't taken. The held segments below it are
-    /// folded and dropped. After want of memory some fronts may have moved, and the keys are as
+    /// folded and dropped. After out of memory some fronts may have moved, and the keys are as
     /// before.
     pub fn compact(&mut self) -> Result<(), NoMemory>
         ensures keys { (p n : ℕ) → HasTaken self.new p n ↔ HasTaken self.old p n }

@@ -8,7 +8,7 @@ ghost use Rattle.htl_answers.specs.Parts.{AreEventsOf, size_of, size_of_all};
 ghost use Rattle.htl_answers.specs.Asked.{is_asked};
 
 use crate::part::Part;
-use htl_event::{NoMemory, Run, SharedEvent};
+use htl_event::{EventList, NoMemory, SharedEvent};
 use htl_tree::{Slots, StackTree};
 use std::alloc::Global;
 
@@ -62,7 +62,11 @@ fn slots_of_part<P: Part>(
 }
 
 /// The events of the runs that are counted under these slots.
-fn asked_held<R: Run>(alloc: Global, runs: &[R], slots: Slots) -> Result<Vec<SharedEvent>, NoMemory>
+fn asked_held<R: EventList>(
+    alloc: Global,
+    runs: &[R],
+    slots: Slots,
+) -> Result<Vec<SharedEvent>, NoMemory>
     ensures { IfOk result (λ asked. asked.items
         ≡ filter (is_asked slots) (flat_map R.events_of runs.now)) }
 {

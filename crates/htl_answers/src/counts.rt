@@ -12,7 +12,7 @@ ghost use Rattle.htl_answers.specs.Parts.{AreEventsOf, size_of_all};
 ghost use Rattle.htl_answers.specs.Counts.{one_count};
 
 use crate::part::Part;
-use htl_event::{Count, Run, SharedEvent, SharedStack, Sign, Slot};
+use htl_event::{Count, EventList, SharedEvent, SharedStack, Sign, Slot};
 use std::cmp::Ordering;
 
 pub(crate) const ZERO: Count = Count { plus: 0, minus: 0 };
@@ -43,7 +43,7 @@ pub(crate) fn sum_of(one: Count, other: Count) -> Count
 }
 
 /// The same over runs of events.
-fn under_held<R: Run>(runs: &[R], path: &[u64], slot: Slot) -> Count
+fn under_held<R: EventList>(runs: &[R], path: &[u64], slot: Slot) -> Count
     requires { length (flat_map R.events_of runs.now) < 2 ^ 64 }
     ensures value { result ≡ under (flat_map R.events_of runs.now) path.now slot }
     ensures few { total_of result ≤ length (flat_map R.events_of runs.now) }

@@ -5,7 +5,7 @@ ghost use Rattle.std.specs.Option.{option_copied};
 ghost use Rattle.htl_tables.specs.Latest.{with_event};
 ghost use Rattle.htl_event.specs.Handles.{LatestIs, IsGreatestSequence, IsOf, later};
 
-use htl_event::{Kind, Run, SharedEvent, base};
+use htl_event::{EventList, Kind, SharedEvent, base};
 
 /// The later of two events, the first where they came at once.
 pub fn later_of<'a>(
@@ -55,7 +55,7 @@ fn latest_of_events(events: &[SharedEvent], process: u32, base: u32) -> Option<&
 }
 
 /// The latest open or close of the base handle of the process among the events of the runs.
-pub fn latest_held<R: Run>(runs: &[R], process: u32, base: u32) -> Option<&SharedEvent>
+pub fn latest_held<R: EventList>(runs: &[R], process: u32, base: u32) -> Option<&SharedEvent>
     ensures { LatestIs (Contains (flat_map R.events_of runs.now)) process base
         (option_copied result) }
 {
@@ -88,7 +88,7 @@ fn greatest_of_events(events: &[SharedEvent], kind: Kind, process: u32) -> u64
 
 /// The greatest sequence of the kind's events of the process among the events of the runs, 0 where
 /// there are none.
-pub fn greatest_held<R: Run>(runs: &[R], kind: Kind, process: u32) -> u64
+pub fn greatest_held<R: EventList>(runs: &[R], kind: Kind, process: u32) -> u64
     ensures { IsGreatestSequence
         (λ e. Contains (flat_map R.events_of runs.now) e × IsOf kind process e) result }
 {

@@ -11,7 +11,7 @@ ghost use Rattle.htl_answers.specs.Candidates.{is_opened_after};
 
 use crate::handles::last_exit;
 use crate::part::Part;
-use htl_event::{Kind, NoMemory, Run, SharedEvent};
+use htl_event::{EventList, Kind, NoMemory, SharedEvent};
 use htl_tables::Latest;
 use std::alloc::Global;
 
@@ -87,7 +87,11 @@ fn add_copies(rows: &mut Vec<SharedEvent>, more: &[SharedEvent]) -> Result<(), N
     Ok(())
 }
 
-fn add_held<R: Run>(rows: &mut Vec<SharedEvent>, runs: &[R], process: u32) -> Result<(), NoMemory>
+fn add_held<R: EventList>(
+    rows: &mut Vec<SharedEvent>,
+    runs: &[R],
+    process: u32,
+) -> Result<(), NoMemory>
     ensures { OnOk result (rows.new.items
         ≡ rows.old.items ++ filter (touches process) (flat_map R.events_of runs.now)) }
 {

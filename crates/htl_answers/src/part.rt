@@ -2,7 +2,7 @@
 
 ghost use Rattle.std.specs.Prelude.{◌≡◌, flat_map};
 
-use htl_event::Run;
+use htl_event::EventList;
 use htl_tables::{Exits, Latest, Marks};
 use htl_tree::StackTree;
 use std::alloc::Allocator;
@@ -12,7 +12,7 @@ use std::alloc::Allocator;
 pub trait Part {
     ghost use Rattle.htl_answers.specs.Parts.{Contents};
 
-    type Held: Run;
+    type Held: EventList;
 
     type Alloc: Allocator + Clone;
 

@@ -254,7 +254,7 @@ one_fault ss f g f_told g_told a b =
       | inr (inr gt) ↦ absurd (none_earlier ss g f gt f_told (breaks ss g g_told b) a)
     ]
 
--- ---- what the code answers is the outcome, but for want of memory
+-- ---- what the code answers is the outcome, but for out of memory
 
 is_memory : (fault : CaseFault) → (fault ≡ NoMemory) ⊎ (fault ≢ NoMemory)
 is_memory NoMemory = inl refl

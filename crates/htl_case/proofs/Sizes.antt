@@ -8,7 +8,7 @@ use Rattle.std.proofs.lemmas.List.Sums.{sum_by-cons, sum_by_more, length-filter}
 use Rattle.htl_event.proofs.Members.{Contains-here, Contains-there, at_member, filter-pass, filter-skip, Contains-filter}
 use Rattle.htl_event.proofs.Members.{Contains-from_filter, Contains-map, Contains-from_map}
 use Rattle.htl_segment.specs.Content.{Content, Fits}
-use Rattle.htl_segment.specs.Traces.{Trace, AreInOrder, IsBefore, HasKey, has_key}
+use Rattle.htl_segment.specs.Traces.{Trace, AreInOrder, IsBefore, HasKey, key_is_in}
 use Rattle.htl_taken.specs.Rising.{Rises}
 use Rattle.htl_taken.specs.Numbers.{Numbers, numbers_at, no_numbers, has_number, size_of}
 use Rattle.htl_taken.proofs.Rising.{Rises-member, Rises-same}
@@ -51,10 +51,10 @@ count_none f none (s ∷ ss) =
 -- ---- keys of one processor, and of those below one
 
 abbrev at : (ℕ → ℕ → Bool) → ℕ → Content → Bool
-at S k s = eqb s.processor k && has_key S s
+at S k s = eqb s.processor k && key_is_in S s
 
 abbrev below : (ℕ → ℕ → Bool) → ℕ → Content → Bool
-below S k s = ltb s.processor k && has_key S s
+below S k s = ltb s.processor k && key_is_in S s
 
 one_more : (p k : ℕ) (b : Bool) → cond (ltb p (k + 1) && b) 1 0 ≡ cond (ltb p k && b) 1 0 + cond (eqb p k && b) 1 0
 one_more p k b =
@@ -136,7 +136,7 @@ module _ (T : Trace) (a : State) (right : IsRight a T) where
             let s = key_there k n lt (keys_taken a k n t) in
             let key : keys a s.0.processor s.0.number ≡ true =
             ap (λ (p : ℕ). keys a p s.0.number) s.2 ∙ ap (λ (m : ℕ). keys a k m) s.3 ∙ t in
-            let pass = and_from (eqb s.0.processor k) (has_key (keys a) s.0) (eq-eqb s.0.processor k s.2) key in
+            let pass = and_from (eqb s.0.processor k) (key_is_in (keys a) s.0) (eq-eqb s.0.processor k s.2) key in
             subst (Contains (map number (filter (at (keys a) k) T.segments))) s.3
             (Contains-map number (filter (at (keys a) k) T.segments) s.0 (Contains-filter (at (keys a) k) T.segments s.0 s.1 pass))
 
@@ -153,18 +153,18 @@ module _ (T : Trace) (a : State) (right : IsRight a T) where
       let more : suc k ≡ k + 1 = omega arith in
       let lt : k < length a.taken = omega arith in
       let one = count_apart (below (keys a) (k + 1)) (below (keys a) k) (at (keys a) k)
-      (λ s. one_more s.processor k (has_key (keys a) s)) T.segments in
+      (λ s. one_more s.processor k (key_is_in (keys a) s)) T.segments in
       let rest = up_to k (omega arith) in
       let here = of_processor k (omega arith) in
       let sum = sum_by_more size_of a.taken k no_numbers lt in
       subst (λ (n : ℕ). count_by (below (keys a) n) T.segments ≡ sum_by size_of (take n a.taken)) (sym more) (one ∙ cc)
 
-  pub size_is : sum_by size_of a.taken ≡ count_by (has_key (keys a)) T.segments
+  pub size_is : sum_by size_of a.taken ≡ count_by (key_is_in (keys a)) T.segments
   size_is =
       sym (ap (sum_by size_of) (take_all a.processors a.taken (let len = right.state.places in omega arith)))
       ∙ sym (up_to a.processors (omega arith))
-      ∙ count_same (below (keys a) a.processors) (has_key (keys a)) T.segments within where
-        within : (s : Content) → Contains T.segments s → below (keys a) a.processors s ≡ has_key (keys a) s
+      ∙ count_same (below (keys a) a.processors) (key_is_in (keys a)) T.segments within where
+        within : (s : Content) → Contains T.segments s → below (keys a) a.processors s ≡ key_is_in (keys a) s
         within s h =
             let fits = (at_member Fits T.segments s right.trace.fit h).processor in
             let count = (at_member (λ s. (s.trace_id ≡ T.id) × (s.processors ≡ T.processors)) T.segments s right.trace.same h).1 in

@@ -100,7 +100,7 @@ IsRefusal segments NoMemory = AreOfOneTrace segments
 IsRefusal segments (Falling processor number) =
     AreOfOneTrace segments × ((x : ℕ) → ComesTwice segments x → ⊥) × IsLeast IsKeyBefore (Falls segments) (processor, number)
 
--- what a list of segments comes to: its case, or the first rule that it breaks (want of memory is none)
+-- what a list of segments comes to: its case, or the first rule that it breaks (out of memory is none)
 abbrev pub IsOutcome : List Content → Result Trace CaseFault → Type 0
 IsOutcome segments (Ok T) = IsCaseOf segments T
 IsOutcome segments (Err fault) = (fault ≢ NoMemory) × IsRefusal segments fault

@@ -9,7 +9,7 @@ use Rattle.htl_event.specs.Handles.{LatestIs, IsMark, IsOutstanding, IsDiff}
 use Rattle.htl_event.specs.Tallies.{IsTags, IsBad, IsLeaks, IsStacks}
 use Rattle.htl_event.specs.Tallies.{under as prefix_tally}
 use Rattle.htl_tree.specs.Trees.{Tree, HasTally, IsSameTally}
-use Rattle.htl_segment.specs.Traces.{Trace, has_key, events_of}
+use Rattle.htl_segment.specs.Traces.{Trace, key_is_in, events_of}
 use Rattle.htl_analyst.specs.States.{State}
 use Rattle.htl_analyst.specs.Keys.{keys}
 use Rattle.htl_analyst.specs.Right.{IsRight}
@@ -46,7 +46,7 @@ Answer whole_tree = Tree
 -- The definition's value over the segments of the trace whose keys are in the set.
 abbrev pub IsAnswer : Trace → (ℕ → ℕ → Bool) → (q : Question) → Answer q → Type 0
 IsAnswer T S (has processor number) x = x ≡ S processor number
-IsAnswer T S taken x = x ≡ count_by (has_key S) T.segments
+IsAnswer T S taken x = x ≡ count_by (key_is_in S) T.segments
 IsAnswer T S (latest process handle) x = LatestIs (Contains (events_of S T.segments)) process (base_of handle) x
 IsAnswer T S (mark process) x = IsMark (Contains (events_of S T.segments)) process x
 IsAnswer T S (under path slot) x = x ≡ prefix_tally (events_of S T.segments) path slot

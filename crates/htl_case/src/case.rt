@@ -41,7 +41,7 @@ impl Case {
         ensures err { IfErr result (IsRefusal segments.items) }
 
         // A list is a case or breaks a rule, never both, and one rule first. So nothing else is
-        // answered, but for want of memory.
+        // answered, but for out of memory.
         ensures exact { (outcome : Result Trace CaseFault) → IsOutcome segments.items outcome
             → (result ≡ outcome) ⊎ (result ≡ Err CaseFault.NoMemory) }
     {

@@ -46,7 +46,7 @@ pub taken-refusals : (a : App) (words : List Text) → a ≡ hleak_app → (is_s
 unfolding refusals
 taken-refusals a words told none = ap (λ b. fault_of b words) (sym told) ∙ none (ap is_simple_and_free told ∙ is_free)
 
--- an error's kind is a refusal, or want of memory
+-- an error's kind is a refusal, or out of memory
 refused-kind : (a : App) (words : List Text) (error : Error) → a ≡ hleak_app
     → (is_simple_and_free a ≡ true → HasKind (fault_of a words) error) → (kind_of error ≡ OutOfMemory) ⊎ IsAmong (kind_of error) (refusals words)
 unfolding refusals

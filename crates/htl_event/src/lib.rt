@@ -8,10 +8,10 @@
 #![tactic(auto)]
 
 mod event;
+mod event_list;
 mod kind;
 pub mod laws;
 mod memory;
-mod run;
 mod shared_stack;
 mod slot;
 mod stack;
@@ -23,9 +23,9 @@ ghost use Rattle.std.specs.Prelude.{◌≡◌};
 ghost use Rattle.htl_event.specs.Slots.{base_of};
 
 pub use event::{Event, SharedEvent};
+pub use event_list::EventList;
 pub use kind::Kind;
 pub use memory::NoMemory;
-pub use run::Run;
 pub use shared_stack::SharedStack;
 pub use slot::{Count, Sign, Slot};
 pub use stack::{MAX_FRAMES, Stack};

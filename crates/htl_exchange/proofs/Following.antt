@@ -234,7 +234,7 @@ pub nothing_left : (v : Known) (items : List Parcel) → length items ≡ 0 → 
 nothing_left v [] none rest every p = rest every p
 nothing_left v (x ∷ items) none rest every p = absurd (omega (arith, none))
 
--- want of memory after a pop, or with something in hand
+-- out of memory after a pop, or with something in hand
 pub refused_as : (hand : Option Parcel) (c : Collected) (e : NoMemory) (v w : Known) → c ≢ collected.Nothing
     → CollectsAs hand (Ok c) v w → CollectsAs hand (Err e) v w
 refused_as (Some x) c e v w some_parcel is = is.1

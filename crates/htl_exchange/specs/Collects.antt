@@ -16,7 +16,7 @@ named (parcels.Run segments of) = Run
 named (parcels.State a) = State
 
 -- What was in hand before the call decides: something in hand is taken in, and nothing is popped. Else a run is
--- the pop of one processor's, a state and want of memory are the pop of some runs, and nothing is no pop.
+-- the pop of one processor's, a state and out of memory are the pop of some runs, and nothing is no pop.
 abbrev pub CollectsAs : Option Parcel → Result Collected NoMemory → Known → Known → Type 0
 CollectsAs (Some x) (Ok c) v w = (c ≡ named x) × (w ≡ v)
 CollectsAs (Some x) (Err e) v w = w ≡ v

@@ -6,7 +6,7 @@ use Rattle.std.proofs.lemmas.List.{append-nil, take_more}
 use Rattle.std.proofs.lemmas.List.Elements.{All-nil, All-head}
 use Rattle.std.proofs.lemmas.Option.{slice_get-map, slice_get_within, get_or_from_slice_get}
 use Rattle.htl_segment.specs.Content.{Content, Fits}
-use Rattle.htl_segment.specs.Spelling.{spelling}
+use Rattle.htl_segment.specs.Encoding.{encoding}
 use Rattle.htl_segment.specs.Faults.{first_fault}
 use Rattle.htl_segment.specs.Bundles.{bundle, BundleFault, SegmentAt}
 use Rattle.htl_segment.proofs.SegmentLaws.{segment_again}
@@ -18,7 +18,7 @@ use Rattle.htl_main.specs.declared.fault.RunFault.TheVariants.{Segment}
 use Rattle.htl_main.specs.Faults.{of_segment}
 use Rattle.htl_main.specs.Inputs.{AsksMemory, Decodes, DecodeAll, IsTold}
 
--- want of memory is told as itself, and every other fault by its input and offset
+-- out of memory is told as itself, and every other fault by its input and offset
 pub segment_fault : (input offset : ℕ) (fault : Fault) → is_memory fault ≡ false
     → of_segment input offset fault ≡ Segment input offset fault
 segment_fault input offset faults.NoMemory other = absurd cc
@@ -58,7 +58,7 @@ decode_next hex inputs place input before after here all decoded =
 -- bytes of some segments begin with one
 first_at : (bytes : List ℕ) (t : Content) (ts : List Content) → bytes ≡ bundle (t ∷ ts) ++ [] → Fits t → SegmentAt bytes 0
 first_at bytes t ts parts fits =
-    let front : bytes ≡ spelling t ++ (bundle ts ++ []) = parts ∙ append_assoc (spelling t) (bundle ts) [] in
+    let front : bytes ≡ encoding t ++ (bundle ts ++ []) = parts ∙ append_assoc (encoding t) (bundle ts) [] in
     record {
       before = [];
       rest = bytes;

@@ -77,7 +77,7 @@ no_hex_fault : (hex : Bool) (input bytes : List ℕ) (fault : HexFault) → HasH
 no_hex_fault false input bytes fault p has = let no = p.0 in cc
 no_hex_fault true input bytes fault p has = let none = has.0 in let some = p.1 in cc
 
--- what is told of an input, but for want of memory
+-- what is told of an input, but for out of memory
 abbrev Told : Bool → ℕ → List ℕ → RunFault → Type 0
 Told hex place input fault =
     ((offset : ℕ) × (f : Fault) × HasBundleFault hex input offset f × (fault ≡ Segment place offset f))

@@ -13,7 +13,7 @@ use Rattle.csv.specs.Records.{AllText}
 use Rattle.htl_event.specs.Members.{IsRising, IsStrictOrder}
 use Rattle.htl_event.proofs.Members.{Contains-here, each_member, same_members}
 use Rattle.htl_symbols.specs.Ranges.{IsTable, Range, overlap}
-use Rattle.htl_symbols.specs.Reading.{WriteRanges, StartsWith, StopsAt, IsFirstFault, Reads}
+use Rattle.htl_symbols.specs.Reading.{WriteRanges, StartsWith, StopsAtRow, IsFirstFault, Reads}
 use Rattle.htl_symbols.specs.Rows.{Record, header, range_of_row}
 use Rattle.htl_symbols.specs.declared.fault.SymbolFault.{SymbolFault}
 use Rattle.htl_symbols.specs.declared.fault.SymbolFault.TheVariants.{Header, Fields, Number, EmptyRange, Overlap, Csv, NoMemory}
@@ -170,9 +170,9 @@ HeadFault table fault =
 -- or in a row
 pub record FaultAt (table : List Record) (fault : SymbolFault) : Type 0 where
   pub number : ℕ
-  pub stops : StopsAt table number (λ ranges row. RowFault number ranges row fault)
+  pub stops : StopsAtRow table number (λ ranges row. RowFault number ranges row fault)
 
-at_fault : (table : List Record) (n : ℕ) (fault : SymbolFault) (IsFaulty : List Range → Record → Type 0) → StopsAt table n IsFaulty
+at_fault : (table : List Record) (n : ℕ) (fault : SymbolFault) (IsFaulty : List Range → Record → Type 0) → StopsAtRow table n IsFaulty
     → ((ranges : List Range) (row : Record) → IsFaulty ranges row → RowFault n ranges row fault) → FaultAt table fault
 at_fault table n fault IsFaulty stops is = record {
   number = n;

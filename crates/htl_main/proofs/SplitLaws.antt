@@ -7,7 +7,7 @@ use Rattle.std.proofs.lemmas.List.{length-append}
 use Rattle.std.specs.Io.KnownBytes.{Consumes, IsAtEnd}
 use Rattle.htl_segment.specs.Content.{Content, Fits}
 use Rattle.htl_segment.specs.Bundles.{bundle, Splits, BundleFault, IsRest, cut_off}
-use Rattle.htl_segment.specs.Pieces.{SplitterState, Refuses, start_of}
+use Rattle.htl_segment.specs.Pieces.{SplitterState, RefusesPiece, start_of}
 use Rattle.htl_segment.specs.declared.fault.Fault.{Fault}
 use Rattle.htl_segment.proofs.BundleLaws.{first_fault-rest, first_fault-no_memory}
 use Rattle.htl_segment.proofs.PiecesLaws.{Brought, brought, splits_next}
@@ -80,7 +80,7 @@ brought_told place a more offset fault found =
 -- a piece was refused
 pub refused : (first mid last : Option (List ℕ)) (place : ℕ) (s : SplitterState) (segments : List Content) (piece : List ℕ)
     (refusal : ℕ × Fault) → All Fits segments → s.fed ≡ length (taken segments s.rest)
-    → Consumes first mid (taken segments s.rest) → Consumes mid last piece → Refuses s piece refusal
+    → Consumes first mid (taken segments s.rest) → Consumes mid last piece → RefusesPiece s piece refusal
     → IfSome first (λ bytes. IsToldOfSource false place bytes (of_segment place refusal.0 refusal.1))
 refused None mid last place s segments piece refusal fits fed given read refuses = tt
 refused (Some xs) None last place s segments piece refusal fits fed given read refuses = absurd given

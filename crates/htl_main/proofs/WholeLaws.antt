@@ -3,7 +3,7 @@ use Rattle.std.proofs.Common.{◌≡◌, ◌<◌, ℕ, suc, Bool, true, List, []
 use Rattle.std.specs.Prelude.{Contains, filter}
 use Rattle.htl_event.specs.Handles.{IsGreatestSequence}
 use Rattle.htl_event.proofs.Members.{Contains-from_map, at_member}
-use Rattle.htl_segment.specs.Traces.{Trace, HasKey, has_key, all_events}
+use Rattle.htl_segment.specs.Traces.{Trace, HasKey, key_is_in, all_events}
 use Rattle.htl_taken.specs.Gaps.{IsGaps}
 use Rattle.htl_taken.specs.Numbers.{front_at}
 use Rattle.htl_taken.specs.declared.gap.Gap.{Gap}
@@ -31,7 +31,7 @@ filter_whole {X} p (x ∷ xs) all =
 
 pub whole_events : (T : Trace) (a : State) → IsWholeStanding T a → taken_events T a ≡ all_events T.segments
 whole_events T a whole =
-    ap all_events (filter_whole (has_key (keys a)) T.segments (λ s here. taken_keys a s.processor s.number
+    ap all_events (filter_whole (key_is_in (keys a)) T.segments (λ s here. taken_keys a s.processor s.number
     (whole.keys s.processor s.number (s, here, refl, refl))))
 
 -- its fronts are the numbers of the first segments that the trace doesn't have

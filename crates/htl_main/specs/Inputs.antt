@@ -1,4 +1,4 @@
--- Which segments the inputs of a run spell, and which input is refused first (this project's own).
+-- Which segments the inputs of a run encode, and which input is refused first (this project's own).
 use Rattle.std.specs.Prelude.{◌≡◌, ℕ, Bool, true, false, List, [], ◌∷◌, ◌++◌, take, slice_get, Some, None}
 use Rattle.htl_segment.specs.Content.{Content}
 use Rattle.htl_segment.specs.Hexadecimal.{WritesBytes, hex_fault}
@@ -40,7 +40,7 @@ abbrev pub AsksMemory : Bool → List ℕ → Type 0
 AsksMemory true input = hex_fault input ≡ None
 AsksMemory false input = (offset : ℕ) × SegmentAt input offset
 
--- what is told of the input at a place: its first fault, and want of memory only where it is asked for
+-- what is told of the input at a place: its first fault, and out of memory only where it is asked for
 abbrev pub IsTold : Bool → ℕ → List ℕ → RunFault → Type 0
 IsTold hex place input (Segment at offset fault) = (at ≡ place) × HasBundleFault hex input offset fault
 IsTold hex place input (Hex at fault) = (at ≡ place) × HasHexFault hex input fault

@@ -57,7 +57,7 @@ abbrev pub HasSymbols : Option (List ℕ) → List Range → Type 0
 HasSymbols None table = table ≡ []
 HasSymbols (Some bytes) table = Reads (records_of bytes) (Ok table)
 
--- its first fault (want of memory is none)
+-- its first fault (out of memory is none)
 abbrev pub HasSymbolFault : Option (List ℕ) → SymbolFault → Type 0
 HasSymbolFault None fault = ⊥
 HasSymbolFault (Some bytes) fault = (fault ≢ symbol_faults.NoMemory) × Reads (records_of bytes) (Err fault)

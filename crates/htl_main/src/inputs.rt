@@ -45,7 +45,7 @@ pub(crate) fn decode_input(
     }
 }
 
-/// The segments that the bytes of the input at a place spell.
+/// The segments that the bytes of the input at a place encode.
 #[tactic(auto, using(crate::proofs::InputLaws::told_bytes))]
 fn decode_bytes(alloc: Global, place: u64, bytes: &[u8]) -> Result<Vec<Segment>, RunFault>
     ensures ok { IfOk result (λ segments. Decodes false bytes.now segments.items) }

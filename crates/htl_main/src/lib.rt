@@ -1,9 +1,9 @@
 //! The run: from the bytes of inputs to the printed answer.
 //!
-//! `specs/` is read in this order: `Inputs` (which segments the inputs spell, and which input is
+//! `specs/` is read in this order: `Inputs` (which segments the inputs encode, and which input is
 //! refused first), `Summaries` (what a summary says of a trace), `Coverages` (how much of its trace
 //! a case has), `Printed` (the lines of the answer, or the first fault in the order of a run),
-//! `Causes` and `Sources` (how a run ends for want of memory or by a failing device). `printing.rt`
+//! `Causes` and `Sources` (how a run ends for out of memory or by a failing device). `printing.rt`
 //! and `streaming.rt` put the steps of the two runs in order: `inputs.rt` decodes what lies in
 //! memory and `sources.rt` what comes in reads, `answering.rt` lets workers take in the case and
 //! answers, `summarizing.rt` makes its summary, and `coverage.rt` looks for missing segments.

@@ -4,7 +4,7 @@ ghost use Rattle.std.specs.Prelude.{◌≡◌, ◌⊎◌, ◌+◌, ◌*◌, ◌<
 ghost use Rattle.std.specs.Prelude.{ℕ, List, [], All, None, Some, false, true};
 ghost use Rattle.std.specs.Prelude.{length, map, IfOk, IfErr, IfSome};
 ghost use Rattle.htl_segment.specs.Bundles.{IsRest, Splits, cut_off};
-ghost use Rattle.htl_segment.specs.Pieces.{Refuses, start_of};
+ghost use Rattle.htl_segment.specs.Pieces.{RefusesPiece, start_of};
 ghost use Rattle.htl_segment.specs.declared.fault.Fault.{Fault};
 ghost use Rattle.htl_main.specs.Faults.{of_segment};
 ghost use Rattle.htl_main.specs.Inputs.{Decodes, DecodeAll, StopsAt};
@@ -162,7 +162,7 @@ fn feed(
         × ((splitter.new.fed ≡ splitter.old.fed + length piece.now)
         × (splitter.new.fault ≡ None))) }
     ensures err { IfErr result (λ fault. (refusal : ℕ × Fault)
-        × Refuses splitter.old piece.now refusal
+        × RefusesPiece splitter.old piece.now refusal
         × (fault ≡ of_segment place refusal.0 refusal.1)) }
     ensures no_read { NeverRead result }
     ensures no_write { NeverWrite result }

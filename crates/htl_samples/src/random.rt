@@ -28,7 +28,7 @@ const KINDS: [Kind; 16] = [
 
 const TAGS: [[u8; 4]; 3] = [*b"Dflt", *b"Lky8", [1, 0x41, 0x42, 0x43]];
 
-/// A made-up trace in version 2.
+/// A generated trace in version 2.
 ///
 /// Each event follows from the seed and its place alone, so segments can be made in any order.
 /// Sequences are distinct and rise along each processor, and those of the processors lie between

@@ -1,4 +1,4 @@
-//! What lines write, and that made-up segments rise.
+//! What lines write, and that generated segments rise.
 use crate::{SMALL, SampleFault, TRACE, Trace, event, events, shared_events};
 use htl_event::Kind;
 use std::test::Fail;

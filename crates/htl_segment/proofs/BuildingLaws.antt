@@ -1,4 +1,4 @@
--- Parts without a fault make what the format can spell, and what it can spell has parts without a fault.
+-- Parts without a fault make what the format can encode, and what it can encode has parts without a fault.
 use Rattle.std.proofs.Common.{◌≡◌, ℕ, suc, ◌+◌, ◌^◌, ◌<◌, ◌≤◌, false, not, ◌||◌, eqb, nat_lt, nat_le, List, [], ◌∷◌, length, get_or, drop}
 use Rattle.std.proofs.Common.{All, Option, Some, None, refl, sym, ap, ◌∙◌, add-one, arith, drop-cons}
 use Rattle.std.proofs.Math.ListN.{drop_of_length-le}

@@ -13,7 +13,7 @@ use Rattle.htl_segment.specs.declared.fault.Fault.TheVariants as faults
 use Rattle.htl_segment.specs.Versions.{limits_of}
 use Rattle.htl_segment.specs.Numbers.{number}
 use Rattle.htl_segment.specs.Content.{Content, Fits}
-use Rattle.htl_segment.specs.Spelling.{records, header_bytes, spelling, BeginsWith}
+use Rattle.htl_segment.specs.Encoding.{records, header_bytes, encoding, BeginsWith}
 use Rattle.htl_segment.specs.Reading.{version_of, frames_in, after_record, version_in, length_in, body_in}
 use Rattle.htl_segment.specs.Faults.{or_else, header_fault, record_fault, records_fault, first_fault}
 use Rattle.htl_segment.specs.Bundles.{bundle, Splits, BundleFault, SegmentAt, IsBoundary, cut_off, IsRest, IsRefused, is_early_end}
@@ -21,12 +21,12 @@ use Rattle.htl_segment.specs.Feeding.{SplitsMore}
 use Rattle.htl_segment.specs.Pieces.{is_memory}
 use Rattle.htl_segment.proofs.PassedTests.{some_is}
 use Rattle.htl_segment.proofs.HeaderLaws.{length-header_bytes}
-use Rattle.htl_segment.proofs.SegmentLaws.{first_fault-header, first_fault-cut, first_fault-records, segment_again, one_spelling}
+use Rattle.htl_segment.proofs.SegmentLaws.{first_fault-header, first_fault-cut, first_fault-records, segment_again, one_encoding}
 use Rattle.htl_segment.proofs.MoreBytes.{header_fault-append, first_fault-append}
 
 -- ---- which faults are early ends
 
--- a rule that more bytes can't mend, and not want of memory
+-- a rule that more bytes can't mend, and not out of memory
 abbrev is_late : Fault → Bool
 is_late fault = not (is_early_end fault || is_memory fault)
 
@@ -128,7 +128,7 @@ first_fault-rest b rest =
       ]
     ]
 
--- ---- want of memory is no first fault
+-- ---- out of memory is no first fault
 
 late_no_memory : (first : Option Fault) (fault : Fault) → IsLate first → first ≡ Some fault → is_memory fault ≡ false
 late_no_memory None fault late is = absurd cc
@@ -163,7 +163,7 @@ pub begins_long : (b : List ℕ) (n : ℕ) (s : Content) → BeginsWith b n s �
 begins_long b n s front =
     omega (
       arith,
-      ap length front.spells.bytes,
+      ap length front.encodes.bytes,
       length-take n b,
       front.inside,
       length-append (header_bytes s (length (records s.events))) (records s.events),
@@ -177,10 +177,10 @@ splits_one b old new rest n s so_far front = record {
   pushed = rw so_far.pushed (append_assoc old so_far.more (s ∷ []));
   splits = record {
     parts = so_far.splits.parts ∙ ap (λ (r : List ℕ). bundle so_far.more ++ r) (sym (take-append-drop n rest)
-        ∙ ap (λ (x : List ℕ). x ++ drop n rest) front.spells.bytes)
-        ∙ sym (append_assoc (bundle so_far.more) (spelling s) (drop n rest))
-        ∙ ap (λ (x : List ℕ). x ++ drop n rest) (flat_map_more spelling [] so_far.more s);
-    fits = All-push Fits so_far.more s so_far.splits.fits front.spells.fits;
+        ∙ ap (λ (x : List ℕ). x ++ drop n rest) front.encodes.bytes)
+        ∙ sym (append_assoc (bundle so_far.more) (encoding s) (drop n rest))
+        ∙ ap (λ (x : List ℕ). x ++ drop n rest) (flat_map_more encoding [] so_far.more s);
+    fits = All-push Fits so_far.more s so_far.splits.fits front.encodes.fits;
   };
 }
 
@@ -321,26 +321,26 @@ late_stays b more fault late is =
 -- ---- one way to split
 
 -- a segment that bytes begin with leaves no fault
-spelled_first : (s : Content) (more : List ℕ) (fault : Fault) → Fits s → first_fault (spelling s ++ more) ≡ Some fault → ⊥
-spelled_first s more fault fits is = cc (sym (segment_again s more fits).no_fault ∙ is)
+encoded_first : (s : Content) (more : List ℕ) (fault : Fault) → Fits s → first_fault (encoding s ++ more) ≡ Some fault → ⊥
+encoded_first s more fault fits is = cc (sym (segment_again s more fits).no_fault ∙ is)
 
 split_one_way : (ss ts : List Content) (rest left : List ℕ) (f g : Fault) → All Fits ss → All Fits ts → first_fault rest ≡ Some f
     → first_fault left ≡ Some g → bundle ss ++ rest ≡ bundle ts ++ left
     → (ss ≡ ts) × (rest ≡ left)
 split_one_way [] [] rest left f g fits fit is isn't same = (refl, same)
 split_one_way [] (t ∷ ts) rest left f g fits fit is isn't same =
-    absurd (spelled_first t (bundle ts ++ left) f (All-head Fits t ts fit)
-    (sym (ap first_fault (same ∙ append_assoc (spelling t) (bundle ts) left)) ∙ is))
+    absurd (encoded_first t (bundle ts ++ left) f (All-head Fits t ts fit)
+    (sym (ap first_fault (same ∙ append_assoc (encoding t) (bundle ts) left)) ∙ is))
 split_one_way (s ∷ ss) [] rest left f g fits fit is isn't same =
-    absurd (spelled_first s (bundle ss ++ rest) g (All-head Fits s ss fits)
-    (sym (ap first_fault (sym same ∙ append_assoc (spelling s) (bundle ss) rest)) ∙ isn't))
+    absurd (encoded_first s (bundle ss ++ rest) g (All-head Fits s ss fits)
+    (sym (ap first_fault (sym same ∙ append_assoc (encoding s) (bundle ss) rest)) ∙ isn't))
 split_one_way (s ∷ ss) (t ∷ ts) rest left f g fits fit is isn't same =
-    let regrouped : spelling s ++ (bundle ss ++ rest) ≡ spelling t ++ (bundle ts ++ left) =
-    sym (append_assoc (spelling s) (bundle ss) rest) ∙ same ∙ append_assoc (spelling t) (bundle ts) left in
-    let first = one_spelling (spelling s) (spelling t) (bundle ss ++ rest) (bundle ts ++ left) s t
+    let regrouped : encoding s ++ (bundle ss ++ rest) ≡ encoding t ++ (bundle ts ++ left) =
+    sym (append_assoc (encoding s) (bundle ss) rest) ∙ same ∙ append_assoc (encoding t) (bundle ts) left in
+    let first = one_encoding (encoding s) (encoding t) (bundle ss ++ rest) (bundle ts ++ left) s t
     (record { bytes = refl; fits = All-head Fits s ss fits }) (record { bytes = refl; fits = All-head Fits t ts fit }) regrouped in
     let next : bundle ss ++ rest ≡ bundle ts ++ left =
-    append_cancel_left (spelling t) (bundle ss ++ rest) (bundle ts ++ left)
+    append_cancel_left (encoding t) (bundle ss ++ rest) (bundle ts ++ left)
     (ap (λ (x : List ℕ). x ++ (bundle ss ++ rest)) (sym first.0) ∙ regrouped) in
     let others = split_one_way ss ts rest left f g (All-tail Fits s ss fits) (All-tail Fits t ts fit) is isn't next in
     (ap (λ (x : Content). x ∷ ss) first.1 ∙ ap (λ (xs : List Content). t ∷ xs) others.0, others.1)

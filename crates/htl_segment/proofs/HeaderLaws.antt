@@ -1,4 +1,4 @@
--- A header without a fault is spelled as what it says, and a spelled header has no fault.
+-- A header without a fault is encoded as what it says, and an encoded header has no fault.
 use Rattle.std.proofs.Common.{◌≡◌, ℕ, zero, suc, ◌+◌, ◌^◌, ◌<◌, ◌≤◌, false, not, ◌||◌, eqb, nat_eq, nat_lt, nat_le, List, ◌++◌, length}
 use Rattle.std.proofs.Common.{take, drop, Option, Some, None, is_none, unwrap_or, refl, sym, ap, ◌∙◌, append_assoc, arith}
 use Rattle.std.specs.Prelude.{codes}
@@ -11,7 +11,7 @@ use Rattle.htl_segment.specs.declared.fault.Fault.TheVariants as faults
 use Rattle.htl_segment.specs.Versions.{version_number, limits_of}
 use Rattle.htl_segment.specs.Numbers.{IsBytes, number, bytes_of}
 use Rattle.htl_segment.specs.Content.{Content}
-use Rattle.htl_segment.specs.Spelling.{header_bytes}
+use Rattle.htl_segment.specs.Encoding.{header_bytes}
 use Rattle.htl_segment.specs.Reading.{version_of, version_in, length_in}
 use Rattle.htl_segment.specs.Faults.{header_fault}
 use Rattle.htl_segment.proofs.Bytes.{field, after, number_here, after_number, length-bytes_of}

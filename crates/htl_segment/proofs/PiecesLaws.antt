@@ -9,20 +9,20 @@ use Rattle.std.proofs.lemmas.List.Elements.{All-nil, All-cons, All-append, All-h
 use Rattle.htl_segment.specs.declared.fault.Fault.{Fault}
 use Rattle.htl_segment.specs.declared.fault.Fault.TheVariants as faults
 use Rattle.htl_segment.specs.Content.{Content, Fits}
-use Rattle.htl_segment.specs.Spelling.{spelling, BeginsWith}
+use Rattle.htl_segment.specs.Encoding.{encoding, BeginsWith}
 use Rattle.htl_segment.specs.Reading.{length_in}
 use Rattle.htl_segment.specs.Faults.{header_fault, first_fault}
 use Rattle.htl_segment.specs.Bundles.{bundle, Splits, IsBoundary, BundleFault, SegmentAt, RestAt, IsRest, IsRefused, IsPieceRefused}
 use Rattle.htl_segment.specs.Bundles.{is_early_end, cut_off}
 use Rattle.htl_segment.specs.Feeding.{SplitsMore}
-use Rattle.htl_segment.specs.Pieces.{SplitterState, Refuses, AsksMemory, joined, ended, start_of}
+use Rattle.htl_segment.specs.Pieces.{SplitterState, RefusesPiece, AsksMemory, joined, ended, start_of}
 use Rattle.htl_segment.specs.Feeding.{Extends, HasRoom}
 use Rattle.htl_segment.proofs.SegmentLaws.{segment_again, begins}
 use Rattle.htl_segment.proofs.MoreBytes.{number-append, header_fault-append, first_fault-append}
 use Rattle.htl_segment.proofs.BundleLaws.{early_end, refused_boundary, late_stays, whole_fault, first_fault-rest}
 
 bundle-append : (ss ts : List Content) → bundle (ss ++ ts) ≡ bundle ss ++ bundle ts
-bundle-append ss ts = flat_map-append spelling ss ts
+bundle-append ss ts = flat_map-append encoding ss ts
 
 pub splits_after : (a b rest : List ℕ) (ss ts : List Content) → Splits a ss [] → Splits b ts rest → Splits (a ++ b) (ss ++ ts) rest
 splits_after a b rest ss ts first second =
@@ -131,19 +131,19 @@ tail_refused b old new rest split is_rest some =
 
 -- ---- what follows a first segment
 
-spells_itself : (s : Content) → Fits s → Splits (spelling s) (s ∷ []) []
-spells_itself s fits = record {
-  parts = sym (append-nil (spelling s)) ∙ sym (append-nil (spelling s ++ []));
+encodes_itself : (s : Content) → Fits s → Splits (encoding s) (s ∷ []) []
+encodes_itself s fits = record {
+  parts = sym (append-nil (encoding s)) ∙ sym (append-nil (encoding s ++ []));
   fits = All-cons Fits s [] fits (All-nil Fits);
 }
 
 pub taken_after : (s : Content) (b rest : List ℕ) (new : List Content) → Fits s → SplitsMore b (s ∷ []) new rest
-    → Splits (spelling s ++ b) new rest
-taken_after s b rest new fits split = splits_more (spelling s) b rest (s ∷ []) new (spells_itself s fits) split
+    → Splits (encoding s ++ b) new rest
+taken_after s b rest new fits split = splits_more (encoding s) b rest (s ∷ []) new (encodes_itself s fits) split
 
 pub refused_behind : (s : Content) (b : List ℕ) (offset : ℕ) (fault : Fault) → Fits s → IsPieceRefused b offset fault
-    → IsPieceRefused (spelling s ++ b) (length (spelling s) + offset) fault
-refused_behind s b offset fault fits refused = piece_refused_after (spelling s) b (s ∷ []) offset fault (spells_itself s fits) refused
+    → IsPieceRefused (encoding s ++ b) (length (encoding s) + offset) fault
+refused_behind s b offset fault fits refused = piece_refused_after (encoding s) b (s ∷ []) offset fault (encodes_itself s fits) refused
 
 -- memory was refused for the segment at the front
 pub first_refused : (b : List ℕ) → first_fault b ≡ None → IsPieceRefused b 0 faults.NoMemory
@@ -160,8 +160,8 @@ first_refused b none =
       },
     ))
 
-pub spelled_refused : (s : Content) (b : List ℕ) → Fits s → IsPieceRefused (spelling s ++ b) 0 faults.NoMemory
-spelled_refused s b fits = first_refused (spelling s ++ b) (segment_again s b fits).no_fault
+pub encoded_refused : (s : Content) (b : List ℕ) → Fits s → IsPieceRefused (encoding s ++ b) 0 faults.NoMemory
+encoded_refused s b fits = first_refused (encoding s ++ b) (segment_again s b fits).no_fault
 
 pub late_refused : (b : List ℕ) (fault : Fault) → 0 < length b → first_fault b ≡ Some fault → is_early_end fault ≡ false
     → IsPieceRefused b 0 fault
@@ -203,19 +203,19 @@ whole_refused w left fault (Some other) long none len is told =
     late_refused (w ++ left) fault (omega (arith, length-append w left)) (first_fault-append w left long (omega arith)
     ∙ same) (whole_fault w fault long none (omega arith) same)
 
-pub whole_spelled : (w : List ℕ) (n : ℕ) (s : Content) → length_in w ≡ length w → BeginsWith w n s → w ≡ spelling s
-whole_spelled w n s len front =
+pub whole_encoded : (w : List ℕ) (n : ℕ) (s : Content) → length_in w ≡ length w → BeginsWith w n s → w ≡ encoding s
+whole_encoded w n s len front =
     let again = begins w n s front in
-    sym (take_all n w (omega (arith, again.len, len, ap length front.spells.bytes, length-take n w, front.inside))) ∙ front.spells.bytes
+    sym (take_all n w (omega (arith, again.len, len, ap length front.encodes.bytes, length-take n w, front.inside))) ∙ front.encodes.bytes
 
-pub parts_spelled : (head left : List ℕ) (n : ℕ) (s : Content) → length head ≡ 32 → 32 ≤ n → BeginsWith (head ++ left) n s
-    → head ++ left ≡ spelling s ++ drop (n - 32) left
-parts_spelled head left n s len long front =
+pub parts_encoded : (head left : List ℕ) (n : ℕ) (s : Content) → length head ≡ 32 → 32 ≤ n → BeginsWith (head ++ left) n s
+    → head ++ left ≡ encoding s ++ drop (n - 32) left
+parts_encoded head left n s len long front =
     let total : n ≡ length head + (n - 32) = omega arith in
     let tail : drop n (head ++ left) ≡ drop (n - 32) left = ap (λ (k : ℕ). drop k (head ++ left)) total
     ∙ sym (drop-drop (n - 32) (length head) (head ++ left)) ∙ ap (drop (n - 32)) (drop_at head left (length head) refl) in
-    sym (take-append-drop n (head ++ left)) ∙ ap (λ (x : List ℕ). x ++ drop n (head ++ left)) front.spells.bytes
-    ∙ ap (λ (x : List ℕ). spelling s ++ x) tail
+    sym (take-append-drop n (head ++ left)) ∙ ap (λ (x : List ℕ). x ++ drop n (head ++ left)) front.encodes.bytes
+    ∙ ap (λ (x : List ℕ). encoding s ++ x) tail
 
 -- ---- bytes put behind others
 
@@ -359,7 +359,7 @@ boundary_more a more offset here = record {
 }
 
 pub brought : (s : SplitterState) (a piece more : List ℕ) (ss : List Content) (refusal : ℕ × Fault) → Splits a ss s.rest
-    → s.fed ≡ length a → Refuses s piece refusal
+    → s.fed ≡ length a → RefusesPiece s piece refusal
     → Brought (a ++ piece) more refusal.0 refusal.1
 brought s a piece more ss refusal split fed refuses =
     let start : refusal.0 ≡ length (bundle ss) + refuses.inside =
@@ -384,7 +384,7 @@ pub list_refused : (s : SplitterState) (a piece more rest : List ℕ) (ss new : 
     → Brought (a ++ piece) more (start_of s) faults.NoMemory
 list_refused s a piece more rest ss [] split fed taken some = absurd (omega arith)
 list_refused s a piece more rest ss (t ∷ ts) split fed taken some =
-    let parts : s.rest ++ piece ≡ spelling t ++ (bundle ts ++ rest) = taken.parts ∙ append_assoc (spelling t) (bundle ts) rest in
+    let parts : s.rest ++ piece ≡ encoding t ++ (bundle ts ++ rest) = taken.parts ∙ append_assoc (encoding t) (bundle ts) rest in
     let none : first_fault (s.rest ++ piece) ≡ None = ap first_fault parts
     ∙ (segment_again t (bundle ts ++ rest) (All-head Fits t ts taken.fits)).no_fault in
     brought s a piece more ss (

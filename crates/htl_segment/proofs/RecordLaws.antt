@@ -1,4 +1,4 @@
--- A record without a fault is spelled as its event, and an event's spelling is a record without a fault.
+-- A record without a fault is encoded as its event, and an event's encoding is a record without a fault.
 use Rattle.std.proofs.Common.{◌≡◌, ℕ, zero, suc, ◌+◌, ◌-◌, ◌*◌, ◌<◌, ◌≤◌, true, false, not, ◌||◌, eqb, nat_lt, nat_le, List, [], ◌∷◌}
 use Rattle.std.proofs.Common.{◌++◌, length, slice_index, take, drop, None, refl, sym, ap, ◌∙◌, append_assoc, arith, drop-cons}
 use Rattle.std.proofs.lemmas.Bool.{ltb-false, leb-false, le-ltb, lt-leb, eqb-true, eqb-false, eq-eqb, ne_eqb}
@@ -14,7 +14,7 @@ use Rattle.htl_segment.specs.declared.fault.Fault.TheVariants as faults
 use Rattle.htl_segment.specs.Versions.{limits_of}
 use Rattle.htl_segment.specs.Numbers.{IsBytes, number, numbers, bytes_of}
 use Rattle.htl_segment.specs.Content.{kind_code, fields_fit, EventFits}
-use Rattle.htl_segment.specs.Spelling.{event_bytes}
+use Rattle.htl_segment.specs.Encoding.{event_bytes}
 use Rattle.htl_segment.specs.Reading.{kind_of, frames_in, event_in, after_record}
 use Rattle.htl_segment.specs.Faults.{record_fault}
 use Rattle.htl_segment.specs.InPlace.{HasRecord}
@@ -259,7 +259,7 @@ holds e rest fits =
       long = omega arith;
     }
 
--- what an event's spelling is read as
+-- what an event's encoding is read as
 pub record RecordAgain (v : Version) (i last : ℕ) (b : List ℕ) (e : Event) (rest : List ℕ) : Type 0 where
   pub no_fault : record_fault v i last b ≡ None
   pub event : event_in b ≡ e

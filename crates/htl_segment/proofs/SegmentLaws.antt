@@ -1,4 +1,4 @@
--- Bytes without a fault begin with the spelling of what they say, and a spelling is read as its segment.
+-- Bytes without a fault begin with the encoding of what they say, and an encoding is read as its segment.
 use Rattle.std.proofs.Common.{◌≡◌, ℕ, zero, suc, ◌+◌, ◌-◌, ◌*◌, ◌<◌, ◌≤◌, true, false, cond, eqb, nat_lt, List, [], ◌∷◌, ◌++◌, length}
 use Rattle.std.proofs.Common.{take, drop, Some, None, unwrap_or, refl, sym, ap, ◌∙◌, append_assoc, arith}
 use Rattle.std.proofs.Math.Nat.{mul-le-mul_left}
@@ -16,7 +16,7 @@ use Rattle.htl_segment.specs.declared.fault.Fault.TheVariants as faults
 use Rattle.htl_segment.specs.Versions.{limits_of}
 use Rattle.htl_segment.specs.Numbers.{IsBytes, number}
 use Rattle.htl_segment.specs.Content.{Content, EventFits, EventsFit, Fits}
-use Rattle.htl_segment.specs.Spelling.{event_bytes, records, header_bytes, spelling, Spells, BeginsWith}
+use Rattle.htl_segment.specs.Encoding.{event_bytes, records, header_bytes, encoding, Encodes, BeginsWith}
 use Rattle.htl_segment.specs.declared.header.Header.{Header}
 use Rattle.htl_segment.specs.Reading.{event_in, after_record, events_in, version_of, version_in, length_in, body_in, content_in}
 use Rattle.htl_segment.specs.InPlace.{header_in, content_of}
@@ -58,7 +58,7 @@ records_read v (suc n) i last b small none =
       whole = (first.whole, others.whole);
     }
 
--- what the spelling of events is read as
+-- what the encoding of events is read as
 record RecordsAgain (v : Version) (i last : ℕ) (es : List Event) : Type 0 where
   no_fault : records_fault v (length es) i last (records es) ≡ None
   events : events_in (length es) (records es) ≡ es
@@ -125,7 +125,7 @@ header_fits s fits =
 pub record SegmentRead (b : List ℕ) : Type 0 where
   pub long : 32 ≤ length b
   pub whole : (32 ≤ length_in b) × (length_in b ≤ length b)
-  pub spells : Spells (take (length_in b) b) (content_in b)
+  pub encodes : Encodes (take (length_in b) b) (content_in b)
   pub has_records : HasRecords (version_in b) (number 24 4 b) (body_in b)
 
 -- the front of the bytes is the header and the records
@@ -167,7 +167,7 @@ segment_read b small none =
     record {
       long = k.long;
       whole = (k.len.0, whole);
-      spells = record {
+      encodes = record {
         bytes = front b (header_bytes s (length (records s.events))) (length_in b) k.len.0
             (header.length-header_bytes s (length (records s.events))) parts
             ∙ ap (λ (x : List ℕ). header_bytes s (length (records s.events)) ++ x) read.parts;
@@ -183,27 +183,27 @@ segment_read b small none =
       has_records = read.whole;
     }
 
--- what a spelling is read as, whatever follows it
+-- what an encoding is read as, whatever follows it
 pub record SegmentAgain (b : List ℕ) (s : Content) : Type 0 where
   pub no_fault : first_fault b ≡ None
   pub content : content_in b ≡ s
-  pub len : length_in b ≡ length (spelling s)
+  pub len : length_in b ≡ length (encoding s)
 
-pub segment_again : (s : Content) (more : List ℕ) → Fits s → SegmentAgain (spelling s ++ more) s
+pub segment_again : (s : Content) (more : List ℕ) → Fits s → SegmentAgain (encoding s ++ more) s
 unfolding first_fault content_in
 segment_again s more fits =
     let body = records s.events in
     let size = length body in
     let head = header_bytes s size in
-    let b = spelling s ++ more in
+    let b = encoding s ++ more in
     let regrouped : b ≡ head ++ (body ++ more) = append_assoc head body more in
     let head_fits = header_fits s fits in
     let there = header.holds s size (body ++ more) head_fits in
     let held : header.Holds b s size = rw regrouped there in
     let head_len = header.length-header_bytes s size in
-    let total : length (spelling s) ≡ 32 + size = omega (arith, length-append head body, head_len) in
+    let total : length (encoding s) ≡ 32 + size = omega (arith, length-append head body, head_len) in
     let whole : nat_lt (length b) (length_in b) ≡ false =
-    le-ltb (length b) (length_in b) (omega (arith, total, length-append (spelling s) more, held.len)) in
+    le-ltb (length b) (length_in b) (omega (arith, total, length-append (encoding s) more, held.len)) in
     let rest_is : drop 32 b ≡ body ++ more = ap (drop 32) regrouped ∙ drop_at head (body ++ more) 32 head_len in
     let body_len : length_in b - 32 ≡ size = omega (arith, held.len) in
     let body_is : body_in b ≡ body = rw (body_len, rest_is) (take_at body more size refl) in
@@ -234,13 +234,13 @@ first_fault-records b none whole =
 
 -- ---- the bytes of one segment
 
-pub spelled_again : (b more : List ℕ) (s : Content) → Spells b s → SegmentAgain (b ++ more) s
-spelled_again b more s spells = rw spells.bytes (segment_again s more spells.fits)
+pub encoded_again : (b more : List ℕ) (s : Content) → Encodes b s → SegmentAgain (b ++ more) s
+encoded_again b more s encodes = rw encodes.bytes (segment_again s more encodes.fits)
 
 -- the segment that bytes without a fault begin with, by its header and the bytes of its records
 record Found (b : List ℕ) (h : Header) (body : List ℕ) : Type 0 where
   is_segment : IsSegment h body
-  begins : BeginsWith b (length (spelling (content_of h body))) (content_of h body)
+  begins : BeginsWith b (length (encoding (content_of h body))) (content_of h body)
 
 found_whole : (b : List ℕ) → IsBytes b → first_fault b ≡ None → Found b (header_in b) (body_in b)
 unfolding header_in content_in
@@ -248,15 +248,15 @@ found_whole b small none =
     let read = segment_read b small none in
     let size : length (body_in b) ≡ length_in b - 32 =
     omega (arith, length-take (length_in b - 32) (drop 32 b), length-drop 32 b, read.whole) in
-    let len : length (spelling (content_in b)) ≡ length_in b =
-    omega (arith, ap length read.spells.bytes, length-take (length_in b) b, read.whole) in
+    let len : length (encoding (content_in b)) ≡ length_in b =
+    omega (arith, ap length read.encodes.bytes, length-take (length_in b) b, read.whole) in
     record {
       is_segment = record {
-        fits = read.spells.fits;
+        fits = read.encodes.fits;
         len = omega (arith, size, len, read.whole);
         has_records = read.has_records;
       };
-      begins = rw len (record { inside = read.whole.1; spells = read.spells });
+      begins = rw len (record { inside = read.whole.1; encodes = read.encodes });
     }
 
 header_in-append : (head rest : List ℕ) → 32 ≤ length head → header_in (head ++ rest) ≡ header_in head
@@ -294,7 +294,7 @@ is_segment head rest h small long is none = (found_parts head rest h small long 
 
 pub begins_here : (head rest : List ℕ) (h : Header) → IsBytes (head ++ rest) → length head ≡ 32 → h ≡ header_in head
     → first_fault (head ++ rest) ≡ None
-    → BeginsWith (head ++ rest) (length (spelling (content_of h (take (h.len - 32) rest)))) (content_of h (take (h.len - 32) rest))
+    → BeginsWith (head ++ rest) (length (encoding (content_of h (take (h.len - 32) rest)))) (content_of h (take (h.len - 32) rest))
 begins_here head rest h small long is none = (found_parts head rest h small long is none).begins
 
 -- ---- the steps of reading a header and what follows it
@@ -333,32 +333,32 @@ parts_fault-records head rest h long none is low whole =
     first_fault-records b (header_fault-append head rest (omega arith) ∙ none) (omega (arith, same, len, length-append head rest))
     ∙ rw (version, count, body) refl
 
--- ---- one spelling
+-- ---- one encoding
 
--- no spelling begins another, and each is that of one segment
-pub one_spelling : (a b x y : List ℕ) (s t : Content) → Spells a s → Spells b t → a ++ x ≡ b ++ y → (a ≡ b) × (s ≡ t)
-one_spelling a b x y s t p q same =
-    let content : s ≡ t = sym (spelled_again a x s p).content ∙ ap content_in same ∙ (spelled_again b y t q).content in
-    (p.bytes ∙ ap spelling content ∙ sym q.bytes, content)
+-- no encoding begins another, and each is that of one segment
+pub one_encoding : (a b x y : List ℕ) (s t : Content) → Encodes a s → Encodes b t → a ++ x ≡ b ++ y → (a ≡ b) × (s ≡ t)
+one_encoding a b x y s t p q same =
+    let content : s ≡ t = sym (encoded_again a x s p).content ∙ ap content_in same ∙ (encoded_again b y t q).content in
+    (p.bytes ∙ ap encoding content ∙ sym q.bytes, content)
 
--- what the first bytes spell is what they are read as
+-- what the first bytes encode is what they are read as
 pub begins : (b : List ℕ) (n : ℕ) (s : Content) → BeginsWith b n s → SegmentAgain b s
-begins b n s front = rw (take-append-drop n b) at (spelled_again (take n b) (drop n b) s front.spells)
+begins b n s front = rw (take-append-drop n b) at (encoded_again (take n b) (drop n b) s front.encodes)
 
--- two spellings at the front of the same bytes are one
+-- two encodings at the front of the same bytes are one
 pub same_front : (b : List ℕ) (m n : ℕ) (s t : Content) → BeginsWith b m s → BeginsWith b n t → (m ≡ n) × (s ≡ t)
 same_front b m n s t p q =
-    let both = one_spelling (take m b) (take n b) (drop m b) (drop n b) s t p.spells q.spells (take-append-drop m b
+    let both = one_encoding (take m b) (take n b) (drop m b) (drop n b) s t p.encodes q.encodes (take-append-drop m b
     ∙ sym (take-append-drop n b)) in
     (omega (arith, length-take m b, length-take n b, p.inside, q.inside, ap length both.0), both.1)
 
-pub begins_with : (a rest : List ℕ) (s : Content) → Spells a s → BeginsWith (a ++ rest) (length a) s
-begins_with a rest s spells = record {
+pub begins_with : (a rest : List ℕ) (s : Content) → Encodes a s → BeginsWith (a ++ rest) (length a) s
+begins_with a rest s encodes = record {
   inside = omega (arith, length-append a rest);
-  spells = rw (take_at a rest (length a) refl) spells;
+  encodes = rw (take_at a rest (length a) refl) encodes;
 }
 
-pub spelled_where_no_fault : (b : List ℕ) → IsBytes b → first_fault b ≡ None → (n : ℕ) × (s : Content) × BeginsWith b n s
-spelled_where_no_fault b small none =
+pub encoded_where_no_fault : (b : List ℕ) → IsBytes b → first_fault b ≡ None → (n : ℕ) × (s : Content) × BeginsWith b n s
+encoded_where_no_fault b small none =
     let read = segment_read b small none in
-    (length_in b, content_in b, record { inside = read.whole.1; spells = read.spells })
+    (length_in b, content_in b, record { inside = read.whole.1; encodes = read.encodes })

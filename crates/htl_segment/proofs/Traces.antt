@@ -19,45 +19,45 @@ use Rattle.htl_event.proofs.Counts.{count_by-append}
 use Rattle.htl_event.proofs.Unions.{LatestIs-later, IsGreatestSequence-max, union_where}
 use Rattle.htl_segment.specs.Content.{Content}
 use Rattle.htl_segment.specs.Keys.{run_below, united, AreApart}
-use Rattle.htl_segment.specs.Traces.{AreInOrder, IsBefore, IsEventOf, has_key, all_events, events_of}
+use Rattle.htl_segment.specs.Traces.{AreInOrder, IsBefore, IsEventOf, key_is_in, all_events, events_of}
 use Rattle.htl_segment.specs.TraceLaws.{RunsGrow, MembersAgree, ApartCountsAddUp, LaterOfBothSets, SequencesStayApart}
 
 abbrev events_in : Content → List Event
 events_in s = s.events
 
-pub events_of-pass : (S : ℕ → ℕ → Bool) (s : Content) (ss : List Content) → has_key S s ≡ true
+pub events_of-pass : (S : ℕ → ℕ → Bool) (s : Content) (ss : List Content) → key_is_in S s ≡ true
     → events_of S (s ∷ ss) ≡ s.events ++ events_of S ss
-events_of-pass S s ss e = ap all_events (filter-pass (has_key S) s ss e)
+events_of-pass S s ss e = ap all_events (filter-pass (key_is_in S) s ss e)
 
-pub events_of-skip : (S : ℕ → ℕ → Bool) (s : Content) (ss : List Content) → has_key S s ≡ false → events_of S (s ∷ ss) ≡ events_of S ss
-events_of-skip S s ss e = ap all_events (filter-skip (has_key S) s ss e)
+pub events_of-skip : (S : ℕ → ℕ → Bool) (s : Content) (ss : List Content) → key_is_in S s ≡ false → events_of S (s ∷ ss) ≡ events_of S ss
+events_of-skip S s ss e = ap all_events (filter-skip (key_is_in S) s ss e)
 
 -- ---- members
 
 pub members_agree : MembersAgree
 members_agree S ss e = (
-  (λ h. let r = Contains-from_flat_map events_in (filter (has_key S) ss) e h in let k = Contains-from_filter (has_key S) ss r.0 r.1 in
+  (λ h. let r = Contains-from_flat_map events_in (filter (key_is_in S) ss) e h in let k = Contains-from_filter (key_is_in S) ss r.0 r.1 in
       (r.0, k.0, k.1, r.2)),
-  (λ (s, h, k, m). Contains-flat_map events_in (filter (has_key S) ss) s e (Contains-filter (has_key S) ss s h k) m),
+  (λ (s, h, k, m). Contains-flat_map events_in (filter (key_is_in S) ss) s e (Contains-filter (key_is_in S) ss s h k) m),
 )
 
 -- an event of either set is one of the union
 pub members_united : (S R : ℕ → ℕ → Bool) (ss : List Content) (e : Event)
     → IsEventOf (united S R) ss e ↔ (IsEventOf S ss e ⊎ IsEventOf R ss e)
 members_united S R ss e = (
-  (λ (s, h, k, m). elim (or_cases (has_key S s) (has_key R s) k) [ inl in_s ↦ inl (s, h, in_s, m) | inr in_r ↦ inr (s, h, in_r, m) ]),
+  (λ (s, h, k, m). elim (or_cases (key_is_in S s) (key_is_in R s) k) [ inl in_s ↦ inl (s, h, in_s, m) | inr in_r ↦ inr (s, h, in_r, m) ]),
   (λ h. elim h [
-    | inl l ↦ (l.0, l.1, or_left (has_key S l.0) (has_key R l.0) l.2, l.3)
-    | inr r ↦ (r.0, r.1, or_right (has_key S r.0) (has_key R r.0) r.2, r.3)
+    | inl l ↦ (l.0, l.1, or_left (key_is_in S l.0) (key_is_in R l.0) l.2, l.3)
+    | inr r ↦ (r.0, r.1, or_right (key_is_in S r.0) (key_is_in R r.0) r.2, r.3)
   ]),
 )
 
 -- the same keys, the same events
-pub events_of-agree : (S R : ℕ → ℕ → Bool) (ss : List Content) → AllByRecursion (λ s. has_key S s ≡ has_key R s) ss
+pub events_of-agree : (S R : ℕ → ℕ → Bool) (ss : List Content) → AllByRecursion (λ s. key_is_in S s ≡ key_is_in R s) ss
     → events_of S ss ≡ events_of R ss
 events_of-agree S R [] all = refl
 events_of-agree S R (s ∷ ss) all =
-    elim (cases_Bool (has_key R s)) [
+    elim (cases_Bool (key_is_in R s)) [
       | inl holds ↦ events_of-pass S s ss (all.0 ∙ holds) ∙ ap (λ es. s.events ++ es) (events_of-agree S R ss all.1)
           ∙ sym (events_of-pass R s ss holds)
       | inr fails ↦ events_of-skip S s ss (all.0 ∙ fails) ∙ events_of-agree S R ss all.1 ∙ sym (events_of-skip R s ss fails)
@@ -73,28 +73,28 @@ count_by-united p S R (s ∷ ss) apart =
     count_by-united p S R ss apart in
     let plus : (es : List Event) → count_by p (s.events ++ es) ≡ count_by p s.events + count_by p es =
     λ es. count_by-append p s.events es in
-    elim (cases_Bool (has_key S s)) [
-      | inl in_s ↦ elim (cases_Bool (has_key R s)) [
+    elim (cases_Bool (key_is_in S s)) [
+      | inl in_s ↦ elim (cases_Bool (key_is_in R s)) [
         | inl in_r ↦ absurd (apart s.processor s.number in_s in_r)
         | inr not_r ↦
             rw (
-              events_of-pass (united S R) s ss (or_left (has_key S s) (has_key R s) in_s),
+              events_of-pass (united S R) s ss (or_left (key_is_in S s) (key_is_in R s) in_s),
               events_of-pass S s ss in_s,
               events_of-skip R s ss not_r,
             )
             (omega (arith, ih, plus (events_of (united S R) ss), plus (events_of S ss)))
       ]
-      | inr not_s ↦ elim (cases_Bool (has_key R s)) [
+      | inr not_s ↦ elim (cases_Bool (key_is_in R s)) [
         | inl in_r ↦
             rw (
-              events_of-pass (united S R) s ss (or_right (has_key S s) (has_key R s) in_r),
+              events_of-pass (united S R) s ss (or_right (key_is_in S s) (key_is_in R s) in_r),
               events_of-skip S s ss not_s,
               events_of-pass R s ss in_r,
             )
             (omega (arith, ih, plus (events_of (united S R) ss), plus (events_of R ss)))
         | inr not_r ↦
             rw (
-              events_of-skip (united S R) s ss (or_from (has_key S s) (has_key R s) not_s not_r),
+              events_of-skip (united S R) s ss (or_from (key_is_in S s) (key_is_in R s) not_s not_r),
               events_of-skip S s ss not_s,
               events_of-skip R s ss not_r,
             ) ih
@@ -109,26 +109,26 @@ apart_counts_add_up S R ss apart passes slot =
 
 -- ---- one segment more at the end of a processor's run
 
-events_of-none : (S : ℕ → ℕ → Bool) (ss : List Content) → AllByRecursion (λ s. has_key S s ≡ false) ss → events_of S ss ≡ []
+events_of-none : (S : ℕ → ℕ → Bool) (ss : List Content) → AllByRecursion (λ s. key_is_in S s ≡ false) ss → events_of S ss ≡ []
 events_of-none S [] all = refl
 events_of-none S (s ∷ ss) all = events_of-skip S s ss all.0 ∙ events_of-none S ss all.1
 
-in_run : (p front : ℕ) (s : Content) → s.processor ≡ p → s.number < front → has_key (run_below p front) s ≡ true
+in_run : (p front : ℕ) (s : Content) → s.processor ≡ p → s.number < front → key_is_in (run_below p front) s ≡ true
 in_run p front s e lt = and_from (eqb s.processor p) (ltb s.number front) (eq-eqb s.processor p e) (lt-ltb s.number front lt)
 
-above_run : (p front : ℕ) (s : Content) → front ≤ s.number → has_key (run_below p front) s ≡ false
+above_run : (p front : ℕ) (s : Content) → front ≤ s.number → key_is_in (run_below p front) s ≡ false
 above_run p front s le = and_right (eqb s.processor p) (ltb s.number front) (le-ltb s.number front le)
 
-off_run : (p front : ℕ) (s : Content) → (s.processor ≡ p → ⊥) → has_key (run_below p front) s ≡ false
+off_run : (p front : ℕ) (s : Content) → (s.processor ≡ p → ⊥) → key_is_in (run_below p front) s ≡ false
 off_run p front s ne = and_left (eqb s.processor p) (ltb s.number front) (ne_eqb s.processor p ne)
 
 -- what comes after a segment is above each run that ends with it
-after : (front : ℕ) (s t : Content) → front ≤ s.number + 1 → IsBefore s t → has_key (run_below s.processor front) t ≡ false
+after : (front : ℕ) (s t : Content) → front ≤ s.number + 1 → IsBefore s t → key_is_in (run_below s.processor front) t ≡ false
 after front s t le (inl lt) = off_run s.processor front t (λ e. omega arith)
 after front s t le (inr same) = above_run s.processor front t (omega (arith, same.1))
 
 all_after : (front : ℕ) (s : Content) (ts : List Content) → front ≤ s.number + 1 → AllByRecursion (IsBefore s) ts
-    → AllByRecursion (λ t. has_key (run_below s.processor front) t ≡ false) ts
+    → AllByRecursion (λ t. key_is_in (run_below s.processor front) t ≡ false) ts
 all_after front s [] le h = tt
 all_after front s (t ∷ ts) le h = (after front s t le h.0, all_after front s ts le h.1)
 
@@ -219,7 +219,7 @@ sequences_stay_apart T is S = go T.segments is.sequences
     go [] own = tt
     go (s ∷ ss) own =
         let more = go ss (own_tail s.events (all_events ss) own) in
-        elim (cases_Bool (has_key S s)) [
+        elim (cases_Bool (key_is_in S s)) [
           | inl holds ↦ rw (events_of-pass S s ss holds) (own_part s.events (all_events ss) (events_of S ss) (among_all S ss) more own)
           | inr fails ↦ rw (events_of-skip S s ss fails) more
         ]

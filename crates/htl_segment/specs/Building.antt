@@ -33,7 +33,7 @@ build_fault s =
     else events_fault s.version 0 0 s.events
 
 -- What is answered where a segment is to be built of these parts: the segment, whose parts fit, or their
--- first fault, or want of memory where they have none; the events come back with each refusal.
+-- first fault, or out of memory where they have none; the events come back with each refusal.
 abbrev pub Builds : {E : Type 0} → Content → E → Result Content (Fault × E) → Type 0
 Builds parts events result = MatchResult result
     (λ segment. Fits parts × (segment ≡ parts))

@@ -4,13 +4,13 @@ use Rattle.std.specs.List.{flat_map}
 use Rattle.htl_segment.specs.declared.fault.Fault.{Fault}
 use Rattle.htl_segment.specs.declared.fault.Fault.TheVariants as faults
 use Rattle.htl_segment.specs.Content.{Content, Fits}
-use Rattle.htl_segment.specs.Spelling.{spelling}
+use Rattle.htl_segment.specs.Encoding.{encoding}
 use Rattle.htl_segment.specs.Reading.{length_in}
 use Rattle.htl_segment.specs.Faults.{header_fault, first_fault}
 
 -- the bytes of segments one after another
 abbrev pub bundle : List Content → List ℕ
-bundle segments = flat_map spelling segments
+bundle segments = flat_map encoding segments
 
 -- the bytes are those of these segments, and then the rest
 pub record Splits (bytes : List ℕ) (segments : List Content) (rest : List ℕ) : Type 0 where

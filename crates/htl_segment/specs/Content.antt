@@ -64,7 +64,7 @@ abbrev pub EventsFit : Version → ℕ → List Event → Type 0
 EventsFit version last [] = Unit {0}
 EventsFit version last (e ∷ es) = EventFits version e × (last < e.sequence) × EventsFit version e.sequence es
 
--- what the format can spell
+-- what the format can encode
 pub record Fits (s : Content) : Type 0 where
   pub trace_id : s.trace_id < 2 ^ 64
   pub processors : (1 ≤ s.processors) × (s.processors ≤ (limits_of s.version).processors)

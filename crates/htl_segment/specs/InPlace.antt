@@ -4,7 +4,7 @@ use Rattle.htl_segment.specs.declared.version.Version.{Version}
 use Rattle.htl_segment.specs.declared.header.Header.{Header}
 use Rattle.htl_segment.specs.Numbers.{number}
 use Rattle.htl_segment.specs.Content.{Content, content, Fits}
-use Rattle.htl_segment.specs.Spelling.{spelling}
+use Rattle.htl_segment.specs.Encoding.{encoding}
 use Rattle.htl_segment.specs.Reading.{kind_of, kind_in, frames_in, after_record, events_in, version_in, length_in}
 
 -- the fields of the header at the front
@@ -37,5 +37,5 @@ HasRecords v (suc n) b = HasRecord v b × HasRecords v n (after_record b)
 -- The header and the bytes of its records are one segment.
 pub record IsSegment (h : Header) (body : List ℕ) : Type 0 where
   pub fits : Fits (content_of h body)
-  pub len : 32 + length body ≡ length (spelling (content_of h body))
+  pub len : 32 + length body ≡ length (encoding (content_of h body))
   pub has_records : HasRecords h.version h.count body

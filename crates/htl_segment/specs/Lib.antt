@@ -5,7 +5,7 @@
 pub mod Versions
 pub mod Content
 pub mod Numbers
-pub mod Spelling
+pub mod Encoding
 pub mod Reading
 pub mod Faults
 pub mod Records

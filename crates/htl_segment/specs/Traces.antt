@@ -39,12 +39,12 @@ pub record IsTrace (T : Trace) : Type 0 where
 abbrev pub HasKey : Trace → ℕ → ℕ → Type 0
 HasKey T p n = (s : Content) × Contains T.segments s × (s.processor ≡ p) × (s.number ≡ n)
 
-abbrev pub has_key : (ℕ → ℕ → Bool) → Content → Bool
-has_key S s = S s.processor s.number
+abbrev pub key_is_in : (ℕ → ℕ → Bool) → Content → Bool
+key_is_in S s = S s.processor s.number
 
 -- Events of a key set: those of the segments whose key is in the set, as a list and as a set.
 abbrev pub events_of : (ℕ → ℕ → Bool) → List Content → List Event
-events_of S segments = all_events (filter (has_key S) segments)
+events_of S segments = all_events (filter (key_is_in S) segments)
 
 abbrev pub IsEventOf : (ℕ → ℕ → Bool) → List Content → Event → Type 0
-IsEventOf S segments e = (s : Content) × Contains segments s × (has_key S s ≡ true) × Contains s.events e
+IsEventOf S segments e = (s : Content) × Contains segments s × (key_is_in S s ≡ true) × Contains s.events e

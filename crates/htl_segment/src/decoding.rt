@@ -1,7 +1,7 @@
 //! A segment from bytes.
 ghost use Rattle.std.specs.Prelude.{◌≡◌, ℕ, None, IfOk, MatchOption, MatchResult};
 ghost use Rattle.htl_segment.specs.Content.{Content};
-ghost use Rattle.htl_segment.specs.Spelling.{BeginsWith};
+ghost use Rattle.htl_segment.specs.Encoding.{BeginsWith};
 ghost use Rattle.htl_segment.specs.Faults.{first_fault};
 
 use crate::fault::Fault;
@@ -16,9 +16,9 @@ use std::alloc::Global;
 /// memory. Faults come in this order: those of the header from left to right, `Cut`, then those of
 /// one record after the other, each in the order of their codes, `Excess`, and last `NoMemory`.
 pub fn decode(alloc: Global, bytes: &[u8]) -> Result<(Segment, usize), Fault>
-    // What is read is spelled by the first bytes.
+    // What is read is encoded by the first bytes.
     ensures found { IfOk result (λ x. BeginsWith bytes.now x.1 x.0) }
-    // What the first bytes spell is read, unless memory runs out.
+    // What the first bytes encode is read, unless memory runs out.
     ensures only { (s : Content) (n : ℕ) → BeginsWith bytes.now n s
         → MatchResult result (λ x. x ≡ (s, n)) (λ fault. fault ≡ Fault.NoMemory) }
     // The first fault is told, and memory is asked for only where there is none.

@@ -2,7 +2,7 @@
 ghost use Rattle.std.specs.Prelude.{◌≡◌, ◌≤◌, ◌+◌, ◌*◌, ◌++◌, length, sum_by, IfOk, OnOk};
 ghost use Rattle.std.specs.List.{flat_map};
 ghost use Rattle.htl_segment.specs.Numbers.{bytes_of};
-ghost use Rattle.htl_segment.specs.Spelling.{event_bytes, records, header_bytes, Spells};
+ghost use Rattle.htl_segment.specs.Encoding.{event_bytes, records, header_bytes, Encodes};
 
 use crate::header::HEADER_LEN;
 use crate::kinds::code_of;
@@ -13,7 +13,7 @@ use std::alloc::{AllocError, Global};
 
 /// The bytes of a segment.
 pub fn encode(alloc: Global, segment: &Segment) -> Result<Vec<u8>, NoMemory>
-    ensures { IfOk result (λ bytes. Spells bytes.items segment.now) }
+    ensures { IfOk result (λ bytes. Encodes bytes.items segment.now) }
 {
     let events = segment.events();
     let size = RECORD_LEN * events.len() + 8 * frame_count(events);
@@ -37,7 +37,7 @@ fn frame_count(events: &[SharedEvent]) -> usize
 }
 
 /// Writes the header of a segment whose records have `size` bytes.
-#[tactic(auto, unfolding(crate::specs::Spelling::header_bytes))]
+#[tactic(auto, unfolding(crate::specs::Encoding::header_bytes))]
 fn push_header(out: &mut Vec<u8>, segment: &Segment, size: usize) -> Result<(), AllocError>
     requires few { length segment.now.events ≤ 4096 }
     requires small { size ≤ 4096 * (36 + 64 * 8) }

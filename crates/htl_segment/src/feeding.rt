@@ -4,7 +4,7 @@
 //! need no memory, and memory is asked for only where no fault stands.
 ghost use Rattle.std.specs.Prelude.{◌≡◌, ℕ, ◌+◌, ◌<◌, ◌≤◌, ◌^◌, ◌++◌, length, vec_capacity};
 ghost use Rattle.std.specs.Prelude.{None, IsOk, OnOk, MatchResult};
-ghost use Rattle.htl_segment.specs.Spelling.{spelling};
+ghost use Rattle.htl_segment.specs.Encoding.{encoding};
 ghost use Rattle.htl_segment.specs.Reading.{length_in};
 ghost use Rattle.htl_segment.specs.Faults.{header_fault};
 ghost use Rattle.htl_segment.specs.Bundles.{IsRest, IsPieceRefused};
@@ -160,12 +160,12 @@ fn keep_after(
     rest: &mut Vec<u8>,
     bytes: &[u8],
 ) -> Result<Vec<Segment>, (u64, Fault)>
-    requires len { len ≡ length (spelling first) }
+    requires len { len ≡ length (encoding first) }
     requires small { len + length bytes.now < 2 ^ 64 }
     ensures taken { MatchResult result
-        (λ segments. IsTakenIn (spelling first ++ bytes.now)
+        (λ segments. IsTakenIn (encoding first ++ bytes.now)
         segments.items rest.new.items (vec_capacity rest.new))
-        (λ refused. IsPieceRefused (spelling first ++ bytes.now) refused.0 refused.1
+        (λ refused. IsPieceRefused (encoding first ++ bytes.now) refused.0 refused.1
         × (rest.new.items ≡ rest.old.items)) }
     ensures capacity { vec_capacity rest.old ≤ vec_capacity rest.new }
 {

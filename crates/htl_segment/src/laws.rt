@@ -4,7 +4,7 @@ ghost use Rattle.std.specs.Prelude.{◌≡◌, ◌≢◌, ◌↔◌, ℕ, Bool, 
 ghost use Rattle.byteorder.specs.Endian.{little_number};
 ghost use Rattle.htl_segment.specs.Numbers.{IsBytes};
 ghost use Rattle.htl_segment.specs.Content.{Content, Fits};
-ghost use Rattle.htl_segment.specs.Spelling.{spelling, Spells, BeginsWith};
+ghost use Rattle.htl_segment.specs.Encoding.{encoding, Encodes, BeginsWith};
 ghost use Rattle.htl_segment.specs.Faults.{first_fault};
 ghost use Rattle.htl_segment.specs.Bundles.{Splits, BundleFault, IsRest};
 ghost use Rattle.htl_segment.specs.TraceLaws.{RunsGrow, MembersAgree, ApartCountsAddUp};
@@ -15,34 +15,34 @@ ghost use Rattle.htl_segment.specs.declared.fault.Fault.TheVariants.{NoMemory};
 /// What was written is read again, whatever follows it: `decode` answers a segment that the bytes
 /// begin with, and that is the one that was written.
 pub fn written_is_read_again()
-    ensures read { (bytes rest : List ℕ) (s : Content) → Spells bytes s
+    ensures read { (bytes rest : List ℕ) (s : Content) → Encodes bytes s
         → BeginsWith (bytes ++ rest) (length bytes) s }
-    ensures nothing_else { (bytes rest : List ℕ) (s t : Content) (n : ℕ) → Spells bytes s
+    ensures nothing_else { (bytes rest : List ℕ) (s t : Content) (n : ℕ) → Encodes bytes s
         → BeginsWith (bytes ++ rest) n t → (n ≡ length bytes) × (t ≡ s) }
-    ensures no_fault { (bytes rest : List ℕ) (s : Content) → Spells bytes s
+    ensures no_fault { (bytes rest : List ℕ) (s : Content) → Encodes bytes s
         → first_fault (bytes ++ rest) ≡ None }
 {}
 
-/// No spelling is a proper prefix of another.
-pub fn no_spelling_begins_another()
-    ensures { (a rest : List ℕ) (s t : Content) → Spells a s → Spells (a ++ rest) t
+/// No encoding is a proper prefix of another.
+pub fn no_encoding_begins_another()
+    ensures { (a rest : List ℕ) (s t : Content) → Encodes a s → Encodes (a ++ rest) t
         → rest ≡ [] }
 {}
 
-/// What the format can spell has one spelling, and no other segment has the same.
-pub fn one_spelling()
-    ensures some { (s : Content) → Fits s → Spells (spelling s) s }
-    ensures one { (a b : List ℕ) (s : Content) → Spells a s → Spells b s → a ≡ b }
-    ensures of_one { (a : List ℕ) (s t : Content) → Spells a s → Spells a t → s ≡ t }
+/// What the format can encode has one encoding, and no other segment has the same.
+pub fn one_encoding()
+    ensures some { (s : Content) → Fits s → Encodes (encoding s) s }
+    ensures one { (a b : List ℕ) (s : Content) → Encodes a s → Encodes b s → a ≡ b }
+    ensures of_one { (a : List ℕ) (s t : Content) → Encodes a s → Encodes a t → s ≡ t }
 {}
 
-/// Bytes have a first fault exactly where they begin with no spelling.
-pub fn faults_where_nothing_is_spelled()
+/// Bytes have a first fault exactly where they begin with no encoding.
+pub fn faults_where_nothing_is_encoded()
     ensures { (bytes : List ℕ) → IsBytes bytes
         → (first_fault bytes ≡ None) ↔ ((n : ℕ) × (s : Content) × BeginsWith bytes n s) }
 {}
 
-/// Want of memory is no fault of bytes, so whoever is told it knows that no rule was broken.
+/// Out of memory is no fault of bytes, so whoever is told it knows that no rule was broken.
 pub fn want_of_memory_breaks_no_rule()
     ensures { (bytes : List ℕ) → first_fault bytes ≢ Some NoMemory }
 {}

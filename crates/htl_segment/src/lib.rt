@@ -1,7 +1,7 @@
 //! Segments of a trace as bytes in the format HLS1, one by one, in bundles, and in pieces; and what
 //! a trace of segments is.
 //!
-//! `decode` accepts exactly the spellings and gives the spelt segment; of other bytes it tells the
+//! `decode` accepts exactly the encodings and gives the encoded segment; of other bytes it tells the
 //! first rule that they break. `laws` has what follows for readers and writers of the format.
 //!
 //! `specs/Lib` names the definitions in the order in which they are read. In `proofs/`,

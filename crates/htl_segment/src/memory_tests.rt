@@ -1,5 +1,5 @@
 //! Small caches, and refused growths: `rt try --test --fail-alloc N` refuses growth N of each test.
-//! The call that meets it has to tell want of memory, and has to answer when it is asked again.
+//! The call that meets it has to report out of memory, and has to answer when it is asked again.
 
 use crate::stack_cache::StackCache;
 use crate::tests::{deep_event, event};

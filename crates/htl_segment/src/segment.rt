@@ -2,7 +2,7 @@
 ghost use Rattle.std.specs.Prelude.{◌≡◌, IfOk};
 
 use crate::version::Version;
-use htl_event::{NoMemory, Run, SharedEvent};
+use htl_event::{EventList, NoMemory, SharedEvent};
 use std::marker::Model;
 use std::sync::Arc;
 
@@ -59,7 +59,7 @@ impl Segment {
         }
     }
 
-    /// The version of the format that spells this segment: 1 or 2.
+    /// The version of the format that encodes this segment: 1 or 2.
     pub fn version(&self) -> u16
         ensures { result ≡ version_number self.now.version }
     {
@@ -140,7 +140,7 @@ impl Segment {
     }
 }
 
-impl Run for Segment {
+impl EventList for Segment {
     ghost events_of = { λ s. s.events };
 
     fn events(&self) -> &[SharedEvent] {

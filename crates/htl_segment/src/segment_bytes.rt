@@ -38,12 +38,12 @@ impl<'a> Model for SegmentBytes<'a> {
 impl<'a> SegmentBytes<'a> {
     ghost use Rattle.std.specs.Prelude.{◌≡◌, ◌≤◌, ◌++◌, length, None, Some, IfOk, MatchResult};
     ghost use Rattle.htl_segment.specs.Content.{Fits};
-    ghost use Rattle.htl_segment.specs.Spelling.{spelling, BeginsWith};
+    ghost use Rattle.htl_segment.specs.Encoding.{encoding, BeginsWith};
     ghost use Rattle.htl_segment.specs.Faults.{first_fault};
 
     /// The segment that `bytes` begin with.
     pub fn check(bytes: &'a [u8]) -> Result<SegmentBytes<'a>, Fault>
-        ensures found { IfOk result (λ s. BeginsWith bytes.now (length (spelling s)) s) }
+        ensures found { IfOk result (λ s. BeginsWith bytes.now (length (encoding s)) s) }
         ensures fault { MatchResult result
             (λ _. first_fault bytes.now ≡ None)
             (λ fault. first_fault bytes.now ≡ Some fault) }
@@ -59,7 +59,7 @@ impl<'a> SegmentBytes<'a> {
     pub(crate) fn check_parts(head: &[u8], rest: &'a [u8]) -> Result<SegmentBytes<'a>, Fault>
         requires { length head.now ≡ HEADER_LEN }
         ensures found { IfOk result (λ s.
-            BeginsWith (head.now ++ rest.now) (length (spelling s)) s) }
+            BeginsWith (head.now ++ rest.now) (length (encoding s)) s) }
         ensures fault { MatchResult result
             (λ _. first_fault (head.now ++ rest.now) ≡ None)
             (λ fault. first_fault (head.now ++ rest.now) ≡ Some fault) }
@@ -76,7 +76,7 @@ impl<'a> SegmentBytes<'a> {
 
     /// How many bytes the segment has with its header.
     pub fn byte_len(&self) -> usize
-        ensures value { result ≡ length (spelling self.now) }
+        ensures value { result ≡ length (encoding self.now) }
         ensures long { HEADER_LEN ≤ result }
     {
         HEADER_LEN + self.body.len()

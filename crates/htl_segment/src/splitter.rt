@@ -39,7 +39,7 @@ impl Splitter {
     ghost use Rattle.std.specs.Prelude.{None, Some, Ok, Err, IfOk, IfErr};
     ghost use Rattle.htl_segment.specs.declared.fault.Fault.{Fault};
     ghost use Rattle.htl_segment.specs.Bundles.{Splits, IsRest};
-    ghost use Rattle.htl_segment.specs.Pieces.{start_of, Refuses, after_refusal, finish_of};
+    ghost use Rattle.htl_segment.specs.Pieces.{start_of, RefusesPiece, after_refusal, finish_of};
 
     /// A splitter that was fed nothing.
     pub fn new(alloc: Global) -> Splitter
@@ -75,7 +75,7 @@ impl Splitter {
     /// A fault of the header is told by the call that completes the header, and one of the records
     /// by the call that completes the segment; its offset is that at which the segment begins. It
     /// is told again by each later call, and segments that the same piece completed before it are
-    /// not handed out. After want of memory the splitter is as before; that is told only where no
+    /// not handed out. After out of memory the splitter is as before; that is told only where no
     /// fault stands at its offset.
     pub fn feed(&mut self, alloc: Global, piece: &[u8]) -> Result<Vec<Segment>, (u64, Fault)>
         requires { self.old.fed + length piece.now < 2 ^ 64 }
@@ -88,7 +88,7 @@ impl Splitter {
               fault = None;
             })) }
         ensures refused { self.old.fault ≡ None → IfErr result (λ refusal.
-            Refuses self.old piece.now refusal × self.new ≡ after_refusal self.old refusal) }
+            RefusesPiece self.old piece.now refusal × self.new ≡ after_refusal self.old refusal) }
     {
         if let Some(fault) = self.fault {
             return Err(fault);

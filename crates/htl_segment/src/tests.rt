@@ -159,7 +159,7 @@ fn cut_bytes(rt: HostRuntime) {
 }
 
 #[test]
-fn spelled_segments(rt: HostRuntime) {
+fn encoded_segments(rt: HostRuntime) {
     let alloc = rt.alloc();
     let stored = stored_events(&rt, alloc);
     let table: [(&[&str], &[(usize, &str)], u16, u16, u32, usize); 5] = [

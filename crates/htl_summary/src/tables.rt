@@ -6,7 +6,7 @@ ghost use Rattle.htl_answers.specs.Parts.{AreEventsOf, IsFoldOf};
 ghost use Rattle.htl_summary.specs.Tables.{AreTablesOf};
 
 use htl_answers::Part;
-use htl_event::{NoMemory, Run};
+use htl_event::{EventList, NoMemory};
 use htl_tables::{Exits, Latest, Marks};
 use std::alloc::Allocator;
 
@@ -65,7 +65,7 @@ fn tables_of_part<P: Part>(alloc: &P::Alloc, part: &P) -> Result<Tables<P::Alloc
 }
 
 /// The tables of the events of the runs.
-fn tables_of_runs<A: Allocator + Clone, R: Run>(
+fn tables_of_runs<A: Allocator + Clone, R: EventList>(
     alloc: &A,
     runs: &[R],
 ) -> Result<Tables<A>, NoMemory>

@@ -12,7 +12,7 @@ use Rattle.std.proofs.lemmas.List.Quantifiers.{all_pairs_push}
 use Rattle.std.proofs.lemmas.List.Sorted.{IsPermutation-push_more, list_any-IsPermutation}
 use Rattle.csv.specs.Records.{AllText}
 use Rattle.htl_symbols.specs.Ranges.{IsTable, Range, overlap}
-use Rattle.htl_symbols.specs.Reading.{Reads, StopsAt, WriteRanges, WritesNone}
+use Rattle.htl_symbols.specs.Reading.{Reads, StopsAtRow, WriteRanges, WritesNone}
 use Rattle.htl_symbols.specs.Records.{IsAtRecord, SliceReader, records_left}
 use Rattle.htl_symbols.specs.Rows.{Record, header, range_of_row}
 use Rattle.htl_symbols.specs.Steps.{RecordRead, RowAdded, WritesNothing}
@@ -100,7 +100,7 @@ progress-goes all number a b old new fields u p read added =
 -- the record that comes next is at fault
 stops : (all : List Record) (number : ℕ) (a : SliceReader) (table : List Range) (bad : Record) (later : List Record)
     (IsFaulty : List Range → Record → Type 0)
-    → (p : Progress all number a table) → records_left a ≡ bad ∷ later → IsFaulty p.ranges bad → StopsAt (header ∷ all) number IsFaulty
+    → (p : Progress all number a table) → records_left a ≡ bad ∷ later → IsFaulty p.ranges bad → StopsAtRow (header ∷ all) number IsFaulty
 stops all number a table bad later IsFaulty p left fault = record {
   before = header ∷ p.rows;
   ranges = p.ranges;

@@ -29,7 +29,7 @@ pub record StartsWith (table : List Record) (IsFaulty : Record → Type 0) : Typ
   pub fault : IsFaulty first
 
 -- record number n is faulty, given the ranges of those before it, which are right
-pub record StopsAt (table : List Record) (n : ℕ) (IsFaulty : List Range → Record → Type 0) : Type 0 where
+pub record StopsAtRow (table : List Record) (n : ℕ) (IsFaulty : List Range → Record → Type 0) : Type 0 where
   pub before : List Record
   pub ranges : List Range
   pub right : WriteRanges before ranges
@@ -41,12 +41,12 @@ pub record StopsAt (table : List Record) (n : ℕ) (IsFaulty : List Range → Re
 
 -- record number n is text that writes no range
 abbrev pub WritesNone : List Record → ℕ → SymbolFault → Type 0
-WritesNone table n fault = StopsAt table n (λ _ bad. AllText bad × (range_of_row (n, bad) ≡ Err fault))
+WritesNone table n fault = StopsAtRow table n (λ _ bad. AllText bad × (range_of_row (n, bad) ≡ Err fault))
 
 -- it writes a range that overlaps one before it
 abbrev pub WritesOverlap : List Record → ℕ → Type 0
 WritesOverlap table n =
-    StopsAt table n (λ ranges bad. AllText bad × (r : Range) × (range_of_row (n, bad) ≡ Ok r) × (list_any (overlap r) ranges ≡ true))
+    StopsAtRow table n (λ ranges bad. AllText bad × (r : Range) × (range_of_row (n, bad) ≡ Ok r) × (list_any (overlap r) ranges ≡ true))
 
 -- the fault is that of the first record that has one; a record that isn't text is one that `csv` refuses
 abbrev pub IsFirstFault : List Record → SymbolFault → Type 0
@@ -55,7 +55,7 @@ IsFirstFault table (Fields n) = WritesNone table n (Fields n)
 IsFirstFault table (Number n) = WritesNone table n (Number n)
 IsFirstFault table (EmptyRange n) = WritesNone table n (EmptyRange n)
 IsFirstFault table (Overlap n) = WritesOverlap table n
-IsFirstFault table (Csv n) = ((n ≡ 0) × StartsWith table (λ first. ¬ (AllText first))) ⊎ StopsAt table n (λ _ bad. ¬ (AllText bad))
+IsFirstFault table (Csv n) = ((n ≡ 0) × StartsWith table (λ first. ¬ (AllText first))) ⊎ StopsAtRow table n (λ _ bad. ¬ (AllText bad))
 IsFirstFault table NoMemory = ⊤
 
 -- the ranges of the rows in rising order, where no record has a fault, and else the first fault

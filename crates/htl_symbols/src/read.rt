@@ -22,7 +22,7 @@ impl Symbols {
     /// The first record with a fault ends the reading, and is told with its number: 0 for the
     /// header, 1 for the first row; blank lines are no records. Of one record's faults the first of
     /// these is told: it is no text, it hasn't four fields, its start or its end is no number, its
-    /// range is empty, its range overlaps that of an earlier row. Want of memory can come at any
+    /// range is empty, its range overlaps that of an earlier row. Out of memory can come at any
     /// row.
     pub fn read(alloc: Global, bytes: &[u8]) -> Result<Symbols, SymbolFault>
         ensures { Reads (records_of bytes.now) result }
@@ -110,7 +110,7 @@ fn symbol_of(alloc: Global, row: &Row<'_>) -> Result<Symbol, AllocError>
 }
 
 /// Reads record number `number`, or answers false where there is none. Reading a slice never fails,
-/// but the contract of `csv` doesn't say so: such an error would pass for want of memory, so that
+/// but the contract of `csv` doesn't say so: such an error would pass for out of memory, so that
 /// `Csv` comes where a record is refused and nowhere else.
 fn read_record(
     reader: &mut Reader<&[u8]>,

@@ -5,7 +5,7 @@ ghost use Rattle.htl_tables.specs.SortKeys.{sort_key_cmp, AreCandidates};
 
 use crate::hints::{Hints, WAYS};
 use crate::sort_key::SortKey;
-use htl_event::{NoMemory, Run, SharedEvent};
+use htl_event::{EventList, NoMemory, SharedEvent};
 use std::alloc::{AllocError, Allocator};
 
 /// Sort keys of opens and closes, mostly one for each handle, and hints where they stand.
@@ -17,7 +17,7 @@ struct Candidates<A: Allocator> {
 
 /// Sort keys of the runs' opens and closes, in order. The latest event of each handle is among
 /// them.
-pub(crate) fn candidates_in<R: Run, A: Allocator + Clone>(
+pub(crate) fn candidates_in<R: EventList, A: Allocator + Clone>(
     alloc: A,
     runs: &[R],
 ) -> Result<Vec<SortKey, A>, NoMemory>
@@ -34,7 +34,7 @@ pub(crate) fn candidates_in<R: Run, A: Allocator + Clone>(
 }
 
 /// About how many events the runs have.
-fn events_in<R: Run>(runs: &[R]) -> usize {
+fn events_in<R: EventList>(runs: &[R]) -> usize {
     let mut events: usize = 0;
     for run in runs {
         events = events.saturating_add(run.events().len());

@@ -4,7 +4,7 @@ ghost use Rattle.std.specs.Prelude.{◌≡◌, ◌↔◌, ◌<◌, ◌⊎◌, �
 ghost use Rattle.htl_tables.specs.Moments.{IsMoment};
 
 use crate::by_process::ByProcess;
-use htl_event::{Kind, NoMemory, Run, SharedEvent};
+use htl_event::{EventList, Kind, NoMemory, SharedEvent};
 use htl_sorted::{merge, search};
 use std::alloc::Allocator;
 use std::marker::{Model, PhantomData};
@@ -180,7 +180,7 @@ impl<K: EventKind, A: Allocator + Clone> Greatest<K, A> {
     }
 
     /// The greatest sequence of each process among the events of the runs, in any order.
-    pub fn of<R: Run>(alloc: A, runs: &[R]) -> Result<Greatest<K, A>, NoMemory>
+    pub fn of<R: EventList>(alloc: A, runs: &[R]) -> Result<Greatest<K, A>, NoMemory>
         ensures { IfOk result (λ t. (process : ℕ) → IsGreatestSequence
             (λ e. Contains (flat_map R.events_of runs.now) e × IsOf K.kind process e)
             (sequence_at t process)) }
@@ -203,7 +203,7 @@ fn has_row<K: EventKind>(event: &SharedEvent) -> bool
 }
 
 /// The process and the sequence of each event of the kind, by process and then by sequence.
-fn moments_in<K: EventKind, R: Run, A: Allocator>(
+fn moments_in<K: EventKind, R: EventList, A: Allocator>(
     alloc: A,
     runs: &[R],
 ) -> Result<Vec<(u32, u64), A>, NoMemory>

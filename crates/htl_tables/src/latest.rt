@@ -4,7 +4,7 @@ use crate::by_handle::ByHandle;
 use crate::candidates::candidates_in;
 use crate::of_process::of_process;
 use crate::sort_key::handles_in;
-use htl_event::{NoMemory, Run, SharedEvent, base};
+use htl_event::{EventList, NoMemory, SharedEvent, base};
 use htl_sorted::{merge, search};
 use std::alloc::Allocator;
 use std::marker::Model;
@@ -145,7 +145,7 @@ impl<A: Allocator + Clone> Latest<A> {
 
     /// The latest event of each handle among those of the runs, in any order. Of events with one
     /// sequence the first stays, as if the events were noted one after the other, run by run.
-    pub fn of<R: Run>(alloc: A, runs: &[R]) -> Result<Latest<A>, NoMemory>
+    pub fn of<R: EventList>(alloc: A, runs: &[R]) -> Result<Latest<A>, NoMemory>
         ensures noted { IfOk result (λ t. (process base : ℕ)
             → event_at t process base ≡ noted (flat_map R.events_of runs.now) process base) }
         ensures latest { IfOk result (λ t. (process base : ℕ)

@@ -7,7 +7,7 @@ ghost use Rattle.htl_tables.specs.Greatest.{sequence_at};
 ghost use Rattle.htl_tables.specs.Laws.{KeepsLatest, KeepsGreatest};
 
 use crate::greatest::{Exits, Marks};
-use htl_event::{NoMemory, Run};
+use htl_event::{EventList, NoMemory};
 use std::alloc::Allocator;
 
 /// What `Latest::note` makes of the latest events of a list are those of the list with the noted
@@ -23,7 +23,7 @@ pub fn noting_keeps_the_greatest()
 {}
 
 /// What `Marks::of` gives are the snapshot marks of the runs' events.
-pub fn marks_are_snapshot_marks<A: Allocator + Clone, R: Run>(
+pub fn marks_are_snapshot_marks<A: Allocator + Clone, R: EventList>(
     alloc: A,
     runs: &[R],
 ) -> Result<Marks<A>, NoMemory>
@@ -34,7 +34,7 @@ pub fn marks_are_snapshot_marks<A: Allocator + Clone, R: Run>(
 }
 
 /// What `Exits::of` gives are the last exits among the runs' events.
-pub fn exits_are_last_exits<A: Allocator + Clone, R: Run>(
+pub fn exits_are_last_exits<A: Allocator + Clone, R: EventList>(
     alloc: A,
     runs: &[R],
 ) -> Result<Exits<A>, NoMemory>

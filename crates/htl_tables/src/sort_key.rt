@@ -3,7 +3,7 @@
 
 ghost use Rattle.std.specs.Prelude.{◌≤◌, length};
 
-use htl_event::{Run, SharedEvent, base};
+use htl_event::{EventList, SharedEvent, base};
 use std::cmp::Reverse;
 
 /// The sort key of an event that opens or closes a handle: by handle, of one handle the latest
@@ -44,7 +44,7 @@ impl SortKey {
     }
 
     /// The event with this key.
-    pub fn event<'a, R: Run>(&self, runs: &'a [R]) -> &'a SharedEvent
+    pub fn event<'a, R: EventList>(&self, runs: &'a [R]) -> &'a SharedEvent
         requires { (e : Event) × StandsAt R.events_of runs.now self.now.run self.now.index e }
         ensures { StandsAt R.events_of runs.now self.now.run self.now.index result.now }
     {

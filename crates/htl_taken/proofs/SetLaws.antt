@@ -9,7 +9,7 @@ use Rattle.htl_taken.specs.declared.TheConstants.{MAX_FRONT}
 use Rattle.htl_taken.specs.Rising.{Rises}
 use Rattle.htl_taken.specs.Numbers.{Numbers, numbers_at, IsProper, IsUnion, reach_of, settled}
 use Rattle.htl_taken.specs.NumberSets.{Has}
-use Rattle.htl_taken.specs.Laws.{UnitesKeys, IsCommutative, IsAssociative, IsIdempotent, SettlesOnce, IsDetermined, CountsNumbers}
+use Rattle.htl_taken.specs.Laws.{UnitesKeys, IsUnionCommutative, IsUnionAssociative, IsUnionIdempotent, SettlesOnce, IsDetermined, CountsNumbers}
 use Rattle.htl_event.proofs.Members.{Contains-there}
 use Rattle.htl_taken.proofs.Members.{Contains-head}
 use Rattle.htl_taken.proofs.Rising.{Rises-member}
@@ -31,7 +31,7 @@ same_by_swap a b c d u v =
     (λ n h. let r = (u.loose n).0 h in (v.loose n).1 (let le = r.0 in omega (arith, le, e), elim r.1 [ inl x ↦ inr x | inr y ↦ inl y ]))
     (λ n h. let r = (v.loose n).0 h in (u.loose n).1 (let le = r.0 in omega (arith, le, e), elim r.1 [ inl x ↦ inr x | inr y ↦ inl y ]))
 
-pub commutative : IsCommutative
+pub commutative : IsUnionCommutative
 commutative a b ab ba len u v =
     numbers_same ab ba (u.len ∙ len ∙ sym v.len)
     (λ p lt. same_by_swap (numbers_at a p) (numbers_at b p) (numbers_at ab p) (numbers_at ba p) (u.each p) (v.each p))
@@ -62,7 +62,7 @@ same_by_grouping a b c ab bc l r uab ubc ul ur =
       ],
     ))
 
-pub associative : IsAssociative
+pub associative : IsUnionAssociative
 associative a b c ab bc l r uab ubc ul ur =
     numbers_same l r (ul.len ∙ uab.len ∙ sym ur.len)
     (λ p lt. same_by_grouping (numbers_at a p) (numbers_at b p) (numbers_at c p) (numbers_at ab p) (numbers_at bc p) (numbers_at l p)
@@ -76,7 +76,7 @@ same_as_itself a c proper u =
     (λ n h. elim ((u.loose n).0 h).1 [ inl x ↦ x | inr y ↦ y ])
     (λ n h. (u.loose n).1 (let up = (Rises-member a.front MAX_FRONT a.loose n proper.rises h).0 in omega (arith, up, e), inl h))
 
-pub idempotent : IsIdempotent
+pub idempotent : IsUnionIdempotent
 idempotent a c proper u =
     numbers_same c a u.len (λ p lt. same_as_itself (numbers_at a p) (numbers_at c p) (proper p) (u.each p))
 

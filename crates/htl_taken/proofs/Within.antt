@@ -8,14 +8,14 @@ use Rattle.htl_event.proofs.Members.{Contains-here, Contains-there, Contains-cas
 use Rattle.htl_taken.proofs.Members.{Contains-head}
 use Rattle.htl_taken.proofs.Rising.{Rises-member, Rises-lower}
 
-abbrev pub IsWithin : List ℕ → List ℕ → Type 0
-IsWithin xs ys = (n : ℕ) → Contains xs n → Contains ys n
+abbrev pub IsSubset : List ℕ → List ℕ → Type 0
+IsSubset xs ys = (n : ℕ) → Contains xs n → Contains ys n
 
 -- what is left of both lists decides it
 pub record Decide (high : ℕ) (xs ys left rest : List ℕ) : Type 0 where
   pub left_rises : Rises 0 high left
   pub rest_rises : Rises 0 high rest
-  pub same : IsWithin left rest ↔ IsWithin xs ys
+  pub same : IsSubset left rest ↔ IsSubset xs ys
 
 module _ (high : ℕ) (xs ys : List ℕ) where
   -- a number of both is found
@@ -36,7 +36,7 @@ module _ (high : ℕ) (xs ys : List ℕ) where
   }
 
   -- a number of the second alone is passed
-  passed : (left : List ℕ) (y : ℕ) (rest : List ℕ) → (Contains left y → IsWithin left (y ∷ rest) → ⊥)
+  passed : (left : List ℕ) (y : ℕ) (rest : List ℕ) → (Contains left y → IsSubset left (y ∷ rest) → ⊥)
       → Decide high xs ys left (y ∷ rest) → Decide high xs ys left rest
   passed left y rest other d = record {
     left_rises = d.left_rises;
@@ -73,8 +73,8 @@ module _ (high : ℕ) (xs ys : List ℕ) where
       ]
 
   -- when the walk is over, all is there where nothing is left
-  pub Decide-empty : Decide high xs ys [] [] → IsWithin xs ys
+  pub Decide-empty : Decide high xs ys [] [] → IsSubset xs ys
   Decide-empty d = d.same.0 (λ n h. h)
 
-  pub Decide-left : (x : ℕ) (left : List ℕ) → Decide high xs ys (x ∷ left) [] → IsWithin xs ys → ⊥
+  pub Decide-left : (x : ℕ) (left : List ℕ) → Decide high xs ys (x ∷ left) [] → IsSubset xs ys → ⊥
   Decide-left x left d all = Contains-nil x (d.same.1 all x (Contains-here x left))

@@ -13,8 +13,8 @@ abbrev pub AreProper : List Numbers → Type 0
 AreProper ps = (p : ℕ) → IsProper (numbers_at ps p)
 
 -- every segment of the one is in the other
-abbrev pub IsWithin : List Numbers → List Numbers → Type 0
-IsWithin a b = (p n : ℕ) → has_key a p n ≡ true → has_key b p n ≡ true
+abbrev pub HasKeysOf : List Numbers → List Numbers → Type 0
+HasKeysOf a b = (p n : ℕ) → has_key a p n ≡ true → has_key b p n ≡ true
 
 -- no front can move
 abbrev pub AreSettled : List Numbers → Type 0
@@ -24,14 +24,14 @@ AreSettled ps = (p : ℕ) → reach_of (numbers_at ps p) ≡ (numbers_at ps p).f
 abbrev pub UnitesKeys : Type 0
 UnitesKeys = (a b c : List Numbers) → AreUnion a b c → (p n : ℕ) → has_key c p n ≡ (has_key a p n || has_key b p n)
 
-abbrev pub IsCommutative : Type 0
-IsCommutative = (a b ab ba : List Numbers) → length a ≡ length b → AreUnion a b ab → AreUnion b a ba → ab ≡ ba
+abbrev pub IsUnionCommutative : Type 0
+IsUnionCommutative = (a b ab ba : List Numbers) → length a ≡ length b → AreUnion a b ab → AreUnion b a ba → ab ≡ ba
 
-abbrev pub IsAssociative : Type 0
-IsAssociative = (a b c ab bc l r : List Numbers) → AreUnion a b ab → AreUnion b c bc → AreUnion ab c l → AreUnion a bc r → l ≡ r
+abbrev pub IsUnionAssociative : Type 0
+IsUnionAssociative = (a b c ab bc l r : List Numbers) → AreUnion a b ab → AreUnion b c bc → AreUnion ab c l → AreUnion a bc r → l ≡ r
 
-abbrev pub IsIdempotent : Type 0
-IsIdempotent = (a c : List Numbers) → AreProper a → AreUnion a a c → c ≡ a
+abbrev pub IsUnionIdempotent : Type 0
+IsUnionIdempotent = (a c : List Numbers) → AreProper a → AreUnion a a c → c ≡ a
 
 -- settling leaves a front that can't move
 abbrev pub SettlesOnce : Type 0
@@ -40,7 +40,7 @@ SettlesOnce = (q : Numbers) → IsProper q → reach_of (settled q) ≡ (settled
 -- settled sets with the same segments are equal
 abbrev pub IsDetermined : Type 0
 IsDetermined = (a b : List Numbers) → length a ≡ length b → AreProper a → AreProper b → AreSettled a → AreSettled b
-    → IsWithin a b → IsWithin b a → a ≡ b
+    → HasKeysOf a b → HasKeysOf b a → a ≡ b
 
 -- a processor's size is the length of a rising list of its taken numbers
 abbrev pub CountsNumbers : Type 0

@@ -1,7 +1,7 @@
 //! Laws of sets of taken segments. Each function's contract is the law; none does anything when it
 //! runs.
 
-ghost use Rattle.htl_taken.specs.Laws.{UnitesKeys, IsCommutative, IsAssociative, IsIdempotent};
+ghost use Rattle.htl_taken.specs.Laws.{UnitesKeys, IsUnionCommutative, IsUnionAssociative, IsUnionIdempotent};
 ghost use Rattle.htl_taken.specs.Laws.{SettlesOnce, IsDetermined, CountsNumbers};
 ghost use Rattle.htl_taken.specs.Gaps.{GapsAreDetermined};
 
@@ -12,17 +12,17 @@ pub fn union_unites_keys()
 
 /// `a.union(b)` equals `b.union(a)`.
 pub fn union_is_commutative()
-    ensures { IsCommutative }
+    ensures { IsUnionCommutative }
 {}
 
 /// `a.union(b).union(c)` equals `a.union(b.union(c))`.
 pub fn union_is_associative()
-    ensures { IsAssociative }
+    ensures { IsUnionAssociative }
 {}
 
 /// `a.union(a)` equals `a`.
 pub fn union_is_idempotent()
-    ensures { IsIdempotent }
+    ensures { IsUnionIdempotent }
 {}
 
 /// A front that was settled stays where it is when it is settled again.

@@ -10,7 +10,7 @@ ghost use Rattle.htl_tree.specs.Rows.{entries_of, AreRows, HaveTally, IsOneMore}
 use crate::hints::Hints;
 use crate::node::{ZERO, bumped};
 use crate::row::Row;
-use htl_event::{NoMemory, Run, SharedEvent, Sign, Slot};
+use htl_event::{EventList, NoMemory, SharedEvent, Sign, Slot};
 use std::alloc::Allocator;
 
 /// Rows that count events, and their number.
@@ -94,7 +94,7 @@ impl<'a, A: Allocator> Counting<'a, A> {
 }
 
 /// How many events the runs have, or none where the number is no `u64`.
-pub fn number_of_events<R: Run>(runs: &[R]) -> Option<usize>
+pub fn number_of_events<R: EventList>(runs: &[R]) -> Option<usize>
     ensures some { IfSome result (λ number. number ≡ length (flat_map R.events_of runs.now)) }
     ensures none { result ≡ None → 2 ^ 64 ≤ length (flat_map R.events_of runs.now) }
 {

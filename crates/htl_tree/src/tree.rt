@@ -14,7 +14,7 @@ use crate::root::{
     same_roots, sum_of_tops, under_root,
 };
 use crate::slots::Slots;
-use htl_event::{Count, NoMemory, Run, SharedEvent, SharedStack, Sign, Slot, Stack};
+use htl_event::{Count, EventList, NoMemory, SharedEvent, SharedStack, Sign, Slot, Stack};
 use std::alloc::{Allocator, Global};
 use std::marker::Model;
 
@@ -39,7 +39,7 @@ impl<A: Allocator> Model for StackTree<A> {
 
 /// Whether the number of all events of these runs is a `u64`, as it is wherever they came from
 /// bytes.
-pub fn fits_events<R: Run>(runs: &[R]) -> bool
+pub fn fits_events<R: EventList>(runs: &[R]) -> bool
     ensures { IsTrue result ↔ (length (flat_map R.events_of runs.now) < 2 ^ 64) }
 {
     number_of_events(runs).is_some()
@@ -70,7 +70,7 @@ impl<A: Allocator> StackTree<A> {
     }
 
     /// The tally of the events of all runs, whatever their order.
-    pub fn of<R: Run>(alloc: A, runs: &[R]) -> Result<Self, NoMemory>
+    pub fn of<R: EventList>(alloc: A, runs: &[R]) -> Result<Self, NoMemory>
     where
         A: Clone,
         requires { length (flat_map R.events_of runs.now) < 2 ^ 64 }

@@ -6,7 +6,7 @@ use Rattle.std.proofs.lemmas.List.{append-nil, map-append}
 use Rattle.std.proofs.lemmas.List.Elements.{All-nil, All-append}
 use Rattle.htl_segment.specs.Content.{Content, Fits}
 use Rattle.htl_segment.specs.Bundles.{bundle}
-use Rattle.htl_segment.specs.Spelling.{spelling}
+use Rattle.htl_segment.specs.Encoding.{encoding}
 use Rattle.htl_samples.specs.Samples.{IsOfTrace}
 use Rattle.htl_samples.specs.declared.trace.Trace.{Trace}
 use Rattle.make_samples.specs.Writing.{Writes, WritesCount, WritesKeys, key_of, turn, turns}
@@ -33,7 +33,7 @@ pub writes-both : (trace : Trace) (ss ts : List Content) (old mid new : Option (
 writes-both trace ss ts old mid new a b = record {
   of_trace = All-append (IsOfTrace trace) ss ts a.of_trace b.of_trace;
   fit = All-append Fits ss ts a.fit b.fit;
-  bytes = rw (flat_map-append spelling ss ts) (appends-both old mid new (bundle ss) (bundle ts) a.bytes b.bytes);
+  bytes = rw (flat_map-append encoding ss ts) (appends-both old mid new (bundle ss) (bundle ts) a.bytes b.bytes);
 }
 
 pub count-one-more : (trace : Trace) (n : ℕ) (s : Content) (old mid new : Option (List ℕ)) → WritesCount trace n old mid

@@ -1,11 +1,11 @@
 //! Writes sample traces to standard output, as bundles of segments.
 //!
 //! `make_samples driver`, `object`, `exit` and `gap` write small traces that tell a story.
-//! `make_samples trace MEGABYTES STACKS HANDLES PROCESSORS` writes a made-up trace of about that
+//! `make_samples trace MEGABYTES STACKS HANDLES PROCESSORS` writes a generated trace of about that
 //! size, to measure with: each segment is made, written and let go, so it takes little memory
 //! whatever the size.
 //!
-//! `stories.rt` has the stories, `sizes.rt` the sizes of made-up traces, and `writing.rt` writes
+//! `stories.rt` has the stories, `sizes.rt` the sizes of generated traces, and `writing.rt` writes
 //! both.
 #![tactic(auto)]
 

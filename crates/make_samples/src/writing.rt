@@ -30,7 +30,7 @@ pub fn write_lines<W: Sink>(
     Ok(())
 }
 
-/// Writes a made-up trace: number 0 of each processor, then number 1 of each, and so on. Only one
+/// Writes a generated trace: number 0 of each processor, then number 1 of each, and so on. Only one
 /// segment is in memory at a time. After a fault the segments before it are written, and after a
 /// failed write a part of one more.
 pub fn write_made_up<W: Sink>(

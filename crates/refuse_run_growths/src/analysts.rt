@@ -12,7 +12,7 @@ use std::alloc::Global;
 
 type Own = Analyst<Global>;
 
-/// A process, an object and a tag of the made-up trace, which `answers` come to.
+/// A process, an object and a tag of the generated trace, which `answers` come to.
 const PROCESS: u32 = 4;
 
 const OBJECT: u64 = 0x1010;
@@ -221,7 +221,7 @@ fn gaps(alloc: Global, analyst: &Own) -> Result<Equal<Vec<Gap>>, Refusal> {
     Ok(Equal(analyst.gaps(alloc)?))
 }
 
-/// Whether two analysts took the same segments of the made-up trace and have the same answers,
+/// Whether two analysts took the same segments of the generated trace and have the same answers,
 /// whatever each folded.
 pub fn agree(alloc: Global, one: &Own, two: &Own) -> Result<bool, NoMemory> {
     Ok(

@@ -9,7 +9,7 @@ use std::alloc::Global;
 use std::mem;
 
 pub fn try_all(trials: &mut Trials<'_, HostRuntime>) -> Result<()> {
-    trials.reads("decode", spelling, decoded)?;
+    trials.reads("decode", encoding, decoded)?;
     trials.reads("decode_bundle", bundle, decoded_bundle)?;
     trials.reads("from_hex", digits, bytes_of_digits)?;
     trials.reads("encode", segment, encoded)?;
@@ -23,7 +23,7 @@ fn segment(alloc: Global) -> Result<Segment, Refusal> {
     Ok(SMALL.segment(alloc, 0, 1)?)
 }
 
-fn spelling(alloc: Global) -> Result<Vec<u8>, Refusal> {
+fn encoding(alloc: Global) -> Result<Vec<u8>, Refusal> {
     Ok(encode(alloc, &segment(alloc)?)?)
 }
 

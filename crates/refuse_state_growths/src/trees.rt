@@ -10,7 +10,7 @@ use std::alloc::Global;
 
 type Tree = StackTree<Global>;
 
-/// An object and a tag of the made-up trace.
+/// An object and a tag of the generated trace.
 const OBJECT: u64 = 0x1010;
 
 const SLOT: Slot = Slot::Tagged {

@@ -9,7 +9,7 @@ use Rattle.htl_answers.proofs.asked.asked_held.Goals as goal
 
 pub loop-run-preserved : goal.loop-run-preserved
 loop-run-preserved g c =
-    let of = g.R.Run.events_of in
+    let of = g.R.EventList.events_of in
     let runs = c.args.runs.now in
     let i = c.loop-run.run-index in
     let x = c.run-item.result in

@@ -12,7 +12,7 @@ pub sum_of-sum-requires : goal.sum_of-sum-requires
 sum_of-sum-requires g c =
     let runs = c.args.runs.now in
     let i = c.loop-run.run-index in
-    let of = g.R.Run.events_of in
+    let of = g.R.EventList.events_of in
     let x = c.run-item.result in
     let most : length (flat_map of (take i runs)) + length (of (get_or runs i x)) ≤ length (flat_map of runs) =
     length-flat_map-take of runs i x c.loop-run-test.true in
@@ -24,7 +24,7 @@ pub loop-run-preserved : goal.loop-run-preserved
 loop-run-preserved g c =
     let runs = c.args.runs.now in
     let i = c.loop-run.run-index in
-    let of = g.R.Run.events_of in
+    let of = g.R.EventList.events_of in
     let x = c.run-item.result in
     let path = c.args.path.now in
     let slot = c.args.slot in

@@ -6,6 +6,6 @@ use Rattle.htl_answers.proofs.counts.under_held.Given as goal
 
 abbrev pub invariant-loop-run : goal.invariant-loop-run
 invariant-loop-run g l = record {
-  value : l.sum ≡ under (flat_map g.R.Run.events_of (take l.run-index l.runs)) l.path l.slot;
-  few : total_of l.sum ≤ length (flat_map g.R.Run.events_of (take l.run-index l.runs));
+  value : l.sum ≡ under (flat_map g.R.EventList.events_of (take l.run-index l.runs)) l.path l.slot;
+  few : total_of l.sum ≤ length (flat_map g.R.EventList.events_of (take l.run-index l.runs));
 }

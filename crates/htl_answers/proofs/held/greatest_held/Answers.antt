@@ -13,7 +13,7 @@ loop-run-init g c = record { bound = λ x h. absurd (Contains-nil x h.0); reache
 
 pub loop-run-preserved : goal.loop-run-preserved
 loop-run-preserved g c =
-    let of = g.R.Run.events_of in
+    let of = g.R.EventList.events_of in
     let runs = c.args.runs.now in
     let i = c.loop-run.run-index in
     let x = c.run-item.result in

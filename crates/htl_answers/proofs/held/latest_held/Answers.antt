@@ -12,7 +12,7 @@ loop-run-init g c = λ x h k. Contains-nil x h
 
 pub loop-run-preserved : goal.loop-run-preserved
 loop-run-preserved g c =
-    let of = g.R.Run.events_of in
+    let of = g.R.EventList.events_of in
     let runs = c.args.runs.now in
     let i = c.loop-run.run-index in
     let x = c.run-item.result in

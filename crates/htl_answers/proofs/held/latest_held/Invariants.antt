@@ -6,5 +6,5 @@ use Rattle.htl_event.specs.Handles.{LatestIs}
 use Rattle.htl_answers.proofs.held.latest_held.Given as goal
 
 abbrev pub invariant-loop-run : goal.invariant-loop-run
-invariant-loop-run g l = LatestIs (Contains (flat_map g.R.Run.events_of (take l.run-index l.runs))) l.process l.base
+invariant-loop-run g l = LatestIs (Contains (flat_map g.R.EventList.events_of (take l.run-index l.runs))) l.process l.base
     (option_copied l.latest)

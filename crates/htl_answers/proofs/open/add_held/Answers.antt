@@ -8,7 +8,7 @@ use Rattle.htl_answers.specs.Candidates.{touches}
 
 pub loop-run-preserved : goal.loop-run-preserved
 loop-run-preserved g c =
-    let of = g.R.Run.events_of in
+    let of = g.R.EventList.events_of in
     let runs = c.args.runs.now in
     let old = c.args.rows.now.items in
     let i = c.loop-run.run-index in

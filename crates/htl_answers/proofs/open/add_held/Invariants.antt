@@ -6,4 +6,4 @@ use Rattle.htl_answers.proofs.open.add_held.Given as goal
 
 abbrev pub invariant-loop-run : goal.invariant-loop-run
 invariant-loop-run g l = l.rows.items ≡ l.initial.rows.items ++ filter (touches l.process)
-    (flat_map g.R.Run.events_of (take l.run-index l.runs))
+    (flat_map g.R.EventList.events_of (take l.run-index l.runs))

@@ -1,4 +1,4 @@
--- What the first bytes spell is what was checked.
+-- What the first bytes encode is what was checked.
 use Rattle.std.proofs.Common.{refl, sym, ◌∙◌}
 use Rattle.htl_segment.proofs.SegmentLaws.{begins, same_front}
 use Rattle.htl_segment.proofs.decoding.decode_with.Goals as goal

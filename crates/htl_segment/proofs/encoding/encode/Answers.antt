@@ -1,7 +1,7 @@
--- The written bytes are the spelling, and as many as were reserved.
+-- The written bytes are the encoding, and as many as were reserved.
 use Rattle.std.proofs.Common.{◌≡◌, ◌+◌, ◌*◌, length, sum_by, refl, sym}
 use Rattle.htl_event.specs.Events.{Event}
-use Rattle.htl_segment.specs.Spelling.{records}
+use Rattle.htl_segment.specs.Encoding.{records}
 use Rattle.htl_segment.proofs.SegmentLaws.{length-records_exact}
 use Rattle.htl_segment.proofs.encoding.encode.Goals as goal
 

@@ -1,6 +1,6 @@
 -- The fields one behind the other are the bytes of the event.
 use Rattle.std.proofs.Common.{append_assoc}
-use Rattle.htl_segment.specs.Spelling.{event_bytes}
+use Rattle.htl_segment.specs.Encoding.{event_bytes}
 use Rattle.htl_segment.proofs.encoding.push_record.Goals as goal
 
 pub returns : goal.returns

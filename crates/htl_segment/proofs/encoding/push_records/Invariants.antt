@@ -1,6 +1,6 @@
 -- The records so far are written.
 use Rattle.std.proofs.Common.{◌≡◌, ◌++◌, take}
-use Rattle.htl_segment.specs.Spelling.{records}
+use Rattle.htl_segment.specs.Encoding.{records}
 use Rattle.htl_segment.proofs.encoding.push_records.Given as goal
 
 abbrev pub invariant-loop-event : goal.invariant-loop-event

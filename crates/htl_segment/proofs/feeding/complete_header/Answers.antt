@@ -2,7 +2,7 @@
 use Rattle.std.proofs.Common.{◌++◌, sym, ◌∙◌, arith}
 use Rattle.std.proofs.lemmas.List.{length-append, take_rest}
 use Rattle.std.proofs.lemmas.Result.{MatchResult-weaker}
-use Rattle.htl_segment.proofs.PiecesLaws.{parts_spelled, header_cut, first_refused, extends_nothing, extends_same}
+use Rattle.htl_segment.proofs.PiecesLaws.{parts_encoded, header_cut, first_refused, extends_nothing, extends_same}
 use Rattle.htl_segment.proofs.feeding.complete_header.Goals as goal
 
 pub keep_piece-requires-in-Err-clause-fewer : goal.keep_piece-requires-in-Err-clause-fewer
@@ -30,9 +30,9 @@ pub returns-in-Ok-to_segment_with-clause-taken : goal.returns-in-Ok-to_segment_w
 returns-in-Ok-to_segment_with-clause-taken c =
     let bytes = rw c.deref.ensures.value at c.header_and_after.ensures.bytes in
     let front = rw (← c.byte_len-len.ensures.value) at c.in-Ok.ensures.found in
-    let spelled = parts_spelled c.header_and_after.result.0 c.header_and_after.result.1.now c.byte_len-len.result c.in-Ok.found
+    let encoded = parts_encoded c.header_and_after.result.0 c.header_and_after.result.1.now c.byte_len-len.result c.in-Ok.found
     c.header_and_after.ensures.size c.byte_len-len.ensures.long front in
-    let all = sym bytes ∙ spelled in
+    let all = sym bytes ∙ encoded in
     let taken = rw (c.in-Ok-to_segment_with.ensures, take_rest) at c.keep_after.ensures.taken in
     rw all (MatchResult-weaker c.keep_after.result taken (λ segments taken. taken)
     (λ refusal refused. (refused.0, extends_same c.args.rest.now.items c.keep_after.new.rest.items refused.1)))

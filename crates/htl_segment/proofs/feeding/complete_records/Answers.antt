@@ -4,9 +4,9 @@ use Rattle.std.proofs.lemmas.List.{length-append}
 use Rattle.std.proofs.lemmas.Result.{MatchResult-weaker}
 use Rattle.htl_segment.specs.Reading.{length_in}
 use Rattle.htl_segment.specs.Faults.{header_fault}
-use Rattle.htl_segment.specs.Spelling.{spelling}
+use Rattle.htl_segment.specs.Encoding.{encoding}
 use Rattle.htl_segment.proofs.MoreBytes.{header_fault-append}
-use Rattle.htl_segment.proofs.PiecesLaws.{cut_is_rest, cut_has_room, length_in-append, whole_refused, whole_spelled, parts_joined}
+use Rattle.htl_segment.proofs.PiecesLaws.{cut_is_rest, cut_has_room, length_in-append, whole_refused, whole_encoded, parts_joined}
 use Rattle.htl_segment.proofs.feeding.complete_records.Goals as goal
 
 pub keep_piece-requires-clause-is_rest : goal.keep_piece-requires-clause-is_rest
@@ -35,9 +35,9 @@ returns-in-Ok-clause-taken c =
     omega (arith, len, told, size, c.split_at.ensures.front_len, c.len-2.ensures, c.requires.cut) in
     let parts : rest ++ c.args.piece.now ≡ whole ++ left =
     sym (parts_joined rest c.args.piece.now taken left whole c.put_behind.ensures.items c.split_at.ensures.by_index.0) in
-    let spelled : whole ≡ spelling c.in-Ok.first =
-    whole_spelled whole c.in-Ok.len c.in-Ok.first all (rw c.deref-2.ensures.value at c.in-Ok.ensures.found) in
-    let bytes : rest ++ c.args.piece.now ≡ spelling c.in-Ok.first ++ left = parts ∙ ap (λ x. x ++ left) spelled in
+    let encoded : whole ≡ encoding c.in-Ok.first =
+    whole_encoded whole c.in-Ok.len c.in-Ok.first all (rw c.deref-2.ensures.value at c.in-Ok.ensures.found) in
+    let bytes : rest ++ c.args.piece.now ≡ encoding c.in-Ok.first ++ left = parts ∙ ap (λ x. x ++ left) encoded in
     rw bytes (MatchResult-weaker c.keep_after.result c.keep_after.ensures.taken (λ segments taken. taken)
     (λ refusal refused. (refused.0, record { more = taken; is = refused.1 ∙ c.put_behind.ensures.items })))
 

@@ -2,11 +2,11 @@
 use Rattle.std.proofs.Common.{◌≡◌, ◌∷◌, [], refl, arith}
 use Rattle.std.proofs.lemmas.Grind.{common_steps}
 use Rattle.htl_segment.proofs.BundleLaws.{boundary_inside}
-use Rattle.htl_segment.proofs.PiecesLaws.{taken_after, spelled_refused, refused_behind, piece_boundary}
+use Rattle.htl_segment.proofs.PiecesLaws.{taken_after, encoded_refused, refused_behind, piece_boundary}
 use Rattle.htl_segment.proofs.feeding.keep_after.Goals as goal
 
 pub returns-then-is_err-clause-taken : goal.returns-then-is_err-clause-taken
-returns-then-is_err-clause-taken c = (spelled_refused c.args.first c.args.bytes.now c.events-fits.ensures.fits, refl)
+returns-then-is_err-clause-taken c = (encoded_refused c.args.first c.args.bytes.now c.events-fits.ensures.fits, refl)
 
 pub returns-in-Ok-clause-taken : goal.returns-in-Ok-clause-taken
 returns-in-Ok-clause-taken c =

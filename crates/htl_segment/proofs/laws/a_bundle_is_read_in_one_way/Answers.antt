@@ -1,4 +1,4 @@
--- Bytes split in one way, since no spelling begins another.
+-- Bytes split in one way, since no encoding begins another.
 use Rattle.std.proofs.Common.{List, [], length, ap, sym, ◌∙◌, arith}
 use Rattle.htl_segment.specs.Content.{Content}
 use Rattle.htl_segment.specs.Faults.{first_fault}

@@ -5,7 +5,7 @@ use Rattle.htl_tables.proofs.Gathering.{from_none, from_more, candidates_sorted}
 use Rattle.htl_tables.proofs.candidates.candidates_in.Goals as goal
 
 pub loop-run-init : goal.loop-run-init
-loop-run-init g c = rw c.in_ok-candidates.ensures (from_none g.R.Run.events_of c.args.runs.now)
+loop-run-init g c = rw c.in_ok-candidates.ensures (from_none g.R.EventList.events_of c.args.runs.now)
 
 pub loop-run-preserved : goal.loop-run-preserved
 loop-run-preserved g c =
@@ -13,11 +13,11 @@ loop-run-preserved g c =
     let n = c.loop-run.run in
     let x = c.index-runs-run.result in
     let at : slice_get runs n ≡ Some x = slice_get_read runs (length runs) n x refl c.loop-run-test.true c.index-runs-run.is in
-    from_more g.R.Run.events_of runs n x c.loop-run.candidates.keys.items
+    from_more g.R.EventList.events_of runs n x c.loop-run.candidates.keys.items
     c.gather.new.self.keys.items at (rw c.events.ensures at c.in_ok-gather.ensures) c.loop-run.invariant
 
 pub returns-clause-all : goal.returns-clause-all
 returns-clause-all g c =
     let all : c.loop-run.run ≡ length c.args.runs.now = omega arith in
-    candidates_sorted g.R.Run.events_of c.args.runs.now c.loop-run.candidates.keys.items c.sort_unstable.new.self.items
+    candidates_sorted g.R.EventList.events_of c.args.runs.now c.loop-run.candidates.keys.items c.sort_unstable.new.self.items
     (rw all at c.loop-run.invariant) c.sort_unstable.ensures.permutation

@@ -8,7 +8,7 @@ use Rattle.htl_tables.proofs.greatest.moments_in.Goals as goal
 
 pub loop-run-preserved : goal.loop-run-preserved
 loop-run-preserved g c =
-    let events_of = g.R.Run.events_of in
+    let events_of = g.R.EventList.events_of in
     let runs = c.args.runs.now in
     let n = c.loop-run.run-index in
     let x = c.run-item.result in
@@ -20,5 +20,5 @@ loop-run-preserved g c =
 pub returns : goal.returns
 returns g c =
     let all = take_all c.loop-run.run-index c.args.runs.now (omega arith) in
-    moments_sorted g.K.EventKind.kind (flat_map g.R.Run.events_of c.args.runs.now) c.loop-run.moments.items
+    moments_sorted g.K.EventKind.kind (flat_map g.R.EventList.events_of c.args.runs.now) c.loop-run.moments.items
     c.sort_unstable.new.self.items (rw all at c.loop-run.invariant) c.sort_unstable.ensures.permutation

@@ -3,7 +3,7 @@ use Rattle.std.proofs.Common.{◌≡◌, ℕ, ◌+◌, ◌<◌, ◌≤◌, ◌==
 use Rattle.std.proofs.lemmas.Bool.{both_ways, ne_eqb}
 use Rattle.std.proofs.lemmas.List.{drop_more, drop_all}
 use Rattle.htl_taken.specs.declared.TheConstants.{MAX_FRONT}
-use Rattle.htl_taken.proofs.Within.{Decide, IsWithin, Decide-step, Decide-empty, Decide-left}
+use Rattle.htl_taken.proofs.Within.{Decide, IsSubset, Decide-step, Decide-empty, Decide-left}
 use Rattle.htl_taken.proofs.sorted_numbers.is_within.Goals as goal
 
 pub loop-number-preserved : goal.loop-number-preserved
@@ -15,7 +15,7 @@ loop-number-preserved c =
     let d = rw (drop_more ys i 0 lt) at c.loop-number.invariant in
     rw c.after_head-left.ensures (Decide-step MAX_FRONT xs ys c.loop-number.left.now (get_or ys i 0) (drop (i + 1) ys) d)
 
-answered : (high : ℕ) (xs ys left : List ℕ) (r : Bool) → r ≡ (length left == 0) → Decide high xs ys left [] → IsTrue r ↔ IsWithin xs ys
+answered : (high : ℕ) (xs ys left : List ℕ) (r : Bool) → r ≡ (length left == 0) → Decide high xs ys left [] → IsTrue r ↔ IsSubset xs ys
 answered high xs ys [] r e d = (λ t. Decide-empty high xs ys d, λ all. e)
 answered high xs ys (x ∷ left) r e d = (
   λ t. absurd (both_ways r (e ∙ ne_eqb (length (x ∷ left)) 0 (λ z. omega (arith, z))) t),

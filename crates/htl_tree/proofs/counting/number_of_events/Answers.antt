@@ -8,7 +8,7 @@ pub returns-in-None-clause-none : goal.returns-in-None-clause-none
 returns-in-None-clause-none g c none =
     let runs = c.args.runs.now in
     let i = c.loop-run.run-index in
-    let of = g.R.Run.events_of in
+    let of = g.R.EventList.events_of in
     let most : length (flat_map of (take i runs)) + length (of (get_or runs i c.run-item.result)) ≤ length (flat_map of runs) =
     length-flat_map-take of runs i c.run-item.result c.loop-run-test.true in
     let its : length (c.events.result.now) ≡ length (of (get_or runs i c.run-item.result)) = ap length c.events.ensures

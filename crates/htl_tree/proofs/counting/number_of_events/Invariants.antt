@@ -4,4 +4,4 @@ use Rattle.std.specs.List.{flat_map}
 use Rattle.htl_tree.proofs.counting.number_of_events.Given as goal
 
 abbrev pub invariant-loop-run : goal.invariant-loop-run
-invariant-loop-run g l = l.number ≡ length (flat_map g.R.Run.events_of (take l.run-index l.runs))
+invariant-loop-run g l = l.number ≡ length (flat_map g.R.EventList.events_of (take l.run-index l.runs))

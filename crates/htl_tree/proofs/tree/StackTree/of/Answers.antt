@@ -23,7 +23,7 @@ pub count_all-requires-clause-room : goal.count_all-requires-clause-room
 count_all-requires-clause-room g c =
     let runs = c.args.runs.now in
     let i = c.loop-run.run-index in
-    let of = g.R.Run.events_of in
+    let of = g.R.EventList.events_of in
     let most : length (flat_map of (take i runs)) + length (of (get_or runs i c.run-item.result)) ≤ length (flat_map of runs) =
     length-flat_map-take of runs i c.run-item.result c.loop-run-test.true in
     let its : length (c.events.result.now) ≡ length (of (get_or runs i c.run-item.result)) = ap length c.events.ensures
@@ -34,7 +34,7 @@ pub loop-run-preserved : goal.loop-run-preserved
 loop-run-preserved g c =
     let runs = c.args.runs.now in
     let i = c.loop-run.run-index in
-    let of = g.R.Run.events_of in
+    let of = g.R.EventList.events_of in
     let r = c.run-item.result in
     let before : List Event = flat_map of (take i runs) in
     let one : flat_map of (r ∷ []) ≡ c.events.result.now = append-nil (of r) ∙ sym c.events.ensures in
@@ -60,16 +60,16 @@ made root total rows events h counts are tallied =
     (λ slot stack. counts slot stack ∙ tallied slot stack, are.counted ∙ sym is)
 
 -- the tree of the rows has the tally of the events of all runs
-whole : (g : Over) (c : In_ok-root g) → HasTally (tree_of c.in_ok-root.root) (flat_map g.R.Run.events_of c.args.runs.now)
+whole : (g : Over) (c : In_ok-root g) → HasTally (tree_of c.in_ok-root.root) (flat_map g.R.EventList.events_of c.args.runs.now)
     × (c.into_rows-rows.result.1 ≡ total_count (tree_of c.in_ok-root.root))
-    × (c.into_rows-rows.result.1 ≤ length (flat_map g.R.Run.events_of c.args.runs.now))
+    × (c.into_rows-rows.result.1 ≤ length (flat_map g.R.EventList.events_of c.args.runs.now))
 whole g c =
     let same = ap (λ v. v.items) c.into_rows-rows.ensures.rows in
     let tree = made c.in_ok-root.root c.loop-run.counting.total c.loop-run.counting.rows.items
-    (flat_map g.R.Run.events_of (take c.loop-run.run-index c.args.runs.now)) c.in_ok-root.ensures.normal
+    (flat_map g.R.EventList.events_of (take c.loop-run.run-index c.args.runs.now)) c.in_ok-root.ensures.normal
     (λ slot stack. c.in_ok-root.ensures.counts slot stack ∙ ap (λ (l : List Row). sum_at (entries_of l) slot stack) same)
     c.loop-run.invariant.rows c.loop-run.invariant.tally in
-    let all = ap (flat_map g.R.Run.events_of) (take_all c.loop-run.run-index c.args.runs.now c.loop-run-test.false) in (
+    let all = ap (flat_map g.R.EventList.events_of) (take_all c.loop-run.run-index c.args.runs.now c.loop-run-test.false) in (
       subst (λ (l : List Event). HasTally (tree_of c.in_ok-root.root) l) all tree.0,
       c.into_rows-rows.ensures.total ∙ tree.1,
       omega (arith, c.into_rows-rows.ensures.total, c.loop-run.invariant.total, ap length all),

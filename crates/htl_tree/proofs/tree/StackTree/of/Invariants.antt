@@ -7,6 +7,6 @@ use Rattle.htl_tree.proofs.tree.StackTree.of.Given as goal
 abbrev pub invariant-loop-run : goal.invariant-loop-run
 invariant-loop-run g l = record {
   rows : AreRows l.counting.rows.items l.counting.total;
-  tally : HaveTally l.counting.rows.items (flat_map g.R.Run.events_of (take l.run-index l.runs));
-  total : l.counting.total ≤ length (flat_map g.R.Run.events_of (take l.run-index l.runs));
+  tally : HaveTally l.counting.rows.items (flat_map g.R.EventList.events_of (take l.run-index l.runs));
+  total : l.counting.total ≤ length (flat_map g.R.EventList.events_of (take l.run-index l.runs));
 }

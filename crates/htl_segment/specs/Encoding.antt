@@ -21,15 +21,15 @@ header_bytes s size =
     codes "HLS1" ++ bytes_of 2 (version_number s.version) ++ bytes_of 2 s.processors ++ bytes_of 2 s.processor ++ bytes_of 2 0
     ++ bytes_of 4 s.number ++ bytes_of 8 s.trace_id ++ bytes_of 4 (length s.events) ++ bytes_of 4 (32 + size)
 
-abbrev pub spelling : Content → List ℕ
-spelling s = header_bytes s (length (records s.events)) ++ records s.events
+abbrev pub encoding : Content → List ℕ
+encoding s = header_bytes s (length (records s.events)) ++ records s.events
 
 -- the bytes are those of the segment
-pub record Spells (b : List ℕ) (s : Content) : Type 0 where
-  pub bytes : b ≡ spelling s
+pub record Encodes (b : List ℕ) (s : Content) : Type 0 where
+  pub bytes : b ≡ encoding s
   pub fits : Fits s
 
 -- the first n bytes are those of the segment
 pub record BeginsWith (bytes : List ℕ) (n : ℕ) (s : Content) : Type 0 where
   pub inside : n ≤ length bytes
-  pub spells : Spells (take n bytes) s
+  pub encodes : Encodes (take n bytes) s

@@ -7,7 +7,7 @@ use std::alloc::Allocator;
 
 /// A run of events, as a segment has one. What is made of the events of several runs takes these as
 /// they are, so nobody puts events side by side first.
-pub trait Run {
+pub trait EventList {
     ghost use Rattle.std.specs.Prelude.{List};
     ghost use Rattle.htl_event.specs.Events.{Event};
 
@@ -17,7 +17,7 @@ pub trait Run {
         ensures { result.now ≡ events_of self.now };
 }
 
-impl<A: Allocator> Run for Vec<SharedEvent, A> {
+impl<A: Allocator> EventList for Vec<SharedEvent, A> {
     ghost events_of = { λ run. run.items };
 
     fn events(&self) -> &[SharedEvent] {

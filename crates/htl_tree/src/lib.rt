@@ -14,8 +14,8 @@
 //! `prefix.rt` (the prefix tally), `listing.rt` and `slot_sums.rt` (lists of counts, and their
 //! sums by slot), `laws.rt` (the canonical form).
 //!
-//! `specs/Trees` has the words of public contracts, the other files of `specs/` those of private
-//! ones.
+//! `specs/Trees` and `specs/Asked` have the words of public contracts, the other files of `specs/`
+//! those of private ones.
 #![tactic(auto)]
 
 mod building;

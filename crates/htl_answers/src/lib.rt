@@ -9,8 +9,9 @@
 //! Files, in reading order: `part.rt` (what the answers are made of), `held.rt` and `handles.rt`
 //! (what is asked of held events, and answers that take no memory), `open.rt` and `leaking.rt`
 //! (outstanding handles, differences, and the stacks that opened them), `counts.rt` (the prefix
-//! tally), `asked.rt` (the rows of the slots that are asked for), `tagging.rt` and
-//! `bad_references.rt` (the answers made of these rows), `whole.rt` (the one tree of all parts).
+//! tally), `counted_by.rt`, `adding.rt` and `asked.rt` (the ordered counts of the slots that are
+//! asked for, of each part, and merged), `tagging.rt` and `bad_references.rt` (the answers made of
+//! these), `sums.rt` (how often each slot came), `whole.rt` (the one tree of all parts).
 #![tactic(auto)]
 
 mod asked;

@@ -1,12 +1,12 @@
 //! The program: answers one question over trace segments in files, or from standard input.
 //!
-//! The words ask for a job (`htl_command`). The files are opened in order, the symbol table is
+//! The arguments ask for a job (`htl_command`). The files are opened in order, the symbol table is
 //! read, and the job is run (`htl_main`). A fault's line goes to standard error, and the program
-//! ends with its status.
+//! ends with its status. `input.rt` is what it reads from.
 //!
-//! Where standard error is a terminal, a person is told more: `progress.rt` shows how much was
-//! read, `note.rt` says that segments are missing, and `explanation.rt` and `meaning.rt` say a
-//! fault in words.
+//! Where standard error is a terminal, a person reads more: `progress.rt` shows how much was read,
+//! `note.rt` says that segments are missing, and `explanation.rt` and `meaning.rt` say a fault in
+//! words.
 #![tactic(auto)]
 
 ghost use Rattle.std.specs.Prelude.{◌≡◌, All, IfOk, false};

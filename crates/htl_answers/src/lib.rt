@@ -1,10 +1,17 @@
-//! Answers to questions over several parts: what each part folded, and the runs of events that it
+//! Answers to questions over several parts: what each part folded, and the lists of events that it
 //! still holds.
 //!
 //! `specs/Parts` says which events parts stand for. Each answer is that of htl_event's definitions
 //! over these events, whatever was folded and whatever is held. Handles are answered from the
-//! tables' rows of one process; what is counted is listed of one tree over all parts, which has the
-//! slots that are asked for.
+//! tables' rows of one process; what is counted is listed of each part in order, and these lists
+//! are merged.
+//!
+//! Files, in reading order: `part.rt` (what the answers are made of), `held.rt` and `handles.rt`
+//! (what is asked of held events, and answers that take no memory), `open.rt` and `leaking.rt`
+//! (outstanding handles, differences, and the stacks that opened them), `counts.rt` (the prefix
+//! tally), `counted_by.rt`, `adding.rt` and `asked.rt` (the ordered counts of the slots that are
+//! asked for, of each part, and merged), `tagging.rt` and `bad_references.rt` (the answers made of
+//! these), `sums.rt` (how often each slot came), `whole.rt` (the one tree of all parts).
 #![tactic(auto)]
 
 mod asked;

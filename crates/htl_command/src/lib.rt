@@ -1,8 +1,14 @@
-//! The command line of `hleak`: from the words after the program's name to the job that they ask for.
+//! The command line of `hleak`: from the arguments after the program's name to the job that they
+//! ask for.
 //!
-//! `specs/Commands` is the table of the commands with their options, `specs/Values` has one rule for each
-//! kind of value, and `specs/Requests` says what words ask for. `parse` gives just that, and refuses exactly
-//! the other words. How words are taken apart is `clap`'s matter: `specs/Entries` says what it is told.
+//! `specs/Commands` is the table of the commands with their options, `specs/Values` has one rule
+//! for each kind of value, and `specs/Requests` says what arguments ask for. `parse` gives just
+//! that, and refuses exactly the other arguments. How arguments are taken apart is `clap`'s
+//! matter: `specs/Entries` says what it is given.
+//!
+//! Files, in reading order: `question.rt` (what can be asked), `commands.rt` (the table of
+//! commands), `builder.rt` (the commands as `clap` gets them), `asked.rt` (`parse`), `reading.rt`
+//! and `values.rt` (entries and values), `help.rt` and `fault.rt` (what a person reads).
 #![tactic(auto)]
 
 mod asked;

@@ -1,8 +1,13 @@
-//! Sources and sinks of bytes, which tell whether they have failed.
+//! Sources and sinks of bytes, which report whether they have failed.
 //!
-//! A contract can't say what a file or a pipe gives or takes. So the run is written over the traits
-//! `Source` and `Sink`, whose clauses speak of the bytes where the device tells them, as one over memory
-//! does, and else of failures alone. `Reading` and `Writing` make a source and a sink of std's.
+//! A contract can't say what a file or a pipe gives or takes. So the run is written over the
+//! traits `Source` and `Sink`, whose clauses speak of the bytes where the device gives them to
+//! contracts, as one over memory does, and else of failures alone. `Reading` and `Writing` make a
+//! source and a sink of std's.
+//!
+//! Files: `source.rt` and `sink.rt` (the traits, and std's readers and writers as such),
+//! `whole.rt` (whole texts, over as many reads or writes as they take), `laws.rt` (the bounds of
+//! reading).
 #![tactic(auto)]
 
 pub mod laws;

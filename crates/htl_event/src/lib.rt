@@ -1,10 +1,20 @@
 //! Events of handle and reference traces, and what is asked of a list of them.
 //!
-//! `specs/` has the definitions, which everything above cites: what an event counts (`Slots`),
-//! which handles are outstanding and what a handle's listing is (`Handles`), how often a slot came
-//! (`Tallies`), each over events as a set or as a flat list, and what follows from them (`Laws`).
-//! `proofs/RowsHandles` and `proofs/RowsCounts` have worked answers by these definitions. The code
-//! has the types alone: no call of this crate takes memory but the making of a shared stack.
+//! `specs/` has the definitions, which everything above cites; `specs/Lib` names them in reading
+//! order: what an event counts (`Slots`), which handles are outstanding and what a handle's
+//! listing is (`Handles`), how often a slot came (`Tallies`), the rows of a summary (`Summaries`),
+//! each over events as a set or as a flat list, and what follows from them (`Laws`). The code has
+//! the types alone: no call of this crate takes memory but the making of a shared stack.
+//!
+//! Files, in reading order: `kind.rt` and `event.rt` (an event), `stack.rt` and `shared_stack.rt`
+//! (its stack, of its own or shared), `slot.rt` (what it is counted under), `event_list.rt` (what
+//! has a list of events), `summary.rt` (rows of a summary), `memory.rt` (the answer for refused
+//! memory), `laws.rt` (the laws of the definitions).
+//!
+//! In `proofs/`, `Members`, `Orders` and `Ordered` are on lists of members in order, `EventTests`
+//! on tests of one event; `Determined`, `Unions`, `Counts`, `Sums` and `Summarized` show the laws.
+//! `ComputedHandles` and `ComputedCounts` have a function for each answer, with the lemma that its
+//! value is the answer, and `RowsHandles` and `RowsCounts` worked answers by it.
 #![tactic(auto)]
 
 mod event;

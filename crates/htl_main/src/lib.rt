@@ -1,14 +1,17 @@
 //! The run: from the bytes of inputs to the printed answer.
 //!
+//! `run_from`, the call that the program makes, reads sources; `run` does the same over bytes in
+//! memory. Files, in reading order: `streaming.rt` and `printing.rt` (the steps of the two runs in
+//! order), `sources.rt` and `inputs.rt` (the segments of what comes in reads and of what lies in
+//! memory), `answering.rt` (workers take in the case, and the answer), `summarizing.rt` (the sizes
+//! of a case, and its summary), `coverage.rt` (how much of its trace a case has), `fault.rt` (the
+//! faults, their lines and statuses), `laws.rt` (a run has one outcome, and inputs have one
+//! coverage).
+//!
 //! `specs/` is read in this order: `Inputs` (which segments the inputs encode, and which input is
-//! refused first), `Summaries` (what a summary says of a trace), `Coverages` (how much of its trace
-//! a case has), `Printed` (the lines of the answer, or the first fault in the order of a run),
-//! `Causes` and `Sources` (how a run ends for out of memory or by a failing device). `printing.rt`
-//! and `streaming.rt` put the steps of the two runs in order: `inputs.rt` decodes what lies in
-//! memory and `sources.rt` what comes in reads, `answering.rt` lets workers take in the case and
-//! answers, `summarizing.rt` makes its summary, and `coverage.rt` looks for missing segments.
-//! `fault.rt` has the faults with their lines and statuses. `laws.rt` says that a run has one
-//! outcome.
+//! refused first), `Summaries` (what a summary says of a trace), `Coverages` (how much of its
+//! trace a case has), `Printed` (the lines of the answer, or the first fault in the order of a
+//! run), `Causes` and `Sources` (how a run ends for out of memory or by a failing device).
 #![tactic(auto)]
 
 mod answering;

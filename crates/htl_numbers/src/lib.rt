@@ -1,4 +1,5 @@
-//! Numbers as they stand in a text: the words of a command line and the fields of a symbol table.
+//! Numbers as they stand in a text: the arguments of a command line and the fields of a symbol
+//! table.
 //!
 //! `specs/Numbers` says which texts are numbers and which number each one is: digits and nothing
 //! else, so no sign, no blank and no separator.

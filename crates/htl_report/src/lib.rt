@@ -1,9 +1,12 @@
 //! The printed texts of answers.
 //!
 //! `specs/Texts` says what is printed, with one function of data for each answer; `text` writes
-//! just that, into one buffer. Each kind of answer has one file, here and in `specs/`: its first
-//! line, the line of a row, and the whole. What several kinds print stands in `parts.rt` and
-//! `address.rt`.
+//! just that, into one buffer.
+//!
+//! Files, in reading order: `answer.rt` (the eight answers and their text); one file for each kind
+//! of answer, here and in `specs/`, with its first line, the line of a row, and the whole:
+//! `opens.rt`, `tags.rt`, `bad.rt`, `leaks.rt`, `stacks.rt`, `listing.rt`, `summary.rt`; and what
+//! several kinds print: `address.rt`, `parts.rt`.
 #![tactic(auto)]
 
 mod address;

@@ -1,8 +1,9 @@
-//! Samples for tests and benchmarks: events and segments from lines as `0/1: O 1 0x44, C 2 0x44`,
-//! and random traces of any size.
+//! Samples for tests and measurements: events and segments from lines as `0/1: O 1 0x44, C 2
+//! 0x44`, and generated traces of any size.
 //!
-//! `addresses.rt` makes stacks, `line.rt` reads events, `trace.rt` makes segments of them, and
-//! `random.rt` makes up whole traces.
+//! Files, in reading order: `addresses.rt` makes stacks, `line.rt` reads events, `trace.rt` makes
+//! segments of them, `random.rt` generates whole traces, and `fault.rt` says why there is no
+//! sample.
 #![tactic(auto)]
 
 mod addresses;

@@ -1,12 +1,21 @@
-//! Segments of a trace as bytes in the format HLS1, one by one, in bundles, and in pieces; and what
-//! a trace of segments is.
+//! Segments of a trace as bytes in the format HLS1, one by one, in bundles, and in pieces; and
+//! what a trace of segments is.
 //!
-//! `decode` accepts exactly the encodings and gives the encoded segment; of other bytes it tells the
-//! first rule that they break. `laws` has what follows for readers and writers of the format.
+//! `decode` accepts exactly the encodings and gives the encoded segment; of other bytes it reports
+//! the first rule that they break. `laws` has what follows for readers and writers of the format.
+//!
+//! Files, in reading order: `version.rt` and `kinds.rt` (the limits of both versions, the codes of
+//! kinds), `fields.rt` (numbers at their places), `header.rt` and `record.rt` (the fields and
+//! their rules), `fault.rt`, `records.rt` and `segment_bytes.rt` (records and a checked segment
+//! where they lie in bytes), `stack_cache.rt` and `fingerprints.rt` (stacks that were met lately,
+//! so that equal ones are kept once), `segment.rt`, `decoding.rt`, `encoding.rt` and `building.rt`
+//! (a segment in memory, from bytes, to bytes, from its parts), `bundle.rt`, `splitter.rt` and
+//! `feeding.rt` (segments one after another, whole and in pieces), `hexadecimal.rt`, `laws.rt`.
 //!
 //! `specs/Lib` names the definitions in the order in which they are read. In `proofs/`,
 //! `RecordLaws`, `HeaderLaws` and `SegmentLaws` show both directions between bytes and segments,
-//! and `BundleLaws` and `PiecesLaws` what follows for bundles; `Traces` has the events of key sets.
+//! and `BundleLaws` and `PiecesLaws` what follows for bundles; `Traces` has the events of key
+//! sets.
 #![tactic(auto)]
 
 mod building;

@@ -3,6 +3,19 @@
 //! A tree is its tally (`specs/Trees.antt`): the counts that aren't zero, in the order of their
 //! stacks and slots. Equal tallies have one tree, so `StackTree::same` walks two trees side by
 //! side.
+//!
+//! Files, in reading order: `tree.rt` (the public type), `slots.rt` (which slots are asked for),
+//! `root.rt` (the same calls on an optional root), `node.rt` (a node, which keeps all frames up to
+//! the next fork, and adding), `filters.rt` (which slots may be counted from a node on, as one
+//! number), `cursor.rt` (a position in the tree, where each step is one frame, and look-up),
+//! `order.rt` (what the two lists of a node are sorted by). The tree of many events is made by
+//! rows that hints find and one descent for each stack: `counting.rt`, `hints.rt`, `row.rt`,
+//! `building.rt`, `filling.rt`. Then `sums.rt` (copy and plus), `compare.rt` (equality),
+//! `prefix.rt` (the prefix tally), `listing.rt` and `slot_sums.rt` (lists of counts, and their
+//! sums by slot), `laws.rt` (the canonical form).
+//!
+//! `specs/Trees` and `specs/Asked` have the words of public contracts, the other files of `specs/`
+//! those of private ones.
 #![tactic(auto)]
 
 mod building;

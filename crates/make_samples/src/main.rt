@@ -1,12 +1,12 @@
 //! Writes sample traces to standard output, as bundles of segments.
 //!
-//! `make_samples driver`, `object`, `exit` and `gap` write small traces that tell a story.
+//! `make_samples driver`, `object`, `exit` and `gap` write small traces with a story.
 //! `make_samples trace MEGABYTES STACKS HANDLES PROCESSORS` writes a generated trace of about that
 //! size, to measure with: each segment is made, written and let go, so it takes little memory
 //! whatever the size.
 //!
-//! `stories.rt` has the stories, `sizes.rt` the sizes of generated traces, and `writing.rt` writes
-//! both.
+//! Files, in reading order: `stories.rt` has the stories, `sizes.rt` the sizes of generated
+//! traces, `writing.rt` writes both, and `fault.rt` says why a sample was not written.
 #![tactic(auto)]
 
 mod fault;

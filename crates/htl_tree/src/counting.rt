@@ -8,7 +8,7 @@ ghost use Rattle.htl_tree.specs.Trees.{total_count};
 ghost use Rattle.htl_tree.specs.Rows.{entries_of, AreRows, HaveTally, IsOneMore};
 
 use crate::hints::Hints;
-use crate::node::{ZERO, bumped};
+use crate::node::{ZERO, add_one};
 use crate::row::Row;
 use htl_event::{EventList, NoMemory, SharedEvent, Sign, Slot};
 use std::alloc::Allocator;
@@ -93,14 +93,14 @@ impl<'a, A: Allocator> Counting<'a, A> {
     }
 }
 
-/// How many events the runs have, or none where the number is no `u64`.
-pub fn number_of_events<R: EventList>(runs: &[R]) -> Option<usize>
-    ensures some { IfSome result (λ number. number ≡ length (flat_map R.events_of runs.now)) }
-    ensures none { result ≡ None → 2 ^ 64 ≤ length (flat_map R.events_of runs.now) }
+/// How many events the lists have, or none where the number is no `u64`.
+pub fn number_of_events<R: EventList>(lists: &[R]) -> Option<usize>
+    ensures some { IfSome result (λ number. number ≡ length (flat_map R.events_of lists.now)) }
+    ensures none { result ≡ None → 2 ^ 64 ≤ length (flat_map R.events_of lists.now) }
 {
     let mut number = 0usize;
-    for run in runs {
-        match number.checked_add(run.events().len()) {
+    for list in lists {
+        match number.checked_add(list.events().len()) {
             Some(sum) => number = sum,
             None => return None,
         }
@@ -129,7 +129,7 @@ fn count_in<'a, A: Allocator>(
         fingerprint,
         stack,
         slot,
-        count: bumped(ZERO, sign),
+        count: add_one(ZERO, sign),
     };
     rows.push(row)?;
     hints.note(hints.cell(fingerprint, slot), rows.len());
@@ -152,7 +152,7 @@ fn raise(
     if place >= rows.len() || !counts(&rows[place], fingerprint, stack, slot) {
         return false;
     }
-    let count = bumped(rows[place].count, sign);
+    let count = add_one(rows[place].count, sign);
     rows[place].count = count;
     true
 }

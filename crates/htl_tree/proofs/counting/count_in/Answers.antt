@@ -10,7 +10,7 @@ pub returns : goal.returns
 returns g c =
     let rows : List Row = c.args.rows.now.items in
     let len = c.args.rows.now.len in
-    let new : Row = record { fingerprint = c.args.fingerprint; stack = c.args.stack; slot = c.args.slot; count = c.bumped.result } in
+    let new : Row = record { fingerprint = c.args.fingerprint; stack = c.args.stack; slot = c.args.slot; count = c.add_one.result } in
     let kept : c.raise.new.rows ≡ rows = c.raise.ensures.kept (search rules) ∙ c.deref_mut.ensures.value in
     let all : length rows ≤ len = omega (arith, c.deref_mut.ensures.len, ap length c.deref_mut.ensures.value) in
     let whole : take len (c.raise.new.rows ++ drop (length c.raise.new.rows) rows) ≡ rows =
@@ -18,4 +18,4 @@ returns g c =
     (drop_all (length rows) rows (omega arith)) ∙ ap (take len) (append-nil rows) ∙ take_all len rows all in
     let is : c.push.new.self.items ≡ rows ++ new ∷ [] = c.in_ok-push.ensures.items ∙ ap (λ (l : List Row). l ++ new ∷ []) whole in
     subst (λ (l : List Row). IsOneMore c.args.stack.now c.args.slot c.args.sign rows l) (sym is)
-    (appended c.args.stack.now c.args.slot c.args.sign rows new refl refl c.bumped.ensures)
+    (appended c.args.stack.now c.args.slot c.args.sign rows new refl refl c.add_one.ensures)

@@ -11,8 +11,8 @@ use Rattle.htl_tree.specs.Rows.{entries_of}
 use Rattle.htl_tree.proofs.RowsOneMore.{no_row, entry, raised}
 use Rattle.htl_tree.proofs.counting.raise.Goals as goal
 
-pub bumped-count-requires : goal.bumped-count-requires
-bumped-count-requires c =
+pub add_one-count-requires : goal.add_one-count-requires
+add_one-count-requires c =
     let rows = c.args.rows.now in
     let i = c.args.place in
     let len : length (entries_of rows) ≡ length rows = length-map rows (λ row. entry row) in
@@ -26,4 +26,4 @@ pub returns-clause-raised : goal.returns-clause-raised
 returns-clause-raised c was_raised =
     raised c.args.stack.now c.args.slot c.args.sign c.args.rows.now c.args.place _ c.if-place-rows.false
     (c.counts.ensures.stack (search rules)) (c.counts.ensures.slot (search rules)) (c.counts.ensures.stack (search rules))
-    (c.counts.ensures.slot (search rules)) c.bumped-count.ensures
+    (c.counts.ensures.slot (search rules)) c.add_one-count.ensures

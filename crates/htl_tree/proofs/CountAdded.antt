@@ -94,7 +94,8 @@ module _ {A : Type 0} (n m : Position A) where
       same [] t = rw o refl
       same (f ∷ p) t = rw k refl
 
-  module _ (f : ℕ) (c : Position A) (o : counts m ≡ counts n) (w : HasFilters c → HasFilters m) (k : children m ≡ put nat_cmp f c (children n)) (h : IsNormal n) where
+  module _ (f : ℕ) (c : Position A) (o : counts m ≡ counts n) (w : HasFilters c → HasFilters m)
+      (k : children m ≡ put nat_cmp f c (children n)) (h : IsNormal n) where
     pub normal_with_child : IsNormal c → IsNonEmpty c → IsNormal m
     normal_with_child good some = record { everywhere = at }
       where
@@ -308,7 +309,7 @@ parted {A} n upper lower fs gs f h all first none only as_filtered rest same_cou
         (further ∙ put_before f (gs, n) (gs, lower)) here (gs, n) (find_before f (gs, n)) moved
         (nonempty_child (f ∷ gs, n) here f (gs, n) (find_before f (gs, n)))
 
--- what is known of a node by its parts
+-- what holds of a node by its parts
 pub if_parts : {A E : Type 0} (P : Node A → Type 0) (fs : List ℕ) (es : List (Slot × Count)) (r : Result (Node A) E)
     → IfOk r (λ n. frames n ≡ fs) → IfOk r (λ n. counts_of n ≡ es) → IfOk r (λ n. children_of n ≡ [])
     → IfOk r (λ n. HaveFilters (filters_at n) (counts_of n))

@@ -9,7 +9,6 @@ use Rattle.std.proofs.lemmas.Bool.{cases_eq}
 use Rattle.htl_event.specs.declared.slot.Slot.{Slot}
 use Rattle.htl_event.specs.declared.slot.Count.{Count}
 use Rattle.htl_event.specs.Tallies.{plus_count, IsPositive}
-use Rattle.htl_sorted.specs.Entries.{Each}
 use Rattle.htl_sorted.proofs.Finds.{find_put_same, find_put_other}
 use Rattle.htl_tree.specs.Filters.{filter_of, HasFilter, HasFiltersOf, HaveFilters}
 use Rattle.htl_tree.specs.declared.node.Node.{Node}
@@ -50,7 +49,8 @@ module _ {A : Type 0} where
   filters_before f c h = filters_on (before f c) c f refl refl (λ s is. is) h
 
   -- where other counts are here, and the same further in
-  pub filters_counts : (n m : Position A) → children m ≡ children n → HaveFilters (filters m) (counts m) → HasFiltersOf (filters m) (filters n) → HasFilters n → HasFilters m
+  pub filters_counts : (n m : Position A) → children m ≡ children n → HaveFilters (filters m) (counts m) → HasFiltersOf (filters m) (filters n)
+      → HasFilters n → HasFilters m
   filters_counts n m k here w h [] s some = counted_has_filter (filters m) s (counts m) here some
   filters_counts n m k here w h (f ∷ p) s some =
       w s (h (f ∷ p) s (subst IsPositive (ap (λ ks. at_child (λ c. tally p s c) (find nat_cmp f ks)) k) some))

@@ -46,7 +46,7 @@ Entry = (List ℕ × Slot) × Count
 abbrev pub rows_of : List (Bor (List Row)) → List Row
 rows_of groups = flat_map (λ (group : Bor (List Row)). group.now) groups
 
--- ---- what rows count doesn't turn on their order
+-- ---- what rows count doesn't depend on their order
 
 entries-permutation : (xs ys : List Row) → IsPermutation xs ys → (slot : Slot) (stack : List ℕ) → (sign : Sign)
     → side sign (sum_at (entries_of ys) slot stack) ≡ side sign (sum_at (entries_of xs) slot stack)

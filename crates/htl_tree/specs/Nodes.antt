@@ -1,9 +1,8 @@
--- What a tree's nodes count, and which are in normal form.
+-- What a tree's nodes count, position by position, and which are in normal form.
 use Rattle.std.specs.Prelude.{◌≡◌, ℕ, ◌+◌, ◌<◌, ◌≤◌, max, ◌^◌, ◌≢◌, List, [], ◌∷◌, ◌++◌, map, filter, reverse}
-use Rattle.std.specs.Prelude.{length, take, drop, Option, Some, None, unwrap_or, nat_eq, Bool, if◌then◌else◌}
+use Rattle.std.specs.Prelude.{length, Option, Some, None, unwrap_or, nat_eq, Bool, if◌then◌else◌}
 use Rattle.std.specs.List.{flat_map, starts_with, AllByRecursion}
 use Rattle.std.specs.Ordering.{nat_cmp, eq_by_cmp}
-use Rattle.std.specs.declared.cmp.Ordering.{Ordering}
 use Rattle.std.specs.FinMap.Entries.{find, put}
 use Rattle.htl_event.specs.declared.slot.Slot.{Slot}
 use Rattle.htl_event.specs.declared.slot.Sign.{Sign}
@@ -17,11 +16,10 @@ use Rattle.htl_tree.specs.declared.node.Node.TheOpen.{Node-F}
 use Rattle.htl_tree.specs.declared.node.Node.TheViews.{out-Node}
 use Rattle.htl_tree.specs.declared.node.Node.TheFolds.{fold-Node}
 use Rattle.htl_event.specs.SlotOrder.{slot_cmp}
-use Rattle.htl_event.specs.Members.{IsRising}
 use Rattle.htl_tree.specs.Filters.{HasFilter}
 use Rattle.htl_tree.specs.Asked.{has_slot}
 use Rattle.htl_tree.specs.declared.slots.Slots.{Slots}
-use Rattle.htl_tree.specs.Trees.{Tree, AllShort, add_one, count_at, total_count, sum_where}
+use Rattle.htl_tree.specs.Trees.{Tree, AllShort, add_one, total_count, sum_where}
 
 abbrev pub frames : {A : Type 0} → Node A → List ℕ
 frames {A} n = (out-Node A n).frames.items
@@ -269,7 +267,8 @@ rows_at passes path (row ∷ rows) =
 -- those of the node itself
 abbrev pub rows_of_counts : (Slot → Bool) → List ℕ → List (Slot × Count) → List ((Slot × List ℕ) × Count)
 rows_of_counts passes path [] = []
-rows_of_counts passes path (e ∷ es) = if passes e.0 then ((e.0, reverse path), e.1) ∷ rows_of_counts passes path es else rows_of_counts passes path es
+rows_of_counts passes path (e ∷ es) =
+    if passes e.0 then ((e.0, reverse path), e.1) ∷ rows_of_counts passes path es else rows_of_counts passes path es
 
 -- those of a tree
 abbrev pub picked : (Slot → Bool) → Tree → List ((Slot × List ℕ) × Count)

@@ -1,7 +1,6 @@
 -- A tree as its tally: the counts that aren't zero, by stack and then by slot.
 use Rattle.std.specs.Prelude.{◌≡◌, ℕ, ◌+◌, ◌≤◌, List, [], ◌∷◌, Bool, true, ◌&&◌}
-use Rattle.std.specs.Prelude.{if◌then◌else◌, nat_eq, Option, Some, None, unwrap_or, length, map}
-use Rattle.std.specs.Borrow.{Bor}
+use Rattle.std.specs.Prelude.{if◌then◌else◌, nat_eq, Option, Some, None, unwrap_or, length}
 use Rattle.std.specs.List.{sum_by, starts_with, AllByRecursion}
 use Rattle.std.specs.Ordering.{on, then_cmp}
 use Rattle.std.specs.FinMap.Entries.{find, put}

@@ -132,7 +132,7 @@ fn count_in<'a, A: Allocator>(
         count: add_one(ZERO, sign),
     };
     rows.push(row)?;
-    hints.note(hints.cell(fingerprint, slot), rows.len());
+    hints.put(hints.cell(fingerprint, slot), rows.len());
     Ok(())
 }
 

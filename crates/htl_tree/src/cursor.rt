@@ -1,11 +1,12 @@
-//! A position in a tree: at a node, or some frames before it. From one position to the next it is one
-//! frame, as if each node had one.
+//! A position in a tree: at a node, or some frames before it. From one position to the next it is
+//! one frame, as if each node had one.
 
 ghost use Rattle.std.specs.Prelude.{◌≡◌, ◌<◌, ◌≤◌, Some, None, IfSome};
 ghost use Rattle.std.specs.Prelude.{length, drop, get_or, reverse};
 ghost use Rattle.std.specs.Ordering.{nat_cmp};
 ghost use Rattle.std.specs.FinMap.Entries.{find};
-ghost use Rattle.htl_tree.specs.Nodes.{top, position_of, counts, filters, children, tally, IsNormal};
+ghost use Rattle.htl_tree.specs.Nodes.{top, position_of, counts, filters, children};
+ghost use Rattle.htl_tree.specs.Nodes.{tally, IsNormal};
 
 use crate::node::{Node, ZERO, count_of, find_frame};
 use htl_event::{Count, Slot};

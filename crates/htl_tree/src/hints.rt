@@ -85,7 +85,7 @@ impl<A: Allocator> Hints<A> {
     }
 
     /// Puts the last of so many places into the cell.
-    pub fn note(&mut self, cell: usize, places: usize) {
+    pub fn put(&mut self, cell: usize, places: usize) {
         if let Some(number) = self.cells.get_mut(cell) {
             *number = (places & 0xffff_ffff) as u32;
         }

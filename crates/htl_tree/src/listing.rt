@@ -136,7 +136,8 @@ fn push_rows(
 
 /// Whether any of the counts is of one of these slots.
 fn has_any(counts: &[(Slot, Count)], slots: Slots) -> bool
-    ensures { result ≡ false → (path : List ℕ) → rows_of_counts (has_slot slots) path counts.now ≡ [] }
+    ensures { result ≡ false → (path : List ℕ)
+        → rows_of_counts (has_slot slots) path counts.now ≡ [] }
 {
     for (slot, _) in counts {
         if slots.contains(*slot) {

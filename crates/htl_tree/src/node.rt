@@ -1,7 +1,8 @@
 //! A node: the counts of one stack, and the nodes further in.
 
 ghost use Rattle.std.specs.Prelude.{◌≡◌, ◌≢◌, ◌+◌, ◌-◌, ◌<◌, ◌≤◌, ◌^◌, [], ◌++◌, length, take};
-ghost use Rattle.std.specs.Prelude.{get_or, reverse, false, vec_len, IfOk, IfErr, OnOk, OnErr, MatchResult};
+ghost use Rattle.std.specs.Prelude.{get_or, reverse, false, vec_len};
+ghost use Rattle.std.specs.Prelude.{IfOk, IfErr, OnOk, OnErr, MatchResult};
 ghost use Rattle.std.specs.List.{insert};
 ghost use Rattle.std.specs.Int.Bits.{bit_and};
 ghost use Rattle.std.specs.Ordering.{nat_cmp};
@@ -31,7 +32,7 @@ pub struct Node<A: Allocator> {
     pub counts: Vec<(Slot, Count), A>,
     pub children: Vec<(u64, Node<A>), A>,
     /// The filters of the slots that are counted at the node and below it. A walk that looks for
-    /// slots with other filters goes no further.
+    /// slots with other filters passes over the node.
     pub filters: u64,
 }
 
@@ -142,8 +143,8 @@ impl<A: Allocator> Node<A> {
         Ok(&stack[..stack.len() - shared])
     }
 
-    /// Whether the filter is among those of the node. Where it isn't, no slot that has it is counted
-    /// at the node or below it.
+    /// Whether the filter is among those of the node. Where it isn't, no slot that has it is
+    /// counted at the node or below it.
     pub fn may_count(&self, filter: u64) -> bool
         ensures { result ≡ false → bit_and (filters_at self.now) filter ≢ filter }
     {

@@ -30,8 +30,8 @@ impl<A: Allocator> Node<A> {
 }
 
 impl<'a, A: Allocator> Cursor<'a, A> {
-    /// The sum of the slot's counts at the position that the path leads to, from the outermost frame,
-    /// and below.
+    /// The sum of the slot's counts at the position that the path leads to, from the outermost
+    /// frame, and below.
     pub fn under(&self, path: &[u64], slot: Slot) -> Count
         requires normal { IsNormal (position_of self.now) }
         requires fits { total_of (sum_under path.now slot (position_of self.now)) < 2 ^ 64 }

@@ -41,7 +41,8 @@ impl<'a, A: Allocator + Clone> Cursor<'a, A> {
         requires left { IsNormal (position_of self.now) }
         requires right { IsNormal (position_of other.now) }
         requires fits { FitsSum (position_of self.now) (position_of other.now) }
-        ensures { IfOk result (λ sum. IsSum (position_of self.now) (position_of other.now) (top sum)) }
+        ensures { IfOk result (λ sum.
+            IsSum (position_of self.now) (position_of other.now) (top sum)) }
     {
         let shared = common_len(self.frames, other.frames);
         let left = self.skip(shared);

@@ -17,4 +17,5 @@ loop-slot-preserved c =
     let old = c.loop-slot.filters in
     rw c.filter_of-filters.ensures
     (subst (λ (l : List (Slot × Count)). HaveFilters (bit_or old (filter_of e.0)) l) (sym (take_more es i no_count c.loop-slot-test.true))
-    (filters_push (bit_or old (filter_of e.0)) (take i es) e (filters_more old (filter_of e.0) (take i es) c.loop-slot.invariant) (and_or_self (filter_of e.0) old)))
+    (filters_push (bit_or old (filter_of e.0)) (take i es) e (filters_more old (filter_of e.0) (take i es) c.loop-slot.invariant)
+    (and_or_self (filter_of e.0) old)))

@@ -3,7 +3,6 @@ use Rattle.std.proofs.Common.{List, take, get_or, sym, subst, arith}
 use Rattle.std.proofs.lemmas.List.{take_more}
 use Rattle.htl_event.specs.declared.slot.Slot.{Slot}
 use Rattle.htl_event.specs.declared.slot.Count.{Count}
-use Rattle.htl_event.specs.Tallies.{IsPositive}
 use Rattle.htl_tree.specs.Nodes.{AreAddedUp}
 use Rattle.htl_tree.proofs.Between.{no_count}
 use Rattle.htl_tree.proofs.SlotSums.{added_more, added_room, positive_at_index}

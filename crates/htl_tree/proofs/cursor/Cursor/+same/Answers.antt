@@ -27,7 +27,8 @@ returns-then-not-same_counts g t c = (
       let a : Position g.row.A.Denot = position_of c.args.self.now in
       let b : Position g.row.A.Denot = position_of c.args.other.now in
       let o : counts a ≡ counts b = canonical_counts a b c.requires.left c.requires.right same in
-      let k : length (children a) ≡ length (children b) = same_length (children a) (children b) (canonical_children a b c.requires.left c.requires.right same) in
+      let k : length (children a) ≡ length (children b) = same_length (children a) (children b)
+      (canonical_children a b c.requires.left c.requires.right same) in
       elim c.then-not-same_counts.branch [
         | then-not-same_counts-via-then-not-same_counts w ↦ let yes =
             c.same_counts.ensures.1 (c.counts.ensures ∙ o ∙ sym c.counts-2.ensures) in let no = w.if-not-same_counts.true in cc
@@ -45,7 +46,8 @@ returns-then-x-y g t c = (
       let y : ℕ × Position g.row.A.Denot = (c.child_at-y.result.0, position_of c.child_at-y.result.1) in
       let pair : SameChild (get_or (children a) c.loop-i.i x) (get_or (children b) c.loop-i.i y) =
       same_at_index (children a) (children b) (canonical_children a b c.requires.left c.requires.right same) c.loop-i.i x y (search rules) in
-      let alike : SameChild x y = same_ends (get_or (children a) c.loop-i.i x) (get_or (children b) c.loop-i.i y) x y c.child_at-x.ensures c.child_at-y.ensures pair in
+      let alike : SameChild x y = same_ends (get_or (children a) c.loop-i.i x) (get_or (children b) c.loop-i.i y) x y
+      c.child_at-x.ensures c.child_at-y.ensures pair in
       elim c.then-x-y.branch [
         | then-x-y-via-then-x-y w ↦ absurd (w.if-x-y.true alike.0)
         | then-x-y-via-else-x-y+then-not-same w ↦ let yes = w.same.ensures.1 alike.1 in let no = w.if-not-same.true in cc

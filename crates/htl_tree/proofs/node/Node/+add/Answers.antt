@@ -65,7 +65,8 @@ returns-in_ok-count_one-in-None g t c =
     entered_added old n kept _ _ path c.args.slot _ (frames_rolled _ ∙ frames_rolled _) c.args.sign
     (added_here (inside n) (inside _) c.args.slot c.args.sign (normal_entered old n kept)
     (counts_rolled _ ∙ counts_rolled _ ∙ c.in_ok-count_one-in-None.ensures.ok)
-    (filters_rolled _ ∙ ap (λ k. bit_or k c.filter_of.result) (filters_rolled _) ∙ ap (bit_or (filters_at n)) c.filter_of.ensures) (tops_rolled _ ∙ tops_rolled _))
+    (filters_rolled _ ∙ ap (λ k. bit_or k c.filter_of.result) (filters_rolled _)
+    ∙ ap (bit_or (filters_at n)) c.filter_of.ensures) (tops_rolled _ ∙ tops_rolled _))
 
 pub returns-in-Ok : goal.returns-in-Ok
 returns-in-Ok g t c =

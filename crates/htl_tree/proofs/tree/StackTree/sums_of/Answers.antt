@@ -2,7 +2,7 @@
 use Rattle.std.proofs.Common.{◌<◌, ◌^◌, List, sym, subst, arith}
 use Rattle.htl_event.specs.declared.slot.Slot.{Slot}
 use Rattle.htl_event.specs.declared.slot.Count.{Count}
-use Rattle.htl_event.specs.Tallies.{IsPositive, total_of}
+use Rattle.htl_event.specs.Tallies.{total_of}
 use Rattle.htl_tree.specs.Trees.{Tree, IsTree, ListsSums}
 use Rattle.htl_tree.specs.Nodes.{tree_of, asked_of, counts_in}
 use Rattle.htl_tree.proofs.Between.{if_ok, lists_sums, asked_total, asked_positive}

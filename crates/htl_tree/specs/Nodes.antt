@@ -264,13 +264,13 @@ rows_at passes path [] = []
 rows_at passes path (row ∷ rows) =
     if passes row.0.1 then ((row.0.1, reverse (path ++ row.0.0)), row.1) ∷ rows_at passes path rows else rows_at passes path rows
 
--- those of the node itself
+-- the rows of counts at a node that the path leads to
 abbrev pub rows_of_counts : (Slot → Bool) → List ℕ → List (Slot × Count) → List ((Slot × List ℕ) × Count)
 rows_of_counts passes path [] = []
 rows_of_counts passes path (e ∷ es) =
     if passes e.0 then ((e.0, reverse path), e.1) ∷ rows_of_counts passes path es else rows_of_counts passes path es
 
--- those of a tree
+-- the rows of a tree
 abbrev pub picked : (Slot → Bool) → Tree → List ((Slot × List ℕ) × Count)
 picked passes [] = []
 picked passes (row ∷ rows) = if passes row.0.1 then ((row.0.1, row.0.0), row.1) ∷ picked passes rows else picked passes rows
@@ -279,7 +279,7 @@ picked passes (row ∷ rows) = if passes row.0.1 then ((row.0.1, row.0.0), row.1
 abbrev pub counts_in : Tree → List (Slot × Count)
 counts_in t = map (λ row. (row.0.1, row.1)) t
 
--- those of the slots that are asked for
+-- the counts of the slots that are asked for
 abbrev pub asked_of : Slots → List (Slot × Count) → List (Slot × Count)
 asked_of slots counts = filter (λ e. has_slot slots e.0) counts
 

@@ -79,10 +79,10 @@ module _ (stack : List ℕ) (slot : Slot) (sign : Sign) where
   short_append (x ∷ xs) ys g h = (g.0, short_append xs ys g.1 h)
 
   -- in a row that was there
-  pub raised : (rows : List Row) (i : ℕ) (new : Row) → i < length rows → (get_or rows i no_row).stack.now ≡ stack
+  pub one_more_there : (rows : List Row) (i : ℕ) (new : Row) → i < length rows → (get_or rows i no_row).stack.now ≡ stack
       → (get_or rows i no_row).slot ≡ slot → new.stack.now ≡ stack → new.slot ≡ slot
       → new.count ≡ add_one sign (get_or rows i no_row).count → IsOneMore stack slot sign rows (set rows i new)
-  raised rows i new lt old_stack old_slot new_stack new_slot count =
+  one_more_there rows i new lt old_stack old_slot new_stack new_slot count =
       let old : Row = get_or rows i no_row in
       let at : get_or (entries_of rows) i (entry no_row) ≡ entry old = get_or-map (λ row. entry row) rows i no_row in
       let is : entries_of (set rows i new) ≡ set (entries_of rows) i (entry new) = map-set (λ row. entry row) rows i new in

@@ -77,7 +77,7 @@ impl<'a, A: Allocator> Counting<'a, A> {
             Some((slot, sign)) => {
                 let fingerprint = event.stack.fingerprint();
                 let stack = event.stack.frames();
-                count_in(
+                count_in_rows(
                     &mut self.rows,
                     &mut self.hints,
                     place,
@@ -110,7 +110,7 @@ pub fn number_of_events<R: EventList>(lists: &[R]) -> Option<usize>
 
 /// Counts one more of the slot with the stack: in the row at this place, where that counts these,
 /// else in a row of its own.
-fn count_in<'a, A: Allocator>(
+fn count_in_rows<'a, A: Allocator>(
     rows: &mut Vec<Row<'a>, A>,
     hints: &mut Hints<A>,
     place: usize,
@@ -122,7 +122,7 @@ fn count_in<'a, A: Allocator>(
     requires { total_count (entries_of rows.old.items) + 1 < 2 ^ 64 }
     ensures { OnOk result (IsOneMore stack.now slot sign rows.old.items rows.new.items) }
 {
-    if raise(rows, place, fingerprint, stack, slot, sign) {
+    if count_in_row(rows, place, fingerprint, stack, slot, sign) {
         return Ok(());
     }
     let row = Row {
@@ -137,7 +137,7 @@ fn count_in<'a, A: Allocator>(
 }
 
 /// Counts one more in the row at this place, where there is one of this slot and stack.
-fn raise(
+fn count_in_row(
     rows: &mut [Row<'_>],
     place: usize,
     fingerprint: u64,
@@ -146,7 +146,7 @@ fn raise(
     sign: Sign,
 ) -> bool
     requires { total_count (entries_of rows.old) + 1 < 2 ^ 64 }
-    ensures raised { result ≡ true → IsOneMore stack.now slot sign rows.old rows.new }
+    ensures counted { result ≡ true → IsOneMore stack.now slot sign rows.old rows.new }
     ensures kept { result ≡ false → rows.new ≡ rows.old }
 {
     if place >= rows.len() || !counts(&rows[place], fingerprint, stack, slot) {

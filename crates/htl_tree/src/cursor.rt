@@ -8,7 +8,7 @@ ghost use Rattle.std.specs.FinMap.Entries.{find};
 ghost use Rattle.htl_tree.specs.Nodes.{top, position_of, counts, filters, children};
 ghost use Rattle.htl_tree.specs.Nodes.{tally, IsNormal};
 
-use crate::node::{Node, ZERO, count_of, find_frame};
+use crate::node::{Node, ZERO, count_in, find_frame};
 use htl_event::{Count, Slot};
 use std::alloc::Allocator;
 
@@ -120,7 +120,7 @@ impl<'a, A: Allocator> Cursor<'a, A> {
         ensures { result ≡ tally (reverse stack.now) slot (position_of self.now) }
     {
         match stack.split_last() {
-            None => count_of(self.counts(), slot),
+            None => count_in(self.counts(), slot),
             Some((frame, rest)) => match self.child(*frame) {
                 Some(child) => child.at(slot, rest),
                 None => ZERO,

@@ -228,7 +228,7 @@ fn shared_len(frames: &[u64], stack: &[u64]) -> usize
     len
 }
 
-pub fn count_of(counts: &[(Slot, Count)], slot: Slot) -> Count
+pub fn count_in(counts: &[(Slot, Count)], slot: Slot) -> Count
     requires { IsSorted slot_cmp counts.now }
     ensures { result ≡ count_in counts.now slot }
 {

@@ -6,7 +6,7 @@ ghost use Rattle.htl_tree.specs.Nodes.{inside, position_of, IsNormal, sum_under}
 
 use crate::cursor::Cursor;
 use crate::filters::filter_of;
-use crate::node::{Node, ZERO, count_of, sum_of};
+use crate::node::{Node, ZERO, count_in, sum_of};
 use htl_event::{Count, Slot};
 use std::alloc::Allocator;
 
@@ -20,7 +20,7 @@ impl<A: Allocator> Node<A> {
         if !self.may_count(filter_of(slot)) {
             return ZERO;
         }
-        let mut sum = count_of(&self.counts, slot);
+        let mut sum = count_in(&self.counts, slot);
         for (_, child) in &self.children {
             let below = child.sum(slot);
             sum = sum_of(sum, below);

@@ -6,8 +6,8 @@ use Rattle.htl_tree.specs.Nodes.{position_of, IsNormal}
 use Rattle.htl_tree.proofs.CountAdded.{normal_here, normal_child}
 use Rattle.htl_tree.proofs.cursor.Cursor.+at.Goals as goal
 
-pub count_of-requires : goal.count_of-requires
-count_of-requires g t c = let h = normal_here (position_of c.args.self.now) c.requires in
+pub count_in-requires : goal.count_in-requires
+count_in-requires g t c = let h = normal_here (position_of c.args.self.now) c.requires in
     subst (λ es. IsSorted slot_cmp es) (sym c.counts.ensures) h.slots
 
 pub at-requires : goal.at-requires

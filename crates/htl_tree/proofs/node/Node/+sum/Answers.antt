@@ -21,8 +21,8 @@ returns-then-not-may_count g t c =
     sym (no_filter_no_sum (filters_at n) c.args.slot [] (rows (inside n)) (rows_have_filters (inside n) c.requires.normal)
     (λ there. c.may_count.ensures missing (ap (bit_and (filters_at n)) c.filter_of.ensures ∙ there ∙ sym c.filter_of.ensures)))
 
-pub count_of-sum-requires : goal.count_of-sum-requires
-count_of-sum-requires g t c =
+pub count_in-sum-requires : goal.count_in-sum-requires
+count_in-sum-requires g t c =
     let here = normal_here (inside c.args.self.now) c.requires.normal in
     subst (λ es. IsSorted slot_cmp es) (sym c.deref.ensures.value) here.slots
 
@@ -30,7 +30,7 @@ pub loop-child-init : goal.loop-child-init
 loop-child-init g t c =
     let n = c.args.self.now in
     let s = c.args.slot in
-    ap (λ d. plus_count d (child_sum s (children (inside n)))) (c.count_of-sum.ensures ∙ ap (λ es. count_in es s) c.deref.ensures.value)
+    ap (λ d. plus_count d (child_sum s (children (inside n)))) (c.count_in-sum.ensures ∙ ap (λ es. count_in es s) c.deref.ensures.value)
     ∙ sym (sum_node s (inside n) c.requires.normal)
 
 pub sum-below-requires : goal.sum-below-requires

@@ -8,8 +8,8 @@ use Rattle.htl_event.specs.declared.slot.Slot.{Slot}
 use Rattle.htl_event.specs.declared.slot.Count.{Count}
 use Rattle.htl_tree.specs.Trees.{total_count}
 use Rattle.htl_tree.specs.Rows.{entries_of}
-use Rattle.htl_tree.proofs.RowsOneMore.{no_row, entry, raised}
-use Rattle.htl_tree.proofs.counting.raise.Goals as goal
+use Rattle.htl_tree.proofs.RowsOneMore.{no_row, entry, one_more_there}
+use Rattle.htl_tree.proofs.counting.count_in_row.Goals as goal
 
 pub add_one-count-requires : goal.add_one-count-requires
 add_one-count-requires c =
@@ -22,8 +22,8 @@ add_one-count-requires c =
     (λ (x : (List ℕ × Slot) × Count). total_of x.1) (entries_of rows) i (entry no_row) (omega (arith, len, c.if-place-rows.false)) in
     omega (arith, at, most, c.requires)
 
-pub returns-clause-raised : goal.returns-clause-raised
-returns-clause-raised c was_raised =
-    raised c.args.stack.now c.args.slot c.args.sign c.args.rows.now c.args.place _ c.if-place-rows.false
+pub returns-clause-counted : goal.returns-clause-counted
+returns-clause-counted c was_counted =
+    one_more_there c.args.stack.now c.args.slot c.args.sign c.args.rows.now c.args.place _ c.if-place-rows.false
     (c.counts.ensures.stack (search rules)) (c.counts.ensures.slot (search rules)) (c.counts.ensures.stack (search rules))
     (c.counts.ensures.slot (search rules)) c.add_one-count.ensures

@@ -7,7 +7,6 @@ use Rattle.std.specs.List.{AllByRecursion}
 use Rattle.std.specs.Ordering.{is_eq, eq_by_cmp}
 use Rattle.std.specs.FinMap.Entries.{find, below_all}
 use Rattle.std.specs.declared.cmp.Ordering.TheVariants.{Less, Equal, Greater}
-use Rattle.std.proofs.lemmas.List.Sums.{sum_by-cons}
 use Rattle.htl_event.specs.SlotOrder.{slot_cmp}
 use Rattle.htl_event.specs.OrderLaws.{slot_total, slot_same}
 use Rattle.htl_event.specs.declared.slot.Slot.{Slot}
@@ -20,13 +19,13 @@ use Rattle.htl_event.proofs.Members.{Contains-here, Contains-there, Contains-cas
 use Rattle.htl_sorted.specs.Entries.{IsSorted, Each}
 use Rattle.htl_sorted.proofs.Bools.{both_left, both_right, less}
 use Rattle.htl_sorted.proofs.Finds.{find_first, each_found}
-use Rattle.htl_tree.specs.Trees.{Tree, place_cmp, count_at, count_under, sum_where, total_count}
+use Rattle.htl_tree.specs.Trees.{Tree, key_cmp, count_at, count_under, sum_where, total_count}
 use Rattle.htl_tree.specs.Trees.{IsTree, ByStackAndSlot, ListsRowsOf, BySlot, ListsSums}
 use Rattle.htl_tree.specs.declared.slots.Slots.{Slots}
 use Rattle.htl_tree.specs.declared.slots.Slots.TheVariants.{One}
 use Rattle.htl_tree.specs.Asked.{has_slot}
-use Rattle.htl_tree.specs.Nodes.{count_in, counts_at, picked, entries_at, asked_of, counts_in, AreAddedUp}
-use Rattle.htl_tree.proofs.TreesAsLists.{place_total, place_same}
+use Rattle.htl_tree.specs.Nodes.{count_in, counts_at, picked, asked_of, counts_in, AreAddedUp}
+use Rattle.htl_tree.proofs.TreesAsLists.{key_total, key_same}
 use Rattle.htl_tree.proofs.ChangedKeys.{found_behind}
 use Rattle.htl_tree.proofs.SlotRows.{listed}
 use Rattle.htl_tree.proofs.Under.{same_slot_Decides, same_slot_tied, sum_where_le_total}
@@ -54,7 +53,7 @@ one_slot slot (row ∷ t) =
 -- ---- the rows of a range are listed
 
 module _ (p : Slot → Bool) where
-  rising_after : (row : (List ℕ × Slot) × Count) (t : Tree) → T (below_all place_cmp row.0 t)
+  rising_after : (row : (List ℕ × Slot) × Count) (t : Tree) → T (below_all key_cmp row.0 t)
       → AllByRecursion (λ (x : At). ByStackAndSlot ((row.0.1, row.0.0), row.1) x) (picked p t)
   rising_after row [] h = tt
   rising_after row (x ∷ t) h =
@@ -65,7 +64,7 @@ module _ (p : Slot → Bool) where
         | false ↦ rest
       ]
 
-  rising : (t : Tree) → IsSorted place_cmp t → IsRising (λ (a b : At). ByStackAndSlot a b) (picked p t)
+  rising : (t : Tree) → IsSorted key_cmp t → IsRising (λ (a b : At). ByStackAndSlot a b) (picked p t)
   rising [] s = tt
   rising (x ∷ t) s = elim (p x.0.1)
       as (λ b. IsRising (λ (a b : At). ByStackAndSlot a b) (cond b (((x.0.1, x.0.0), x.1) ∷ picked p t) (picked p t))) [
@@ -73,32 +72,32 @@ module _ (p : Slot → Bool) where
         | false ↦ rising t (both_right _ _ s)
       ]
 
-  picked_found : (t : Tree) → IsSorted place_cmp t → (x : At) → Contains (picked p t) x
-      → (find place_cmp (x.0.1, x.0.0) t ≡ Some x.1) × (p x.0.0 ≡ true)
+  picked_found : (t : Tree) → IsSorted key_cmp t → (x : At) → Contains (picked p t) x
+      → (find key_cmp (x.0.1, x.0.0) t ≡ Some x.1) × (p x.0.0 ≡ true)
   picked_found [] s x h = absurd (Contains-nil x h)
   picked_found (row ∷ t) s x h =
       (elim (p row.0.1) as (λ b. p row.0.1 ≡ b → Contains (cond b (((row.0.1, row.0.0), row.1) ∷ picked p t) (picked p t)) x
-      → (find place_cmp (x.0.1, x.0.0) (row ∷ t) ≡ Some x.1) × (p x.0.0 ≡ true)) [
+      → (find key_cmp (x.0.1, x.0.0) (row ∷ t) ≡ Some x.1) × (p x.0.0 ≡ true)) [
         | true ↦ λ e c. elim (Contains-cases ((row.0.1, row.0.0), row.1) (picked p t) x c) [
           | inl is ↦ (
-            ap (λ (y : At). find place_cmp (y.0.1, y.0.0) (row ∷ t)) (sym is) ∙ find_first place_cmp place_total row t
+            ap (λ (y : At). find key_cmp (y.0.1, y.0.0) (row ∷ t)) (sym is) ∙ find_first key_cmp key_total row t
                 ∙ ap (λ (y : At). Some y.1) is,
             ap (λ (y : At). p y.0.0) (sym is) ∙ e,
           )
-          | inr there ↦ let rest = picked_found t (both_right _ _ s) x there in (found_behind place_cmp place_total row t s (x.0.1, x.0.0) x.1 rest.0, rest.1)
+          | inr there ↦ let rest = picked_found t (both_right _ _ s) x there in (found_behind key_cmp key_total row t s (x.0.1, x.0.0) x.1 rest.0, rest.1)
         ]
-        | false ↦ λ e c. let rest = picked_found t (both_right _ _ s) x c in (found_behind place_cmp place_total row t s (x.0.1, x.0.0) x.1 rest.0, rest.1)
+        | false ↦ λ e c. let rest = picked_found t (both_right _ _ s) x c in (found_behind key_cmp key_total row t s (x.0.1, x.0.0) x.1 rest.0, rest.1)
       ]) refl h
 
-  found_picked : (t : Tree) (s : Slot) (k : List ℕ) (c : Count) → p s ≡ true → find place_cmp (k, s) t ≡ Some c
+  found_picked : (t : Tree) (s : Slot) (k : List ℕ) (c : Count) → p s ≡ true → find key_cmp (k, s) t ≡ Some c
       → Contains (picked p t) ((s, k), c)
   found_picked [] s k c passes found = cc
   found_picked (row ∷ t) s k c passes found =
-      (elim (place_cmp (k, s) row.0) as (λ r. place_cmp (k, s) row.0 ≡ r
-      → cond (is_eq r) (Some row.1) (find place_cmp (k, s) t) ≡ Some c → Contains (picked p (row ∷ t)) ((s, k), c)) [
+      (elim (key_cmp (k, s) row.0) as (λ r. key_cmp (k, s) row.0 ≡ r
+      → cond (is_eq r) (Some row.1) (find key_cmp (k, s) t) ≡ Some c → Contains (picked p (row ∷ t)) ((s, k), c)) [
         | Less ↦ λ e is. further (found_picked t s k c passes is)
         | Equal ↦ λ e is.
-            let same = place_same (k, s) row.0 e in
+            let same = key_same (k, s) row.0 e in
             let mine : p row.0.1 ≡ true = ap (λ (y : List ℕ × Slot). p y.1) (sym same) ∙ passes in
             let value : row.1 ≡ c = ap (λ (o : Option Count). unwrap_or o c) is in
             let x : ◌≡◌ {A = At} ((row.0.1, row.0.0), row.1) ((s, k), c) =
@@ -122,42 +121,21 @@ lists_rows_of t h slots = record { rising = rising (has_slot slots) t h.ordered;
     into x c =
         let found = picked_found (has_slot slots) t h.ordered x c in (
           sym (ap (λ (o : Option Count). unwrap_or o zero_count) found.0),
-          each_found place_cmp IsPositive (x.0.1, x.0.0) x.1 t h.positive found.0,
+          each_found key_cmp IsPositive (x.0.1, x.0.0) x.1 t h.positive found.0,
           found.1,
         )
 
     out : (x : At) → (x.1 ≡ count_at t x.0.0 x.0.1) × IsPositive x.1 × (has_slot slots x.0.0 ≡ true)
         → Contains (picked (has_slot slots) t) x
-    out x (is, some, passes) = of (find place_cmp (x.0.1, x.0.0) t) refl
+    out x (is, some, passes) = of (find key_cmp (x.0.1, x.0.0) t) refl
       where
-        of : (o : Option Count) → find place_cmp (x.0.1, x.0.0) t ≡ o → Contains (picked (has_slot slots) t) x
+        of : (o : Option Count) → find key_cmp (x.0.1, x.0.0) t ≡ o → Contains (picked (has_slot slots) t) x
         of None none = let zero : x.1 ≡ zero_count = is ∙ ap (λ (o : Option Count). unwrap_or o zero_count) none in
             let never : IsPositive zero_count = subst IsPositive zero some in absurd (omega (arith, never))
         of (Some c) found = let value : c ≡ x.1 = sym (is ∙ ap (λ (o : Option Count). unwrap_or o zero_count) found) in
             found_picked (has_slot slots) t x.0.0 x.0.1 x.1 passes (found ∙ ap (λ (d : Count). Some d) value)
 
 -- ---- sums
-
--- what the rows of a range add up to
-pub picked_total : (p : Slot → Bool) (t : Tree) → total_count (entries_at (picked p t)) ≤ total_count t
-picked_total p [] = omega arith
-picked_total p (row ∷ t) =
-    let rest = picked_total p t in
-    let sum = sum_by-cons (λ (r : (List ℕ × Slot) × Count). total_of r.1) row t in
-    let kept = sum_by-cons (λ (r : (List ℕ × Slot) × Count). total_of r.1) row (entries_at (picked p t)) in
-    elim (p row.0.1) as (λ b. total_count (entries_at (cond b (((row.0.1, row.0.0), row.1) ∷ picked p t) (picked p t))) ≤ total_count
-    (row ∷ t)) [
-      | true ↦ omega (arith, rest, sum, kept)
-      | false ↦ omega (arith, rest, sum)
-    ]
-
-pub picked_positive : (p : Slot → Bool) (t : Tree) → Each IsPositive t → Each IsPositive (entries_at (picked p t))
-picked_positive p [] h = tt
-picked_positive p (row ∷ t) h =
-    elim (p row.0.1) as (λ b. Each IsPositive (entries_at (cond b (((row.0.1, row.0.0), row.1) ∷ picked p t) (picked p t)))) [
-      | true ↦ (h.0, picked_positive p t h.1)
-      | false ↦ picked_positive p t h.1
-    ]
 
 -- counts of slots that pass add up to those of the tree
 asked_sum : (slots : Slots) (s : Slot) (t : Tree)

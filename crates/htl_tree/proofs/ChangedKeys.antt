@@ -1,4 +1,4 @@
--- Lists of entries: what is found behind the first, keys that are changed alike, and lists put one after the other.
+-- Lists of entries: what is found after the first, keys that are changed alike, and lists put one after the other.
 use Rattle.std.proofs.Common.{◌≡◌, ℕ, ◌+◌, List, [], ◌∷◌, ◌++◌, map, Some, None, T}
 use Rattle.std.proofs.Common.{true, false, cond, unwrap_or, refl, sym, ◌∙◌, ap, subst, arith}
 use Rattle.std.specs.Ordering.{is_lt, is_eq, eq_by_cmp}
@@ -40,7 +40,7 @@ module _ {K X : Type 0} (R : K → K → Ordering) where
       both _ _ (below_append x.0 xs ys (both_left _ _ g) all.0) (sorted_append xs ys (both_right _ _ g) h all.1)
 
   module _ (o : IsTotalOrder R) where
-    -- what is found behind the first entry is found in the whole
+    -- what is found after the first entry is found in the whole
     pub found_behind : (e : K × X) (es : List (K × X)) → IsSorted R (e ∷ es) → (k : K) (v : X) → find R k es ≡ Some v
         → find R k (e ∷ es) ≡ Some v
     found_behind e es s k v found =
@@ -152,9 +152,3 @@ module _ {J K X : Type 0} (h : K → J) (S : J → J → Ordering) where
   pub each-map_key : (P : X → Type 0) (es : List (K × X)) → Each P es → Each P (map (λ e. (h e.0, e.1)) es)
   each-map_key P [] all = tt
   each-map_key P (e ∷ es) all = (all.0, each-map_key P es all.1)
-
-  pub sum_by-map_key : (size : X → ℕ) (es : List (K × X))
-      → sum_by (λ (x : J × X). size x.1) (map (λ e. (h e.0, e.1)) es) ≡ sum_by (λ (x : K × X). size x.1) es
-  sum_by-map_key size [] = refl
-  sum_by-map_key size (e ∷ es) = sum_by-cons (λ (x : J × X). size x.1) (h e.0, e.1) (map (λ x. (h x.0, x.1)) es)
-      ∙ ap (λ n. size e.1 + n) (sum_by-map_key size es) ∙ sym (sum_by-cons (λ (x : K × X). size x.1) e es)

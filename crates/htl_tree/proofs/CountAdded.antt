@@ -1,4 +1,4 @@
--- Places before and after a count was added.
+-- Positions before and after a count was added.
 use Rattle.std.proofs.Common.{◌≡◌, ℕ, ◌≢◌, ◌++◌, List, [], ◌∷◌, Option, Some, None, Result, Ok}
 use Rattle.std.proofs.Common.{Err, IfOk, MatchResult, IsErr, unwrap_or, refl, sym, inl, inr, ◌∙◌, ap, subst, arith}
 use Rattle.std.specs.Cmp.{tied_itself, nat_cmp_total}
@@ -18,74 +18,74 @@ use Rattle.htl_sorted.proofs.Finds.{find_put_same, find_put_other, each_put, put
 use Rattle.htl_event.specs.SlotOrder.{slot_cmp}
 use Rattle.htl_event.specs.OrderLaws.{slot_total, slot_same}
 use Rattle.htl_tree.specs.declared.node.Node.{Node}
-use Rattle.htl_tree.specs.Trees.{bump}
-use Rattle.htl_tree.specs.Marks.{mark, HasMarksOf, AreMarked}
-use Rattle.htl_tree.specs.Nodes.{Spot, frames, counts_of, children_of, marks_at, marks, top, tops, inside}
-use Rattle.htl_tree.specs.Nodes.{tally, tally_of, own, kids, at_child, IsNonEmpty, HasMarks, IsNormal, IsNormalSpot}
+use Rattle.htl_tree.specs.Trees.{add_one}
+use Rattle.htl_tree.specs.Filters.{filter_of, HasFiltersOf, HaveFilters}
+use Rattle.htl_tree.specs.Nodes.{Position, frames, counts_of, children_of, filters_at, filters, top, tops, inside}
+use Rattle.htl_tree.specs.Nodes.{tally, tally_of, counts, children, at_child, IsNonEmpty, HasFilters, IsNormal, IsNormalPosition}
 use Rattle.htl_tree.specs.Nodes.{AtChild, NormalAt, AddsOne, counted, IsAdded, IsKept, IsBranch}
-use Rattle.htl_tree.proofs.Marked.{marked_counted}
-use Rattle.htl_tree.proofs.MarkedPlaces.{has_left, own_marked, marked_end, marked_on, marked_before, marked_own}
-use Rattle.htl_tree.proofs.Spots.{before, find_before, frames_before}
+use Rattle.htl_tree.proofs.FilterBits.{filters_counted}
+use Rattle.htl_tree.proofs.FiltersOfPositions.{has_left, counts_have_filters, filters_end, filters_on, filters_before, filters_counts}
+use Rattle.htl_tree.proofs.Positions.{before, find_before, frames_before}
 
-pub normal_here : {A : Type 0} (n : Spot A) → IsNormal n → IsNormalSpot n
+pub normal_here : {A : Type 0} (n : Position A) → IsNormal n → IsNormalPosition n
 normal_here n h = h.everywhere []
 
-pub normal_child : {A : Type 0} (n : Spot A) → IsNormal n → (f : ℕ) (c : Spot A) → find nat_cmp f (kids n) ≡ Some c → IsNormal c
+pub normal_child : {A : Type 0} (n : Position A) → IsNormal n → (f : ℕ) (c : Position A) → find nat_cmp f (children n) ≡ Some c → IsNormal c
 normal_child {A} n h f c e = record { everywhere = λ p. subst (λ o. AtChild (λ c. NormalAt p c) o) e (h.everywhere (f ∷ p)) }
 
 -- one more is more than nothing
-pub bump_positive : (sign : Sign) (c : Count) → IsPositive (bump sign c)
-bump_positive Plus c = omega arith
-bump_positive Minus c = omega arith
+pub add_one_positive : (sign : Sign) (c : Count) → IsPositive (add_one sign c)
+add_one_positive Plus c = omega arith
+add_one_positive Minus c = omega arith
 
 -- a node with a count somewhere is not empty
-pub nonempty_from : {A : Type 0} (n : Spot A) (p : List ℕ) (s : Slot) → IsPositive (tally p s n) → IsNonEmpty n
+pub nonempty_from : {A : Type 0} (n : Position A) (p : List ℕ) (s : Slot) → IsPositive (tally p s n) → IsNonEmpty n
 nonempty_from n [] s h o k = let none : tally [] s n ≡ zero_count = ap (λ es. unwrap_or (find slot_cmp s es) zero_count) o in
     let h' : IsPositive zero_count = subst IsPositive none h in omega (arith, h')
 nonempty_from n (f ∷ p) s h o k = let none : tally (f ∷ p) s n ≡ zero_count = ap (λ es. at_child (λ c. tally p s c) (find nat_cmp f es))
     k in let h' : IsPositive zero_count = subst IsPositive none h in omega (arith, h')
 
-module _ {A : Type 0} (n m : Spot A) where
+module _ {A : Type 0} (n m : Position A) where
   -- the same children
-  pub normal_own : kids m ≡ kids n → IsNormal n → IsSorted slot_cmp (own m) → Each IsPositive (own m) → AreMarked (marks m) (own m)
-      → HasMarksOf (marks m) (marks n) → IsNormal m
-  normal_own k h sorted positive marked more = record { everywhere = at }
+  pub normal_counts : children m ≡ children n → IsNormal n → IsSorted slot_cmp (counts m) → Each IsPositive (counts m) → HaveFilters (filters m) (counts m)
+      → HasFiltersOf (filters m) (filters n) → IsNormal m
+  normal_counts k h sorted positive filtered more = record { everywhere = at }
     where
       at : (p : List ℕ) → NormalAt p m
       at [] = let here = normal_here n h in
           record {
             slots = sorted;
             positive = positive;
-            marked = marked_own n m k marked more here.marked;
+            filtered = filters_counts n m k filtered more here.filtered;
             frames = rw k here.frames;
             nonempty = rw k here.nonempty;
           }
       at (f ∷ p) = rw k (h.everywhere (f ∷ p))
 
-  pub added_own : (s : Slot) (sign : Sign) → IsNormal n → own m ≡ counted s sign (own n) → marks m ≡ bit_or (marks n) (mark s)
-      → kids m ≡ kids n → IsAdded [] s sign n m
-  added_own s sign h more new k =
+  pub added_here : (s : Slot) (sign : Sign) → IsNormal n → counts m ≡ counted s sign (counts n) → filters m ≡ bit_or (filters n) (filter_of s)
+      → children m ≡ children n → IsAdded [] s sign n m
+  added_here s sign h more new k =
       let here = normal_here n h in
       record {
-        normal = normal_own k h (rw more (is_sorted-put slot_cmp slot_total s _ (own n) here.slots))
-            (rw more (each_put slot_cmp IsPositive s _ (own n) (bump_positive sign _) here.positive))
-            (rw (more, new) (marked_counted (marks n) s sign (own n) (own_marked n here)))
-            (rw new (has_left (marks n) (mark s)));
+        normal = normal_counts k h (rw more (is_sorted-put slot_cmp slot_total s _ (counts n) here.slots))
+            (rw more (each_put slot_cmp IsPositive s _ (counts n) (add_one_positive sign _) here.positive))
+            (rw (more, new) (filters_counted (filters n) s sign (counts n) (counts_have_filters n here)))
+            (rw new (has_left (filters n) (filter_of s)));
         counts = record {
-          here = rw (more, find_put_same slot_cmp slot_total s _ (own n)) refl;
+          here = rw (more, find_put_same slot_cmp slot_total s _ (counts n)) refl;
           elsewhere = elsewhere;
         };
       }
     where
       elsewhere : (p : List ℕ) (t : Slot) → (p ≡ [] → t ≢ s) → tally p t m ≡ tally p t n
-      elsewhere [] t differs = rw (more, find_put_other slot_cmp slot_total slot_same t s _ (own n) (differs refl)) refl
+      elsewhere [] t differs = rw (more, find_put_other slot_cmp slot_total slot_same t s _ (counts n) (differs refl)) refl
       elsewhere (f ∷ p) t differs = rw k refl
 
-  pub kept_own : IsNormal n → own m ≡ own n → marks m ≡ marks n → kids m ≡ kids n → IsKept n m
-  kept_own h o w k =
+  pub kept_counts : IsNormal n → counts m ≡ counts n → filters m ≡ filters n → children m ≡ children n → IsKept n m
+  kept_counts h o w k =
       let here = normal_here n h in
       record {
-        normal = normal_own k h (rw o here.slots) (rw o here.positive) (rw (o, w) (own_marked n here)) (λ s there. rw w there);
+        normal = normal_counts k h (rw o here.slots) (rw o here.positive) (rw (o, w) (counts_have_filters n here)) (λ s there. rw w there);
         counts = same;
         nonempty = λ some p q. some (sym o ∙ p) (sym k ∙ q);
       }
@@ -94,68 +94,69 @@ module _ {A : Type 0} (n m : Spot A) where
       same [] t = rw o refl
       same (f ∷ p) t = rw k refl
 
-  module _ (f : ℕ) (c : Spot A) (o : own m ≡ own n) (w : HasMarks c → HasMarks m) (k : kids m ≡ put nat_cmp f c (kids n)) (h : IsNormal n) where
-    pub normal_kid : IsNormal c → IsNonEmpty c → IsNormal m
-    normal_kid good some = record { everywhere = at }
+  module _ (f : ℕ) (c : Position A) (o : counts m ≡ counts n) (w : HasFilters c → HasFilters m)
+      (k : children m ≡ put nat_cmp f c (children n)) (h : IsNormal n) where
+    pub normal_with_child : IsNormal c → IsNonEmpty c → IsNormal m
+    normal_with_child good some = record { everywhere = at }
       where
         at : (p : List ℕ) → NormalAt p m
         at [] = let here = normal_here n h in record {
           slots = rw o here.slots;
           positive = rw o here.positive;
-          marked = w (normal_here c good).marked;
-          frames = rw k (is_sorted-put nat_cmp nat_cmp_total f c (kids n) here.frames);
-          nonempty = rw k (each_put nat_cmp (λ c. IsNonEmpty c) f c (kids n) some here.nonempty);
+          filtered = w (normal_here c good).filtered;
+          frames = rw k (is_sorted-put nat_cmp nat_cmp_total f c (children n) here.frames);
+          nonempty = rw k (each_put nat_cmp (λ c. IsNonEmpty c) f c (children n) some here.nonempty);
         }
         at (g ∷ p) = elim (cases_eq g f) [
-          | inl same ↦ rw (k, same, find_put_same nat_cmp nat_cmp_total f c (kids n)) (good.everywhere p)
-          | inr other ↦ rw (k, find_put_other nat_cmp nat_cmp_total nat_cmp-IsAntisymmetric g f c (kids n) other) (h.everywhere (g ∷ p))
+          | inl same ↦ rw (k, same, find_put_same nat_cmp nat_cmp_total f c (children n)) (good.everywhere p)
+          | inr other ↦ rw (k, find_put_other nat_cmp nat_cmp_total nat_cmp-IsAntisymmetric g f c (children n) other) (h.everywhere (g ∷ p))
         ]
 
-    pub tally_kid : (p : List ℕ) (t : Slot) → tally (f ∷ p) t m ≡ tally p t c
-    tally_kid p t = rw (k, find_put_same nat_cmp nat_cmp_total f c (kids n)) refl
+    pub tally_child : (p : List ℕ) (t : Slot) → tally (f ∷ p) t m ≡ tally p t c
+    tally_child p t = rw (k, find_put_same nat_cmp nat_cmp_total f c (children n)) refl
 
     pub tally_else : (g : ℕ) (p : List ℕ) (t : Slot) → g ≢ f → tally (g ∷ p) t m ≡ tally (g ∷ p) t n
-    tally_else g p t other = rw (k, find_put_other nat_cmp nat_cmp_total nat_cmp-IsAntisymmetric g f c (kids n) other) refl
+    tally_else g p t other = rw (k, find_put_other nat_cmp nat_cmp_total nat_cmp-IsAntisymmetric g f c (children n) other) refl
 
-    adds_kid : (path : List ℕ) (s : Slot) (sign : Sign) → AddsOne path s sign
-        (λ p t. at_child (λ c. tally p t c) (find nat_cmp f (kids n))) (tally_of c) → AddsOne (f ∷ path) s sign (tally_of n) (tally_of m)
-    adds_kid path s sign adds = record { here = tally_kid path s ∙ adds.here; elsewhere = elsewhere }
+    adds_child : (path : List ℕ) (s : Slot) (sign : Sign) → AddsOne path s sign
+        (λ p t. at_child (λ c. tally p t c) (find nat_cmp f (children n))) (tally_of c) → AddsOne (f ∷ path) s sign (tally_of n) (tally_of m)
+    adds_child path s sign adds = record { here = tally_child path s ∙ adds.here; elsewhere = elsewhere }
       where
         elsewhere : (p : List ℕ) (t : Slot) → (p ≡ f ∷ path → t ≢ s) → tally p t m ≡ tally p t n
         elsewhere [] t differs = rw o refl
         elsewhere (g ∷ p) t differs = elim (cases_eq g f) [
-          | inl same ↦ rw same (tally_kid p t ∙ adds.elsewhere p t (λ e. differs (λ i. same i ∷ e i)))
+          | inl same ↦ rw same (tally_child p t ∙ adds.elsewhere p t (λ e. differs (λ i. same i ∷ e i)))
           | inr other ↦ tally_else g p t other
         ]
 
     -- a child that was there
-    module _ (old : Spot A) (found : find nat_cmp f (kids n) ≡ Some old) where
+    module _ (old : Position A) (found : find nat_cmp f (children n) ≡ Some old) where
       pub added_below : (path : List ℕ) (s : Slot) (sign : Sign) → IsAdded path s sign old c → IsAdded (f ∷ path) s sign n m
       added_below path s sign added = record {
-        normal = normal_kid added.normal (nonempty_from c path s (rw added.counts.here (bump_positive sign _)));
-        counts = adds_kid path s sign (rw found added.counts);
+        normal = normal_with_child added.normal (nonempty_from c path s (rw added.counts.here (add_one_positive sign _)));
+        counts = adds_child path s sign (rw found added.counts);
       }
 
       pub kept_below : IsKept old c → IsNonEmpty old → IsKept n m
       kept_below kept some = record {
-        normal = normal_kid kept.normal (kept.nonempty some);
+        normal = normal_with_child kept.normal (kept.nonempty some);
         counts = same;
-        nonempty = λ _ _ no. put_some nat_cmp f c (kids n) (sym k ∙ no);
+        nonempty = λ _ _ no. put_some nat_cmp f c (children n) (sym k ∙ no);
       }
         where
           same : (p : List ℕ) (t : Slot) → tally p t m ≡ tally p t n
           same [] t = rw o refl
           same (g ∷ p) t = elim (cases_eq g f) [
-            | inl is ↦ rw is (tally_kid p t ∙ kept.counts p t ∙ rw found refl)
+            | inl is ↦ rw is (tally_child p t ∙ kept.counts p t ∙ rw found refl)
             | inr other ↦ tally_else g p t other
           ]
 
     -- a child that is new
-    pub added_branch : (path : List ℕ) (s : Slot) (sign : Sign) → find nat_cmp f (kids n) ≡ None → IsBranch path s sign c
+    pub added_branch : (path : List ℕ) (s : Slot) (sign : Sign) → find nat_cmp f (children n) ≡ None → IsBranch path s sign c
         → IsAdded (f ∷ path) s sign n m
     added_branch path s sign none new = record {
-      normal = normal_kid new.normal (nonempty_from c path s (rw new.counts.here (bump_positive sign _)));
-      counts = adds_kid path s sign (rw none new.counts);
+      normal = normal_with_child new.normal (nonempty_from c path s (rw new.counts.here (add_one_positive sign _)));
+      counts = adds_child path s sign (rw none new.counts);
     }
 
 pub match_result : {X E : Type 0} {P P' : X → Type 0} {Q Q' : E → Type 0} (r : Result X E) → MatchResult r P Q → ((x : X) → P x → P' x)
@@ -164,12 +165,12 @@ match_result (Ok x) h f g = f x h
 match_result (Err e) h f g = g e h
 
 -- a child whose frame is found is not empty
-pub nonempty_child : {A : Type 0} (n : Spot A) → IsNormal n → (f : ℕ) (c : Spot A) → find nat_cmp f (kids n) ≡ Some c → IsNonEmpty c
-nonempty_child n h f c found = each_found nat_cmp (λ c. IsNonEmpty c) f c (kids n) (normal_here n h).nonempty found
+pub nonempty_child : {A : Type 0} (n : Position A) → IsNormal n → (f : ℕ) (c : Position A) → find nat_cmp f (children n) ≡ Some c → IsNonEmpty c
+nonempty_child n h f c found = each_found nat_cmp (λ c. IsNonEmpty c) f c (children n) (normal_here n h).nonempty found
 
 -- a count that was added below a child, or refused
-pub stepped : {A : Type 0} (n m : Spot A) → IsNormal n → (f : ℕ) (old new : Spot A) → find nat_cmp f (kids n) ≡ Some old
-    → own m ≡ own n → (HasMarks new → HasMarks m) → kids m ≡ put nat_cmp f new (kids n) → (path : List ℕ) (s : Slot) (sign : Sign)
+pub stepped : {A : Type 0} (n m : Position A) → IsNormal n → (f : ℕ) (old new : Position A) → find nat_cmp f (children n) ≡ Some old
+    → counts m ≡ counts n → (HasFilters new → HasFilters m) → children m ≡ put nat_cmp f new (children n) → (path : List ℕ) (s : Slot) (sign : Sign)
     → {X E : Type 0} (r : Result X E) → MatchResult r (λ _. IsAdded path s sign old new) (λ _. IsKept old new)
     → MatchResult r (λ _. IsAdded (f ∷ path) s sign n m) (λ _. IsKept n m)
 stepped n m h f old new found o w k path s sign r result = match_result r result
@@ -181,9 +182,9 @@ refused P (Ok x) e q = cc
 refused P (Err x) e q = q
 
 -- the node at the end of a branch
-pub branch_end : {A : Type 0} (m : Spot A) (s : Slot) (sign : Sign) → own m ≡ (s, bump sign zero_count) ∷ []
-    → AreMarked (marks m) (own m) → kids m ≡ [] → IsBranch [] s sign m
-branch_end {A} m s sign o marked k = record {
+pub branch_end : {A : Type 0} (m : Position A) (s : Slot) (sign : Sign) → counts m ≡ (s, add_one sign zero_count) ∷ []
+    → HaveFilters (filters m) (counts m) → children m ≡ [] → IsBranch [] s sign m
+branch_end {A} m s sign o filtered k = record {
   normal = record { everywhere = at };
   counts = record { here = rw (o, tied_itself slot_total s) refl; elsewhere = elsewhere };
 }
@@ -191,8 +192,8 @@ branch_end {A} m s sign o marked k = record {
     at : (p : List ℕ) → NormalAt p m
     at [] = record {
       slots = rw o tt;
-      positive = rw o (bump_positive sign zero_count, tt);
-      marked = marked_end m marked k;
+      positive = rw o (add_one_positive sign zero_count, tt);
+      filtered = filters_end m filtered k;
       frames = rw k tt;
       nonempty = rw k tt;
     }
@@ -200,12 +201,12 @@ branch_end {A} m s sign o marked k = record {
 
     elsewhere : (p : List ℕ) (t : Slot) → (p ≡ [] → t ≢ s) → tally p t m ≡ zero_count
     elsewhere [] t differs = rw o (ap (λ (c : Option Count). unwrap_or c zero_count)
-        (find_put_other slot_cmp slot_total slot_same t s (bump sign zero_count) [] (differs refl)))
+        (find_put_other slot_cmp slot_total slot_same t s (add_one sign zero_count) [] (differs refl)))
     elsewhere (f ∷ p) t differs = rw k refl
 
 -- a node above it
-pub branch_on : {A : Type 0} (m c : Spot A) (f : ℕ) (path : List ℕ) (s : Slot) (sign : Sign) → own m ≡ [] → kids m ≡ (f, c) ∷ []
-    → HasMarksOf (marks m) (marks c) → IsBranch path s sign c → IsBranch (f ∷ path) s sign m
+pub branch_on : {A : Type 0} (m c : Position A) (f : ℕ) (path : List ℕ) (s : Slot) (sign : Sign) → counts m ≡ [] → children m ≡ (f, c) ∷ []
+    → HasFiltersOf (filters m) (filters c) → IsBranch path s sign c → IsBranch (f ∷ path) s sign m
 branch_on m c f path s sign o k w child = record {
   normal = record { everywhere = at };
   counts = record { here = here path s ∙ child.counts.here; elsewhere = elsewhere };
@@ -215,10 +216,10 @@ branch_on m c f path s sign o k w child = record {
     at [] = record {
       slots = rw o tt;
       positive = rw o tt;
-      marked = marked_on m c f o k w (normal_here c child.normal).marked;
+      filtered = filters_on m c f o k w (normal_here c child.normal).filtered;
       frames = rw k tt;
       nonempty =
-          rw k (nonempty_from c path s (rw child.counts.here (bump_positive sign zero_count)), tt);
+          rw k (nonempty_from c path s (rw child.counts.here (add_one_positive sign zero_count)), tt);
     }
     at (g ∷ p) = elim (cases_eq g f) [
       | inl same ↦ rw (k, same, tied_itself nat_cmp_total f) (child.normal.everywhere p)
@@ -236,27 +237,27 @@ branch_on m c f path s sign o k w child = record {
           (find_put_other nat_cmp nat_cmp_total nat_cmp-IsAntisymmetric g f c [] other))
     ]
 
--- ---- frames before a place
+-- ---- frames before a position
 
--- the only place after a frame is put there at that frame
-pub put_before : {A : Type 0} (f : ℕ) (c k : Spot A) → kids (before f k) ≡ put nat_cmp f k (kids (before f c))
+-- the only position after a frame is put there at that frame
+pub put_before : {A : Type 0} (f : ℕ) (c k : Position A) → children (before f k) ≡ put nat_cmp f k (children (before f c))
 put_before f c k = rw (tied_itself nat_cmp_total f) refl
 
 module _ {A : Type 0} where
-  pub normal_after : (f : ℕ) (c : Spot A) → IsNormal (before f c) → IsNormal c
+  pub normal_after : (f : ℕ) (c : Position A) → IsNormal (before f c) → IsNormal c
   normal_after f c h = normal_child (before f c) h f c (find_before f c)
 
-  normal_along : (fs : List ℕ) (c : Spot A) → IsNormal (frames_before fs c) → IsNormal c
+  normal_along : (fs : List ℕ) (c : Position A) → IsNormal (frames_before fs c) → IsNormal c
   normal_along [] c h = h
   normal_along (f ∷ fs) c h = normal_along fs c (normal_after f (frames_before fs c) h)
 
-  kept_along : (fs : List ℕ) (c k : Spot A) → IsNormal (frames_before fs c) → IsKept c k
+  kept_along : (fs : List ℕ) (c k : Position A) → IsNormal (frames_before fs c) → IsKept c k
       → IsKept (frames_before fs c) (frames_before fs k)
   kept_along [] c k h kept = kept
   kept_along (f ∷ fs) c k h kept =
       let old = frames_before fs c in
       let new = frames_before fs k in
-      kept_below (before f old) (before f new) f new refl (marked_before f new)
+      kept_below (before f old) (before f new) f new refl (filters_before f new)
       (put_before f old new) h old (find_before f old)
       (kept_along fs c k (normal_after f old h) kept) (nonempty_child (before f old) h f old (find_before f old))
 
@@ -283,9 +284,9 @@ module _ {A : Type 0} where
 
 -- the rest of its frames lead to a node of its own, which has all that was inside
 pub parted : {A : Type 0} (n upper lower : Node A) (fs gs : List ℕ) (f : ℕ) → IsNormal (top n) → frames n ≡ fs ++ f ∷ gs
-    → frames upper ≡ fs → counts_of upper ≡ [] → children_of upper ≡ (f, lower) ∷ [] → marks_at upper ≡ marks_at n → frames lower ≡ gs
-    → counts_of lower ≡ counts_of n → children_of lower ≡ children_of n → marks_at lower ≡ marks_at n → IsKept (top n) (top upper)
-parted {A} n upper lower fs gs f h all first none only as_marked rest counts children marked =
+    → frames upper ≡ fs → counts_of upper ≡ [] → children_of upper ≡ (f, lower) ∷ [] → filters_at upper ≡ filters_at n → frames lower ≡ gs
+    → counts_of lower ≡ counts_of n → children_of lower ≡ children_of n → filters_at lower ≡ filters_at n → IsKept (top n) (top upper)
+parted {A} n upper lower fs gs f h all first none only as_filtered rest same_counts same_children filtered =
     subst (λ l. IsKept (l, n) (top upper)) (sym all) (subst (λ l. IsKept (fs ++ f ∷ gs, n) (l, upper)) (append-nil fs ∙ sym first)
     (kept_along fs (f ∷ gs, n) (inside upper) normal below))
   where
@@ -297,21 +298,21 @@ parted {A} n upper lower fs gs f h all first none only as_marked rest counts chi
 
     moved : IsKept (gs, n) (gs, lower)
     moved = kept_before gs n lower (normal_after f (gs, n) here)
-        (kept_own (inside n) (inside lower) (normal_inside (frames n) n h) counts marked (ap tops children))
+        (kept_counts (inside n) (inside lower) (normal_inside (frames n) n h) same_counts filtered (ap tops same_children))
 
-    further : kids (inside upper) ≡ (f, (gs, lower)) ∷ []
+    further : children (inside upper) ≡ (f, (gs, lower)) ∷ []
     further = ap tops only ∙ ap (λ l. (f, (l, lower)) ∷ []) rest
 
     below : IsKept (f ∷ gs, n) (inside upper)
     below = kept_below (f ∷ gs, n) (inside upper) f (gs, lower) none
-        (λ there. marked_on (inside upper) (gs, lower) f none further (λ s is. rw (as_marked, sym marked) is) there)
+        (λ there. filters_on (inside upper) (gs, lower) f none further (λ s is. rw (as_filtered, sym filtered) is) there)
         (further ∙ put_before f (gs, n) (gs, lower)) here (gs, n) (find_before f (gs, n)) moved
         (nonempty_child (f ∷ gs, n) here f (gs, n) (find_before f (gs, n)))
 
--- what is known of a node by its parts
+-- what holds of a node by its parts
 pub if_parts : {A E : Type 0} (P : Node A → Type 0) (fs : List ℕ) (es : List (Slot × Count)) (r : Result (Node A) E)
     → IfOk r (λ n. frames n ≡ fs) → IfOk r (λ n. counts_of n ≡ es) → IfOk r (λ n. children_of n ≡ [])
-    → IfOk r (λ n. AreMarked (marks_at n) (counts_of n))
-    → ((n : Node A) → frames n ≡ fs → counts_of n ≡ es → children_of n ≡ [] → AreMarked (marks_at n) (counts_of n) → P n) → IfOk r P
+    → IfOk r (λ n. HaveFilters (filters_at n) (counts_of n))
+    → ((n : Node A) → frames n ≡ fs → counts_of n ≡ es → children_of n ≡ [] → HaveFilters (filters_at n) (counts_of n) → P n) → IfOk r P
 if_parts P fs es (Ok n) f c k w known = known n f c k w
 if_parts P fs es (Err e) f c k w known = tt

@@ -7,13 +7,13 @@ use Rattle.std.proofs.lemmas.List.{nil_from_length, length-reverse, reverse-appe
 use Rattle.htl_event.specs.declared.slot.Slot.{Slot}
 use Rattle.htl_event.specs.declared.slot.Sign.{Sign}
 use Rattle.htl_tree.specs.declared.node.Node.{Node}
-use Rattle.htl_tree.specs.Trees.{bump}
-use Rattle.htl_tree.specs.Nodes.{Spot, frames, top, inside, tally, kids, at_child, IsNormal, IsAdded, IsKept}
-use Rattle.htl_tree.proofs.Spots.{find_before, tally_along}
+use Rattle.htl_tree.specs.Trees.{add_one}
+use Rattle.htl_tree.specs.Nodes.{Position, frames, top, inside, tally, children, at_child, IsNormal, IsAdded, IsKept}
+use Rattle.htl_tree.proofs.Positions.{find_before, tally_along}
 use Rattle.htl_tree.proofs.CountAdded.{normal_child, normal_after, normal_inside, put_before, added_below, kept_before, match_result}
-use Rattle.htl_tree.proofs.MarkedPlaces.{marked_before}
+use Rattle.htl_tree.proofs.FiltersOfPositions.{filters_before}
 
--- ---- the path of a stack behind these frames
+-- ---- the path of a stack after these frames
 
 -- nothing of the stack is left
 pub path_ends : (stack left fs : List ℕ) → reverse stack ≡ fs ++ reverse left → length left ≡ 0 → reverse stack ≡ fs ++ []
@@ -24,7 +24,7 @@ pub path_goes_on : (stack left rest fs : List ℕ) (f : ℕ) → reverse stack �
     → reverse stack ≡ fs ++ f ∷ reverse rest
 path_goes_on stack left rest fs f is last = is ∙ ap (λ l. fs ++ l) (ap reverse last ∙ reverse-append rest (f ∷ []))
 
--- ---- places inside the node, and those at its frames
+-- ---- positions inside the node, and those at its frames
 
 tally_inside : {A : Type 0} (fs : List ℕ) (n : Node A) (path : List ℕ) (s : Slot) → tally (fs ++ path) s (fs, n) ≡ tally path s (inside n)
 tally_inside fs n path s = ap (λ l. tally (fs ++ path) s (l, n)) (sym (append-nil fs)) ∙ tally_along fs (inside n) path s
@@ -34,35 +34,35 @@ added_before : {A : Type 0} (fs : List ℕ) (n m : Node A) → IsNormal (fs, n) 
     → IsAdded path s sign (inside n) (inside m) → IsAdded (fs ++ path) s sign (fs, n) (fs, m)
 added_before [] n m h path s sign added = added
 added_before (f ∷ fs) n m h path s sign added =
-    added_below (f ∷ fs, n) (f ∷ fs, m) f (fs, m) refl (marked_before f (fs, m)) (put_before f (fs, n) (fs, m)) h (fs, n)
+    added_below (f ∷ fs, n) (f ∷ fs, m) f (fs, m) refl (filters_before f (fs, m)) (put_before f (fs, n) (fs, m)) h (fs, n)
     (find_before f (fs, n)) (fs ++ path) s sign (added_before fs n m (normal_after f (fs, n) h) path s sign added)
 
-kept_kept : {A : Type 0} (a b c : Spot A) → IsKept a b → IsKept b c → IsKept a c
+kept_kept : {A : Type 0} (a b c : Position A) → IsKept a b → IsKept b c → IsKept a c
 kept_kept a b c first second = record {
   normal = second.normal;
   counts = λ p s. second.counts p s ∙ first.counts p s;
   nonempty = λ some. second.nonempty (first.nonempty some);
 }
 
-kept_added : {A : Type 0} (a b c : Spot A) (path : List ℕ) (s : Slot) (sign : Sign) → IsKept a b → IsAdded path s sign b c
+kept_added : {A : Type 0} (a b c : Position A) (path : List ℕ) (s : Slot) (sign : Sign) → IsKept a b → IsAdded path s sign b c
     → IsAdded path s sign a c
 kept_added a b c path s sign kept added = record {
   normal = added.normal;
   counts = record {
-    here = added.counts.here ∙ ap (bump sign) (kept.counts path s);
+    here = added.counts.here ∙ ap (add_one sign) (kept.counts path s);
     elsewhere = λ p t other. added.counts.elsewhere p t other ∙ kept.counts p t;
   };
 }
 
 -- ---- what was done inside the node
 
--- a place that counts at the rest of the stack what was counted at the whole
-pub record IsOnward {A : Type 0} (old : Spot A) (stack rest : List ℕ) (place : Spot A) : Type 0 where
-  pub normal : IsNormal place
-  pub counts : (s : Slot) → tally (reverse stack) s old ≡ tally (reverse rest) s place
+-- a position that counts at the rest of the stack what was counted at the whole
+pub record IsOnward {A : Type 0} (old : Position A) (stack rest : List ℕ) (inner : Position A) : Type 0 where
+  pub normal : IsNormal inner
+  pub counts : (s : Slot) → tally (reverse stack) s old ≡ tally (reverse rest) s inner
   pub shorter : length rest < length stack
 
-module _ {A : Type 0} (old : Spot A) (n : Node A) (kept : IsKept old (top n)) where
+module _ {A : Type 0} (old : Position A) (n : Node A) (kept : IsKept old (top n)) where
   pub normal_entered : IsNormal (inside n)
   normal_entered = normal_inside (frames n) n kept.normal
 
@@ -89,8 +89,8 @@ module _ {A : Type 0} (old : Spot A) (n : Node A) (kept : IsKept old (top n)) wh
       (λ x added. entered_added path rest is s m same sign added) (λ x again. entered_kept m same again)
 
   -- the child that the path of a stack leads to
-  pub onward : (stack rest : List ℕ) (f : ℕ) → reverse stack ≡ frames n ++ f ∷ reverse rest → (child : Spot A)
-      → find nat_cmp f (kids (inside n)) ≡ Some child → IsOnward old stack rest child
+  pub onward : (stack rest : List ℕ) (f : ℕ) → reverse stack ≡ frames n ++ f ∷ reverse rest → (child : Position A)
+      → find nat_cmp f (children (inside n)) ≡ Some child → IsOnward old stack rest child
   onward stack rest f path child found = record {
     normal = normal_child (inside n) normal_entered f child found;
     counts = λ s. entered_tally (reverse stack) (f ∷ reverse rest) path s ∙ ap (at_child (λ k. tally (reverse rest) s k)) found;

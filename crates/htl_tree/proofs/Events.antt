@@ -19,9 +19,9 @@ use Rattle.htl_event.specs.Stacks.{outer}
 use Rattle.htl_event.specs.Tallies.{zero_count, plus_count, count_where, has_stack, tally, under, IsPositive}
 use Rattle.htl_event.proofs.Counts.{count_where-append}
 use Rattle.htl_sorted.specs.Entries.{Each}
-use Rattle.htl_tree.specs.Trees.{Tree, place_cmp, bump, sum_where, with_one, count_at, count_under, IsTree, HasTally}
-use Rattle.htl_tree.proofs.CountAdded.{bump_positive}
-use Rattle.htl_tree.proofs.TreesAsLists.{place_total, place_same, count_with_one, count_with_one-other}
+use Rattle.htl_tree.specs.Trees.{Tree, key_cmp, add_one, sum_where, with_one, count_at, count_under, IsTree, HasTally}
+use Rattle.htl_tree.proofs.CountAdded.{add_one_positive}
+use Rattle.htl_tree.proofs.TreesAsLists.{key_total, key_same, count_with_one, count_with_one-other}
 use Rattle.htl_tree.proofs.CopiesAndSums.{zero_left, zero_right}
 use Rattle.htl_tree.specs.Rows.{sum_at, one_at}
 use Rattle.htl_tree.proofs.SumsFromTally.{weigh, weigh_rows}
@@ -32,7 +32,7 @@ Row = (List ℕ × Slot) × Count
 
 abbrev row_by : List ℕ → Option (Slot × Sign) → Option Row
 row_by stack None = None
-row_by stack (Some x) = Some ((stack, x.0), bump x.1 zero_count)
+row_by stack (Some x) = Some ((stack, x.0), add_one x.1 zero_count)
 
 -- what each event counts
 abbrev event_rows : List Event → List Row
@@ -45,7 +45,7 @@ more (Some row) rows = row ∷ rows
 more_positive : (stack : List ℕ) (o : Option (Slot × Sign)) (rows : List Row) → Each IsPositive rows
     → Each IsPositive (more (row_by stack o) rows)
 more_positive stack None rows h = h
-more_positive stack (Some x) rows h = (bump_positive x.1 zero_count, h)
+more_positive stack (Some x) rows h = (add_one_positive x.1 zero_count, h)
 
 rows_positive : (events : List Event) → Each IsPositive (event_rows events)
 rows_positive [] = tt
@@ -55,15 +55,15 @@ and_Decides : (a b : Bool) (P Q : Type 0) → Decides a P → Decides b Q → De
 and_Decides true b P Q f g = (λ e. (f.0 refl, g.0 e), λ h. g.1 h.1)
 and_Decides false b P Q f g = (λ e. let never : false ≡ true = e in absurd (cc), λ h. f.1 h.0)
 
-tie_Decides : (x y : List ℕ × Slot) → Decides (eq_by_cmp place_cmp x y) (x ≡ y)
+tie_Decides : (x y : List ℕ × Slot) → Decides (eq_by_cmp key_cmp x y) (x ≡ y)
 tie_Decides x y = (
-  λ e. place_same x y ((Equal-is (place_cmp x y)).0 e),
-  λ e. ap (λ z. eq_by_cmp place_cmp x z) (sym e)
-      ∙ ap is_eq (tied_itself place_total x),
+  λ e. key_same x y ((Equal-is (key_cmp x y)).0 e),
+  λ e. ap (λ z. eq_by_cmp key_cmp x z) (sym e)
+      ∙ ap is_eq (tied_itself key_total x),
 )
 
--- an event stands at a place where it has the slot and the stack
-here_is : (s t : Slot) (k stack : List ℕ) → eq_by_cmp place_cmp (k, s) (stack, t) ≡ (same_slot s t && pointwise nat_eq stack k)
+-- an event stands at a key where it has the slot and the stack
+here_is : (s t : Slot) (k stack : List ℕ) → eq_by_cmp key_cmp (k, s) (stack, t) ≡ (same_slot s t && pointwise nat_eq stack k)
 here_is s t k stack =
     let x : List ℕ × Slot = (k, s) in
     let y : List ℕ × Slot = (stack, t) in
@@ -76,7 +76,7 @@ here_is s t k stack =
 count_one : (p : Event → Bool) (e : Event) → count_by p (e ∷ []) ≡ cond (p e) 1 0
 count_one p e = let one : count_by p (e ∷ []) ≡ cond (p e) 1 0 + 0 = sum_by-cons (λ x. cond (p x) 1 0) e [] in omega (arith, one)
 
--- what one event adds on one side, where it stands at the place
+-- what one event adds on one side, where it stands at the key
 abbrev tick : Bool → ℕ
 tick b = cond b 1 0
 
@@ -87,14 +87,14 @@ once sign sg false b = refl
 
 one_count : (sg : Sign) (b : Bool)
     → ◌≡◌ {A = Count} (record { plus = cond b (cond (same_sign Plus sg) 1 0) 0; minus = cond b (cond (same_sign Minus sg) 1 0) 0 })
-    (cond b (bump sg zero_count) zero_count)
+    (cond b (add_one sg zero_count) zero_count)
 one_count Plus true = refl
 one_count Minus true = refl
 one_count sg false = refl
 
 -- the counts of one event
 one_event : (passes : Event → Bool) (e : Event) (slot : Slot) (x : Slot × Sign) → slot_of e ≡ Some x
-    → count_where passes (e ∷ []) slot ≡ cond (same_slot slot x.0 && passes e) (bump x.1 zero_count) zero_count
+    → count_where passes (e ∷ []) slot ≡ cond (same_slot slot x.0 && passes e) (add_one x.1 zero_count) zero_count
 one_event passes e slot x is =
     let side : (sign : Sign) → count_by (λ y. is_counted slot sign y && passes y) (e ∷ [])
     ≡ cond (same_slot slot x.0 && passes e) (cond (same_sign sign x.1) 1 0) 0 = λ sign.
@@ -120,10 +120,10 @@ tally_event_rows (e ∷ events) slot stack =
       | None ↦ λ is. rest ∙ zero_left (tally events slot stack)
           ∙ ap (λ c. plus_count c (tally events slot stack)) (sym (no_event (has_stack stack) e slot is))
       | Some x ↦ λ is.
-          ap (λ b. cond b (plus_count (bump x.1 zero_count) (sum_at (event_rows events) slot stack))
+          ap (λ b. cond b (plus_count (add_one x.1 zero_count) (sum_at (event_rows events) slot stack))
           (sum_at (event_rows events) slot stack)) (here_is slot x.0 stack e.stack)
-          ∙ ap (λ d. cond (same_slot slot x.0 && has_stack stack e) (plus_count (bump x.1 zero_count) d) d) rest
-          ∙ added (same_slot slot x.0 && has_stack stack e) (bump x.1 zero_count) (tally events slot stack)
+          ∙ ap (λ d. cond (same_slot slot x.0 && has_stack stack e) (plus_count (add_one x.1 zero_count) d) d) rest
+          ∙ added (same_slot slot x.0 && has_stack stack e) (add_one x.1 zero_count) (tally events slot stack)
           ∙ ap (λ c. plus_count c (tally events slot stack)) (sym (one_event (has_stack stack) e slot x is))
     ]) refl ∙ sym whole
   where
@@ -181,11 +181,11 @@ module _ (passes : List ℕ → Bool) (slot : Slot) (sign : Sign) where
       ]) ∙ sym whole
 
   side_event : (e : Event) (x : Slot × Sign) → slot_of e ≡ Some x
-      → side sign (count_where (λ y. passes y.stack) (e ∷ []) slot) ≡ weight (e.stack, x.0) (bump x.1 zero_count)
+      → side sign (count_where (λ y. passes y.stack) (e ∷ []) slot) ≡ weight (e.stack, x.0) (add_one x.1 zero_count)
   side_event e x is =
       ap (side sign) (one_event (λ y. passes y.stack) e slot x is)
       ∙ elim (same_slot slot x.0 && passes e.stack)
-      as (λ b. side sign (cond b (bump x.1 zero_count) zero_count) ≡ cond b (side sign (bump x.1 zero_count)) 0) [
+      as (λ b. side sign (cond b (add_one x.1 zero_count) zero_count) ≡ cond b (side sign (add_one x.1 zero_count)) 0) [
         | true ↦ refl
         | false ↦ side_zero sign
       ]
@@ -203,7 +203,7 @@ module _ (passes : List ℕ → Bool) (slot : Slot) (sign : Sign) where
         | None ↦ λ is. let nothing : side sign (count_where (λ y. passes y.stack) (e ∷ []) slot) ≡ 0 =
             ap (side sign) (no_event (λ y. passes y.stack) e slot is) ∙ side_zero sign in omega (arith, nothing, rest)
         | Some x ↦ λ is.
-            let whole = sum_by-cons (λ (r : Row). weight r.0 r.1) ((e.stack, x.0), bump x.1 zero_count) (event_rows events) in
+            let whole = sum_by-cons (λ (r : Row). weight r.0 r.1) ((e.stack, x.0), add_one x.1 zero_count) (event_rows events) in
             let one = side_event e x is in
             omega (arith, whole, one, rest)
       ]) refl ∙ sym both
@@ -222,20 +222,20 @@ under_events t h events tallied path slot =
 
 -- ---- one event more
 
-pub bump_plus : (sign : Sign) (c : Count) → bump sign c ≡ plus_count c (bump sign zero_count)
-bump_plus Plus c = let m : c.minus ≡ c.minus + 0 = omega arith in λ i. record { plus = c.plus + 1; minus = m i }
-bump_plus Minus c = let p : c.plus ≡ c.plus + 0 = omega arith in λ i. record { plus = p i; minus = c.minus + 1 }
+pub add_one_plus : (sign : Sign) (c : Count) → add_one sign c ≡ plus_count c (add_one sign zero_count)
+add_one_plus Plus c = let m : c.minus ≡ c.minus + 0 = omega arith in λ i. record { plus = c.plus + 1; minus = m i }
+add_one_plus Minus c = let p : c.plus ≡ c.plus + 0 = omega arith in λ i. record { plus = p i; minus = c.minus + 1 }
 
 tally_push : (events : List Event) (e : Event) (slot : Slot) (stack : List ℕ)
     → tally (events ++ e ∷ []) slot stack ≡ plus_count (tally events slot stack) (tally (e ∷ []) slot stack)
 tally_push events e slot stack = count_where-append (has_stack stack) events (e ∷ []) slot
 
--- an event that is counted adds one at its place
+-- an event that is counted adds one at its key
 pub tally_one_more : (events : List Event) (e : Event) (slot : Slot) (sign : Sign) → slot_of e ≡ Some (slot, sign)
     → (s : Slot) (k : List ℕ) → tally (events ++ e ∷ []) s k ≡ plus_count (tally events s k) (one_at e.stack slot sign s k)
 tally_one_more events e slot sign is s k =
     tally_push events e s k ∙ ap (plus_count (tally events s k))
-    (one_event (has_stack k) e s (slot, sign) is ∙ ap (λ b. cond b (bump sign zero_count) zero_count) (sym (here_is s slot k e.stack)))
+    (one_event (has_stack k) e s (slot, sign) is ∙ ap (λ b. cond b (add_one sign zero_count) zero_count) (sym (here_is s slot k e.stack)))
 
 -- an event that is counted adds one
 pub tally_with_one : (t : Tree) (events : List Event) (e : Event) (slot : Slot) (sign : Sign) → HasTally t events
@@ -243,13 +243,13 @@ pub tally_with_one : (t : Tree) (events : List Event) (e : Event) (slot : Slot) 
 tally_with_one t events e slot sign tallied is s k =
     let whole = tally_push events e s k ∙ ap (plus_count (tally events s k)) (one_event (has_stack k) e s (slot, sign) is) in
     (elim (same_slot s slot && pointwise nat_eq e.stack k) as (λ b. (same_slot s slot && pointwise nat_eq e.stack k) ≡ b
-    → count_at (with_one t slot sign e.stack) s k ≡ plus_count (tally events s k) (cond b (bump sign zero_count) zero_count)) [
+    → count_at (with_one t slot sign e.stack) s k ≡ plus_count (tally events s k) (cond b (add_one sign zero_count) zero_count)) [
       | true ↦ λ yes.
           let here = (and_Decides _ _ _ _ (same_slot_Decides s slot) (pointwise_decides unsigned_Decides e.stack k)).0 yes in
           ap (λ u. count_at (with_one t slot sign e.stack) u k) here.0
           ∙ ap (λ l. count_at (with_one t slot sign e.stack) slot l) (sym here.1) ∙ count_with_one t slot sign e.stack
-          ∙ ap (λ l. bump sign (count_at t slot l)) here.1 ∙ ap (λ u. bump sign (count_at t u k)) (sym here.0)
-          ∙ ap (bump sign) (tallied s k) ∙ bump_plus sign (tally events s k)
+          ∙ ap (λ l. add_one sign (count_at t slot l)) here.1 ∙ ap (λ u. add_one sign (count_at t u k)) (sym here.0)
+          ∙ ap (add_one sign) (tallied s k) ∙ add_one_plus sign (tally events s k)
       | false ↦ λ differs.
           let other : k ≡ e.stack → s ≡ slot → ⊥ = λ same_stack same. let yes =
           (and_Decides _ _ _ _ (same_slot_Decides s slot) (pointwise_decides unsigned_Decides e.stack k)).1

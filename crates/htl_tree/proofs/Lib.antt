@@ -1,5 +1,5 @@
-pub mod Marked
-pub mod MarkedPlaces
+pub mod FilterBits
+pub mod FiltersOfPositions
 pub mod CountAdded
 pub mod Entered
 pub mod ChangedKeys
@@ -16,15 +16,10 @@ pub mod Tops
 pub mod Under
 pub mod Events
 pub mod SlotRows
-pub mod MarkedRows
-pub mod Spots
+pub mod FiltersOfRows
+pub mod Positions
 pub mod Depth
 pub mod Roots
 pub mod RowGroups
 pub mod Between
-pub mod Picked
-pub mod KeyedSums
-pub mod EachValue
-pub mod PlaceLists
-pub mod Gathered
-pub mod SumsOfTrees
+pub mod SlotSums

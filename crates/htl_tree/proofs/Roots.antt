@@ -11,13 +11,13 @@ use Rattle.htl_event.specs.declared.slot.Count.{Count}
 use Rattle.htl_event.specs.Tallies.{zero_count, plus_count, total_of, IsPositive}
 use Rattle.htl_tree.specs.declared.node.Node.{Node}
 use Rattle.htl_event.specs.SlotOrder.{slot_cmp}
-use Rattle.htl_tree.specs.Trees.{Tree, place_cmp, count_at, bump, with_one}
+use Rattle.htl_tree.specs.Trees.{Tree, key_cmp, count_at, add_one, with_one}
 use Rattle.htl_tree.specs.Trees.{total_count, IsTree, AllShort, IsSumTally, IsSameTally as IsSameTree}
-use Rattle.htl_tree.specs.Nodes.{Spot, top, tally, tally_of, rows, tree_at, tree_of, IsNormal, IsNonEmpty, IsNormalTop, IsNormalRoot}
+use Rattle.htl_tree.specs.Nodes.{Position, top, tally, tally_of, rows, tree_at, tree_of, IsNormal, IsNonEmpty, IsNormalTop, IsNormalRoot}
 use Rattle.htl_tree.specs.Nodes.{IsAdded, IsKept, IsBranch, IsSameTally, IsCopy, IsSum, FitsSum}
 use Rattle.htl_tree.proofs.ChangedKeys.{find-map_key, sorted-map_key, each-map_key}
 use Rattle.htl_tree.proofs.NodeRows.{path_cmp, tally_rows, rows_sorted, rows_positive}
-use Rattle.htl_tree.proofs.CountAdded.{nonempty_from, bump_positive}
+use Rattle.htl_tree.proofs.CountAdded.{nonempty_from, add_one_positive}
 use Rattle.htl_tree.proofs.Canonical.{inhabited}
 use Rattle.htl_tree.proofs.Depth.{low_node}
 use Rattle.htl_tree.proofs.SlotRows.{short_root}
@@ -26,9 +26,9 @@ use Rattle.htl_tree.proofs.CopiesAndSums.{copied_nonempty, summed_nonempty}
 use Rattle.htl_tree.proofs.SumsFromTally.{sum_short}
 
 abbrev outward : List ℕ × Slot → List ℕ × Slot
-outward place = (reverse place.0, place.1)
+outward key = (reverse key.0, key.1)
 
-outward_cmp : (k j : List ℕ × Slot) → place_cmp (outward k) (outward j) ≡ path_cmp k j
+outward_cmp : (k j : List ℕ × Slot) → key_cmp (outward k) (outward j) ≡ path_cmp k j
 outward_cmp k j = λ i. ordering_then (slice_cmp nat_cmp (reverse-reverse k.0 i) (reverse-reverse j.0 i)) (slot_cmp k.1 j.1)
 
 all_outward : (t : Tree) → AllShort t → AllShort (map (λ row. (outward row.0, row.1)) t)
@@ -39,23 +39,23 @@ pub all_inward : (t : Tree) → AllShort (map (λ row. (outward row.0, row.1)) t
 all_inward [] h = tt
 all_inward (row ∷ t) h = (rw (length-reverse row.0.0) at h.0, all_inward t h.1)
 
-pub sorted_tree : {A : Type 0} (n : Spot A) → IsNormal n → IsSorted place_cmp (tree_at n)
-sorted_tree n h = sorted-map_key outward place_cmp path_cmp outward_cmp (rows n) (rows_sorted n h)
+pub sorted_tree : {A : Type 0} (n : Position A) → IsNormal n → IsSorted key_cmp (tree_at n)
+sorted_tree n h = sorted-map_key outward key_cmp path_cmp outward_cmp (rows n) (rows_sorted n h)
 
-pub positive_tree : {A : Type 0} (n : Spot A) → IsNormal n → Each IsPositive (tree_at n)
-positive_tree n h = each-map_key outward place_cmp IsPositive (rows n) (rows_positive n h)
+pub positive_tree : {A : Type 0} (n : Position A) → IsNormal n → Each IsPositive (tree_at n)
+positive_tree n h = each-map_key outward key_cmp IsPositive (rows n) (rows_positive n h)
 
 -- a root with short stacks
-pub root_from : {A : Type 0} (n : Spot A) → IsNormal n → IsNonEmpty n → AllShort (rows n) → IsNormalTop n
+pub root_from : {A : Type 0} (n : Position A) → IsNormal n → IsNonEmpty n → AllShort (rows n) → IsNormalTop n
 root_from n h some short =
     let low = low_node n 0 h some (short_root (rows n) short) in
     record { normal = h; nonempty = some; shallow = short; low = omega (arith, low) }
 
 -- a root whose tree is one
-pub top_from : {A : Type 0} {t : Tree} (n : Spot A) → IsNormal n → IsNonEmpty n → IsTree t → tree_at n ≡ t → IsNormalTop n
+pub top_from : {A : Type 0} {t : Tree} (n : Position A) → IsNormal n → IsNonEmpty n → IsTree t → tree_at n ≡ t → IsNormalTop n
 top_from {A} {t} n h some tree is = root_from n h some (all_inward (rows n) (subst (λ u. AllShort u) (sym is) tree.shallow))
 
-pub top_is_tree : {A : Type 0} (n : Spot A) → IsNormalTop n → IsTree (tree_at n)
+pub top_is_tree : {A : Type 0} (n : Position A) → IsNormalTop n → IsTree (tree_at n)
 top_is_tree n h = record {
   ordered = sorted_tree n h.normal;
   positive = positive_tree n h.normal;
@@ -67,23 +67,23 @@ root_is_tree None h = nothing_is_tree
 root_is_tree (Some n) h = top_is_tree (top n) h
 
 -- the tree counts what its nodes count
-pub count_tree : {A : Type 0} (n : Spot A) → IsNormal n → (slot : Slot) (stack : List ℕ)
+pub count_tree : {A : Type 0} (n : Position A) → IsNormal n → (slot : Slot) (stack : List ℕ)
     → count_at (tree_at n) slot stack ≡ tally (reverse stack) slot n
 count_tree n h slot stack =
     let t = tree_at n in
     ap (λ k. count_at t slot k) (sym (reverse-reverse stack)) ∙ ap (λ (o : Option Count). unwrap_or o zero_count)
-    (find-map_key outward place_cmp path_cmp outward_cmp (reverse stack, slot) (rows n)) ∙ tally_rows (reverse stack) slot n h
+    (find-map_key outward key_cmp path_cmp outward_cmp (reverse stack, slot) (rows n)) ∙ tally_rows (reverse stack) slot n h
 
-pub tally_tree : {A : Type 0} (n : Spot A) → IsNormal n → (p : List ℕ) (slot : Slot)
+pub tally_tree : {A : Type 0} (n : Position A) → IsNormal n → (p : List ℕ) (slot : Slot)
     → tally p slot n ≡ count_at (tree_at n) slot (reverse p)
 tally_tree n h p slot = ap (λ q. tally q slot n) (sym (reverse-reverse p)) ∙ sym (count_tree n h slot (reverse p))
 
 -- the trees of nodes that count the same
-pub same_trees : {A : Type 0} (n m : Spot A) → IsNormal n → IsNormal m → IsSameTally (tally_of n) (tally_of m)
+pub same_trees : {A : Type 0} (n m : Position A) → IsNormal n → IsNormal m → IsSameTally (tally_of n) (tally_of m)
     → IsSameTree (tree_at n) (tree_at m)
 same_trees n m g h same slot stack = count_tree n g slot stack ∙ sym (same (reverse stack) slot) ∙ sym (count_tree m h slot stack)
 
-pub same_nodes : {A : Type 0} (n m : Spot A) → IsNormal n → IsNormal m → IsSameTree (tree_at n) (tree_at m)
+pub same_nodes : {A : Type 0} (n m : Position A) → IsNormal n → IsNormal m → IsSameTree (tree_at n) (tree_at m)
     → IsSameTally (tally_of n) (tally_of m)
 same_nodes n m g h same p slot = tally_tree m h p slot ∙ sym (same slot (reverse p)) ∙ sym (tally_tree n g p slot)
 
@@ -96,23 +96,23 @@ back : (stack k : List ℕ) → reverse k ≡ reverse stack → k ≡ stack
 back stack k e = sym (reverse-reverse k) ∙ ap reverse e ∙ reverse-reverse stack
 
 module _ {A : Type 0} (slot : Slot) (sign : Sign) (stack : List ℕ) where
-  pub added_tree : (n m : Spot A) → IsNormalTop n → length stack ≤ 64 → IsAdded (reverse stack) slot sign n m
+  pub added_tree : (n m : Position A) → IsNormalTop n → length stack ≤ 64 → IsAdded (reverse stack) slot sign n m
       → IsNormalTop m × (tree_at m ≡ with_one (tree_at n) slot sign stack)
   added_tree n m h short added =
       let t = top_is_tree n h in
-      let here = count_tree m added.normal slot stack ∙ added.counts.here ∙ ap (bump sign) (sym (count_tree n h.normal slot stack)) in
+      let here = count_tree m added.normal slot stack ∙ added.counts.here ∙ ap (add_one sign) (sym (count_tree n h.normal slot stack)) in
       let elsewhere : (s : Slot) (k : List ℕ) → (k ≡ stack → s ≢ slot)
       → count_at (tree_at m) s k ≡ count_at (tree_at n) s k = λ s k other. count_tree m added.normal s k
       ∙ added.counts.elsewhere (reverse k) s (λ e. other (back stack k e)) ∙ sym (count_tree n h.normal s k) in
       let is : tree_at m ≡ with_one (tree_at n) slot sign stack =
       is_with_one (tree_at n) (tree_at m) t.ordered t.positive (sorted_tree m added.normal)
       (positive_tree m added.normal) slot sign stack here elsewhere in (
-        top_from m added.normal (nonempty_from m (reverse stack) slot (rw added.counts.here (bump_positive sign _)))
+        top_from m added.normal (nonempty_from m (reverse stack) slot (rw added.counts.here (add_one_positive sign _)))
             (with_one_is_tree (tree_at n) t slot sign stack short) is,
         is,
       )
 
-  pub branch_tree : (m : Spot A) → length stack ≤ 64 → IsBranch (reverse stack) slot sign m
+  pub branch_tree : (m : Position A) → length stack ≤ 64 → IsBranch (reverse stack) slot sign m
       → IsNormalTop m × (tree_at m ≡ with_one [] slot sign stack)
   branch_tree m short new =
       let here = count_tree m new.normal slot stack ∙ new.counts.here in
@@ -120,24 +120,24 @@ module _ {A : Type 0} (slot : Slot) (sign : Sign) (stack : List ℕ) where
       λ s k other. count_tree m new.normal s k ∙ new.counts.elsewhere (reverse k) s (λ e. other (back stack k e)) in
       let is : tree_at m ≡ with_one [] slot sign stack =
       is_with_one [] (tree_at m) tt tt (sorted_tree m new.normal) (positive_tree m new.normal) slot sign stack here elsewhere in (
-        top_from m new.normal (nonempty_from m (reverse stack) slot (rw new.counts.here (bump_positive sign _)))
+        top_from m new.normal (nonempty_from m (reverse stack) slot (rw new.counts.here (add_one_positive sign _)))
             (with_one_is_tree [] nothing_is_tree slot sign stack short) is,
         is,
       )
 
 -- nodes that count the same have one tree
-pub same_tree : {A : Type 0} (n m : Spot A) → IsNormal n → IsNormal m → IsSameTally (tally_of n) (tally_of m)
+pub same_tree : {A : Type 0} (n m : Position A) → IsNormal n → IsNormal m → IsSameTally (tally_of n) (tally_of m)
     → tree_at m ≡ tree_at n
 same_tree n m g h same = canonical_trees (tree_at m) (tree_at n) (sorted_tree m h) (positive_tree m h) (sorted_tree n g)
     (positive_tree n g) (same_trees m n h g (λ p s. sym (same p s)))
 
-pub kept_tree : {A : Type 0} (n m : Spot A) → IsNormalTop n → IsKept n m → IsNormalTop m × (tree_at m ≡ tree_at n)
+pub kept_tree : {A : Type 0} (n m : Position A) → IsNormalTop n → IsKept n m → IsNormalTop m × (tree_at m ≡ tree_at n)
 kept_tree n m h kept =
     let is = same_tree n m h.normal kept.normal kept.counts in
     (top_from m kept.normal (kept.nonempty h.nonempty) (top_is_tree n h) is, is)
 
 -- a root with nodes counts something
-pub counts_something : {A : Type 0} (n : Spot A) → IsNormalTop n
+pub counts_something : {A : Type 0} (n : Position A) → IsNormalTop n
     → ((slot : Slot) (stack : List ℕ) → count_at (tree_at n) slot stack ≡ zero_count) → ⊥
 counts_something n h none =
     let w = inhabited n h.normal h.nonempty in
@@ -147,12 +147,12 @@ counts_something n h none =
 
 -- ---- copies and sums
 
-pub copied_tree : {A : Type 0} (n m : Spot A) → IsNormalTop n → IsCopy n m → IsNormalTop m × (tree_at m ≡ tree_at n)
+pub copied_tree : {A : Type 0} (n m : Position A) → IsNormalTop n → IsCopy n m → IsNormalTop m × (tree_at m ≡ tree_at n)
 copied_tree n m h copy =
     let is = same_tree n m h.normal copy.normal copy.counts in
     (top_from m copy.normal (copied_nonempty n m h.normal copy h.nonempty) (top_is_tree n h) is, is)
 
-pub summed_tree : {A : Type 0} (a b c : Spot A) → IsNormalTop a → IsNormalTop b → IsSum a b c
+pub summed_tree : {A : Type 0} (a b c : Position A) → IsNormalTop a → IsNormalTop b → IsSum a b c
     → IsNormalTop c × IsSumTally (tree_at c) (tree_at a) (tree_at b)
 summed_tree a b c g h sum =
     let added : IsSumTally (tree_at c) (tree_at a) (tree_at b) = λ slot stack.
@@ -163,7 +163,7 @@ summed_tree a b c g h sum =
     (sorted_tree c sum.normal) (positive_tree c sum.normal) (top_is_tree a g) (top_is_tree b h) added in
     (root_from c sum.normal (summed_nonempty a b c g.normal sum g.nonempty) (all_inward (rows c) short), added)
 
-pub fits_roots : {A : Type 0} (a b : Spot A) → IsNormal a → IsNormal b
+pub fits_roots : {A : Type 0} (a b : Position A) → IsNormal a → IsNormal b
     → total_count (tree_at a) + total_count (tree_at b) < 2 ^ 64 → FitsSum a b
 fits_roots a b g h fits p s =
     let left : total_of (tally p s a) ≤ total_count (tree_at a) = subst (λ c. total_of c ≤ total_count (tree_at a))

@@ -26,12 +26,12 @@ use Rattle.htl_event.specs.Tallies.{zero_count, plus_count, total_of, IsPositive
 use Rattle.htl_sorted.specs.Entries.{Each}
 use Rattle.htl_sorted.proofs.Finds.{each_found}
 use Rattle.htl_tree.specs.declared.row.Row.{Row}
-use Rattle.htl_tree.specs.Trees.{Tree, place_cmp, count_at, total_count, IsTree, AllShort}
-use Rattle.htl_tree.specs.Nodes.{Spot, tally, rows, tree_at, IsNormal, IsNormalTop}
+use Rattle.htl_tree.specs.Trees.{Tree, key_cmp, count_at, total_count, IsTree, AllShort}
+use Rattle.htl_tree.specs.Nodes.{Position, tally, rows, tree_at, IsNormal, IsNormalTop}
 use Rattle.htl_tree.specs.Rows.{entries_of, sum_at, slot_sum, AreShort, IsGroup, IsGained, IsChain, WithRows}
 use Rattle.htl_tree.proofs.ChangedKeys.{all_keys_from_found, key_found}
 use Rattle.htl_tree.proofs.CountAdded.{nonempty_from}
-use Rattle.htl_tree.proofs.TreesAsLists.{place_total, place_same, nothing_is_tree}
+use Rattle.htl_tree.proofs.TreesAsLists.{key_total, key_same, nothing_is_tree}
 use Rattle.htl_tree.proofs.RowsAdded.{some_slot}
 use Rattle.htl_tree.proofs.RowsOneMore.{no_row}
 use Rattle.htl_tree.proofs.CopiesAndSums.{zero_right}
@@ -46,38 +46,25 @@ Entry = (List ℕ × Slot) × Count
 abbrev pub rows_of : List (Bor (List Row)) → List Row
 rows_of groups = flat_map (λ (group : Bor (List Row)). group.now) groups
 
--- ---- what rows count doesn't turn on their order
-
-side_at : (sign : Sign) (slot : Slot) (stack : List ℕ) (xs : Tree)
-    → side sign (sum_at xs slot stack) ≡ sum_by (λ (x : Entry). cond (eq_by_cmp place_cmp (stack, slot) x.0) (side sign x.1) 0) xs
-side_at sign slot stack [] = side_zero sign
-side_at sign slot stack (x ∷ xs) =
-    let rest = side_at sign slot stack xs in
-    let whole = sum_by-cons (λ (x : Entry). cond (eq_by_cmp place_cmp (stack, slot) x.0) (side sign x.1) 0) x xs in
-    (elim (eq_by_cmp place_cmp (stack, slot) x.0)
-    as (λ b. side sign (cond b (plus_count x.1 (sum_at xs slot stack)) (sum_at xs slot stack))
-    ≡ cond b (side sign x.1) 0 + sum_by (λ (x : Entry). cond (eq_by_cmp place_cmp (stack, slot) x.0) (side sign x.1) 0) xs) [
-      | true ↦ side_adds sign x.1 (sum_at xs slot stack) ∙ ap (λ n. side sign x.1 + n) rest
-      | false ↦ omega (arith, rest)
-    ]) ∙ sym whole
+-- ---- what rows count doesn't depend on their order
 
 entries-permutation : (xs ys : List Row) → IsPermutation xs ys → (slot : Slot) (stack : List ℕ) → (sign : Sign)
     → side sign (sum_at (entries_of ys) slot stack) ≡ side sign (sum_at (entries_of xs) slot stack)
 entries-permutation xs ys moved slot stack sign =
     side_rows ys ∙ sum_by-IsPermutation (λ (row : Row).
-    cond (eq_by_cmp place_cmp (stack, slot) (row.stack.now, row.slot)) (side sign row.count) 0) xs ys moved ∙ sym (side_rows xs)
+    cond (eq_by_cmp key_cmp (stack, slot) (row.stack.now, row.slot)) (side sign row.count) 0) xs ys moved ∙ sym (side_rows xs)
   where
     side_rows : (zs : List Row) → side sign (sum_at (entries_of zs) slot stack)
-        ≡ sum_by (λ (row : Row). cond (eq_by_cmp place_cmp (stack, slot) (row.stack.now, row.slot)) (side sign row.count) 0) zs
+        ≡ sum_by (λ (row : Row). cond (eq_by_cmp key_cmp (stack, slot) (row.stack.now, row.slot)) (side sign row.count) 0) zs
     side_rows [] = side_zero sign
     side_rows (row ∷ zs) =
         let rest = side_rows zs in
-        let whole = sum_by-cons (λ (row : Row). cond (eq_by_cmp place_cmp (stack, slot) (row.stack.now, row.slot))
+        let whole = sum_by-cons (λ (row : Row). cond (eq_by_cmp key_cmp (stack, slot) (row.stack.now, row.slot))
         (side sign row.count) 0) row zs in
-        (elim (eq_by_cmp place_cmp (stack, slot) (row.stack.now, row.slot))
+        (elim (eq_by_cmp key_cmp (stack, slot) (row.stack.now, row.slot))
         as (λ b. side sign (cond b (plus_count row.count (sum_at (entries_of zs) slot stack)) (sum_at (entries_of zs) slot stack))
         ≡ cond b (side sign row.count) 0 + sum_by
-        (λ (row : Row). cond (eq_by_cmp place_cmp (stack, slot) (row.stack.now, row.slot)) (side sign row.count) 0) zs) [
+        (λ (row : Row). cond (eq_by_cmp key_cmp (stack, slot) (row.stack.now, row.slot)) (side sign row.count) 0) zs) [
           | true ↦ side_adds sign row.count (sum_at (entries_of zs) slot stack) ∙ ap (λ n. side sign row.count + n) rest
           | false ↦ omega (arith, rest)
         ]) ∙ sym whole
@@ -107,13 +94,13 @@ groups-permutation gs hs moved slot stack =
         ∙ ap (λ n. side sign (sum_at (entries_of f.now) slot stack) + n) (in_groups sign fs)
         ∙ sym (sum_by-cons (λ (g : Bor (List Row)). side sign (sum_at (entries_of g.now) slot stack)) f fs)
 
--- what entries count at one place is no more than what they count in all
+-- what entries count of a slot at a stack is no more than what they count in all
 pub sum_at_most : (xs : Tree) (slot : Slot) (stack : List ℕ) → total_of (sum_at xs slot stack) ≤ total_count xs
 sum_at_most [] slot stack = omega arith
 sum_at_most (x ∷ xs) slot stack =
     let rest = sum_at_most xs slot stack in
     let sum = sum_by-cons (λ (x : Entry). total_of x.1) x xs in
-    elim (eq_by_cmp place_cmp (stack, slot) x.0)
+    elim (eq_by_cmp key_cmp (stack, slot) x.0)
     as (λ b. total_of (cond b (plus_count x.1 (sum_at xs slot stack)) (sum_at xs slot stack)) ≤ total_count (x ∷ xs)) [
       | true ↦ omega (arith, rest, sum)
       | false ↦ omega (arith, rest, sum)
@@ -169,15 +156,15 @@ group_else : (rows : List Row) (stack : List ℕ) → AllByRecursion (λ (row : 
 group_else [] stack alike slot k other = refl
 group_else (row ∷ rows) stack alike slot k other =
     let rest = group_else rows stack alike.1 slot k other in
-    (elim (eq_by_cmp place_cmp (k, slot) (row.stack.now, row.slot)) as (λ b. eq_by_cmp place_cmp (k, slot) (row.stack.now, row.slot) ≡ b
+    (elim (eq_by_cmp key_cmp (k, slot) (row.stack.now, row.slot)) as (λ b. eq_by_cmp key_cmp (k, slot) (row.stack.now, row.slot) ≡ b
     → cond b (plus_count row.count (sum_at (entries_of rows) slot k)) (sum_at (entries_of rows) slot k) ≡ zero_count) [
-      | true ↦ λ same. let is = place_same (k, slot) (row.stack.now, row.slot)
-          ((Equal-is (place_cmp (k, slot) (row.stack.now, row.slot))).0 same) in
+      | true ↦ λ same. let is = key_same (k, slot) (row.stack.now, row.slot)
+          ((Equal-is (key_cmp (k, slot) (row.stack.now, row.slot))).0 same) in
           absurd (other (ap (λ (x : List ℕ × Slot). x.0) is ∙ alike.0))
       | false ↦ λ apart. rest
     ]) refl
 
-module _ {A : Type 0} (m : Spot A) (normal : IsNormal m) (t : Tree) (tree : IsTree t) (stack : List ℕ) (short : length stack ≤ 64)
+module _ {A : Type 0} (m : Position A) (normal : IsNormal m) (t : Tree) (tree : IsTree t) (stack : List ℕ) (short : length stack ≤ 64)
     (rs : List Row) (some : 0 < length rs) (each : Each IsPositive (entries_of rs))
     (alike : AllByRecursion (λ (row : Row). row.stack.now ≡ stack) rs)
     (here : (slot : Slot) → tally (reverse stack) slot m ≡ plus_count (count_at t slot stack) (slot_sum slot rs))
@@ -209,21 +196,21 @@ module _ {A : Type 0} (m : Spot A) (normal : IsNormal m) (t : Tree) (tree : IsTr
       ]) refl
 
   all_are_short : AllShort (tree_at m)
-  all_are_short = all_keys_from_found place_cmp place_total (λ (k : List ℕ × Slot). length k.0 ≤ 64) (tree_at m)
+  all_are_short = all_keys_from_found key_cmp key_total (λ (k : List ℕ × Slot). length k.0 ≤ 64) (tree_at m)
       (sorted_tree m normal) (λ k v found.
       let counted : count_at (tree_at m) k.1 k.0 ≡ v = ap (λ (o : Option Count). unwrap_or o zero_count) found in
-      let positive : IsPositive v = each_found place_cmp IsPositive k v (tree_at m) (positive_tree m normal) found in
+      let positive : IsPositive v = each_found key_cmp IsPositive k v (tree_at m) (positive_tree m normal) found in
       (elim (pointwise nat_eq k.0 stack) as (λ b. pointwise nat_eq k.0 stack ≡ b → length k.0 ≤ 64) [
         | true ↦ λ e. subst (λ (l : List ℕ). length l ≤ 64) (sym ((pointwise_decides unsigned_Decides k.0 stack).0 e)) short
         | false ↦ λ e.
             let other : k.0 ≢ stack = λ is. let never : false ≡ true = sym e ∙ (pointwise_decides unsigned_Decides k.0 stack).1 is in
             absurd (cc) in
-            was k (find place_cmp k t) refl (subst IsPositive (sym counted ∙ count_else k.1 k.0 other) positive)
+            was k (find key_cmp k t) refl (subst IsPositive (sym counted ∙ count_else k.1 k.0 other) positive)
       ]) refl)
     where
-      was : (k : List ℕ × Slot) (o : Option Count) → find place_cmp k t ≡ o → IsPositive (unwrap_or (find place_cmp k t) zero_count)
+      was : (k : List ℕ × Slot) (o : Option Count) → find key_cmp k t ≡ o → IsPositive (unwrap_or (find key_cmp k t) zero_count)
           → length k.0 ≤ 64
-      was k (Some c) found positive = key_found place_cmp place_total place_same
+      was k (Some c) found positive = key_found key_cmp key_total key_same
           (λ (k : List ℕ × Slot). length k.0 ≤ 64) k c t tree.shallow found
       was k None none positive = let never : IsPositive zero_count =
           subst (λ (o : Option Count). IsPositive (unwrap_or o zero_count)) none positive in absurd (omega (arith, never))
@@ -239,7 +226,7 @@ module _ {A : Type 0} (m : Spot A) (normal : IsNormal m) (t : Tree) (tree : IsTr
       )
 
 -- a group put into a root
-pub gained_tree : {A : Type 0} (n m : Spot A) → IsNormalTop n → (stack : List ℕ) → length stack ≤ 64 → (rs : List Row) → 0 < length rs
+pub gained_tree : {A : Type 0} (n m : Position A) → IsNormalTop n → (stack : List ℕ) → length stack ≤ 64 → (rs : List Row) → 0 < length rs
     → Each IsPositive (entries_of rs) → AllByRecursion (λ (row : Row). row.stack.now ≡ stack) rs → IsGained (reverse stack) rs n m
     → IsNormalTop m × WithRows (tree_at m) (tree_at n) rs
 gained_tree n m h stack short rs some each alike gained =
@@ -248,7 +235,7 @@ gained_tree n m h stack short rs some each alike gained =
     (λ p slot other. gained.counts.elsewhere p slot other ∙ tally_tree n h.normal p slot)
 
 -- a group that makes a root
-pub chain_tree : {A : Type 0} (m : Spot A) (stack : List ℕ) → length stack ≤ 64 → (rs : List Row) → 0 < length rs
+pub chain_tree : {A : Type 0} (m : Position A) (stack : List ℕ) → length stack ≤ 64 → (rs : List Row) → 0 < length rs
     → Each IsPositive (entries_of rs) → AllByRecursion (λ (row : Row). row.stack.now ≡ stack) rs → IsChain (reverse stack) rs m
     → IsNormalTop m × WithRows (tree_at m) [] rs
 chain_tree m stack short rs some each alike chain =

@@ -1,4 +1,4 @@
--- Places before and after rows were added.
+-- Positions before and after rows were added.
 use Rattle.std.proofs.Common.{◌≡◌, ℕ, zero, suc, ◌+◌, ◌<◌, ◌≤◌, ◌≢◌, List, [], ◌∷◌, ◌++◌, length, get_or, take, Option}
 use Rattle.std.proofs.Common.{Some, None, Result, Ok, Err, OnOk, true, false, cond, unwrap_or, refl, sym, inl, inr, ◌∙◌, ap, subst, arith}
 use Rattle.std.specs.Cmp.{tied_itself, nat_cmp_total}
@@ -18,14 +18,14 @@ use Rattle.htl_sorted.specs.Entries.{Each}
 use Rattle.htl_sorted.proofs.Finds.{find_put_other, each_put}
 use Rattle.htl_tree.specs.declared.node.Node.{Node}
 use Rattle.htl_tree.specs.declared.row.Row.{Row}
-use Rattle.htl_tree.specs.Nodes.{Spot, tally, tally_of, no_tally, own, kids, count_in, at_child, IsNonEmpty, IsNormal, NormalAt}
-use Rattle.htl_tree.specs.Marks.{HasMarksOf, AreMarked}
-use Rattle.htl_tree.specs.Nodes.{frames, marks, top, inside, HasMarks, IsKept}
+use Rattle.htl_tree.specs.Nodes.{Position, tally, tally_of, no_tally, counts, children, count_in, at_child, IsNonEmpty, IsNormal, NormalAt}
+use Rattle.htl_tree.specs.Filters.{HasFiltersOf, HaveFilters}
+use Rattle.htl_tree.specs.Nodes.{frames, filters, top, inside, HasFilters, IsKept}
 use Rattle.htl_tree.specs.Rows.{entries_of, slot_sum, Gained, AddsRows, IsGained, IsChain}
-use Rattle.htl_tree.proofs.Marked.{marked_also}
-use Rattle.htl_tree.proofs.MarkedPlaces.{has_left, marked_end, marked_on, marked_before}
-use Rattle.htl_tree.proofs.Spots.{find_before}
-use Rattle.htl_tree.proofs.CountAdded.{normal_here, normal_own, normal_kid, tally_kid, tally_else, nonempty_from}
+use Rattle.htl_tree.proofs.FilterBits.{filters_also}
+use Rattle.htl_tree.proofs.FiltersOfPositions.{has_left, filters_end, filters_on, filters_before}
+use Rattle.htl_tree.proofs.Positions.{find_before}
+use Rattle.htl_tree.proofs.CountAdded.{normal_here, normal_counts, normal_with_child, tally_child, tally_else, nonempty_from}
 use Rattle.htl_tree.proofs.CountAdded.{put_before, normal_after}
 use Rattle.htl_tree.proofs.CopiesAndSums.{zero_left, zero_right}
 use Rattle.htl_tree.proofs.SumsFromTally.{plus_assoc}
@@ -101,12 +101,12 @@ gained_more rows row old mid new h some is =
 
 -- ---- a node with more
 
-module _ {A : Type 0} (n m : Spot A) (rows : List Row) where
-  pub gained_own : (es : List (Slot × Count)) (w : ℕ) → IsNormal n → own m ≡ es → marks m ≡ bit_or (marks n) w → kids m ≡ kids n
-      → Gained rows (own n) es → AreMarked w es → IsGained [] rows n m
-  gained_own es w h o new k gained marked = record {
-    normal = normal_own n m k h (rw o gained.sorted) (rw o gained.positive) (rw (o, new) (marked_also (marks n) w es marked))
-        (rw new (has_left (marks n) w));
+module _ {A : Type 0} (n m : Position A) (rows : List Row) where
+  pub gained_here : (es : List (Slot × Count)) (w : ℕ) → IsNormal n → counts m ≡ es → filters m ≡ bit_or (filters n) w → children m ≡ children n
+      → Gained rows (counts n) es → HaveFilters w es → IsGained [] rows n m
+  gained_here es w h o new k gained filtered = record {
+    normal = normal_counts n m k h (rw o gained.sorted) (rw o gained.positive) (rw (o, new) (filters_also (filters n) w es filtered))
+        (rw new (has_left (filters n) w));
     counts = record { here = λ s. ap (λ l. count_in l s) o ∙ gained.counts s; elsewhere = elsewhere };
   }
     where
@@ -114,16 +114,16 @@ module _ {A : Type 0} (n m : Spot A) (rows : List Row) where
       elsewhere [] t differs = absurd (differs refl)
       elsewhere (f ∷ p) t differs = rw k refl
 
-  module _ (some : (slot : Slot) × IsPositive (slot_sum slot rows)) (f : ℕ) (c : Spot A) (o : own m ≡ own n)
-      (w : HasMarks c → HasMarks m) (k : kids m ≡ put nat_cmp f c (kids n)) (h : IsNormal n) where
-    adds_below : (path : List ℕ) → AddsRows path rows (λ p t. at_child (λ c. tally p t c) (find nat_cmp f (kids n))) (tally_of c)
+  module _ (some : (slot : Slot) × IsPositive (slot_sum slot rows)) (f : ℕ) (c : Position A) (o : counts m ≡ counts n)
+      (w : HasFilters c → HasFilters m) (k : children m ≡ put nat_cmp f c (children n)) (h : IsNormal n) where
+    adds_below : (path : List ℕ) → AddsRows path rows (λ p t. at_child (λ c. tally p t c) (find nat_cmp f (children n))) (tally_of c)
         → AddsRows (f ∷ path) rows (tally_of n) (tally_of m)
-    adds_below path adds = record { here = λ s. tally_kid n m f c o w k h path s ∙ adds.here s; elsewhere = elsewhere }
+    adds_below path adds = record { here = λ s. tally_child n m f c o w k h path s ∙ adds.here s; elsewhere = elsewhere }
       where
         elsewhere : (p : List ℕ) (t : Slot) → p ≢ f ∷ path → tally p t m ≡ tally p t n
         elsewhere [] t differs = rw o refl
         elsewhere (g ∷ p) t differs = elim (cases_eq g f) [
-          | inl same ↦ rw same (tally_kid n m f c o w k h p t ∙ adds.elsewhere p t (λ e. differs (λ i. same i ∷ e i)))
+          | inl same ↦ rw same (tally_child n m f c o w k h p t ∙ adds.elsewhere p t (λ e. differs (λ i. same i ∷ e i)))
           | inr other ↦ tally_else n m f c o w k h g p t other
         ]
 
@@ -134,16 +134,16 @@ module _ {A : Type 0} (n m : Spot A) (rows : List Row) where
         let sum : IsPositive (plus_count (old path some.0) (slot_sum some.0 rows)) = omega (arith, positive) in
         nonempty_from c path some.0 (subst IsPositive (sym (adds.here some.0)) sum)
 
-    pub gained_below : (old : Spot A) → find nat_cmp f (kids n) ≡ Some old → (path : List ℕ) → IsGained path rows old c
+    pub gained_below : (old : Position A) → find nat_cmp f (children n) ≡ Some old → (path : List ℕ) → IsGained path rows old c
         → IsGained (f ∷ path) rows n m
     gained_below old found path gained = record {
-      normal = normal_kid n m f c o w k h gained.normal (filled path (tally_of old) gained.counts);
+      normal = normal_with_child n m f c o w k h gained.normal (filled path (tally_of old) gained.counts);
       counts = adds_below path (rw found gained.counts);
     }
 
-    pub gained_branch : find nat_cmp f (kids n) ≡ None → (path : List ℕ) → IsChain path rows c → IsGained (f ∷ path) rows n m
+    pub gained_branch : find nat_cmp f (children n) ≡ None → (path : List ℕ) → IsChain path rows c → IsGained (f ∷ path) rows n m
     gained_branch none path new = record {
-      normal = normal_kid n m f c o w k h new.normal (filled path no_tally new.counts);
+      normal = normal_with_child n m f c o w k h new.normal (filled path no_tally new.counts);
       counts = adds_below path (rw none new.counts);
     }
 
@@ -153,9 +153,9 @@ on_ok (Err e) h f = tt
 
 -- ---- chains
 
-pub chain_end : {A : Type 0} (m : Spot A) (rows : List Row) → kids m ≡ [] → Gained rows [] (own m) → AreMarked (marks m) (own m)
+pub chain_end : {A : Type 0} (m : Position A) (rows : List Row) → children m ≡ [] → Gained rows [] (counts m) → HaveFilters (filters m) (counts m)
     → IsChain [] rows m
-chain_end {A} m rows k gained marked = record {
+chain_end {A} m rows k gained filtered = record {
   normal = record { everywhere = at };
   counts = record { here = gained.counts; elsewhere = elsewhere };
 }
@@ -164,7 +164,7 @@ chain_end {A} m rows k gained marked = record {
     at [] = record {
       slots = gained.sorted;
       positive = gained.positive;
-      marked = marked_end m marked k;
+      filtered = filters_end m filtered k;
       frames = rw k tt;
       nonempty = rw k tt;
     }
@@ -174,8 +174,8 @@ chain_end {A} m rows k gained marked = record {
     elsewhere [] t differs = absurd (differs refl)
     elsewhere (f ∷ p) t differs = rw k refl
 
-pub chain_on : {A : Type 0} (m c : Spot A) (f : ℕ) (path : List ℕ) (rows : List Row) → (slot : Slot) × IsPositive (slot_sum slot rows)
-    → own m ≡ [] → kids m ≡ (f, c) ∷ [] → HasMarksOf (marks m) (marks c) → IsChain path rows c → IsChain (f ∷ path) rows m
+pub chain_on : {A : Type 0} (m c : Position A) (f : ℕ) (path : List ℕ) (rows : List Row) → (slot : Slot) × IsPositive (slot_sum slot rows)
+    → counts m ≡ [] → children m ≡ (f, c) ∷ [] → HasFiltersOf (filters m) (filters c) → IsChain path rows c → IsChain (f ∷ path) rows m
 chain_on m c f path rows some o k w child = record {
   normal = record { everywhere = at };
   counts = record { here = λ s. here path s ∙ child.counts.here s; elsewhere = elsewhere };
@@ -191,7 +191,7 @@ chain_on m c f path rows some o k w child = record {
     at [] = record {
       slots = rw o tt;
       positive = rw o tt;
-      marked = marked_on m c f o k w (normal_here c child.normal).marked;
+      filtered = filters_on m c f o k w (normal_here c child.normal).filtered;
       frames = rw k tt;
       nonempty = rw k (filled, tt);
     }
@@ -218,11 +218,11 @@ module _ {A : Type 0} (rows : List Row) (some : (slot : Slot) × IsPositive (slo
       → IsGained (fs ++ path) rows (fs, n) (fs, m)
   gained_before [] n m h path gained = gained
   gained_before (f ∷ fs) n m h path gained =
-      gained_below (f ∷ fs, n) (f ∷ fs, m) rows some f (fs, m) refl (marked_before f (fs, m)) (put_before f (fs, n) (fs, m)) h (fs, n)
+      gained_below (f ∷ fs, n) (f ∷ fs, m) rows some f (fs, m) refl (filters_before f (fs, m)) (put_before f (fs, n) (fs, m)) h (fs, n)
       (find_before f (fs, n)) (fs ++ path) (gained_before fs n m (normal_after f (fs, n) h) path gained)
 
   -- rows that were added inside a node after it was left only some of its frames
-  pub entered_gained : (old : Spot A) (n m : Node A) → IsKept old (top n) → frames m ≡ frames n → (path rest : List ℕ)
+  pub entered_gained : (old : Position A) (n m : Node A) → IsKept old (top n) → frames m ≡ frames n → (path rest : List ℕ)
       → path ≡ frames n ++ rest → IsGained rest rows (inside n) (inside m) → IsGained path rows old (top m)
   entered_gained old n m kept same path rest is inner = subst (λ p. IsGained p rows old (top m)) (sym is) record {
     normal = gained.normal;

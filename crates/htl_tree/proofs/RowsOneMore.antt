@@ -13,11 +13,11 @@ use Rattle.htl_event.specs.declared.slot.Count.{Count}
 use Rattle.htl_event.specs.Tallies.{zero_count, plus_count, total_of, IsPositive}
 use Rattle.htl_sorted.specs.Entries.{Each}
 use Rattle.htl_tree.specs.declared.row.Row.{Row}
-use Rattle.htl_tree.specs.Trees.{Tree, place_cmp, bump, total_count, AllShort}
+use Rattle.htl_tree.specs.Trees.{Tree, key_cmp, add_one, total_count, AllShort}
 use Rattle.htl_tree.specs.Rows.{entries_of, sum_at, one_at, IsOneMore}
-use Rattle.htl_tree.proofs.CountAdded.{bump_positive}
+use Rattle.htl_tree.proofs.CountAdded.{add_one_positive}
 use Rattle.htl_tree.proofs.CopiesAndSums.{zero_right}
-use Rattle.htl_tree.proofs.TreesAsLists.{bump_total}
+use Rattle.htl_tree.proofs.TreesAsLists.{add_one_total}
 use Rattle.htl_tree.proofs.SumsFromTally.{plus_assoc, sum_at-append, each-append}
 
 -- what an index beyond all rows would give
@@ -30,35 +30,35 @@ Entry = (List ℕ × Slot) × Count
 abbrev pub entry : Row → Entry
 entry row = ((row.stack.now, row.slot), row.count)
 
-bump_sum : (sign : Sign) (c d : Count) → plus_count (bump sign c) d ≡ plus_count (plus_count c d) (bump sign zero_count)
-bump_sum Plus c d =
+add_one_sum : (sign : Sign) (c d : Count) → plus_count (add_one sign c) d ≡ plus_count (plus_count c d) (add_one sign zero_count)
+add_one_sum Plus c d =
     let p : (c.plus + 1) + d.plus ≡ (c.plus + d.plus) + 1 = omega arith in
     let m : c.minus + d.minus ≡ (c.minus + d.minus) + 0 = omega arith in
     λ i. record { plus = p i; minus = m i }
-bump_sum Minus c d =
+add_one_sum Minus c d =
     let p : c.plus + d.plus ≡ (c.plus + d.plus) + 0 = omega arith in
     let m : (c.minus + 1) + d.minus ≡ (c.minus + d.minus) + 1 = omega arith in
     λ i. record { plus = p i; minus = m i }
 
 module _ (stack : List ℕ) (slot : Slot) (sign : Sign) where
   raised_sum : (xs : Tree) (i : ℕ) (d e : Entry) → i < length xs → e.0 ≡ (stack, slot) → (get_or xs i d).0 ≡ (stack, slot)
-      → e.1 ≡ bump sign (get_or xs i d).1 → (s : Slot) (k : List ℕ)
+      → e.1 ≡ add_one sign (get_or xs i d).1 → (s : Slot) (k : List ℕ)
       → sum_at (set xs i e) s k ≡ plus_count (sum_at xs s k) (one_at stack slot sign s k)
   raised_sum [] i d e lt new old count s k = absurd (omega arith)
   raised_sum (x ∷ xs) zero d e lt new old count s k =
       let S : Count = sum_at xs s k in
-      let b = eq_by_cmp place_cmp (k, s) (stack, slot) in
-      ap (λ (y : List ℕ × Slot). cond (eq_by_cmp place_cmp (k, s) y) (plus_count e.1 S) S) new
-      ∙ (elim (eq_by_cmp place_cmp (k, s) (stack, slot))
-      as (λ b. cond b (plus_count e.1 S) S ≡ plus_count (cond b (plus_count x.1 S) S) (cond b (bump sign zero_count) zero_count)) [
-        | true ↦ ap (λ c. plus_count c S) count ∙ bump_sum sign x.1 S
+      let b = eq_by_cmp key_cmp (k, s) (stack, slot) in
+      ap (λ (y : List ℕ × Slot). cond (eq_by_cmp key_cmp (k, s) y) (plus_count e.1 S) S) new
+      ∙ (elim (eq_by_cmp key_cmp (k, s) (stack, slot))
+      as (λ b. cond b (plus_count e.1 S) S ≡ plus_count (cond b (plus_count x.1 S) S) (cond b (add_one sign zero_count) zero_count)) [
+        | true ↦ ap (λ c. plus_count c S) count ∙ add_one_sum sign x.1 S
         | false ↦ zero_right S
       ])
-      ∙ ap (λ (y : List ℕ × Slot). plus_count (cond (eq_by_cmp place_cmp (k, s) y) (plus_count x.1 S) S) (one_at stack slot sign s k))
+      ∙ ap (λ (y : List ℕ × Slot). plus_count (cond (eq_by_cmp key_cmp (k, s) y) (plus_count x.1 S) S) (one_at stack slot sign s k))
       (sym old)
   raised_sum (x ∷ xs) (suc i) d e lt new old count s k =
       let rest = raised_sum xs i d e (omega arith) new old count s k in
-      elim (eq_by_cmp place_cmp (k, s) x.0) as (λ b. cond b (plus_count x.1 (sum_at (set xs i e) s k)) (sum_at (set xs i e) s k)
+      elim (eq_by_cmp key_cmp (k, s) x.0) as (λ b. cond b (plus_count x.1 (sum_at (set xs i e) s k)) (sum_at (set xs i e) s k)
       ≡ plus_count (cond b (plus_count x.1 (sum_at xs s k)) (sum_at xs s k)) (one_at stack slot sign s k)) [
         | true ↦ ap (plus_count x.1) rest ∙ sym (plus_assoc x.1 (sum_at xs s k) (one_at stack slot sign s k))
         | false ↦ rest
@@ -79,45 +79,45 @@ module _ (stack : List ℕ) (slot : Slot) (sign : Sign) where
   short_append (x ∷ xs) ys g h = (g.0, short_append xs ys g.1 h)
 
   -- in a row that was there
-  pub raised : (rows : List Row) (i : ℕ) (new : Row) → i < length rows → (get_or rows i no_row).stack.now ≡ stack
+  pub one_more_there : (rows : List Row) (i : ℕ) (new : Row) → i < length rows → (get_or rows i no_row).stack.now ≡ stack
       → (get_or rows i no_row).slot ≡ slot → new.stack.now ≡ stack → new.slot ≡ slot
-      → new.count ≡ bump sign (get_or rows i no_row).count → IsOneMore stack slot sign rows (set rows i new)
-  raised rows i new lt old_stack old_slot new_stack new_slot count =
+      → new.count ≡ add_one sign (get_or rows i no_row).count → IsOneMore stack slot sign rows (set rows i new)
+  one_more_there rows i new lt old_stack old_slot new_stack new_slot count =
       let old : Row = get_or rows i no_row in
       let at : get_or (entries_of rows) i (entry no_row) ≡ entry old = get_or-map (λ row. entry row) rows i no_row in
       let is : entries_of (set rows i new) ≡ set (entries_of rows) i (entry new) = map-set (λ row. entry row) rows i new in
       let len : length (entries_of rows) ≡ length rows = length-map rows (λ row. entry row) in
-      let place : (get_or (entries_of rows) i (entry no_row)).0 ≡ (stack, slot) =
+      let key : (get_or (entries_of rows) i (entry no_row)).0 ≡ (stack, slot) =
       ap (λ (x : Entry). x.0) at ∙ (λ i. (old_stack i, old_slot i)) in
-      let value : new.count ≡ bump sign (get_or (entries_of rows) i (entry no_row)).1 = count
-      ∙ ap (λ (x : Entry). bump sign x.1) (sym at) in
+      let value : new.count ≡ add_one sign (get_or (entries_of rows) i (entry no_row)).1 = count
+      ∙ ap (λ (x : Entry). add_one sign x.1) (sym at) in
       let total = sum_by-set (λ (x : Entry). total_of x.1) (entries_of rows) i (entry new) (entry no_row) (omega (arith, len)) in
       let was : total_of (get_or (entries_of rows) i (entry no_row)).1 ≡ total_of old.count = ap (λ (x : Entry). total_of x.1) at in
-      let now : total_of new.count ≡ total_of old.count + 1 = ap total_of count ∙ bump_total sign old.count in
+      let now : total_of new.count ≡ total_of old.count + 1 = ap total_of count ∙ add_one_total sign old.count in
       record {
         counts = λ s k. ap (λ (xs : Tree). sum_at xs s k) is ∙ raised_sum (entries_of rows) i (entry no_row) (entry new)
-            (omega (arith, len)) (λ i. (new_stack i, new_slot i)) place value s k;
+            (omega (arith, len)) (λ i. (new_stack i, new_slot i)) key value s k;
         total = ap total_count is ∙ omega (arith, total, was, now);
         each = λ short h. record {
           positive = subst (λ (xs : Tree). Each IsPositive xs) (sym is)
-              (each_set (entries_of rows) i (entry new) (subst IsPositive (sym count) (bump_positive sign old.count)) h.positive);
+              (each_set (entries_of rows) i (entry new) (subst IsPositive (sym count) (add_one_positive sign old.count)) h.positive);
           short = subst (λ (xs : Tree). AllShort xs) (sym is)
               (short_set (entries_of rows) i (entry new) (subst (λ (l : List ℕ). length l ≤ 64) (sym new_stack) short) h.short);
         };
       }
 
   -- in a row of its own
-  pub appended : (rows : List Row) (new : Row) → new.stack.now ≡ stack → new.slot ≡ slot → new.count ≡ bump sign zero_count
+  pub appended : (rows : List Row) (new : Row) → new.stack.now ≡ stack → new.slot ≡ slot → new.count ≡ add_one sign zero_count
       → IsOneMore stack slot sign rows (rows ++ new ∷ [])
   appended rows new new_stack new_slot count =
       let is : entries_of (rows ++ new ∷ []) ≡ entries_of rows ++ entry new ∷ [] = map-append (λ row. entry row) rows (new ∷ []) in
-      let place : (new.stack.now, new.slot) ≡ (stack, slot) = λ i. (new_stack i, new_slot i) in
+      let key : (new.stack.now, new.slot) ≡ (stack, slot) = λ i. (new_stack i, new_slot i) in
       let one : (s : Slot) (k : List ℕ) → sum_at (entry new ∷ []) s k ≡ one_at stack slot sign s k = λ s k.
-      ap (λ (y : List ℕ × Slot). cond (eq_by_cmp place_cmp (k, s) y) (plus_count new.count zero_count) zero_count) place
-      ∙ ap (λ c. cond (eq_by_cmp place_cmp (k, s) (stack, slot)) c zero_count) (sym (zero_right new.count) ∙ count) in
+      ap (λ (y : List ℕ × Slot). cond (eq_by_cmp key_cmp (k, s) y) (plus_count new.count zero_count) zero_count) key
+      ∙ ap (λ c. cond (eq_by_cmp key_cmp (k, s) (stack, slot)) c zero_count) (sym (zero_right new.count) ∙ count) in
       let parts = sum_by-append (λ (x : Entry). total_of x.1) (entries_of rows) (entry new ∷ []) in
       let last = sum_by-cons (λ (x : Entry). total_of x.1) (entry new) [] in
-      let now : total_of new.count ≡ 1 = ap total_of count ∙ bump_total sign zero_count in
+      let now : total_of new.count ≡ 1 = ap total_of count ∙ add_one_total sign zero_count in
       record {
         counts = λ s k. ap (λ (xs : Tree). sum_at xs s k) is ∙ sum_at-append (entries_of rows) (entry new ∷ []) s k
             ∙ ap (plus_count (sum_at (entries_of rows) s k)) (one s k);
@@ -125,7 +125,7 @@ module _ (stack : List ℕ) (slot : Slot) (sign : Sign) where
         each = λ short h. record {
           positive = subst (λ (xs : Tree). Each IsPositive xs) (sym is)
               (each-append IsPositive (entries_of rows) (entry new ∷ []) h.positive
-              (subst IsPositive (sym count) (bump_positive sign zero_count), tt));
+              (subst IsPositive (sym count) (add_one_positive sign zero_count), tt));
           short = subst (λ (xs : Tree). AllShort xs) (sym is)
               (short_append (entries_of rows) (entry new ∷ []) h.short (subst (λ (l : List ℕ). length l ≤ 64) (sym new_stack) short, tt));
         };

@@ -23,16 +23,16 @@ use Rattle.htl_sorted.proofs.Bools.{both_left, both_right, less}
 use Rattle.htl_sorted.proofs.Finds.{find_first, each_found}
 use Rattle.htl_event.specs.SlotOrder.{slot_cmp}
 use Rattle.htl_event.specs.OrderLaws.{slot_total}
-use Rattle.htl_tree.specs.Trees.{Tree, AllShort, place_cmp, count_at, IsTree, ListsRows, ListsSlots, BySlot}
+use Rattle.htl_tree.specs.Trees.{Tree, AllShort, key_cmp, count_at, IsTree, ListsRows, ListsSlots, BySlot}
 use Rattle.htl_tree.specs.declared.node.Node.{Node}
-use Rattle.htl_tree.specs.Nodes.{Spot, frames, top, inside, own, kids, below, rows, tree_at}
+use Rattle.htl_tree.specs.Nodes.{Position, frames, top, inside, counts, children, below, rows, tree_at}
 use Rattle.htl_tree.specs.Asked.{has_slot}
 use Rattle.htl_tree.specs.declared.slots.Slots.{Slots}
-use Rattle.htl_tree.specs.Nodes.{rows_at, own_at, picked, asked_of, counts_in, IsShortFrom, slots_of}
+use Rattle.htl_tree.specs.Nodes.{rows_at, rows_of_counts, picked, asked_of, counts_in, IsShortFrom, slots_of}
 use Rattle.htl_tree.proofs.ChangedKeys.{found_behind}
 use Rattle.htl_tree.proofs.Children.{IsChildAt, from_child}
-use Rattle.htl_tree.proofs.NodeRows.{own_rows, kid_rows, rows_is}
-use Rattle.htl_tree.proofs.TreesAsLists.{place_total, place_same, nothing_is_tree}
+use Rattle.htl_tree.proofs.NodeRows.{rows_here, child_rows, rows_is}
+use Rattle.htl_tree.proofs.TreesAsLists.{key_total, key_same, nothing_is_tree}
 use Rattle.htl_tree.proofs.Tops.{top_of}
 use Rattle.htl_tree.proofs.Under.{same_slot_Decides}
 
@@ -56,17 +56,17 @@ module _ (p : Slot → Bool) where
       (rows_at p path (map (λ row. below f row) t))) (sym (append_assoc path (f ∷ []) row.0.0))
       ∙ ap (λ l. cond (p row.0.1) (((row.0.1, reverse ((path ++ f ∷ []) ++ row.0.0)), row.1) ∷ l) l) (rows_at-below path f t)
 
-  rows_at-own : (path : List ℕ) (es : List (Slot × Count)) → rows_at p path (own_rows es) ≡ own_at p path es
-  rows_at-own path [] = refl
-  rows_at-own path (e ∷ es) =
-      ap (λ k. cond (p e.0) (((e.0, reverse k), e.1) ∷ rows_at p path (own_rows es)) (rows_at p path (own_rows es))) (append-nil path)
-      ∙ ap (λ l. cond (p e.0) (((e.0, reverse path), e.1) ∷ l) l) (rows_at-own path es)
+  rows_at-here : (path : List ℕ) (es : List (Slot × Count)) → rows_at p path (rows_here es) ≡ rows_of_counts p path es
+  rows_at-here path [] = refl
+  rows_at-here path (e ∷ es) =
+      ap (λ k. cond (p e.0) (((e.0, reverse k), e.1) ∷ rows_at p path (rows_here es)) (rows_at p path (rows_here es))) (append-nil path)
+      ∙ ap (λ l. cond (p e.0) (((e.0, reverse path), e.1) ∷ l) l) (rows_at-here path es)
 
-  -- the rows of a node are its own and those of its children
-  pub rows_at-node : {A : Type 0} (n : Spot A) (path : List ℕ)
-      → rows_at p path (rows n) ≡ own_at p path (own n) ++ rows_at p path (kid_rows (kids n))
-  rows_at-node n path = ap (rows_at p path) (rows_is n) ∙ rows_at-append path (own_rows (own n)) (kid_rows (kids n))
-      ∙ ap (λ l. l ++ rows_at p path (kid_rows (kids n))) (rows_at-own path (own n))
+  -- the rows of a node are those of its counts and those of its children
+  pub rows_at-node : {A : Type 0} (n : Position A) (path : List ℕ)
+      → rows_at p path (rows n) ≡ rows_of_counts p path (counts n) ++ rows_at p path (child_rows (children n))
+  rows_at-node n path = ap (rows_at p path) (rows_is n) ∙ rows_at-append path (rows_here (counts n)) (child_rows (children n))
+      ∙ ap (λ l. l ++ rows_at p path (child_rows (children n))) (rows_at-here path (counts n))
 
   -- the frames before a node are part of the path
   pub rows_at-inside : {A : Type 0} (fs : List ℕ) (n : Node A) (path : List ℕ)
@@ -76,27 +76,27 @@ module _ (p : Slot → Bool) where
       ∙ ap (λ k. rows_at p k (rows (inside n))) (append_assoc path (f ∷ []) fs)
 
   -- those of the children from one on
-  pub child_rows : {A : Type 0} {n : Node A} {i : ℕ} {d : ℕ × Node A} → IsChildAt n i d → (path : List ℕ)
-      → rows_at p path (kid_rows (drop i (kids (inside n))))
-      ≡ rows_at p (path ++ d.0 ∷ []) (rows (top d.1)) ++ rows_at p path (kid_rows (drop (i + 1) (kids (inside n))))
-  child_rows {A} {n} {i} {d} at path =
-      let rest = kid_rows (drop (i + 1) (kids (inside n))) in
-      ap (λ l. rows_at p path (kid_rows l)) (from_child at)
+  pub rows_from_child : {A : Type 0} {n : Node A} {i : ℕ} {d : ℕ × Node A} → IsChildAt n i d → (path : List ℕ)
+      → rows_at p path (child_rows (drop i (children (inside n))))
+      ≡ rows_at p (path ++ d.0 ∷ []) (rows (top d.1)) ++ rows_at p path (child_rows (drop (i + 1) (children (inside n))))
+  rows_from_child {A} {n} {i} {d} at path =
+      let rest = child_rows (drop (i + 1) (children (inside n))) in
+      ap (λ l. rows_at p path (child_rows l)) (from_child at)
       ∙ rows_at-append path (map (λ row. below d.0 row) (rows (top d.1))) rest
       ∙ ap (λ l. l ++ rows_at p path rest) (rows_at-below path d.0 (rows (top d.1)))
 
-  pub picked_tree : {A : Type 0} (n : Spot A) → picked p (tree_at n) ≡ rows_at p [] (rows n)
+  pub picked_tree : {A : Type 0} (n : Position A) → picked p (tree_at n) ≡ rows_at p [] (rows n)
   picked_tree n = of (rows n)
     where
       of : (t : Tree) → picked p (map (λ row. ((reverse row.0.0, row.0.1), row.1)) t) ≡ rows_at p [] t
       of [] = refl
       of (row ∷ t) = ap (λ l. cond (p row.0.1) (((row.0.1, reverse row.0.0), row.1) ∷ l) l) (of t)
 
-  -- a count of the node's own more
-  pub own_at-drop : (path : List ℕ) (es : List (Slot × Count)) (i : ℕ) (d : Slot × Count) → i < length es
-      → own_at p path (drop i es) ≡ cond (p (get_or es i d).0)
-      ((((get_or es i d).0, reverse path), (get_or es i d).1) ∷ own_at p path (drop (i + 1) es)) (own_at p path (drop (i + 1) es))
-  own_at-drop path es i d lt = ap (own_at p path) (drop_more es i d lt)
+  -- one count of the node more
+  pub rows_of_counts-drop : (path : List ℕ) (es : List (Slot × Count)) (i : ℕ) (d : Slot × Count) → i < length es
+      → rows_of_counts p path (drop i es) ≡ cond (p (get_or es i d).0)
+      ((((get_or es i d).0, reverse path), (get_or es i d).1) ∷ rows_of_counts p path (drop (i + 1) es)) (rows_of_counts p path (drop (i + 1) es))
+  rows_of_counts-drop path es i d lt = ap (rows_of_counts p path) (drop_more es i d lt)
 
 -- ---- no stack too long
 
@@ -108,14 +108,14 @@ pub all_right : (P : Row → Type 0) (xs ys : List Row) → AllByRecursion P (xs
 all_right P [] ys h = h
 all_right P (x ∷ xs) ys h = all_right P xs ys h.1
 
-short_own : (depth : ℕ) (es : List (Slot × Count)) (i : ℕ) → IsShortFrom depth (own_rows es) → i < length es → depth ≤ 64
-short_own depth [] i h lt = absurd (omega arith)
-short_own depth (e ∷ es) i h lt = omega (arith, h.0)
+short_counts : (depth : ℕ) (es : List (Slot × Count)) (i : ℕ) → IsShortFrom depth (rows_here es) → i < length es → depth ≤ 64
+short_counts depth [] i h lt = absurd (omega arith)
+short_counts depth (e ∷ es) i h lt = omega (arith, h.0)
 
--- a node with a count of its own is no deeper than a stack is long
-pub short_here : {A : Type 0} (n : Spot A) (depth : ℕ) → IsShortFrom depth (rows n) → 0 < length (own n) → depth ≤ 64
-short_here n depth h lt = short_own depth (own n) 0
-    (all_left (λ (row : Row). depth + length row.0.0 ≤ 64) (own_rows (own n)) (kid_rows (kids n))
+-- a node that counts something is no deeper than a stack is long
+pub short_here : {A : Type 0} (n : Position A) (depth : ℕ) → IsShortFrom depth (rows n) → 0 < length (counts n) → depth ≤ 64
+short_here n depth h lt = short_counts depth (counts n) 0
+    (all_left (λ (row : Row). depth + length row.0.0 ≤ 64) (rows_here (counts n)) (child_rows (children n))
     (subst (λ t. IsShortFrom depth t) (rows_is n) h)) lt
 
 pub short_below : (depth f : ℕ) (t : Tree) → IsShortFrom depth (map (λ row. below f row) t) → IsShortFrom (depth + 1) t
@@ -131,21 +131,21 @@ short_inside (f ∷ fs) n depth h =
     let further : depth + 1 + length fs ≡ depth + length (f ∷ fs) = omega arith in
     subst (λ d. IsShortFrom d (rows (inside n))) further (short_inside fs n (depth + 1) (short_below depth f (rows (fs, n)) h))
 
-short_kid : {A : Type 0} (depth : ℕ) (ks : List (ℕ × Spot A)) (i : ℕ) (k : ℕ × Spot A) → IsShortFrom depth (kid_rows ks) → i < length ks
+short_at_index : {A : Type 0} (depth : ℕ) (ks : List (ℕ × Position A)) (i : ℕ) (k : ℕ × Position A) → IsShortFrom depth (child_rows ks) → i < length ks
     → k ≡ get_or ks i k → IsShortFrom (depth + 1) (rows k.1)
-short_kid depth [] i k h lt is = absurd (omega arith)
-short_kid {A} depth (j ∷ ks) zero k h lt is =
-    subst (λ (e : ℕ × Spot A). IsShortFrom (depth + 1) (rows e.1)) (sym is)
+short_at_index depth [] i k h lt is = absurd (omega arith)
+short_at_index {A} depth (j ∷ ks) zero k h lt is =
+    subst (λ (e : ℕ × Position A). IsShortFrom (depth + 1) (rows e.1)) (sym is)
     (short_below depth j.0 (rows j.1)
-    (all_left (λ (row : Row). depth + length row.0.0 ≤ 64) (map (λ row. below j.0 row) (rows j.1)) (kid_rows ks) h))
-short_kid depth (j ∷ ks) (suc i) k h lt is = short_kid depth ks i k
-    (all_right (λ (row : Row). depth + length row.0.0 ≤ 64) (map (λ row. below j.0 row) (rows j.1)) (kid_rows ks) h) (omega arith) is
+    (all_left (λ (row : Row). depth + length row.0.0 ≤ 64) (map (λ row. below j.0 row) (rows j.1)) (child_rows ks) h))
+short_at_index depth (j ∷ ks) (suc i) k h lt is = short_at_index depth ks i k
+    (all_right (λ (row : Row). depth + length row.0.0 ≤ 64) (map (λ row. below j.0 row) (rows j.1)) (child_rows ks) h) (omega arith) is
 
 pub short_child : {A : Type 0} {n : Node A} {i : ℕ} {d : ℕ × Node A} → IsChildAt n i d → (depth : ℕ) → IsShortFrom depth (rows (inside n))
     → IsShortFrom (depth + 1) (rows (top d.1))
 short_child {A} {n} {i} {d} at depth h =
-    let ks : List (ℕ × Spot A) = kids (inside n) in
-    short_kid depth ks i (top_of d) (all_right (λ (row : Row). depth + length row.0.0 ≤ 64) (own_rows (own (inside n))) (kid_rows ks)
+    let ks : List (ℕ × Position A) = children (inside n) in
+    short_at_index depth ks i (top_of d) (all_right (λ (row : Row). depth + length row.0.0 ≤ 64) (rows_here (counts (inside n))) (child_rows ks)
     (subst (λ t. IsShortFrom depth t) (rows_is (inside n)) h)) at.within at.value
 
 pub short_root : (t : Tree) → AllShort t → IsShortFrom 0 t
@@ -161,14 +161,14 @@ listed slot (row ∷ rows) = cond (same_slot slot row.0.1) ((row.0.0, row.1) ∷
 
 module _ (slot : Slot) where
   -- rows of one slot are in stack order
-  stack_below : (a b : List ℕ) → place_cmp (a, slot) (b, slot) ≡ Less → stack_cmp a b ≡ Less
+  stack_below : (a b : List ℕ) → key_cmp (a, slot) (b, slot) ≡ Less → stack_cmp a b ≡ Less
   stack_below a b lt = (elim (stack_cmp a b) as (λ r. ordering_then r (slot_cmp slot slot) ≡ Less → r ≡ Less) [
     | Less ↦ λ _. refl
     | Equal ↦ λ e. let never : Equal ≡ Less = sym (tied_itself slot_total slot) ∙ e in absurd (cc)
     | Greater ↦ λ e. e
   ]) lt
 
-  rising_after : (row : Row) → slot ≡ row.0.1 → (t : Tree) → T (below_all place_cmp row.0 t)
+  rising_after : (row : Row) → slot ≡ row.0.1 → (t : Tree) → T (below_all key_cmp row.0 t)
       → AllByRecursion (λ x. ByStack (row.0.0, row.1) x) (listed slot t)
   rising_after row mine [] h = tt
   rising_after row mine (x ∷ t) h =
@@ -177,13 +177,13 @@ module _ (slot : Slot) where
       → AllByRecursion (λ y. ByStack (row.0.0, row.1) y) (cond b ((x.0.0, x.1) ∷ listed slot t) (listed slot t))) [
         | true ↦ λ e.
             let its : slot ≡ x.0.1 = (same_slot_Decides slot x.0.1).0 e in
-            let lt : place_cmp (row.0.0, slot) (x.0.0, slot) ≡ Less = ap (λ s. place_cmp (row.0.0, s) (x.0.0, slot)) mine
-            ∙ ap (λ s. place_cmp row.0 (x.0.0, s)) its ∙ less _ (both_left _ _ h) in
+            let lt : key_cmp (row.0.0, slot) (x.0.0, slot) ≡ Less = ap (λ s. key_cmp (row.0.0, s) (x.0.0, slot)) mine
+            ∙ ap (λ s. key_cmp row.0 (x.0.0, s)) its ∙ less _ (both_left _ _ h) in
             (stack_below row.0.0 x.0.0 lt, rest)
         | false ↦ λ e. rest
       ]) refl
 
-  rising : (t : Tree) → IsSorted place_cmp t → IsRising ByStack (listed slot t)
+  rising : (t : Tree) → IsSorted key_cmp t → IsRising ByStack (listed slot t)
   rising [] s = tt
   rising (x ∷ t) s = (elim (same_slot slot x.0.1)
       as (λ b. same_slot slot x.0.1 ≡ b → IsRising ByStack (cond b ((x.0.0, x.1) ∷ listed slot t) (listed slot t))) [
@@ -192,31 +192,31 @@ module _ (slot : Slot) where
       ]) refl
 
   -- what is listed is found, and what is found is listed
-  listed_found : (t : Tree) → IsSorted place_cmp t → (x : List ℕ × Count) → Contains (listed slot t) x
-      → find place_cmp (x.0, slot) t ≡ Some x.1
+  listed_found : (t : Tree) → IsSorted key_cmp t → (x : List ℕ × Count) → Contains (listed slot t) x
+      → find key_cmp (x.0, slot) t ≡ Some x.1
   listed_found [] s x h = absurd (Contains-nil x h)
   listed_found (row ∷ t) s x h =
       (elim (same_slot slot row.0.1) as (λ b. same_slot slot row.0.1 ≡ b
-      → Contains (cond b ((row.0.0, row.1) ∷ listed slot t) (listed slot t)) x → find place_cmp (x.0, slot) (row ∷ t) ≡ Some x.1) [
+      → Contains (cond b ((row.0.0, row.1) ∷ listed slot t) (listed slot t)) x → find key_cmp (x.0, slot) (row ∷ t) ≡ Some x.1) [
         | true ↦ λ e c. elim (Contains-cases (row.0.0, row.1) (listed slot t) x c) [
           | inl is ↦
               let mine : slot ≡ row.0.1 = (same_slot_Decides slot row.0.1).0 e in
-              ap (λ (y : List ℕ × Count). find place_cmp (y.0, slot) (row ∷ t)) (sym is)
-              ∙ ap (λ s. find place_cmp (row.0.0, s) (row ∷ t)) mine ∙ find_first place_cmp place_total row t
+              ap (λ (y : List ℕ × Count). find key_cmp (y.0, slot) (row ∷ t)) (sym is)
+              ∙ ap (λ s. find key_cmp (row.0.0, s) (row ∷ t)) mine ∙ find_first key_cmp key_total row t
               ∙ ap (λ (y : List ℕ × Count). Some y.1) is
-          | inr there ↦ found_behind place_cmp place_total row t s (x.0, slot) x.1 (listed_found t (both_right _ _ s) x there)
+          | inr there ↦ found_behind key_cmp key_total row t s (x.0, slot) x.1 (listed_found t (both_right _ _ s) x there)
         ]
-        | false ↦ λ e c. found_behind place_cmp place_total row t s (x.0, slot) x.1 (listed_found t (both_right _ _ s) x c)
+        | false ↦ λ e c. found_behind key_cmp key_total row t s (x.0, slot) x.1 (listed_found t (both_right _ _ s) x c)
       ]) refl h
 
-  found_listed : (t : Tree) (stack : List ℕ) (c : Count) → find place_cmp (stack, slot) t ≡ Some c → Contains (listed slot t) (stack, c)
+  found_listed : (t : Tree) (stack : List ℕ) (c : Count) → find key_cmp (stack, slot) t ≡ Some c → Contains (listed slot t) (stack, c)
   found_listed [] stack c found = cc
   found_listed (row ∷ t) stack c found =
-      (elim (place_cmp (stack, slot) row.0) as (λ r. place_cmp (stack, slot) row.0 ≡ r
-      → cond (is_eq r) (Some row.1) (find place_cmp (stack, slot) t) ≡ Some c → Contains (listed slot (row ∷ t)) (stack, c)) [
+      (elim (key_cmp (stack, slot) row.0) as (λ r. key_cmp (stack, slot) row.0 ≡ r
+      → cond (is_eq r) (Some row.1) (find key_cmp (stack, slot) t) ≡ Some c → Contains (listed slot (row ∷ t)) (stack, c)) [
         | Less ↦ λ e is. further (found_listed t stack c is)
         | Equal ↦ λ e is.
-            let same = place_same (stack, slot) row.0 e in
+            let same = key_same (stack, slot) row.0 e in
             let mine : same_slot slot row.0.1 ≡ true = (same_slot_Decides slot row.0.1).1 (ap (λ (k : List ℕ × Slot). k.1) same) in
             let value : row.1 ≡ c = ap (λ (o : Option Count). unwrap_or o c) is in
             let x : ◌≡◌ {A = List ℕ × Count} (row.0.0, row.1) (stack, c) = λ i. (sym (ap (λ (k : List ℕ × Slot). k.0) same) i, value i) in
@@ -238,13 +238,13 @@ module _ (slot : Slot) where
       into : (x : List ℕ × Count) → Contains (listed slot t) x → (x.1 ≡ count_at t slot x.0) × IsPositive x.1
       into x c = let found = listed_found t h.ordered x c in (
         sym (ap (λ (o : Option Count). unwrap_or o zero_count) found),
-        each_found place_cmp IsPositive (x.0, slot) x.1 t h.positive found,
+        each_found key_cmp IsPositive (x.0, slot) x.1 t h.positive found,
       )
 
       out : (x : List ℕ × Count) → (x.1 ≡ count_at t slot x.0) × IsPositive x.1 → Contains (listed slot t) x
-      out x (is, some) = of (find place_cmp (x.0, slot) t) refl
+      out x (is, some) = of (find key_cmp (x.0, slot) t) refl
         where
-          of : (o : Option Count) → find place_cmp (x.0, slot) t ≡ o → Contains (listed slot t) x
+          of : (o : Option Count) → find key_cmp (x.0, slot) t ≡ o → Contains (listed slot t) x
           of None none = let zero : x.1 ≡ zero_count = is ∙ ap (λ (o : Option Count). unwrap_or o zero_count) none in
               let never : IsPositive zero_count = subst IsPositive zero some in absurd (omega (arith, never))
           of (Some c) found = let value : c ≡ x.1 = sym (is ∙ ap (λ (o : Option Count). unwrap_or o zero_count) found) in
@@ -252,7 +252,7 @@ module _ (slot : Slot) where
 
 -- ---- the slots of a whole tree
 
-pub slots_tree : {A : Type 0} (n : Spot A) → slots_of (tree_at n) ≡ slots_of (rows n)
+pub slots_tree : {A : Type 0} (n : Position A) → slots_of (tree_at n) ≡ slots_of (rows n)
 slots_tree n = of (rows n)
   where
     of : (t : Tree) → slots_of (map (λ row. ((reverse row.0.0, row.0.1), row.1)) t) ≡ slots_of t
@@ -271,27 +271,27 @@ pub slots_of-inside : {A : Type 0} (fs : List ℕ) (n : Node A) → slots_of (ro
 slots_of-inside [] n = refl
 slots_of-inside (f ∷ fs) n = slots_of-below f (rows (fs, n)) ∙ slots_of-inside fs n
 
-slots_of-own : (es : List (Slot × Count)) → slots_of (own_rows es) ≡ map (λ (e : Slot × Count). e.0) es
-slots_of-own [] = refl
-slots_of-own (e ∷ es) = ap (λ l. e.0 ∷ l) (slots_of-own es)
+slots_of-here : (es : List (Slot × Count)) → slots_of (rows_here es) ≡ map (λ (e : Slot × Count). e.0) es
+slots_of-here [] = refl
+slots_of-here (e ∷ es) = ap (λ l. e.0 ∷ l) (slots_of-here es)
 
--- the slots of a node are its own and those of its children
-pub slots_of-node : {A : Type 0} (n : Spot A) → slots_of (rows n) ≡ map (λ (e : Slot × Count). e.0) (own n) ++ slots_of (kid_rows (kids n))
-slots_of-node n = ap slots_of (rows_is n) ∙ slots_of-append (own_rows (own n)) (kid_rows (kids n))
-    ∙ ap (λ l. l ++ slots_of (kid_rows (kids n))) (slots_of-own (own n))
+-- the slots of a node are those of its counts and those of its children
+pub slots_of-node : {A : Type 0} (n : Position A) → slots_of (rows n) ≡ map (λ (e : Slot × Count). e.0) (counts n) ++ slots_of (child_rows (children n))
+slots_of-node n = ap slots_of (rows_is n) ∙ slots_of-append (rows_here (counts n)) (child_rows (children n))
+    ∙ ap (λ l. l ++ slots_of (child_rows (children n))) (slots_of-here (counts n))
 
 -- those of the children from one on
-pub child_slots : {A : Type 0} {n : Node A} {i : ℕ} {d : ℕ × Node A} → IsChildAt n i d
-    → slots_of (kid_rows (drop i (kids (inside n)))) ≡ slots_of (rows (inside d.1)) ++ slots_of (kid_rows (drop (i + 1) (kids (inside n))))
-child_slots {A} {n} {i} {d} at =
-    let rest = kid_rows (drop (i + 1) (kids (inside n))) in
-    ap (λ l. slots_of (kid_rows l)) (from_child at)
+pub slots_from_child : {A : Type 0} {n : Node A} {i : ℕ} {d : ℕ × Node A} → IsChildAt n i d
+    → slots_of (child_rows (drop i (children (inside n)))) ≡ slots_of (rows (inside d.1)) ++ slots_of (child_rows (drop (i + 1) (children (inside n))))
+slots_from_child {A} {n} {i} {d} at =
+    let rest = child_rows (drop (i + 1) (children (inside n))) in
+    ap (λ l. slots_of (child_rows l)) (from_child at)
     ∙ slots_of-append (map (λ row. below d.0 row) (rows (top d.1))) rest
     ∙ ap (λ l. l ++ slots_of rest) (slots_of-below d.0 (rows (top d.1)) ∙ slots_of-inside (frames d.1) d.1)
 
 -- ---- counts whatever their stacks
 
-pub counts_tree : {A : Type 0} (n : Spot A) → counts_in (tree_at n) ≡ counts_in (rows n)
+pub counts_tree : {A : Type 0} (n : Position A) → counts_in (tree_at n) ≡ counts_in (rows n)
 counts_tree n = of (rows n)
   where
     of : (t : Tree) → counts_in (map (λ row. ((reverse row.0.0, row.0.1), row.1)) t) ≡ counts_in t
@@ -310,46 +310,46 @@ pub counts_in-inside : {A : Type 0} (fs : List ℕ) (n : Node A) → counts_in (
 counts_in-inside [] n = refl
 counts_in-inside (f ∷ fs) n = counts_in-below f (rows (fs, n)) ∙ counts_in-inside fs n
 
-counts_in-own : (es : List (Slot × Count)) → counts_in (own_rows es) ≡ es
-counts_in-own [] = refl
-counts_in-own (e ∷ es) = ap (λ l. e ∷ l) (counts_in-own es)
+counts_in-here : (es : List (Slot × Count)) → counts_in (rows_here es) ≡ es
+counts_in-here [] = refl
+counts_in-here (e ∷ es) = ap (λ l. e ∷ l) (counts_in-here es)
 
--- the counts from a node on are its own and those of its children
-pub asked_of-node : {A : Type 0} (slots : Slots) (n : Spot A)
-    → asked_of slots (counts_in (rows n)) ≡ asked_of slots (own n) ++ asked_of slots (counts_in (kid_rows (kids n)))
+-- the counts from a node on are the node's and those of its children
+pub asked_of-node : {A : Type 0} (slots : Slots) (n : Position A)
+    → asked_of slots (counts_in (rows n)) ≡ asked_of slots (counts n) ++ asked_of slots (counts_in (child_rows (children n)))
 asked_of-node slots n =
-    ap (asked_of slots) (ap counts_in (rows_is n) ∙ counts_in-append (own_rows (own n)) (kid_rows (kids n))
-    ∙ ap (λ l. l ++ counts_in (kid_rows (kids n))) (counts_in-own (own n)))
-    ∙ filter-append (λ (e : Slot × Count). has_slot slots e.0) (own n) (counts_in (kid_rows (kids n)))
+    ap (asked_of slots) (ap counts_in (rows_is n) ∙ counts_in-append (rows_here (counts n)) (child_rows (children n))
+    ∙ ap (λ l. l ++ counts_in (child_rows (children n))) (counts_in-here (counts n)))
+    ∙ filter-append (λ (e : Slot × Count). has_slot slots e.0) (counts n) (counts_in (child_rows (children n)))
 
 -- those of the children from one on
-pub child_counts : {A : Type 0} (slots : Slots) {n : Node A} {i : ℕ} {d : ℕ × Node A} → IsChildAt n i d
-    → asked_of slots (counts_in (kid_rows (drop i (kids (inside n)))))
-    ≡ asked_of slots (counts_in (rows (inside d.1))) ++ asked_of slots (counts_in (kid_rows (drop (i + 1) (kids (inside n)))))
-child_counts {A} slots {n} {i} {d} at =
-    let rest = kid_rows (drop (i + 1) (kids (inside n))) in
-    ap (asked_of slots) (ap (λ l. counts_in (kid_rows l)) (from_child at)
+pub counts_from_child : {A : Type 0} (slots : Slots) {n : Node A} {i : ℕ} {d : ℕ × Node A} → IsChildAt n i d
+    → asked_of slots (counts_in (child_rows (drop i (children (inside n)))))
+    ≡ asked_of slots (counts_in (rows (inside d.1))) ++ asked_of slots (counts_in (child_rows (drop (i + 1) (children (inside n)))))
+counts_from_child {A} slots {n} {i} {d} at =
+    let rest = child_rows (drop (i + 1) (children (inside n))) in
+    ap (asked_of slots) (ap (λ l. counts_in (child_rows l)) (from_child at)
     ∙ counts_in-append (map (λ row. below d.0 row) (rows (top d.1))) rest
     ∙ ap (λ l. l ++ counts_in rest) (counts_in-below d.0 (rows (top d.1)) ∙ counts_in-inside (frames d.1) d.1))
     ∙ filter-append (λ (e : Slot × Count). has_slot slots e.0) (counts_in (rows (inside d.1))) (counts_in rest)
 
 -- ---- slots as a list
 
-slot_found : (t : Tree) → IsSorted place_cmp t → (slot : Slot) → Contains (slots_of t) slot
-    → (stack : List ℕ) × (c : Count) × (find place_cmp (stack, slot) t ≡ Some c)
+slot_found : (t : Tree) → IsSorted key_cmp t → (slot : Slot) → Contains (slots_of t) slot
+    → (stack : List ℕ) × (c : Count) × (find key_cmp (stack, slot) t ≡ Some c)
 slot_found [] s slot h = absurd (Contains-nil slot h)
 slot_found (row ∷ t) s slot h = elim (Contains-cases row.0.1 (slots_of t) slot h) [
-  | inl is ↦ (row.0.0, row.1, ap (λ u. find place_cmp (row.0.0, u) (row ∷ t)) (sym is) ∙ find_first place_cmp place_total row t)
-  | inr there ↦ let r = slot_found t (both_right _ _ s) slot there in (r.0, r.1, found_behind place_cmp place_total row t s (r.0, slot) r.1 r.2)
+  | inl is ↦ (row.0.0, row.1, ap (λ u. find key_cmp (row.0.0, u) (row ∷ t)) (sym is) ∙ find_first key_cmp key_total row t)
+  | inr there ↦ let r = slot_found t (both_right _ _ s) slot there in (r.0, r.1, found_behind key_cmp key_total row t s (r.0, slot) r.1 r.2)
 ]
 
-found_slot : (t : Tree) (slot : Slot) (stack : List ℕ) (c : Count) → find place_cmp (stack, slot) t ≡ Some c → Contains (slots_of t) slot
+found_slot : (t : Tree) (slot : Slot) (stack : List ℕ) (c : Count) → find key_cmp (stack, slot) t ≡ Some c → Contains (slots_of t) slot
 found_slot [] slot stack c found = cc
 found_slot (row ∷ t) slot stack c found =
-    (elim (place_cmp (stack, slot) row.0) as (λ r. place_cmp (stack, slot) row.0 ≡ r
-    → cond (is_eq r) (Some row.1) (find place_cmp (stack, slot) t) ≡ Some c → Contains (row.0.1 ∷ slots_of t) slot) [
+    (elim (key_cmp (stack, slot) row.0) as (λ r. key_cmp (stack, slot) row.0 ≡ r
+    → cond (is_eq r) (Some row.1) (find key_cmp (stack, slot) t) ≡ Some c → Contains (row.0.1 ∷ slots_of t) slot) [
       | Less ↦ λ e is. Contains-there row.0.1 (slots_of t) slot (found_slot t slot stack c is)
-      | Equal ↦ λ e is. let same = place_same (stack, slot) row.0 e in
+      | Equal ↦ λ e is. let same = key_same (stack, slot) row.0 e in
           subst (λ u. Contains (row.0.1 ∷ slots_of t) u) (sym (ap (λ (k : List ℕ × Slot). k.1) same)) (Contains-here row.0.1 (slots_of t))
       | Greater ↦ λ e is. Contains-there row.0.1 (slots_of t) slot (found_slot t slot stack c is)
     ]) refl found
@@ -365,13 +365,13 @@ lists_slots t h slots rising members =
         let r = slot_found t h.ordered slot c in (
           r.0,
           subst IsPositive (sym (ap (λ (o : Option Count). unwrap_or o zero_count) r.2))
-              (each_found place_cmp IsPositive (r.0, slot) r.1 t h.positive r.2),
+              (each_found key_cmp IsPositive (r.0, slot) r.1 t h.positive r.2),
         )
 
     out : (slot : Slot) → (stack : List ℕ) × IsPositive (count_at t slot stack) → Contains (slots_of t) slot
-    out slot (stack, some) = of (find place_cmp (stack, slot) t) refl
+    out slot (stack, some) = of (find key_cmp (stack, slot) t) refl
       where
-        of : (o : Option Count) → find place_cmp (stack, slot) t ≡ o → Contains (slots_of t) slot
+        of : (o : Option Count) → find key_cmp (stack, slot) t ≡ o → Contains (slots_of t) slot
         of None none = let never : IsPositive zero_count =
             subst IsPositive (ap (λ (o : Option Count). unwrap_or o zero_count) none) some in absurd (omega (arith, never))
         of (Some c) found = found_slot t slot stack c found

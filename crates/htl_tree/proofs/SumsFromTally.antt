@@ -12,11 +12,11 @@ use Rattle.htl_event.specs.Tallies.{zero_count, plus_count, total_of, IsPositive
 use Rattle.htl_sorted.specs.Entries.{IsSorted, Each}
 use Rattle.htl_sorted.proofs.Bools.{both_left, both_right}
 use Rattle.htl_sorted.proofs.Finds.{find_below, below_tied, each_put, each_found}
-use Rattle.htl_tree.specs.Trees.{Tree, place_cmp, count_at, total_count, IsTree, AllShort, IsSumTally}
+use Rattle.htl_tree.specs.Trees.{Tree, key_cmp, count_at, total_count, IsTree, AllShort, IsSumTally}
 use Rattle.htl_tree.specs.Rows.{sum_at}
 use Rattle.htl_tree.proofs.ChangedKeys.{sum_by-put, all_keys_from_found, key_found}
 use Rattle.htl_tree.proofs.CopiesAndSums.{zero_right, zero_left}
-use Rattle.htl_tree.proofs.TreesAsLists.{place_total, place_same, canonical_trees}
+use Rattle.htl_tree.proofs.TreesAsLists.{key_total, key_same, canonical_trees}
 
 abbrev Row : Type 0
 Row = (List ℕ × Slot) × Count
@@ -24,28 +24,28 @@ Row = (List ℕ × Slot) × Count
 -- the tree that rows build
 abbrev built : List Row → Tree
 built [] = []
-built (x ∷ xs) = put place_cmp x.0 (plus_count x.1 (count_at (built xs) x.0.1 x.0.0)) (built xs)
+built (x ∷ xs) = put key_cmp x.0 (plus_count x.1 (count_at (built xs) x.0.1 x.0.0)) (built xs)
 
 count_built : (xs : List Row) (slot : Slot) (stack : List ℕ) → count_at (built xs) slot stack ≡ sum_at xs slot stack
 count_built [] slot stack = refl
 count_built (x ∷ xs) slot stack =
     let v : Count = plus_count x.1 (count_at (built xs) x.0.1 x.0.0) in
-    ap (λ (o : Option Count). unwrap_or o zero_count) (find-put place_cmp place_total (stack, slot) x.0 v (built xs))
-    ∙ (elim (place_cmp (stack, slot) x.0) as (λ r. place_cmp (stack, slot) x.0 ≡ r
-    → unwrap_or (cond (is_eq r) (Some v) (find place_cmp (stack, slot) (built xs))) zero_count
+    ap (λ (o : Option Count). unwrap_or o zero_count) (find-put key_cmp key_total (stack, slot) x.0 v (built xs))
+    ∙ (elim (key_cmp (stack, slot) x.0) as (λ r. key_cmp (stack, slot) x.0 ≡ r
+    → unwrap_or (cond (is_eq r) (Some v) (find key_cmp (stack, slot) (built xs))) zero_count
     ≡ cond (is_eq r) (plus_count x.1 (sum_at xs slot stack)) (sum_at xs slot stack)) [
       | Less ↦ λ c. count_built xs slot stack
       | Equal ↦ λ c.
-          let same = place_same (stack, slot) x.0 c in
+          let same = key_same (stack, slot) x.0 c in
           let there : count_at (built xs) x.0.1 x.0.0 ≡ count_at (built xs) slot stack =
           ap (λ (k : List ℕ × Slot). count_at (built xs) k.1 k.0) (sym same) in
           ap (λ d. plus_count x.1 d) (there ∙ count_built xs slot stack)
       | Greater ↦ λ c. count_built xs slot stack
     ]) refl
 
-sorted_built : (xs : List Row) → IsSorted place_cmp (built xs)
+sorted_built : (xs : List Row) → IsSorted key_cmp (built xs)
 sorted_built [] = tt
-sorted_built (x ∷ xs) = is_sorted-put place_cmp place_total x.0 (plus_count x.1 (count_at (built xs) x.0.1 x.0.0)) (built xs)
+sorted_built (x ∷ xs) = is_sorted-put key_cmp key_total x.0 (plus_count x.1 (count_at (built xs) x.0.1 x.0.0)) (built xs)
     (sorted_built xs)
 
 plus_positive : (c d : Count) → IsPositive c → IsPositive (plus_count c d)
@@ -53,7 +53,7 @@ plus_positive c d h = omega arith
 
 positive_built : (xs : List Row) → Each IsPositive xs → Each IsPositive (built xs)
 positive_built [] h = tt
-positive_built (x ∷ xs) h = each_put place_cmp IsPositive x.0 _ (built xs) (plus_positive x.1 (count_at (built xs) x.0.1 x.0.0) h.0)
+positive_built (x ∷ xs) h = each_put key_cmp IsPositive x.0 _ (built xs) (plus_positive x.1 (count_at (built xs) x.0.1 x.0.0) h.0)
     (positive_built xs h.1)
 
 -- the tree with a tally is the one that rows of that tally build
@@ -72,7 +72,7 @@ pub sum_at-append : (xs ys : List Row) (slot : Slot) (stack : List ℕ)
     → sum_at (xs ++ ys) slot stack ≡ plus_count (sum_at xs slot stack) (sum_at ys slot stack)
 sum_at-append [] ys slot stack = zero_left (sum_at ys slot stack)
 sum_at-append (x ∷ xs) ys slot stack =
-    elim (eq_by_cmp place_cmp (stack, slot) x.0)
+    elim (eq_by_cmp key_cmp (stack, slot) x.0)
     as (λ b. cond b (plus_count x.1 (sum_at (xs ++ ys) slot stack)) (sum_at (xs ++ ys) slot stack)
     ≡ plus_count (cond b (plus_count x.1 (sum_at xs slot stack)) (sum_at xs slot stack)) (sum_at ys slot stack)) [
       | true ↦ ap (λ d. plus_count x.1 d) (sum_at-append xs ys slot stack)
@@ -81,15 +81,15 @@ sum_at-append (x ∷ xs) ys slot stack =
     ]
 
 -- a tree has each key once
-pub sum_at_tree : (t : Tree) → IsSorted place_cmp t → (slot : Slot) (stack : List ℕ) → sum_at t slot stack ≡ count_at t slot stack
+pub sum_at_tree : (t : Tree) → IsSorted key_cmp t → (slot : Slot) (stack : List ℕ) → sum_at t slot stack ≡ count_at t slot stack
 sum_at_tree [] s slot stack = refl
 sum_at_tree (x ∷ xs) s slot stack =
-    elim (place_cmp (stack, slot) x.0) as (λ r. place_cmp (stack, slot) x.0 ≡ r → cond (is_eq r) (plus_count x.1 (sum_at xs slot stack))
-    (sum_at xs slot stack) ≡ unwrap_or (cond (is_eq r) (Some x.1) (find place_cmp (stack, slot) xs)) zero_count) [
+    elim (key_cmp (stack, slot) x.0) as (λ r. key_cmp (stack, slot) x.0 ≡ r → cond (is_eq r) (plus_count x.1 (sum_at xs slot stack))
+    (sum_at xs slot stack) ≡ unwrap_or (cond (is_eq r) (Some x.1) (find key_cmp (stack, slot) xs)) zero_count) [
       | Less ↦ λ c. sum_at_tree xs (both_right _ _ s) slot stack
       | Equal ↦ λ c.
-          let none : find place_cmp (stack, slot) xs ≡ None =
-          find_below place_cmp place_total (stack, slot) xs (below_tied place_cmp place_total (stack, slot) x.0 xs c (both_left _ _ s)) in
+          let none : find key_cmp (stack, slot) xs ≡ None =
+          find_below key_cmp key_total (stack, slot) xs (below_tied key_cmp key_total (stack, slot) x.0 xs c (both_left _ _ s)) in
           let rest : sum_at xs slot stack ≡ zero_count = sum_at_tree xs (both_right _ _ s) slot stack
           ∙ ap (λ (o : Option Count). unwrap_or o zero_count) none in
           ap (λ d. plus_count x.1 d) rest ∙ sym (zero_right x.1)
@@ -111,7 +111,7 @@ module _ (weight : List ℕ × Slot → Count → ℕ) (zero : (k : List ℕ × 
   weigh_built (x ∷ xs) =
       let old : Count = count_at (built xs) x.0.1 x.0.0 in
       let put_in : weigh (built (x ∷ xs)) + weight x.0 old ≡ weigh (built xs) + weight x.0 (plus_count x.1 old) =
-      sum_by-put place_cmp place_total place_same weight zero_count zero x.0 (plus_count x.1 old) (built xs) (sorted_built xs) in
+      sum_by-put key_cmp key_total key_same weight zero_count zero x.0 (plus_count x.1 old) (built xs) (sorted_built xs) in
       let both : weight x.0 (plus_count x.1 old) ≡ weight x.0 x.1 + weight x.0 old = adds x.0 x.1 old in
       let rest : weigh (built xs) ≡ weigh xs = weigh_built xs in
       let whole : weigh (x ∷ xs) ≡ weight x.0 x.1 + weigh xs = sum_by-cons (λ (row : Row). weight row.0 row.1) x xs in
@@ -135,24 +135,24 @@ total_sum s t u f g h sum =
     ∙ sum_by-append (λ (row : Row). total_of row.1) t u
 
 -- a sum has no stack that neither side has
-pub sum_short : (s t u : Tree) → IsSorted place_cmp s → Each IsPositive s → IsTree t → IsTree u → IsSumTally s t u → AllShort s
+pub sum_short : (s t u : Tree) → IsSorted key_cmp s → Each IsPositive s → IsTree t → IsTree u → IsSumTally s t u → AllShort s
 sum_short s t u sorted positive g h sum =
-    all_keys_from_found place_cmp place_total (λ (k : List ℕ × Slot). length k.0 ≤ 64) s sorted (λ k v found.
+    all_keys_from_found key_cmp key_total (λ (k : List ℕ × Slot). length k.0 ≤ 64) s sorted (λ k v found.
     let here : count_at s k.1 k.0 ≡ v = ap (λ (o : Option Count). unwrap_or o zero_count) found in
-    let some : IsPositive v = each_found place_cmp IsPositive k v s positive found in
+    let some : IsPositive v = each_found key_cmp IsPositive k v s positive found in
     let is : v ≡ plus_count (count_at t k.1 k.0) (count_at u k.1 k.0) = sym here ∙ sum k.1 k.0 in
-    of k (find place_cmp k t) refl (find place_cmp k u) refl (subst IsPositive is some))
+    of k (find key_cmp k t) refl (find key_cmp k u) refl (subst IsPositive is some))
   where
-    of : (k : List ℕ × Slot) (o : Option Count) → find place_cmp k t ≡ o → (p : Option Count) → find place_cmp k u ≡ p
-        → IsPositive (plus_count (unwrap_or (find place_cmp k t) zero_count) (unwrap_or (find place_cmp k u) zero_count)) → length k.0 ≤ 64
+    of : (k : List ℕ × Slot) (o : Option Count) → find key_cmp k t ≡ o → (p : Option Count) → find key_cmp k u ≡ p
+        → IsPositive (plus_count (unwrap_or (find key_cmp k t) zero_count) (unwrap_or (find key_cmp k u) zero_count)) → length k.0 ≤ 64
     of k (Some c) left p right some =
-        key_found place_cmp place_total place_same (λ (k : List ℕ × Slot). length k.0 ≤ 64) k c t g.shallow left
+        key_found key_cmp key_total key_same (λ (k : List ℕ × Slot). length k.0 ≤ 64) k c t g.shallow left
     of k None left (Some d) right some =
-        key_found place_cmp place_total place_same (λ (k : List ℕ × Slot). length k.0 ≤ 64) k d u h.shallow right
+        key_found key_cmp key_total key_same (λ (k : List ℕ × Slot). length k.0 ≤ 64) k d u h.shallow right
     of k None left None right some =
-        let none_left : unwrap_or (find place_cmp k t) zero_count ≡ zero_count = ap (λ (o : Option Count). unwrap_or o zero_count) left in
-        let none_right : unwrap_or (find place_cmp k u) zero_count ≡ zero_count =
+        let none_left : unwrap_or (find key_cmp k t) zero_count ≡ zero_count = ap (λ (o : Option Count). unwrap_or o zero_count) left in
+        let none_right : unwrap_or (find key_cmp k u) zero_count ≡ zero_count =
         ap (λ (o : Option Count). unwrap_or o zero_count) right in
         let never : IsPositive (plus_count zero_count zero_count) = subst (λ d. IsPositive (plus_count zero_count d)) none_right
-        (subst (λ c. IsPositive (plus_count c (unwrap_or (find place_cmp k u) zero_count))) none_left some) in
+        (subst (λ c. IsPositive (plus_count c (unwrap_or (find key_cmp k u) zero_count))) none_left some) in
         omega (arith, never)

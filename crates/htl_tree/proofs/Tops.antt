@@ -1,4 +1,4 @@
--- What a node's list of children says of the places at their tops.
+-- What a node's list of children says of the positions at their tops.
 use Rattle.std.proofs.Common.{◌≡◌, ℕ, List, [], ◌∷◌, ◌&&◌, get_or, set, Some, None, T, true, false, cond}
 use Rattle.std.proofs.Common.{refl, sym, ◌∙◌, ap, subst}
 use Rattle.std.specs.Ordering.{nat_cmp, is_lt, eq_by_cmp}
@@ -8,10 +8,10 @@ use Rattle.std.specs.Option.{option_map}
 use Rattle.std.specs.FinMap.Entries.{find, put, below_all, by_order, is_sorted}
 use Rattle.htl_sorted.specs.Entries.{IsSorted, IsPlace, IsGap}
 use Rattle.htl_tree.specs.declared.node.Node.{Node}
-use Rattle.htl_tree.specs.Nodes.{Spot, top, inside, tops, kids, children_of, IsNormal}
+use Rattle.htl_tree.specs.Nodes.{Position, top, inside, tops, children, children_of, IsNormal}
 use Rattle.htl_tree.proofs.CountAdded.{normal_here}
 
-abbrev pub top_of : {A : Type 0} → ℕ × Node A → ℕ × Spot A
+abbrev pub top_of : {A : Type 0} → ℕ × Node A → ℕ × Position A
 top_of k = (k.0, top k.1)
 
 module _ {A : Type 0} where
@@ -52,11 +52,11 @@ module _ {A : Type 0} where
       place = subst (λ l. IsPlace nat_cmp l f i) same at
 
       -- the child at the place of its frame
-      pub found_top : find nat_cmp f (kids (inside n)) ≡ Some (top d.1)
+      pub found_top : find nat_cmp f (children (inside n)) ≡ Some (top d.1)
       found_top = find_tops f (children_of n) ∙ ap (option_map top) (place.value d) ∙ ap (λ (k : ℕ × Node A). Some (top k.1)) (sym is)
 
       -- another node in that child's place
-      pub set_top : (m c : Node A) → children_of m ≡ set (children_of n) i (d.0, c) → kids (inside m) ≡ put nat_cmp f (top c) (kids (inside n))
+      pub set_top : (m c : Node A) → children_of m ≡ set (children_of n) i (d.0, c) → children (inside m) ≡ put nat_cmp f (top c) (children (inside n))
       set_top m c new =
           let placed : set (children_of n) i (d.0, c) ≡ put nat_cmp f c (children_of n) =
           ap (λ (k : ℕ × Node A). set (children_of n) i (k.0, c)) is ∙ sym (place.puts d c) in
@@ -67,9 +67,9 @@ module _ {A : Type 0} where
       gap = subst (λ l. IsGap nat_cmp l f i) same at
 
       -- no child has the frame of a gap
-      pub no_top : find nat_cmp f (kids (inside n)) ≡ None
+      pub no_top : find nat_cmp f (children (inside n)) ≡ None
       no_top = find_tops f (children_of n) ∙ ap (option_map top) gap.value
 
       -- a new child in the gap
-      pub insert_top : (m c : Node A) → children_of m ≡ insert (children_of n) i (f, c) → kids (inside m) ≡ put nat_cmp f (top c) (kids (inside n))
+      pub insert_top : (m c : Node A) → children_of m ≡ insert (children_of n) i (f, c) → children (inside m) ≡ put nat_cmp f (top c) (children (inside n))
       insert_top m c new = ap tops (new ∙ sym (gap.puts c)) ∙ sym (put_tops f c (children_of n))

@@ -26,12 +26,12 @@ use Rattle.htl_event.specs.SlotOrder.{slot_cmp}
 use Rattle.htl_event.specs.OrderLaws.{slot_total, slot_same}
 use Rattle.htl_tree.specs.Trees.{Tree, sum_where, count_under, total_count}
 use Rattle.htl_tree.specs.declared.node.Node.{Node}
-use Rattle.htl_tree.specs.Nodes.{Spot, frames, inside, own, kids, count_in, at_child, below, rows, tree_at, sum_under, IsNormal}
-use Rattle.htl_tree.proofs.Spots.{before}
+use Rattle.htl_tree.specs.Nodes.{Position, frames, inside, counts, children, count_in, at_child, below, rows, tree_at, sum_under, IsNormal}
+use Rattle.htl_tree.proofs.Positions.{before}
 use Rattle.htl_tree.proofs.Tops.{top_of}
 use Rattle.htl_tree.proofs.CountAdded.{normal_here}
 use Rattle.htl_tree.proofs.Children.{IsChildAt, from_child}
-use Rattle.htl_tree.proofs.NodeRows.{own_rows, kid_rows, rows_is}
+use Rattle.htl_tree.proofs.NodeRows.{rows_here, child_rows, rows_is}
 use Rattle.htl_tree.proofs.CopiesAndSums.{zero_right, zero_left}
 use Rattle.htl_tree.proofs.SumsFromTally.{plus_assoc}
 
@@ -100,51 +100,51 @@ module _ (slot : Slot) where
 
   -- ---- the rows of a node itself
 
-  sum_own : (es : List (Slot × Count)) → IsSorted slot_cmp es
-      → sum_where (λ p. starts_with nat_eq p []) slot (own_rows es) ≡ count_in es slot
-  sum_own [] s = refl
-  sum_own (e ∷ es) s = rw (same_slot_tied slot e.0)
+  sum_here : (es : List (Slot × Count)) → IsSorted slot_cmp es
+      → sum_where (λ p. starts_with nat_eq p []) slot (rows_here es) ≡ count_in es slot
+  sum_here [] s = refl
+  sum_here (e ∷ es) s = rw (same_slot_tied slot e.0)
       (elim (slot_cmp slot e.0) as (λ r. slot_cmp slot e.0 ≡ r
-      → cond (is_eq r && true) (plus_count e.1 (sum_where (λ p. starts_with nat_eq p []) slot (own_rows es)))
-      (sum_where (λ p. starts_with nat_eq p []) slot (own_rows es))
+      → cond (is_eq r && true) (plus_count e.1 (sum_where (λ p. starts_with nat_eq p []) slot (rows_here es)))
+      (sum_where (λ p. starts_with nat_eq p []) slot (rows_here es))
       ≡ unwrap_or (cond (is_eq r) (Some e.1) (find slot_cmp slot es)) zero_count) [
-        | Less ↦ λ c. sum_own es (both_right _ _ s)
+        | Less ↦ λ c. sum_here es (both_right _ _ s)
         | Equal ↦ λ c.
             let none : find slot_cmp slot es ≡ None =
             find_below slot_cmp slot_total slot es (below_tied slot_cmp slot_total slot e.0 es c (both_left _ _ s)) in
-            let rest : sum_where (λ p. starts_with nat_eq p []) slot (own_rows es) ≡ zero_count = sum_own es (both_right _ _ s)
+            let rest : sum_where (λ p. starts_with nat_eq p []) slot (rows_here es) ≡ zero_count = sum_here es (both_right _ _ s)
             ∙ ap (λ (o : Option Count). unwrap_or o zero_count) none in
             ap (λ d. plus_count e.1 d) rest ∙ sym (zero_right e.1)
-        | Greater ↦ λ c. sum_own es (both_right _ _ s)
+        | Greater ↦ λ c. sum_here es (both_right _ _ s)
       ] refl)
 
-  no_own : (f : ℕ) (p : List ℕ) (es : List (Slot × Count)) → sum_where (λ q. starts_with nat_eq q (f ∷ p)) slot (own_rows es) ≡ zero_count
-  no_own f p [] = refl
-  no_own f p (e ∷ es) = elim (same_slot slot e.0)
-      as (λ b. cond (b && false) (plus_count e.1 (sum_where (λ q. starts_with nat_eq q (f ∷ p)) slot (own_rows es)))
-      (sum_where (λ q. starts_with nat_eq q (f ∷ p)) slot (own_rows es)) ≡ zero_count) [
-        | true ↦ no_own f p es
-        | false ↦ no_own f p es
+  no_rows_here : (f : ℕ) (p : List ℕ) (es : List (Slot × Count)) → sum_where (λ q. starts_with nat_eq q (f ∷ p)) slot (rows_here es) ≡ zero_count
+  no_rows_here f p [] = refl
+  no_rows_here f p (e ∷ es) = elim (same_slot slot e.0)
+      as (λ b. cond (b && false) (plus_count e.1 (sum_where (λ q. starts_with nat_eq q (f ∷ p)) slot (rows_here es)))
+      (sum_where (λ q. starts_with nat_eq q (f ∷ p)) slot (rows_here es)) ≡ zero_count) [
+        | true ↦ no_rows_here f p es
+        | false ↦ no_rows_here f p es
       ]
 
   -- ---- and of those below
 
   -- what children count in all
-  abbrev pub kid_sum : {A : Type 0} → List (ℕ × Spot A) → Count
-  kid_sum ks = sum_where (λ p. starts_with nat_eq p []) slot (kid_rows ks)
+  abbrev pub child_sum : {A : Type 0} → List (ℕ × Position A) → Count
+  child_sum ks = sum_where (λ p. starts_with nat_eq p []) slot (child_rows ks)
 
-  pub kid_sum-cons : {A : Type 0} (k : ℕ × Spot A) (ks : List (ℕ × Spot A))
-      → kid_sum (k ∷ ks) ≡ plus_count (sum_under [] slot k.1) (kid_sum ks)
-  kid_sum-cons k ks = sum_where-append (λ p. starts_with nat_eq p []) (map (λ row. below k.0 row) (rows k.1)) (kid_rows ks)
-      ∙ ap (λ d. plus_count d (kid_sum ks)) (sum_where-map (λ q. k.0 ∷ q) (λ p. starts_with nat_eq p []) (rows k.1))
+  pub child_sum-cons : {A : Type 0} (k : ℕ × Position A) (ks : List (ℕ × Position A))
+      → child_sum (k ∷ ks) ≡ plus_count (sum_under [] slot k.1) (child_sum ks)
+  child_sum-cons k ks = sum_where-append (λ p. starts_with nat_eq p []) (map (λ row. below k.0 row) (rows k.1)) (child_rows ks)
+      ∙ ap (λ d. plus_count d (child_sum ks)) (sum_where-map (λ q. k.0 ∷ q) (λ p. starts_with nat_eq p []) (rows k.1))
 
-  pub sum_node : {A : Type 0} (n : Spot A) → IsNormal n → sum_under [] slot n ≡ plus_count (count_in (own n) slot) (kid_sum (kids n))
+  pub sum_node : {A : Type 0} (n : Position A) → IsNormal n → sum_under [] slot n ≡ plus_count (count_in (counts n) slot) (child_sum (children n))
   sum_node n h =
       ap (sum_where (λ p. starts_with nat_eq p []) slot) (rows_is n)
-      ∙ sum_where-append (λ p. starts_with nat_eq p []) (own_rows (own n)) (kid_rows (kids n))
-      ∙ ap (λ d. plus_count d (kid_sum (kids n))) (sum_own (own n) (normal_here n h).slots)
+      ∙ sum_where-append (λ p. starts_with nat_eq p []) (rows_here (counts n)) (child_rows (children n))
+      ∙ ap (λ d. plus_count d (child_sum (children n))) (sum_here (counts n) (normal_here n h).slots)
 
-  sum_before : {A : Type 0} (f : ℕ) (c : Spot A) → sum_under [] slot (before f c) ≡ sum_under [] slot c
+  sum_before : {A : Type 0} (f : ℕ) (c : Position A) → sum_under [] slot (before f c) ≡ sum_under [] slot c
   sum_before f c = sum_where-map (λ q. f ∷ q) (λ p. starts_with nat_eq p []) (rows c)
 
   -- frames before a node count nothing
@@ -155,30 +155,30 @@ module _ (slot : Slot) where
   same_frame : (f : ℕ) → nat_eq f f ≡ true
   same_frame f = grind (arith, nat_tests)
 
-  kids_under : {A : Type 0} (f : ℕ) (p : List ℕ) (ks : List (ℕ × Spot A)) → IsSorted nat_cmp ks
-      → sum_where (λ q. starts_with nat_eq q (f ∷ p)) slot (kid_rows ks) ≡ at_child (λ c. sum_under p slot c) (find nat_cmp f ks)
-  kids_under f p [] s = refl
-  kids_under {A} f p (k ∷ ks) s =
+  children_under : {A : Type 0} (f : ℕ) (p : List ℕ) (ks : List (ℕ × Position A)) → IsSorted nat_cmp ks
+      → sum_where (λ q. starts_with nat_eq q (f ∷ p)) slot (child_rows ks) ≡ at_child (λ c. sum_under p slot c) (find nat_cmp f ks)
+  children_under f p [] s = refl
+  children_under {A} f p (k ∷ ks) s =
       let P : List ℕ → Bool = λ q. starts_with nat_eq q (f ∷ p) in
-      let first : sum_where P slot (kid_rows (k ∷ ks))
-      ≡ plus_count (sum_where (λ q. P (k.0 ∷ q)) slot (rows k.1)) (sum_where P slot (kid_rows ks)) =
-      sum_where-append P (map (λ row. below k.0 row) (rows k.1)) (kid_rows ks)
-      ∙ ap (λ d. plus_count d (sum_where P slot (kid_rows ks))) (sum_where-map (λ q. k.0 ∷ q) P (rows k.1)) in
-      let rest = kids_under f p ks (both_right _ _ s) in
-      let other : nat_eq f k.0 ≡ false → sum_where P slot (kid_rows (k ∷ ks))
+      let first : sum_where P slot (child_rows (k ∷ ks))
+      ≡ plus_count (sum_where (λ q. P (k.0 ∷ q)) slot (rows k.1)) (sum_where P slot (child_rows ks)) =
+      sum_where-append P (map (λ row. below k.0 row) (rows k.1)) (child_rows ks)
+      ∙ ap (λ d. plus_count d (sum_where P slot (child_rows ks))) (sum_where-map (λ q. k.0 ∷ q) P (rows k.1)) in
+      let rest = children_under f p ks (both_right _ _ s) in
+      let other : nat_eq f k.0 ≡ false → sum_where P slot (child_rows (k ∷ ks))
       ≡ at_child (λ c. sum_under p slot c) (find nat_cmp f ks) = λ differs.
-      first ∙ ap (λ d. plus_count d (sum_where P slot (kid_rows ks)))
+      first ∙ ap (λ d. plus_count d (sum_where P slot (child_rows ks)))
       (sum_where-none (λ q. P (k.0 ∷ q)) (λ q. rw differs refl) (rows k.1))
-      ∙ sym (zero_left (sum_where P slot (kid_rows ks))) ∙ rest in
+      ∙ sym (zero_left (sum_where P slot (child_rows ks))) ∙ rest in
       elim (nat_cmp f k.0) as (λ r. nat_cmp f k.0 ≡ r
-      → sum_where P slot (kid_rows (k ∷ ks)) ≡ at_child (λ c. sum_under p slot c) (cond (is_eq r) (Some k.1) (find nat_cmp f ks))) [
+      → sum_where P slot (child_rows (k ∷ ks)) ≡ at_child (λ c. sum_under p slot c) (cond (is_eq r) (Some k.1) (find nat_cmp f ks))) [
         | Less ↦ λ c. other
             (apart f k.0 (λ e. let tied : Less ≡ Equal = sym c ∙ ap (λ g. nat_cmp f g) (sym e) ∙ tied_itself nat_cmp_total f in cc))
         | Equal ↦ λ c.
             let same : f ≡ k.0 = nat_cmp-IsAntisymmetric f k.0 c in
             let gone : find nat_cmp f ks ≡ None =
             find_below nat_cmp nat_cmp_total f ks (below_tied nat_cmp nat_cmp_total f k.0 ks c (both_left _ _ s)) in
-            let none : sum_where P slot (kid_rows ks) ≡ zero_count = rest ∙ ap (at_child (λ c. sum_under p slot c)) gone in
+            let none : sum_where P slot (child_rows ks) ≡ zero_count = rest ∙ ap (at_child (λ c. sum_under p slot c)) gone in
             let here : nat_eq f k.0 ≡ true = ap (λ g. nat_eq f g) (sym same) ∙ same_frame f in
             first ∙ ap (λ d. plus_count (sum_where (λ q. P (k.0 ∷ q)) slot (rows k.1)) d) none
             ∙ sym (zero_right (sum_where (λ q. P (k.0 ∷ q)) slot (rows k.1)))
@@ -191,30 +191,30 @@ module _ (slot : Slot) where
       apart f g differs = grind (arith, nat_tests, differs)
 
   -- the sum at a path is that of the child at its first frame
-  pub under_node : {A : Type 0} (n : Spot A) → IsNormal n → (f : ℕ) (p : List ℕ)
-      → sum_under (f ∷ p) slot n ≡ at_child (λ c. sum_under p slot c) (find nat_cmp f (kids n))
+  pub under_node : {A : Type 0} (n : Position A) → IsNormal n → (f : ℕ) (p : List ℕ)
+      → sum_under (f ∷ p) slot n ≡ at_child (λ c. sum_under p slot c) (find nat_cmp f (children n))
   under_node n h f p =
       let P : List ℕ → Bool = λ q. starts_with nat_eq q (f ∷ p) in
-      ap (sum_where P slot) (rows_is n) ∙ sum_where-append P (own_rows (own n)) (kid_rows (kids n))
-      ∙ ap (λ d. plus_count d (sum_where P slot (kid_rows (kids n)))) (no_own f p (own n))
-      ∙ sym (zero_left (sum_where P slot (kid_rows (kids n)))) ∙ kids_under f p (kids n) (normal_here n h).frames
+      ap (sum_where P slot) (rows_is n) ∙ sum_where-append P (rows_here (counts n)) (child_rows (children n))
+      ∙ ap (λ d. plus_count d (sum_where P slot (child_rows (children n)))) (no_rows_here f p (counts n))
+      ∙ sym (zero_left (sum_where P slot (child_rows (children n)))) ∙ children_under f p (children n) (normal_here n h).frames
 
-  pub under_tree : {A : Type 0} (n : Spot A) (path : List ℕ) → count_under (tree_at n) path slot ≡ sum_under path slot n
+  pub under_tree : {A : Type 0} (n : Position A) (path : List ℕ) → count_under (tree_at n) path slot ≡ sum_under path slot n
   under_tree n path =
       sum_where-map reverse (λ stack. starts_with nat_eq (outer stack) path) (rows n)
       ∙ sum_where-same (λ p. starts_with nat_eq (outer (reverse p)) path) (λ p. starts_with nat_eq p path)
       (λ p. ap (λ q. starts_with nat_eq q path) (reverse-reverse p)) (rows n)
 
   -- what the children from one on count, whose frames count nothing
-  pub child_sum : {A : Type 0} {n : Node A} {i : ℕ} {d : ℕ × Node A} → IsChildAt n i d
-      → kid_sum (drop i (kids (inside n))) ≡ plus_count (sum_under [] slot (inside d.1)) (kid_sum (drop (i + 1) (kids (inside n))))
-  child_sum {A} {n} {i} {d} at =
-      let rest : Count = kid_sum (drop (i + 1) (kids (inside n))) in
-      ap kid_sum (from_child at) ∙ kid_sum-cons (top_of d) (drop (i + 1) (kids (inside n)))
+  pub sum_from_child : {A : Type 0} {n : Node A} {i : ℕ} {d : ℕ × Node A} → IsChildAt n i d
+      → child_sum (drop i (children (inside n))) ≡ plus_count (sum_under [] slot (inside d.1)) (child_sum (drop (i + 1) (children (inside n))))
+  sum_from_child {A} {n} {i} {d} at =
+      let rest : Count = child_sum (drop (i + 1) (children (inside n))) in
+      ap child_sum (from_child at) ∙ child_sum-cons (top_of d) (drop (i + 1) (children (inside n)))
       ∙ ap (λ c. plus_count c rest) (sum_inside (frames d.1) d.1)
 
   -- what was summed so far and what a child counts are no more than all
   pub child_room : {A : Type 0} {n : Node A} {i : ℕ} {d : ℕ × Node A} → IsChildAt n i d → (so_far all : Count)
-      → plus_count so_far (kid_sum (drop i (kids (inside n)))) ≡ all
+      → plus_count so_far (child_sum (drop i (children (inside n)))) ≡ all
       → total_of (plus_count so_far (sum_under [] slot (inside d.1))) ≤ total_of all
-  child_room at so_far all is = let whole = ap total_of (ap (plus_count so_far) (sym (child_sum at)) ∙ is) in omega (arith, whole)
+  child_room at so_far all is = let whole = ap total_of (ap (plus_count so_far) (sym (sum_from_child at)) ∙ is) in omega (arith, whole)

@@ -3,6 +3,6 @@ pub mod Asked
 pub mod Trees
 pub use Rattle.htl_sorted.specs.Entries
 -- what private ones cite
-pub mod Marks
+pub mod Filters
 pub mod Nodes
 pub mod Rows

@@ -10,17 +10,17 @@ use Rattle.htl_event.specs.declared.slot.Count.{Count}
 use Rattle.htl_event.specs.Tallies.{zero_count, plus_count, tally, IsPositive}
 use Rattle.htl_sorted.specs.Entries.{IsSorted, Each}
 use Rattle.htl_tree.specs.declared.row.Row.{Row}
-use Rattle.htl_tree.specs.Trees.{Tree, place_cmp, bump, total_count, count_at, AllShort}
-use Rattle.htl_tree.specs.Nodes.{Spot, count_in, tally_of, no_tally, IsNormal}
+use Rattle.htl_tree.specs.Trees.{Tree, key_cmp, add_one, total_count, count_at, AllShort}
+use Rattle.htl_tree.specs.Nodes.{Position, count_in, tally_of, no_tally, IsNormal}
 
 -- rows as entries of a tree
 abbrev pub entries_of : List Row → Tree
 entries_of rows = map (λ row. ((row.stack.now, row.slot), row.count)) rows
 
--- what entries in any order count, place by place
+-- what entries in any order count of the slot at the stack
 abbrev pub sum_at : Tree → Slot → List ℕ → Count
 sum_at [] slot stack = zero_count
-sum_at (x ∷ xs) slot stack = if eq_by_cmp place_cmp (stack, slot) x.0 then plus_count x.1 (sum_at xs slot stack) else sum_at xs slot stack
+sum_at (x ∷ xs) slot stack = if eq_by_cmp key_cmp (stack, slot) x.0 then plus_count x.1 (sum_at xs slot stack) else sum_at xs slot stack
 
 -- the rows count what the events count
 abbrev pub HaveTally : List Row → List Event → Type 0
@@ -38,7 +38,7 @@ pub record AreRows (rows : List Row) (total : ℕ) : Type 0 where
 
 -- one of a slot with a stack
 abbrev pub one_at : List ℕ → Slot → Sign → Slot → List ℕ → Count
-one_at stack slot sign s k = if eq_by_cmp place_cmp (k, s) (stack, slot) then bump sign zero_count else zero_count
+one_at stack slot sign s k = if eq_by_cmp key_cmp (k, s) (stack, slot) then add_one sign zero_count else zero_count
 
 -- the rows count one more of the slot with the stack
 pub record IsOneMore (stack : List ℕ) (slot : Slot) (sign : Sign) (old new : List Row) : Type 0 where
@@ -70,12 +70,12 @@ pub record AddsRows (path : List ℕ) (rows : List Row) (old new : List ℕ → 
   pub here : (s : Slot) → new path s ≡ plus_count (old path s) (slot_sum s rows)
   pub elsewhere : (p : List ℕ) (s : Slot) → p ≢ path → new p s ≡ old p s
 
-pub record IsGained {A : Type 0} (path : List ℕ) (rows : List Row) (old new : Spot A) : Type 0 where
+pub record IsGained {A : Type 0} (path : List ℕ) (rows : List Row) (old new : Position A) : Type 0 where
   pub normal : IsNormal new
   pub counts : AddsRows path rows (tally_of old) (tally_of new)
 
 -- a node that counts the rows at the end of the path, and nothing else
-pub record IsChain {A : Type 0} (path : List ℕ) (rows : List Row) (node : Spot A) : Type 0 where
+pub record IsChain {A : Type 0} (path : List ℕ) (rows : List Row) (node : Position A) : Type 0 where
   pub normal : IsNormal node
   pub counts : AddsRows path rows no_tally (tally_of node)
 

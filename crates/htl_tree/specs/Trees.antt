@@ -1,7 +1,6 @@
 -- A tree as its tally: the counts that aren't zero, by stack and then by slot.
 use Rattle.std.specs.Prelude.{◌≡◌, ℕ, ◌+◌, ◌≤◌, List, [], ◌∷◌, Bool, true, ◌&&◌}
-use Rattle.std.specs.Prelude.{if◌then◌else◌, nat_eq, Option, Some, None, unwrap_or, length, map}
-use Rattle.std.specs.Borrow.{Bor}
+use Rattle.std.specs.Prelude.{if◌then◌else◌, nat_eq, Option, Some, None, unwrap_or, length}
 use Rattle.std.specs.List.{sum_by, starts_with, AllByRecursion}
 use Rattle.std.specs.Ordering.{on, then_cmp}
 use Rattle.std.specs.FinMap.Entries.{find, put}
@@ -25,20 +24,20 @@ abbrev pub Tree : Type 0
 Tree = List ((List ℕ × Slot) × Count)
 
 -- stack order, and then slot order
-abbrev pub place_cmp : List ℕ × Slot → List ℕ × Slot → Ordering
-place_cmp = then_cmp (on (λ place. place.0) stack_cmp) (on (λ place. place.1) slot_cmp)
+abbrev pub key_cmp : List ℕ × Slot → List ℕ × Slot → Ordering
+key_cmp = then_cmp (on (λ key. key.0) stack_cmp) (on (λ key. key.1) slot_cmp)
 
 -- the tally: how often the slot came with exactly this stack
 abbrev pub count_at : Tree → Slot → List ℕ → Count
-count_at tree slot stack = unwrap_or (find place_cmp (stack, slot) tree) zero_count
+count_at tree slot stack = unwrap_or (find key_cmp (stack, slot) tree) zero_count
 
-abbrev pub bump : Sign → Count → Count
-bump Plus count = record { plus = count.plus + 1; minus = count.minus }
-bump Minus count = record { plus = count.plus; minus = count.minus + 1 }
+abbrev pub add_one : Sign → Count → Count
+add_one Plus count = record { plus = count.plus + 1; minus = count.minus }
+add_one Minus count = record { plus = count.plus; minus = count.minus + 1 }
 
 -- one more of the slot with the stack
 abbrev pub with_one : Tree → Slot → Sign → List ℕ → Tree
-with_one tree slot sign stack = put place_cmp (stack, slot) (bump sign (count_at tree slot stack)) tree
+with_one tree slot sign stack = put key_cmp (stack, slot) (add_one sign (count_at tree slot stack)) tree
 
 -- one more where an event with this slot and stack is counted
 abbrev pub with_slot : Tree → Option (Slot × Sign) → List ℕ → Tree
@@ -69,7 +68,7 @@ AllShort tree = AllByRecursion (λ (row : (List ℕ × Slot) × Count). length r
 
 -- What every tree is. So equal tallies have one tree.
 pub record IsTree (tree : Tree) : Type 0 where
-  pub ordered : IsSorted place_cmp tree
+  pub ordered : IsSorted key_cmp tree
   pub positive : Each IsPositive tree
   pub shallow : AllShort tree
 
@@ -81,27 +80,9 @@ abbrev pub IsSumTally : Tree → Tree → Tree → Type 0
 IsSumTally sum tree other = (slot : Slot) (stack : List ℕ)
     → count_at sum slot stack ≡ plus_count (count_at tree slot stack) (count_at other slot stack)
 
--- what all of these trees count of the slot at the stack
-abbrev pub count_over : List Tree → Slot → List ℕ → Count
-count_over [] slot stack = zero_count
-count_over (tree ∷ trees) slot stack = plus_count (count_at tree slot stack) (count_over trees slot stack)
-
--- the tallies of all of these trees add up to that of the first
-abbrev pub IsSumOfAll : Tree → List Tree → Type 0
-IsSumOfAll sum trees = (slot : Slot) (stack : List ℕ) → count_at sum slot stack ≡ count_over trees slot stack
-
--- trees behind references
-abbrev pub lent : List (Bor Tree) → List Tree
-lent trees = map (λ tree. tree.now) trees
-
 -- the tree is the tally of the events
 abbrev pub HasTally : Tree → List Event → Type 0
 HasTally tree events = (slot : Slot) (stack : List ℕ) → count_at tree slot stack ≡ tally events slot stack
-
--- what the tree counts of these slots, and nothing else
-abbrev pub IsTallyOf : Slots → Tree → Tree → Type 0
-IsTallyOf slots tree part = (slot : Slot) (stack : List ℕ)
-    → count_at part slot stack ≡ (if has_slot slots slot then count_at tree slot stack else zero_count)
 
 -- ---- lists of what a tree counts
 
@@ -110,7 +91,7 @@ abbrev pub ListsRows : Tree → Slot → List (List ℕ × Count) → Type 0
 ListsRows tree slot rows = Lists ByStack (λ row. (row.1 ≡ count_at tree slot row.0) × IsPositive row.1) rows
 
 abbrev pub ByStackAndSlot : {X : Type 0} → (Slot × List ℕ) × X → (Slot × List ℕ) × X → Type 0
-ByStackAndSlot a b = place_cmp (a.0.1, a.0.0) (b.0.1, b.0.0) ≡ Less
+ByStackAndSlot a b = key_cmp (a.0.1, a.0.0) (b.0.1, b.0.0) ≡ Less
 
 -- the counts of these slots that aren't zero, by stack and then by slot
 abbrev pub ListsRowsOf : Tree → Slots → List ((Slot × List ℕ) × Count) → Type 0

@@ -7,40 +7,16 @@ ghost use Rattle.std.specs.Borrow.{Bor};
 ghost use Rattle.std.specs.List.{flat_map, AllByRecursion};
 ghost use Rattle.htl_event.specs.declared.slot.Slot.{Slot};
 ghost use Rattle.htl_event.specs.Tallies.{total_of};
-ghost use Rattle.htl_tree.specs.Trees.{count_at, total_count};
+ghost use Rattle.htl_tree.specs.Trees.{count_at};
 ghost use Rattle.htl_tree.specs.declared.row.Row.{Row};
-ghost use Rattle.htl_tree.specs.Nodes.{tree_of, entries_at, IsNormalRoot};
+ghost use Rattle.htl_tree.specs.Nodes.{tree_of, IsNormalRoot};
 ghost use Rattle.htl_tree.specs.Rows.{entries_of, sum_at, AreRows, AreShort, IsGroup, WithRows};
 
 use crate::node::Node;
 use crate::row::Row;
-use htl_event::{Count, NoMemory, SharedStack, Slot};
+use htl_event::NoMemory;
 use std::alloc::Allocator;
 use std::cmp::Ordering;
-
-/// The counts as rows, and how many they count in all. Each has its place as its fingerprint, so
-/// that they stay in their order, in which those of one stack stand together.
-pub fn rows_in<'a, A: Allocator>(
-    alloc: A,
-    counts: &'a [((Slot, SharedStack), Count)],
-) -> Result<(Vec<Row<'a>, A>, u64), NoMemory>
-    requires { total_count (entries_at counts.now) < 2 ^ 64 }
-    ensures rows { IfOk result (λ made. entries_of made.0.items ≡ entries_at counts.now) }
-    ensures total { IfOk result (λ made. made.1 ≡ total_count (entries_at counts.now)) }
-{
-    let mut rows = Vec::with_capacity(alloc, counts.len())?;
-    let mut total = 0;
-    for ((slot, stack), count) in counts {
-        rows.push(Row {
-            fingerprint: rows.len() as u64,
-            stack: stack.frames(),
-            slot: *slot,
-            count: *count,
-        })?;
-        total += count.plus + count.minus;
-    }
-    Ok((rows, total))
-}
 
 /// The root of the tree that counts what the rows count. Rows of one stack come together by their
 /// fingerprints, and stacks are compared once for each of these groups.

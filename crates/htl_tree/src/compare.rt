@@ -1,7 +1,7 @@
-//! Whether two places count the same.
+//! Whether two positions count the same.
 
 ghost use Rattle.std.specs.Prelude.{◌≡◌, ◌↔◌, IsTrue};
-ghost use Rattle.htl_tree.specs.Nodes.{spot, tally_of, IsNormal, IsSameTally};
+ghost use Rattle.htl_tree.specs.Nodes.{position_of, tally_of, IsNormal, IsSameTally};
 
 use crate::cursor::Cursor;
 use htl_event::{Count, Slot};
@@ -14,18 +14,20 @@ fn same_counts(a: &[(Slot, Count)], b: &[(Slot, Count)]) -> bool
 }
 
 impl<'a, A: Allocator> Cursor<'a, A> {
-    /// Two nodes whose branches fork at other frames may count the same, where a growth was
-    /// refused after one was split. So places are compared, frame by frame.
+    /// Two nodes whose branches fork at other frames may count the same, where memory ran out
+    /// after one was split. So positions are compared, frame by frame.
     pub fn same(&self, other: &Self) -> bool
-        requires left { IsNormal (spot self.now) }
-        requires right { IsNormal (spot other.now) }
+        requires left { IsNormal (position_of self.now) }
+        requires right { IsNormal (position_of other.now) }
         ensures { IsTrue result
-            ↔ IsSameTally (tally_of (spot self.now)) (tally_of (spot other.now)) }
+            ↔ IsSameTally (tally_of (position_of self.now)) (tally_of (position_of other.now)) }
     {
-        if !same_counts(self.counts(), other.counts()) || self.children() != other.children() {
+        if !same_counts(self.counts(), other.counts())
+            || self.number_of_children() != other.number_of_children()
+        {
             return false;
         }
-        for i in 0..self.children() {
+        for i in 0..self.number_of_children() {
             let (x, a) = self.child_at(i);
             let (y, b) = other.child_at(i);
             if x != y || !a.same(&b) {

@@ -8,7 +8,7 @@ ghost use Rattle.htl_tree.specs.Trees.{total_count};
 ghost use Rattle.htl_tree.specs.Rows.{entries_of, AreRows, HaveTally, IsOneMore};
 
 use crate::hints::Hints;
-use crate::node::{ZERO, bumped};
+use crate::node::{ZERO, add_one};
 use crate::row::Row;
 use htl_event::{EventList, NoMemory, SharedEvent, Sign, Slot};
 use std::alloc::Allocator;
@@ -77,7 +77,7 @@ impl<'a, A: Allocator> Counting<'a, A> {
             Some((slot, sign)) => {
                 let fingerprint = event.stack.fingerprint();
                 let stack = event.stack.frames();
-                count_in(
+                count_in_rows(
                     &mut self.rows,
                     &mut self.hints,
                     place,
@@ -93,14 +93,14 @@ impl<'a, A: Allocator> Counting<'a, A> {
     }
 }
 
-/// How many events the runs have, or none where the number is no `u64`.
-pub fn number_of_events<R: EventList>(runs: &[R]) -> Option<usize>
-    ensures some { IfSome result (λ number. number ≡ length (flat_map R.events_of runs.now)) }
-    ensures none { result ≡ None → 2 ^ 64 ≤ length (flat_map R.events_of runs.now) }
+/// How many events the lists have, or none where the number is no `u64`.
+pub fn number_of_events<R: EventList>(lists: &[R]) -> Option<usize>
+    ensures some { IfSome result (λ number. number ≡ length (flat_map R.events_of lists.now)) }
+    ensures none { result ≡ None → 2 ^ 64 ≤ length (flat_map R.events_of lists.now) }
 {
     let mut number = 0usize;
-    for run in runs {
-        match number.checked_add(run.events().len()) {
+    for list in lists {
+        match number.checked_add(list.events().len()) {
             Some(sum) => number = sum,
             None => return None,
         }
@@ -110,7 +110,7 @@ pub fn number_of_events<R: EventList>(runs: &[R]) -> Option<usize>
 
 /// Counts one more of the slot with the stack: in the row at this place, where that counts these,
 /// else in a row of its own.
-fn count_in<'a, A: Allocator>(
+fn count_in_rows<'a, A: Allocator>(
     rows: &mut Vec<Row<'a>, A>,
     hints: &mut Hints<A>,
     place: usize,
@@ -122,22 +122,22 @@ fn count_in<'a, A: Allocator>(
     requires { total_count (entries_of rows.old.items) + 1 < 2 ^ 64 }
     ensures { OnOk result (IsOneMore stack.now slot sign rows.old.items rows.new.items) }
 {
-    if raise(rows, place, fingerprint, stack, slot, sign) {
+    if count_in_row(rows, place, fingerprint, stack, slot, sign) {
         return Ok(());
     }
     let row = Row {
         fingerprint,
         stack,
         slot,
-        count: bumped(ZERO, sign),
+        count: add_one(ZERO, sign),
     };
     rows.push(row)?;
-    hints.note(hints.cell(fingerprint, slot), rows.len());
+    hints.put(hints.cell(fingerprint, slot), rows.len());
     Ok(())
 }
 
 /// Counts one more in the row at this place, where there is one of this slot and stack.
-fn raise(
+fn count_in_row(
     rows: &mut [Row<'_>],
     place: usize,
     fingerprint: u64,
@@ -146,13 +146,13 @@ fn raise(
     sign: Sign,
 ) -> bool
     requires { total_count (entries_of rows.old) + 1 < 2 ^ 64 }
-    ensures raised { result ≡ true → IsOneMore stack.now slot sign rows.old rows.new }
+    ensures counted { result ≡ true → IsOneMore stack.now slot sign rows.old rows.new }
     ensures kept { result ≡ false → rows.new ≡ rows.old }
 {
     if place >= rows.len() || !counts(&rows[place], fingerprint, stack, slot) {
         return false;
     }
-    let count = bumped(rows[place].count, sign);
+    let count = add_one(rows[place].count, sign);
     rows[place].count = count;
     true
 }

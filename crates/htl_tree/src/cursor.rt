@@ -1,17 +1,18 @@
-//! A place in a tree: at a node, or some frames before it. From one place to the next it is one
-//! frame, as if each node had one.
+//! A position in a tree: at a node, or some frames before it. From one position to the next it is
+//! one frame, as if each node had one.
 
 ghost use Rattle.std.specs.Prelude.{◌≡◌, ◌<◌, ◌≤◌, Some, None, IfSome};
 ghost use Rattle.std.specs.Prelude.{length, drop, get_or, reverse};
 ghost use Rattle.std.specs.Ordering.{nat_cmp};
 ghost use Rattle.std.specs.FinMap.Entries.{find};
-ghost use Rattle.htl_tree.specs.Nodes.{top, spot, own, marks, kids, tally, IsNormal};
+ghost use Rattle.htl_tree.specs.Nodes.{top, position_of, counts, filters, children};
+ghost use Rattle.htl_tree.specs.Nodes.{tally, IsNormal};
 
-use crate::node::{Node, ZERO, count_of, find_frame};
+use crate::node::{Node, ZERO, count_in, find_frame};
 use htl_event::{Count, Slot};
 use std::alloc::Allocator;
 
-/// A place in a tree.
+/// A position in a tree.
 #[derive(Clone, Copy)]
 pub struct Cursor<'a, A: Allocator> {
     /// The frames from here to the node.
@@ -20,9 +21,9 @@ pub struct Cursor<'a, A: Allocator> {
 }
 
 impl<A: Allocator> Node<A> {
-    /// The place from which all of its frames lead to it.
+    /// The position from which all of its frames lead to it.
     pub fn top(&self) -> Cursor<'_, A>
-        ensures { spot result ≡ top self.now }
+        ensures { position_of result ≡ top self.now }
     {
         Cursor {
             frames: &self.frames,
@@ -32,10 +33,10 @@ impl<A: Allocator> Node<A> {
 }
 
 impl<'a, A: Allocator> Cursor<'a, A> {
-    /// The place so many frames further towards the node.
+    /// The position so many frames further towards the node.
     pub fn skip(&self, frames: usize) -> Cursor<'a, A>
         requires { frames ≤ length self.now.frames.now }
-        ensures { spot result ≡ (drop frames self.now.frames.now, self.now.node.now) }
+        ensures { position_of result ≡ (drop frames self.now.frames.now, self.now.node.now) }
     {
         Cursor {
             frames: &self.frames[frames..],
@@ -45,7 +46,7 @@ impl<'a, A: Allocator> Cursor<'a, A> {
 
     /// The counts here. There are none before the node.
     pub fn counts(&self) -> &'a [(Slot, Count)]
-        ensures { result.now ≡ own (spot self.now) }
+        ensures { result.now ≡ counts (position_of self.now) }
     {
         if self.frames.is_empty() {
             &self.node.counts
@@ -54,16 +55,16 @@ impl<'a, A: Allocator> Cursor<'a, A> {
         }
     }
 
-    /// The marks of the slots that are counted here and further in.
-    pub fn marks(&self) -> u64
-        ensures { result ≡ marks (spot self.now) }
+    /// The filters of the slots that are counted here and further in.
+    pub fn filters(&self) -> u64
+        ensures { result ≡ filters (position_of self.now) }
     {
-        self.node.marks
+        self.node.filters
     }
 
-    /// How many places are one frame further in. Before the node it is one.
-    pub fn children(&self) -> usize
-        ensures { result ≡ length (kids (spot self.now)) }
+    /// How many positions are one frame further in. Before the node it is one.
+    pub fn number_of_children(&self) -> usize
+        ensures { result ≡ length (children (position_of self.now)) }
     {
         if self.frames.is_empty() {
             self.node.children.len()
@@ -72,11 +73,11 @@ impl<'a, A: Allocator> Cursor<'a, A> {
         }
     }
 
-    /// One of these places, and the frame that leads to it, in frame order.
+    /// One of these positions, and the frame that leads to it, in frame order.
     pub fn child_at(&self, index: usize) -> (u64, Cursor<'a, A>)
-        requires { index < length (kids (spot self.now)) }
-        ensures { (result.0, spot result.1)
-            ≡ get_or (kids (spot self.now)) index (result.0, spot result.1) }
+        requires { index < length (children (position_of self.now)) }
+        ensures { (result.0, position_of result.1)
+            ≡ get_or (children (position_of self.now)) index (result.0, position_of result.1) }
     {
         match self.frames.split_first() {
             Some((frame, frames)) => (
@@ -93,12 +94,12 @@ impl<'a, A: Allocator> Cursor<'a, A> {
         }
     }
 
-    /// The place that the frame leads to.
+    /// The position that the frame leads to.
     pub fn child(&self, frame: u64) -> Option<Cursor<'a, A>>
-        requires { IsNormal (spot self.now) }
+        requires { IsNormal (position_of self.now) }
         ensures some { IfSome result (λ child.
-            find nat_cmp frame (kids (spot self.now)) ≡ Some (spot child)) }
-        ensures none { result ≡ None → find nat_cmp frame (kids (spot self.now)) ≡ None }
+            find nat_cmp frame (children (position_of self.now)) ≡ Some (position_of child)) }
+        ensures none { result ≡ None → find nat_cmp frame (children (position_of self.now)) ≡ None }
     {
         match self.frames.split_first() {
             Some((first, frames)) if *first == frame => Some(Cursor {
@@ -115,11 +116,11 @@ impl<'a, A: Allocator> Cursor<'a, A> {
 
     /// The count at the end of the stack.
     pub fn at(&self, slot: Slot, stack: &[u64]) -> Count
-        requires { IsNormal (spot self.now) }
-        ensures { result ≡ tally (reverse stack.now) slot (spot self.now) }
+        requires { IsNormal (position_of self.now) }
+        ensures { result ≡ tally (reverse stack.now) slot (position_of self.now) }
     {
         match stack.split_last() {
-            None => count_of(self.counts(), slot),
+            None => count_in(self.counts(), slot),
             Some((frame, rest)) => match self.child(*frame) {
                 Some(child) => child.at(slot, rest),
                 None => ZERO,

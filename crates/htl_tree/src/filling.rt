@@ -9,7 +9,7 @@ ghost use Rattle.htl_sorted.specs.Entries.{IsSorted, Each};
 ghost use Rattle.htl_tree.specs.Nodes.{top, tally, count_in, IsNormal};
 ghost use Rattle.htl_tree.specs.Rows.{entries_of, slot_sum, Gained, IsGained, IsChain};
 
-use crate::marks::marks_of;
+use crate::filters::filters_of;
 use crate::node::{Node, find_frame, find_slot, insert_child, sum_of};
 use crate::row::Row;
 use htl_event::{Count, NoMemory, Slot};
@@ -43,21 +43,21 @@ impl<A: Allocator + Clone> Node<A> {
         match stack.split_last() {
             None => {
                 add_to_counts(&mut self.counts, rows)?;
-                self.marks |= marks_of(&self.counts);
+                self.filters |= filters_of(&self.counts);
                 Ok(())
             }
             Some((frame, rest)) => match find_frame(&self.children, *frame) {
                 Ok(i) => {
                     let child = &mut self.children[i].1;
                     child.add_rows(rest, rows)?;
-                    self.marks |= child.marks;
+                    self.filters |= child.filters;
                     Ok(())
                 }
                 Err(i) => {
                     let child = Node::chain(self.children.allocator(), rest, rows)?;
-                    let marks = child.marks;
+                    let filters = child.filters;
                     insert_child(&mut self.children, i, *frame, child)?;
-                    self.marks |= marks;
+                    self.filters |= filters;
                     Ok(())
                 }
             },

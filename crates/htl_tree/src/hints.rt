@@ -1,5 +1,5 @@
 //! Hints: where the row of a slot and a stack may be. Nothing is promised of them, so whoever takes
-//! one compares what is there. A hint that was overwritten costs a further row.
+//! one compares what is there. A hint that was overwritten costs one more row.
 
 use crate::row::Row;
 use htl_event::{NoMemory, SharedEvent, Slot};
@@ -8,16 +8,16 @@ use std::alloc::Allocator;
 /// How many events are looked for together.
 const BLOCK: usize = 32;
 
-/// A fixed number of cells. Each has the place that was noted there last.
+/// A fixed number of cells. Each has the place that was put there last.
 #[derive(Drop)]
 pub struct Hints<A: Allocator> {
-    /// One more than the place, or 0 where none was noted.
+    /// One more than the place, or 0 where there is none.
     cells: Vec<u32, A>,
     /// Where the rows of a block of events are likely to be.
     block: [usize; BLOCK],
 }
 
-/// How many cells there are at most: with more, looking at one takes longer than a further row now
+/// How many cells there are at most: with more, looking at one takes longer than one more row now
 /// and then.
 const MAX_CELLS: usize = 0x10_0000;
 
@@ -50,7 +50,7 @@ impl<A: Allocator> Hints<A> {
         (mixed >> 40) as usize & self.cells.len().wrapping_sub(1)
     }
 
-    /// The place that was noted at the cell last.
+    /// The place that was put into the cell last.
     fn place(&self, cell: usize) -> usize {
         match self.cells.get(cell) {
             Some(number) => (*number as usize).wrapping_sub(1),
@@ -84,8 +84,8 @@ impl<A: Allocator> Hints<A> {
         }
     }
 
-    /// Notes the last of so many places.
-    pub fn note(&mut self, cell: usize, places: usize) {
+    /// Puts the last of so many places into the cell.
+    pub fn put(&mut self, cell: usize, places: usize) {
         if let Some(number) = self.cells.get_mut(cell) {
             *number = (places & 0xffff_ffff) as u32;
         }

@@ -7,10 +7,10 @@ ghost use Rattle.htl_event.specs.declared.slot.Count.{Count};
 ghost use Rattle.htl_event.specs.Members.{IsRising};
 ghost use Rattle.htl_tree.specs.Trees.{BySlot};
 ghost use Rattle.htl_tree.specs.Asked.{has_slot};
-ghost use Rattle.htl_tree.specs.Nodes.{top, inside, rows, rows_at, own_at};
+ghost use Rattle.htl_tree.specs.Nodes.{top, inside, rows, rows_at, rows_of_counts};
 ghost use Rattle.htl_tree.specs.Nodes.{asked_of, counts_in, slots_of, IsNormal, IsShortFrom};
 
-use crate::marks::common_mark;
+use crate::filters::common_filter;
 use crate::node::Node;
 use crate::slots::Slots;
 use htl_event::{Count, MAX_FRAMES, NoMemory, SharedStack, Slot};
@@ -33,12 +33,12 @@ impl<A: Allocator> Node<A> {
             ≡ into.old.items
             ++ rows_at (has_slot slots) path.old.items (rows (top self.now))) }
     {
-        if !self.may_count(common_mark(slots)) {
+        if !self.may_count(common_filter(slots)) {
             return Ok(());
         }
         let len = path.len();
         path.extend_from_slice(&self.frames)?;
-        list_own(alloc, &self.counts, slots, path, into)?;
+        push_rows(alloc, &self.counts, slots, path, into)?;
         for (frame, child) in &self.children {
             path.push(*frame)?;
             child.list_rows(alloc, slots, path, into)?;
@@ -54,10 +54,10 @@ impl<A: Allocator> Node<A> {
         ensures { OnOk result (into.new.items
             ≡ into.old.items ++ asked_of slots (counts_in (rows (inside self.now)))) }
     {
-        if !self.may_count(common_mark(slots)) {
+        if !self.may_count(common_filter(slots)) {
             return Ok(());
         }
-        list_own_counts(&self.counts, slots, into)?;
+        push_counts(&self.counts, slots, into)?;
         for (_, child) in &self.children {
             child.list_counts(slots, into)?;
         }
@@ -69,7 +69,7 @@ impl<A: Allocator> Node<A> {
         ensures { OnOk result (into.new.items
             ≡ into.old.items ++ slots_of (rows (inside self.now))) }
     {
-        list_own_slots(&self.counts, into)?;
+        push_slots(&self.counts, into)?;
         for (_, child) in &self.children {
             child.list_slots(into)?;
         }
@@ -77,7 +77,7 @@ impl<A: Allocator> Node<A> {
     }
 }
 
-fn list_own_counts(
+fn push_counts(
     counts: &[(Slot, Count)],
     slots: Slots,
     into: &mut Vec<(Slot, Count)>,
@@ -92,7 +92,7 @@ fn list_own_counts(
     Ok(())
 }
 
-fn list_own_slots(counts: &[(Slot, Count)], into: &mut Vec<Slot>) -> Result<(), NoMemory>
+fn push_slots(counts: &[(Slot, Count)], into: &mut Vec<Slot>) -> Result<(), NoMemory>
     ensures { OnOk result (into.new.items ≡ into.old.items ++ map (λ entry. entry.0) counts.now) }
 {
     for (slot, _) in counts {
@@ -111,7 +111,7 @@ pub fn order_slots(slots: &mut Vec<Slot>)
     slots.dedup();
 }
 
-fn list_own(
+fn push_rows(
     alloc: Global,
     counts: &[(Slot, Count)],
     slots: Slots,
@@ -120,7 +120,7 @@ fn list_own(
 ) -> Result<(), NoMemory>
     requires { 0 < length counts.now → length path.now ≤ MAX_FRAMES }
     ensures { OnOk result (into.new.items
-        ≡ into.old.items ++ own_at (has_slot slots) path.now counts.now) }
+        ≡ into.old.items ++ rows_of_counts (has_slot slots) path.now counts.now) }
 {
     if counts.is_empty() || !has_any(counts, slots) {
         return Ok(());
@@ -136,7 +136,8 @@ fn list_own(
 
 /// Whether any of the counts is of one of these slots.
 fn has_any(counts: &[(Slot, Count)], slots: Slots) -> bool
-    ensures { result ≡ false → (path : List ℕ) → own_at (has_slot slots) path counts.now ≡ [] }
+    ensures { result ≡ false → (path : List ℕ)
+        → rows_of_counts (has_slot slots) path counts.now ≡ [] }
 {
     for (slot, _) in counts {
         if slots.contains(*slot) {

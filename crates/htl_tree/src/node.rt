@@ -1,20 +1,21 @@
 //! A node: the counts of one stack, and the nodes further in.
 
 ghost use Rattle.std.specs.Prelude.{◌≡◌, ◌≢◌, ◌+◌, ◌-◌, ◌<◌, ◌≤◌, ◌^◌, [], ◌++◌, length, take};
-ghost use Rattle.std.specs.Prelude.{get_or, reverse, false, vec_len, IfOk, IfErr, OnOk, OnErr, MatchResult};
+ghost use Rattle.std.specs.Prelude.{get_or, reverse, false, vec_len};
+ghost use Rattle.std.specs.Prelude.{IfOk, IfErr, OnOk, OnErr, MatchResult};
 ghost use Rattle.std.specs.List.{insert};
 ghost use Rattle.std.specs.Int.Bits.{bit_and};
 ghost use Rattle.std.specs.Ordering.{nat_cmp};
 ghost use Rattle.htl_event.specs.Tallies.{total_of, plus_count};
 ghost use Rattle.htl_sorted.specs.Entries.{IsSorted, IsPlace, IsGap};
 ghost use Rattle.htl_event.specs.SlotOrder.{slot_cmp};
-ghost use Rattle.htl_tree.specs.Trees.{bump};
-ghost use Rattle.htl_tree.specs.Marks.{AreMarked};
-ghost use Rattle.htl_tree.specs.Nodes.{frames, counts_of, children_of, marks_at, top};
+ghost use Rattle.htl_tree.specs.Trees.{add_one};
+ghost use Rattle.htl_tree.specs.Filters.{HaveFilters};
+ghost use Rattle.htl_tree.specs.Nodes.{frames, counts_of, children_of, filters_at, top};
 ghost use Rattle.htl_tree.specs.Nodes.{tally, count_in};
 ghost use Rattle.htl_tree.specs.Nodes.{IsNormal, counted, IsBranch, IsAdded, IsKept};
 
-use crate::marks::{mark_of, marks_of};
+use crate::filters::{filter_of, filters_of};
 use crate::order::{ByFrame, BySlot};
 use htl_event::{Count, NoMemory, Sign, Slot};
 use htl_sorted::search;
@@ -30,9 +31,9 @@ pub struct Node<A: Allocator> {
     pub frames: Vec<u64, A>,
     pub counts: Vec<(Slot, Count), A>,
     pub children: Vec<(u64, Node<A>), A>,
-    /// The marks of the slots that are counted at the node and below it. A walk that looks for
-    /// slots with other marks goes no further.
-    pub marks: u64,
+    /// The filters of the slots that are counted at the node and below it. A walk that looks for
+    /// slots with other filters passes over the node.
+    pub filters: u64,
 }
 
 pub const ZERO: Count = Count { plus: 0, minus: 0 };
@@ -64,7 +65,7 @@ impl<A: Allocator> Node<A> {
         ensures { IfOk result (λ node. IsBranch (reverse stack.now) slot sign (top node)) }
     {
         let mut counts = Vec::with_capacity(alloc.clone()?, 1)?;
-        counts.push((slot, bumped(ZERO, sign)))?;
+        counts.push((slot, add_one(ZERO, sign)))?;
         Node::leaf(alloc, counts, stack)
     }
 
@@ -75,22 +76,22 @@ impl<A: Allocator> Node<A> {
         ensures frames { IfOk result (λ node. frames node ≡ reverse stack.now) }
         ensures counts { IfOk result (λ node. counts_of node ≡ counts.items) }
         ensures children { IfOk result (λ node. children_of node ≡ []) }
-        ensures marks { IfOk result (λ node. AreMarked (marks_at node) (counts_of node)) }
+        ensures filters { IfOk result (λ node. HaveFilters (filters_at node) (counts_of node)) }
     {
         let mut frames = Vec::from_slice(alloc.clone()?, stack)?;
         frames.reverse();
         let children = Vec::new(alloc.clone()?);
-        let marks = marks_of(&counts);
+        let filters = filters_of(&counts);
         Ok(Node {
             frames,
             counts,
             children,
-            marks,
+            filters,
         })
     }
 
     /// Counts one more at the end of the stack. A missing branch is built apart and attached by one
-    /// growth.
+    /// allocation.
     pub fn add(&mut self, slot: Slot, sign: Sign, stack: &[u64]) -> Result<(), NoMemory>
     where
         A: Clone,
@@ -104,21 +105,21 @@ impl<A: Allocator> Node<A> {
         match stack.split_last() {
             None => {
                 count_one(&mut self.counts, slot, sign)?;
-                self.marks |= mark_of(slot);
+                self.filters |= filter_of(slot);
                 Ok(())
             }
             Some((frame, rest)) => match find_frame(&self.children, *frame) {
                 Ok(i) => {
                     let child = &mut self.children[i].1;
                     let added = child.add(slot, sign, rest);
-                    self.marks |= child.marks;
+                    self.filters |= child.filters;
                     added
                 }
                 Err(i) => {
                     let child = Node::branch(self.children.allocator(), slot, sign, rest)?;
-                    let marks = child.marks;
+                    let filters = child.filters;
                     insert_child(&mut self.children, i, *frame, child)?;
-                    self.marks |= marks;
+                    self.filters |= filters;
                     Ok(())
                 }
             },
@@ -142,16 +143,16 @@ impl<A: Allocator> Node<A> {
         Ok(&stack[..stack.len() - shared])
     }
 
-    /// Whether the mark is among those of the node. Where it isn't, no slot that has it is counted
-    /// at the node or below it.
-    pub fn may_count(&self, mark: u64) -> bool
-        ensures { result ≡ false → bit_and (marks_at self.now) mark ≢ mark }
+    /// Whether the filter is among those of the node. Where it isn't, no slot that has it is
+    /// counted at the node or below it.
+    pub fn may_count(&self, filter: u64) -> bool
+        ensures { result ≡ false → bit_and (filters_at self.now) filter ≢ filter }
     {
-        self.marks & mark == mark
+        self.filters & filter == filter
     }
 
     /// Leaves the node so many of its frames, and puts the rest of them, its counts and its
-    /// children into its only child. Both have all of its marks.
+    /// children into its only child. Both have all of its filters.
     fn split(&mut self, len: usize) -> Result<(), NoMemory>
     where
         A: Clone,
@@ -165,7 +166,7 @@ impl<A: Allocator> Node<A> {
             frames: Vec::from_slice(alloc.clone()?, &self.frames[len + 1..])?,
             counts: Vec::new(alloc.clone()?),
             children: Vec::new(alloc.clone()?),
-            marks: self.marks,
+            filters: self.filters,
         };
         let mut children = Vec::with_capacity(alloc.clone()?, 2)?;
         children.push((self.frames[len], lower))?;
@@ -176,14 +177,14 @@ impl<A: Allocator> Node<A> {
         Ok(())
     }
 
-    /// Each node gets what the other counts and has below it, and keeps its frames and marks.
+    /// Each node gets what the other counts and has below it, and keeps its frames and filters.
     fn swap_inside(&mut self, other: &mut Self)
         ensures frames { frames self.new ≡ frames self.old }
-        ensures marks { marks_at self.new ≡ marks_at self.old }
+        ensures filters { filters_at self.new ≡ filters_at self.old }
         ensures counts { counts_of self.new ≡ counts_of other.old }
         ensures children { children_of self.new ≡ children_of other.old }
         ensures other_frames { frames other.new ≡ frames other.old }
-        ensures other_marks { marks_at other.new ≡ marks_at other.old }
+        ensures other_filters { filters_at other.new ≡ filters_at other.old }
         ensures other_counts { counts_of other.new ≡ counts_of self.old }
         ensures other_children { children_of other.new ≡ children_of self.old }
     {
@@ -227,7 +228,7 @@ fn shared_len(frames: &[u64], stack: &[u64]) -> usize
     len
 }
 
-pub fn count_of(counts: &[(Slot, Count)], slot: Slot) -> Count
+pub fn count_in(counts: &[(Slot, Count)], slot: Slot) -> Count
     requires { IsSorted slot_cmp counts.now }
     ensures { result ≡ count_in counts.now slot }
 {
@@ -247,9 +248,9 @@ pub fn sum_of(left: Count, right: Count) -> Count
     }
 }
 
-pub fn bumped(count: Count, sign: Sign) -> Count
+pub fn add_one(count: Count, sign: Sign) -> Count
     requires { total_of count + 1 < 2 ^ 64 }
-    ensures { result ≡ bump sign count }
+    ensures { result ≡ add_one sign count }
 {
     match sign {
         Sign::Plus => Count {
@@ -275,12 +276,12 @@ fn count_one<A: Allocator>(
 {
     match find_slot(counts, slot) {
         Ok(i) => {
-            let count = bumped(counts[i].1, sign);
+            let count = add_one(counts[i].1, sign);
             counts[i].1 = count;
             Ok(())
         }
         Err(i) => {
-            let count = bumped(ZERO, sign);
+            let count = add_one(ZERO, sign);
             counts.insert(i, (slot, count))?;
             Ok(())
         }

@@ -1,18 +1,13 @@
 //! The root of a tree. It is made by the first count.
 
-ghost use Rattle.std.specs.Prelude.{◌≡◌, ℕ, List, ◌+◌, ◌<◌, ◌≤◌, ◌^◌, ◌↔◌};
+ghost use Rattle.std.specs.Prelude.{◌≡◌, ◌+◌, ◌<◌, ◌≤◌, ◌^◌, ◌↔◌};
 ghost use Rattle.std.specs.Prelude.{length, IsTrue, IfOk, MatchResult};
 ghost use Rattle.htl_event.specs.Tallies.{total_of};
 ghost use Rattle.htl_tree.specs.Trees.{count_at, count_under, total_count, with_one};
 ghost use Rattle.htl_tree.specs.Trees.{IsSameTally, IsSumTally, ListsSlots};
 ghost use Rattle.htl_tree.specs.Asked.{has_slot};
-ghost use Rattle.htl_event.specs.declared.slot.Slot.{Slot};
-ghost use Rattle.htl_sorted.specs.Entries.{Each};
-ghost use Rattle.htl_tree.specs.Nodes.{tree_of, spots, picked, asked_of, counts_in, count_of_tops};
-ghost use Rattle.htl_tree.specs.Nodes.{IsNormalTop, IsNormalRoot, IsSumOfTops};
+ghost use Rattle.htl_tree.specs.Nodes.{tree_of, picked, asked_of, counts_in, IsNormalRoot};
 
-use crate::cursor::Cursor;
-use crate::gathering::sum_of_places;
 use crate::listing::order_slots;
 use crate::node::{Node, ZERO};
 use crate::slots::Slots;
@@ -95,23 +90,6 @@ pub fn plus_roots<A: Allocator + Clone>(
         (left, None) => copy_root(left, alloc),
         (Some(left), Some(right)) => Ok(Some(left.top().plus(&right.top(), alloc)?)),
     }
-}
-
-/// The root of the tree that counts what the trees from these places on count. Each place stands
-/// with a frame that isn't looked at.
-pub fn sum_of_tops<A: Allocator + Clone>(
-    alloc: &A,
-    tops: &[(u64, Cursor<'_, A>)],
-) -> Result<Option<Node<A>>, NoMemory>
-    requires tops { Each (λ c. IsNormalTop c) (spots tops.now) }
-    requires fit { (slot : Slot) (stack : List ℕ)
-        → total_of (count_of_tops (spots tops.now) slot stack) < 2 ^ 64 }
-    ensures { IfOk result (λ root. IsSumOfTops (spots tops.now) root) }
-{
-    if tops.is_empty() {
-        return Ok(None);
-    }
-    Ok(Some(sum_of_places(alloc, tops)?))
 }
 
 pub fn list_root_rows<A: Allocator>(

@@ -7,7 +7,7 @@ ghost use Rattle.htl_event.specs.declared.slot.Slot.{Slot};
 ghost use Rattle.htl_event.specs.Tallies.{plus_count, total_of};
 ghost use Rattle.htl_sorted.specs.Entries.{IsSorted, joined_at};
 ghost use Rattle.htl_event.specs.SlotOrder.{slot_cmp};
-ghost use Rattle.htl_tree.specs.Nodes.{top, tops, spot, kids, IsNormal, IsCopy};
+ghost use Rattle.htl_tree.specs.Nodes.{top, tops, position_of, children, IsNormal, IsCopy};
 ghost use Rattle.htl_tree.specs.Nodes.{AppendsCopies, IsSum, FitsSum, count_in};
 
 use crate::cursor::Cursor;
@@ -22,37 +22,38 @@ impl<'a, A: Allocator + Clone> Cursor<'a, A> {
     /// A node that counts the same.
     #[cycle(copying)]
     pub fn copy(&self, alloc: &A) -> Result<Node<A>, NoMemory>
-        requires { IsNormal (spot self.now) }
-        ensures { IfOk result (λ copy. IsCopy (spot self.now) (top copy)) }
+        requires { IsNormal (position_of self.now) }
+        ensures { IfOk result (λ copy. IsCopy (position_of self.now) (top copy)) }
     {
         let inside = self.skip(self.frames.len());
-        let mut children = Vec::with_capacity(alloc.clone()?, inside.children())?;
+        let mut children = Vec::with_capacity(alloc.clone()?, inside.number_of_children())?;
         copy_children(alloc, &inside, 0, &mut children)?;
         Ok(Node {
             frames: Vec::from_slice(alloc.clone()?, self.frames)?,
             counts: Vec::from_slice(alloc.clone()?, inside.counts())?,
             children,
-            marks: inside.marks(),
+            filters: inside.filters(),
         })
     }
 
-    /// The node whose counts are the sums of both places' counts, made in one pass over both.
+    /// The node whose counts are the sums of both positions' counts, made in one pass over both.
     pub fn plus(&self, other: &Self, alloc: &A) -> Result<Node<A>, NoMemory>
-        requires left { IsNormal (spot self.now) }
-        requires right { IsNormal (spot other.now) }
-        requires fits { FitsSum (spot self.now) (spot other.now) }
-        ensures { IfOk result (λ sum. IsSum (spot self.now) (spot other.now) (top sum)) }
+        requires left { IsNormal (position_of self.now) }
+        requires right { IsNormal (position_of other.now) }
+        requires fits { FitsSum (position_of self.now) (position_of other.now) }
+        ensures { IfOk result (λ sum.
+            IsSum (position_of self.now) (position_of other.now) (top sum)) }
     {
         let shared = common_len(self.frames, other.frames);
         let left = self.skip(shared);
         let right = other.skip(shared);
         let frames = Vec::from_slice(alloc.clone()?, &self.frames[..shared])?;
         let counts = plus_counts(alloc.clone()?, left.counts(), right.counts())?;
-        let room = left.children().max(right.children());
+        let room = left.number_of_children().max(right.number_of_children());
         let mut children = Vec::with_capacity(alloc.clone()?, room)?;
         let mut i = 0;
         let mut j = 0;
-        while i < left.children() && j < right.children() {
+        while i < left.number_of_children() && j < right.number_of_children() {
             let (x, a) = left.child_at(i);
             let (y, b) = right.child_at(j);
             match x.cmp(&y) {
@@ -77,13 +78,13 @@ impl<'a, A: Allocator + Clone> Cursor<'a, A> {
             frames,
             counts,
             children,
-            marks: left.marks() | right.marks(),
+            filters: left.filters() | right.filters(),
         })
     }
 }
 
 /// How many frames both begin with.
-pub fn common_len(left: &[u64], right: &[u64]) -> usize
+fn common_len(left: &[u64], right: &[u64]) -> usize
     ensures left { result ≤ length left.now }
     ensures right { result ≤ length right.now }
     ensures shared { take result left.now ≡ take result right.now }
@@ -123,11 +124,11 @@ fn copy_children<A: Allocator + Clone>(
     start: usize,
     into: &mut Vec<(u64, Node<A>), A>,
 ) -> Result<(), NoMemory>
-    requires { IsNormal (spot from.now) }
-    ensures { OnOk result (AppendsCopies (drop start (kids (spot from.now)))
+    requires { IsNormal (position_of from.now) }
+    ensures { OnOk result (AppendsCopies (drop start (children (position_of from.now)))
         (tops into.old.items) (tops into.new.items)) }
 {
-    for index in start..from.children() {
+    for index in start..from.number_of_children() {
         let (frame, child) = from.child_at(index);
         into.push((frame, child.copy(alloc)?))?;
     }

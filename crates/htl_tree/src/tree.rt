@@ -3,16 +3,15 @@
 ghost use Rattle.std.specs.Prelude.{◌<◌, ◌^◌, ◌↔◌, length, IsTrue};
 ghost use Rattle.std.specs.List.{flat_map};
 
-use crate::building::{root_of, rows_in};
+use crate::building::root_of;
 use crate::counting::{Counting, number_of_events};
-use crate::cursor::Cursor;
-use crate::gathering::{add_up, sort_by_slot};
 use crate::listing::without_slot;
 use crate::node::{Node, ZERO};
 use crate::root::{
     add_to_root, copy_root, list_root_counts, list_root_rows, list_root_slots, plus_roots,
-    same_roots, sum_of_tops, under_root,
+    same_roots, under_root,
 };
+use crate::slot_sums::{add_up, sort_by_slot};
 use crate::slots::Slots;
 use htl_event::{Count, EventList, NoMemory, SharedEvent, SharedStack, Sign, Slot, Stack};
 use std::alloc::{Allocator, Global};
@@ -37,24 +36,22 @@ impl<A: Allocator> Model for StackTree<A> {
     ghost invariant = { λ t. IsRoot t.root t.total };
 }
 
-/// Whether the number of all events of these runs is a `u64`, as it is wherever they came from
+/// Whether the number of all events of these lists is a `u64`, as it is wherever they came from
 /// bytes.
-pub fn fits_events<R: EventList>(runs: &[R]) -> bool
-    ensures { IsTrue result ↔ (length (flat_map R.events_of runs.now) < 2 ^ 64) }
+pub fn fits_events<R: EventList>(lists: &[R]) -> bool
+    ensures { IsTrue result ↔ (length (flat_map R.events_of lists.now) < 2 ^ 64) }
 {
-    number_of_events(runs).is_some()
+    number_of_events(lists).is_some()
 }
 
 impl<A: Allocator> StackTree<A> {
     ghost use Rattle.std.specs.Prelude.{◌≡◌, List, ◌+◌, ◌<◌, ◌≤◌, ◌^◌, [], ◌∷◌, ◌++◌};
-    ghost use Rattle.std.specs.Prelude.{◌↔◌, None, length, IsTrue, IfOk, IfSome, OnOk, OnErr};
+    ghost use Rattle.std.specs.Prelude.{◌↔◌, length, IsTrue, IfOk, OnOk, OnErr};
     ghost use Rattle.htl_tree.specs.Trees.{count_at, count_under, total_count};
     ghost use Rattle.htl_tree.specs.Trees.{with_one, with_event, IsTree, IsSameTally};
     ghost use Rattle.htl_tree.specs.Trees.{IsSumTally, HasTally, ListsRows, ListsRowsOf};
-    ghost use Rattle.htl_tree.specs.Trees.{ListsSums, IsTallyOf, ListsSlots};
-    ghost use Rattle.htl_tree.specs.Trees.{IsSumOfAll, lent};
-    ghost use Rattle.htl_tree.specs.Nodes.{spot, tree_at, IsNormalTop};
-    ghost use Rattle.std.specs.List.{flat_map, sum_by};
+    ghost use Rattle.htl_tree.specs.Trees.{ListsSums, ListsSlots};
+    ghost use Rattle.std.specs.List.{flat_map};
     ghost use Rattle.htl_event.specs.Events.{Event};
     ghost use Rattle.htl_event.specs.Tallies.{under};
 
@@ -69,18 +66,18 @@ impl<A: Allocator> StackTree<A> {
         }
     }
 
-    /// The tally of the events of all runs, whatever their order.
-    pub fn of<R: EventList>(alloc: A, runs: &[R]) -> Result<Self, NoMemory>
+    /// The tally of the events of all lists, whatever their order.
+    pub fn of<R: EventList>(alloc: A, lists: &[R]) -> Result<Self, NoMemory>
     where
         A: Clone,
-        requires { length (flat_map R.events_of runs.now) < 2 ^ 64 }
-        ensures tally { IfOk result (λ tree. HasTally tree (flat_map R.events_of runs.now)) }
+        requires { length (flat_map R.events_of lists.now) < 2 ^ 64 }
+        ensures tally { IfOk result (λ tree. HasTally tree (flat_map R.events_of lists.now)) }
         ensures total { IfOk result (λ tree.
-            total_count tree ≤ length (flat_map R.events_of runs.now)) }
+            total_count tree ≤ length (flat_map R.events_of lists.now)) }
     {
-        let mut counting = Counting::new(&alloc, number_of_events(runs).unwrap_or(0))?;
-        for run in runs {
-            counting.count_all(run.events())?;
+        let mut counting = Counting::new(&alloc, number_of_events(lists).unwrap_or(0))?;
+        for list in lists {
+            counting.count_all(list.events())?;
         }
         let (mut rows, total) = counting.into_rows();
         let root = root_of(&alloc, &mut rows, total)?;
@@ -163,40 +160,6 @@ impl<A: Allocator> StackTree<A> {
         })
     }
 
-    /// The tree that counts what all of these trees count, under this allocator. It is made in one
-    /// pass over all.
-    pub fn sum_of_all(alloc: A, trees: &[&Self]) -> Result<Self, NoMemory>
-    where
-        A: Clone,
-        requires { sum_by total_count (lent trees.now) < 2 ^ 64 }
-        ensures tally { IfOk result (λ sum. IsSumOfAll sum (lent trees.now)) }
-        ensures total { IfOk result (λ sum.
-            total_count sum ≡ sum_by total_count (lent trees.now)) }
-    {
-        let mut tops = Vec::with_capacity(alloc.clone()?, trees.len())?;
-        let mut total = 0;
-        for tree in trees {
-            total += tree.total();
-            if let Some(top) = tree.top() {
-                tops.push((0, top))?;
-            }
-        }
-        let root = sum_of_tops(&alloc, &tops)?;
-        Ok(StackTree { alloc, total, root })
-    }
-
-    /// The place from which all of its stacks lead, where it counts anything.
-    fn top(&self) -> Option<Cursor<'_, A>>
-        ensures some { IfSome result (λ top. IsNormalTop (spot top)
-            × (tree_at (spot top) ≡ self.now)) }
-        ensures none { result ≡ None → self.now ≡ [] }
-    {
-        match &self.root {
-            None => None,
-            Some(root) => Some(root.top()),
-        }
-    }
-
     /// Counts one more. A branch that isn't there is built apart, and attached when it is whole.
     pub fn add(&mut self, slot: Slot, sign: Sign, stack: &Stack) -> Result<(), NoMemory>
     where
@@ -269,24 +232,6 @@ impl<A: Allocator> StackTree<A> {
         let mut counts = list_root_counts(&self.root, alloc, slots)?;
         sort_by_slot(&mut counts);
         add_up(&alloc, &counts)
-    }
-
-    /// The tree that counts what this one counts of these slots, and nothing else, under a clone of
-    /// this one's allocator. It is made of the rows of these slots.
-    pub fn of_slots(&self, alloc: Global, slots: Slots) -> Result<Self, NoMemory>
-    where
-        A: Clone,
-        ensures tally { IfOk result (λ part. IsTallyOf slots self.now part) }
-        ensures total { IfOk result (λ part. total_count part ≤ total_count self.now) }
-    {
-        let counts = list_root_rows(&self.root, alloc, slots)?;
-        let (mut rows, total) = rows_in(self.alloc.clone()?, &counts)?;
-        let root = root_of(&self.alloc, &mut rows, total)?;
-        Ok(StackTree {
-            alloc: self.alloc.clone()?,
-            total,
-            root,
-        })
     }
 
     /// Each slot with a count that isn't zero, once, in slot order.

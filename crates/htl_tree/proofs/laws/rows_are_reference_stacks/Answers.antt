@@ -1,4 +1,4 @@
--- What a tree counts at a place is what its events count there.
+-- What a tree counts of a slot at a stack is what its events count of it there.
 use Rattle.std.proofs.Common.{sym, ◌∙◌}
 use Rattle.htl_event.specs.declared.slot.Slot.TheVariants.{Tagged}
 use Rattle.htl_tree.proofs.laws.rows_are_reference_stacks.Goals as goal

@@ -1,7 +1,7 @@
 -- Roots count the same where their trees do; a root with nodes counts something.
 use Rattle.std.proofs.Common.{◌↔◌, IsTrue, Some, sym, subst}
 use Rattle.htl_tree.specs.declared.node.Node.{Node}
-use Rattle.htl_tree.specs.Nodes.{spot, top, tally_of, IsNormalRoot, IsSameTally}
+use Rattle.htl_tree.specs.Nodes.{position_of, top, tally_of, IsNormalRoot, IsSameTally}
 use Rattle.htl_tree.proofs.Roots.{same_trees, same_nodes, counts_something}
 use Rattle.htl_tree.proofs.root.same_roots.Goals as goal
 
@@ -13,7 +13,7 @@ returns-in-Some-Some g c =
     let right : IsNormalRoot (Some m) = subst (λ r. IsNormalRoot r) c.in-Some-Some.is-1 c.requires.right in
     let same : IsTrue c.same.result ↔ IsSameTally (tally_of (top n)) (tally_of (top m)) =
     subst (λ s. IsTrue c.same.result ↔ IsSameTally (tally_of s) (tally_of (top m))) c.top.ensures
-    (subst (λ s. IsTrue c.same.result ↔ IsSameTally (tally_of (spot c.top.result)) (tally_of s)) c.top-in-Some-Some.ensures
+    (subst (λ s. IsTrue c.same.result ↔ IsSameTally (tally_of (position_of c.top.result)) (tally_of s)) c.top-in-Some-Some.ensures
     c.same.ensures) in
     rw (c.in-Some-Some.is-0, c.in-Some-Some.is-1) (
       λ yes. same_trees (top n) (top m) left.normal right.normal (same.0 yes),

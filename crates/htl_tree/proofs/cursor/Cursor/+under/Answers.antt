@@ -2,7 +2,7 @@
 use Rattle.std.proofs.Common.{rules, ◌≡◌, ◌<◌, ◌^◌, [], sym, ap, ◌∙◌, subst, refl}
 use Rattle.std.proofs.lemmas.List.{nil_from_length}
 use Rattle.htl_event.specs.Tallies.{total_of}
-use Rattle.htl_tree.specs.Nodes.{inside, spot, at_child, sum_under, IsNormal}
+use Rattle.htl_tree.specs.Nodes.{inside, position_of, at_child, sum_under, IsNormal}
 use Rattle.htl_tree.proofs.CountAdded.{normal_child, normal_inside}
 use Rattle.htl_tree.proofs.Under.{under_node, sum_inside}
 use Rattle.htl_tree.proofs.cursor.Cursor.+under.Goals as goal
@@ -12,15 +12,15 @@ sum-requires-clause-normal g t c = normal_inside c.args.self.now.frames.now c.ar
 
 pub sum-requires-clause-fits : goal.sum-requires-clause-fits
 sum-requires-clause-fits g t c =
-    let here : sum_under c.args.path.now c.args.slot (spot c.args.self.now) ≡ sum_under [] c.args.slot (inside c.args.self.now.node.now) =
-    ap (λ p. sum_under p c.args.slot (spot c.args.self.now)) (nil_from_length c.args.path.now c.in-None.ensures.cases)
+    let here : sum_under c.args.path.now c.args.slot (position_of c.args.self.now) ≡ sum_under [] c.args.slot (inside c.args.self.now.node.now) =
+    ap (λ p. sum_under p c.args.slot (position_of c.args.self.now)) (nil_from_length c.args.path.now c.in-None.ensures.cases)
     ∙ sum_inside c.args.slot c.args.self.now.frames.now c.args.self.now.node.now in
     subst (λ d. total_of d < 2 ^ 64) here c.requires.fits
 
 pub under-requires : goal.under-requires
 under-requires g t c κs within =
-    let n = spot c.args.self.now in
-    let k = spot c.in-Some-child.child in
+    let n = position_of c.args.self.now in
+    let k = position_of c.in-Some-child.child in
     let normal : IsNormal k = normal_child n c.requires.normal c.in-Some.frame.now k c.in-Some-child.ensures.some in
     let deeper : sum_under c.args.path.now c.args.slot n ≡ sum_under c.in-Some.rest.now c.args.slot k =
     ap (λ p. sum_under p c.args.slot n) c.in-Some.ensures.cases.0
@@ -31,19 +31,19 @@ under-requires g t c κs within =
 
 pub returns-in-None : goal.returns-in-None
 returns-in-None g t c = c.sum.ensures ∙ sym (
-    ap (λ p. sum_under p c.args.slot (spot c.args.self.now)) (nil_from_length c.args.path.now c.in-None.ensures.cases)
+    ap (λ p. sum_under p c.args.slot (position_of c.args.self.now)) (nil_from_length c.args.path.now c.in-None.ensures.cases)
     ∙ sum_inside c.args.slot c.args.self.now.frames.now c.args.self.now.node.now)
 
 pub returns-in-Some-child : goal.returns-in-Some-child
 returns-in-Some-child g t c =
-    let n = spot c.args.self.now in
+    let n = position_of c.args.self.now in
     c.under.ensures ∙ sym (ap (λ p. sum_under p c.args.slot n) c.in-Some.ensures.cases.0
     ∙ under_node c.args.slot n c.requires.normal c.in-Some.frame.now c.in-Some.rest.now
     ∙ ap (at_child (λ j. sum_under c.in-Some.rest.now c.args.slot j)) c.in-Some-child.ensures.some)
 
 pub returns-in-None-child : goal.returns-in-None-child
 returns-in-None-child g t c =
-    let n = spot c.args.self.now in
+    let n = position_of c.args.self.now in
     sym (ap (λ p. sum_under p c.args.slot n) c.in-Some.ensures.cases.0
     ∙ under_node c.args.slot n c.requires.normal c.in-Some.frame.now c.in-Some.rest.now
     ∙ ap (at_child (λ j. sum_under c.in-Some.rest.now c.args.slot j)) (c.in-None-child.ensures.none refl))

@@ -2,11 +2,11 @@
 use Rattle.std.proofs.Common.{rules, ◌+◌, ◌<◌, ◌^◌, ap, ◌∙◌, subst, reverse}
 use Rattle.std.specs.Int.Bits.{bit_or}
 use Rattle.htl_event.specs.Tallies.{total_of}
-use Rattle.htl_tree.specs.Nodes.{marks_at, tally, top, tops, inside}
-use Rattle.htl_tree.proofs.Spots.{frames_of, own_of, marks_of, kids_of, children_rolled}
+use Rattle.htl_tree.specs.Nodes.{filters_at, tally, top, tops, inside}
+use Rattle.htl_tree.proofs.Positions.{frames_rolled, counts_rolled, filters_rolled, tops_rolled, children_rolled}
 use Rattle.htl_tree.proofs.Tops.{children_sorted, found_top, set_top, no_top, insert_top}
-use Rattle.htl_tree.proofs.CountAdded.{normal_here, kept_own, added_own, added_branch, stepped, refused}
-use Rattle.htl_tree.proofs.MarkedPlaces.{more_marks}
+use Rattle.htl_tree.proofs.CountAdded.{normal_here, kept_counts, added_here, added_branch, stepped, refused}
+use Rattle.htl_tree.proofs.FiltersOfPositions.{more_filters}
 use Rattle.htl_tree.proofs.Entered.{path_ends, path_goes_on, IsOnward, onward, normal_entered}
 use Rattle.htl_tree.proofs.Entered.{entered_tally, entered_added, entered_kept, entered_result}
 use Rattle.htl_tree.proofs.node.Node.+add.Goals as goal
@@ -44,17 +44,17 @@ pub returns-in_err-insert_child-in-Err : goal.returns-in_err-insert_child-in-Err
 returns-in_err-insert_child-in-Err g t c =
     let n = c.enter.new.self in
     let kept = c.in_ok-stack.ensures.kept in
-    refused _ _ c.from_residual-in_err-insert_child-in-Err.ensures.0 (entered_kept (top c.args.self.now) n kept _ (frames_of _)
-    (kept_own (inside n) (inside _) (normal_entered (top c.args.self.now) n kept) (own_of _) (marks_of _)
-    (kids_of _ ∙ ap tops c.in_err-insert_child-in-Err.ensures.err)))
+    refused _ _ c.from_residual-in_err-insert_child-in-Err.ensures.0 (entered_kept (top c.args.self.now) n kept _ (frames_rolled _)
+    (kept_counts (inside n) (inside _) (normal_entered (top c.args.self.now) n kept) (counts_rolled _) (filters_rolled _)
+    (tops_rolled _ ∙ ap tops c.in_err-insert_child-in-Err.ensures.err)))
 
 pub returns-in_err-count_one-in-None : goal.returns-in_err-count_one-in-None
 returns-in_err-count_one-in-None g t c =
     let n = c.enter.new.self in
     let kept = c.in_ok-stack.ensures.kept in
-    refused _ _ c.from_residual-in_err-count_one-in-None.ensures.0 (entered_kept (top c.args.self.now) n kept _ (frames_of _)
-    (kept_own (inside n) (inside _) (normal_entered (top c.args.self.now) n kept) (own_of _ ∙ c.in_err-count_one-in-None.ensures.err)
-    (marks_of _) (kids_of _)))
+    refused _ _ c.from_residual-in_err-count_one-in-None.ensures.0 (entered_kept (top c.args.self.now) n kept _ (frames_rolled _)
+    (kept_counts (inside n) (inside _) (normal_entered (top c.args.self.now) n kept) (counts_rolled _ ∙ c.in_err-count_one-in-None.ensures.err)
+    (filters_rolled _) (tops_rolled _)))
 
 pub returns-in_ok-count_one-in-None : goal.returns-in_ok-count_one-in-None
 returns-in_ok-count_one-in-None g t c =
@@ -62,10 +62,11 @@ returns-in_ok-count_one-in-None g t c =
     let old = top c.args.self.now in
     let kept = c.in_ok-stack.ensures.kept in
     let path = path_ends c.args.stack.now _ _ c.in_ok-stack.ensures.rest c.in-None.ensures.cases in
-    entered_added old n kept _ _ path c.args.slot _ (frames_of _ ∙ frames_of _) c.args.sign
-    (added_own (inside n) (inside _) c.args.slot c.args.sign (normal_entered old n kept)
-    (own_of _ ∙ own_of _ ∙ c.in_ok-count_one-in-None.ensures.ok)
-    (marks_of _ ∙ ap (λ k. bit_or k c.mark_of.result) (marks_of _) ∙ ap (bit_or (marks_at n)) c.mark_of.ensures) (kids_of _ ∙ kids_of _))
+    entered_added old n kept _ _ path c.args.slot _ (frames_rolled _ ∙ frames_rolled _) c.args.sign
+    (added_here (inside n) (inside _) c.args.slot c.args.sign (normal_entered old n kept)
+    (counts_rolled _ ∙ counts_rolled _ ∙ c.in_ok-count_one-in-None.ensures.ok)
+    (filters_rolled _ ∙ ap (λ k. bit_or k c.filter_of.result) (filters_rolled _)
+    ∙ ap (bit_or (filters_at n)) c.filter_of.ensures) (tops_rolled _ ∙ tops_rolled _))
 
 pub returns-in-Ok : goal.returns-in-Ok
 returns-in-Ok g t c =
@@ -76,12 +77,12 @@ returns-in-Ok g t c =
     let same = c.deref.ensures.value in
     let place = c.in-Ok.ensures.found in
     let path = path_goes_on c.args.stack.now _ _ _ _ c.in_ok-stack.ensures.rest c.in-Some.ensures.cases.0 in
-    entered_result old n kept _ _ path c.args.slot c.args.sign _ (frames_of _ ∙ frames_of _) c.add-added.result
+    entered_result old n kept _ _ path c.args.slot c.args.sign _ (frames_rolled _ ∙ frames_rolled _) c.add-added.result
     (stepped (inside n) (inside _) (normal_entered old n kept) _ (top d.1) (top c.add-added.new.self)
-    (found_top n _ same _ _ place d (search rules)) (own_of _ ∙ own_of _)
-    (more_marks n _ (top c.add-added.new.self) _ (own_of _ ∙ own_of _)
+    (found_top n _ same _ _ place d (search rules)) (counts_rolled _ ∙ counts_rolled _)
+    (more_filters n _ (top c.add-added.new.self) _ (counts_rolled _ ∙ counts_rolled _)
     (set_top n _ same _ _ place d (search rules) _ c.add-added.new.self (children_rolled _ ∙ children_rolled _))
-    (marks_of _ ∙ ap (λ k. bit_or k (marks_at c.add-added.new.self)) (marks_of _)) (normal_entered old n kept))
+    (filters_rolled _ ∙ ap (λ k. bit_or k (filters_at c.add-added.new.self)) (filters_rolled _)) (normal_entered old n kept))
     (set_top n _ same _ _ place d (search rules) _ c.add-added.new.self (children_rolled _ ∙ children_rolled _)) (reverse c.in-Some.rest.now)
     c.args.slot c.args.sign c.add-added.result c.add-added.ensures)
 
@@ -94,11 +95,11 @@ returns-in_ok-insert_child-in-Err g t c =
     let gap = c.in-Err.ensures.absent in
     let path = path_goes_on c.args.stack.now _ _ _ _ c.in_ok-stack.ensures.rest c.in-Some.ensures.cases.0 in
     let child = c.in_ok-child-in-Err.child in
-    entered_added old n kept _ _ path c.args.slot _ (frames_of _ ∙ frames_of _) c.args.sign
-    (added_branch (inside n) (inside _) _ (top child) (own_of _ ∙ own_of _)
-    (more_marks n _ (top child) _ (own_of _ ∙ own_of _)
+    entered_added old n kept _ _ path c.args.slot _ (frames_rolled _ ∙ frames_rolled _) c.args.sign
+    (added_branch (inside n) (inside _) _ (top child) (counts_rolled _ ∙ counts_rolled _)
+    (more_filters n _ (top child) _ (counts_rolled _ ∙ counts_rolled _)
     (insert_top n _ same _ _ gap _ child (children_rolled _ ∙ children_rolled _ ∙ c.in_ok-insert_child-in-Err.ensures.ok))
-    (marks_of _ ∙ ap (λ k. bit_or k (marks_at child)) (marks_of _)) (normal_entered old n kept))
+    (filters_rolled _ ∙ ap (λ k. bit_or k (filters_at child)) (filters_rolled _)) (normal_entered old n kept))
     (insert_top n _ same _ _ gap _ child (children_rolled _ ∙ children_rolled _ ∙ c.in_ok-insert_child-in-Err.ensures.ok))
     (normal_entered old n kept)
     (reverse c.in-Some.rest.now) c.args.slot c.args.sign (no_top n _ same _ _ gap) c.in_ok-child-in-Err.ensures)

@@ -3,15 +3,15 @@ use Rattle.std.proofs.Common.{rules, ◌+◌, ◌<◌, ◌^◌, ap, ◌∙◌, s
 use Rattle.htl_event.specs.declared.slot.Slot.{Slot}
 use Rattle.std.specs.Int.Bits.{bit_or}
 use Rattle.htl_event.specs.Tallies.{total_of}
-use Rattle.htl_tree.specs.Marks.{AreMarked}
-use Rattle.htl_tree.specs.Nodes.{marks_at, tally, top, inside}
+use Rattle.htl_tree.specs.Filters.{HaveFilters}
+use Rattle.htl_tree.specs.Nodes.{filters_at, tally, top, inside}
 use Rattle.htl_tree.specs.Rows.{slot_sum}
-use Rattle.htl_tree.proofs.Spots.{frames_of, own_of, marks_of, kids_of, children_rolled}
+use Rattle.htl_tree.proofs.Positions.{frames_rolled, counts_rolled, filters_rolled, tops_rolled, children_rolled}
 use Rattle.htl_tree.proofs.Tops.{children_sorted, found_top, set_top, no_top, insert_top}
 use Rattle.htl_tree.proofs.CountAdded.{normal_here}
-use Rattle.htl_tree.proofs.MarkedPlaces.{more_marks}
+use Rattle.htl_tree.proofs.FiltersOfPositions.{more_filters}
 use Rattle.htl_tree.proofs.Entered.{path_ends, path_goes_on, IsOnward, onward, normal_entered, entered_tally}
-use Rattle.htl_tree.proofs.RowsAdded.{some_slot, gained_own, gained_below, gained_branch, entered_gained}
+use Rattle.htl_tree.proofs.RowsAdded.{some_slot, gained_here, gained_below, gained_branch, entered_gained}
 use Rattle.htl_tree.proofs.node.Node.+add_rows.Goals as goal
 
 pub add_to_counts-requires-clause-sorted : goal.add_to_counts-requires-clause-sorted
@@ -59,11 +59,11 @@ returns-in_ok-add_to_counts-in-None g t c =
     let rows = c.args.rows.now in
     let kept = c.in_ok-stack.ensures.kept in
     let path = path_ends c.args.stack.now _ _ c.in_ok-stack.ensures.rest c.in-None.ensures.cases in
-    entered_gained rows (some_slot rows c.requires.some c.requires.positive) old n _ kept (frames_of _ ∙ frames_of _) _ _ path
-    (gained_own (inside n) (inside _) rows _ _ (normal_entered old n kept) (own_of _ ∙ own_of _)
-    (marks_of _ ∙ ap (λ k. bit_or k c.marks_of.result) (marks_of _)) (kids_of _ ∙ kids_of _)
+    entered_gained rows (some_slot rows c.requires.some c.requires.positive) old n _ kept (frames_rolled _ ∙ frames_rolled _) _ _ path
+    (gained_here (inside n) (inside _) rows _ _ (normal_entered old n kept) (counts_rolled _ ∙ counts_rolled _)
+    (filters_rolled _ ∙ ap (λ k. bit_or k c.filters_of.result) (filters_rolled _)) (tops_rolled _ ∙ tops_rolled _)
     c.in_ok-add_to_counts-in-None.ensures
-    (subst (λ l. AreMarked c.marks_of.result l) (c.deref.ensures.value ∙ own_of _) c.marks_of.ensures))
+    (subst (λ l. HaveFilters c.filters_of.result l) (c.deref.ensures.value ∙ counts_rolled _) c.filters_of.ensures))
 
 pub returns-in_ok-add_rows-in-Ok : goal.returns-in_ok-add_rows-in-Ok
 returns-in_ok-add_rows-in-Ok g t c =
@@ -77,11 +77,11 @@ returns-in_ok-add_rows-in-Ok g t c =
     let place = c.in-Ok.ensures.found in
     let path = path_goes_on c.args.stack.now _ _ _ _ c.in_ok-stack.ensures.rest c.in-Some.ensures.cases.0 in
     let new = c.add_rows.new.self in
-    entered_gained rows some old n _ kept (frames_of _ ∙ frames_of _) _ _ path
-    (gained_below (inside n) (inside _) rows some _ (top new) (own_of _ ∙ own_of _)
-    (more_marks n _ (top new) _ (own_of _ ∙ own_of _)
+    entered_gained rows some old n _ kept (frames_rolled _ ∙ frames_rolled _) _ _ path
+    (gained_below (inside n) (inside _) rows some _ (top new) (counts_rolled _ ∙ counts_rolled _)
+    (more_filters n _ (top new) _ (counts_rolled _ ∙ counts_rolled _)
     (set_top n _ same _ _ place d (search rules) _ new (children_rolled _ ∙ children_rolled _))
-    (marks_of _ ∙ ap (λ k. bit_or k (marks_at new)) (marks_of _)) (normal_entered old n kept))
+    (filters_rolled _ ∙ ap (λ k. bit_or k (filters_at new)) (filters_rolled _)) (normal_entered old n kept))
     (set_top n _ same _ _ place d (search rules) _ new (children_rolled _ ∙ children_rolled _)) (normal_entered old n kept) (top d.1)
     (found_top n _ same _ _ place d (search rules)) (reverse c.in-Some.rest.now) c.in_ok-add_rows-in-Ok.ensures)
 
@@ -96,11 +96,11 @@ returns-in_ok-insert_child-in-Err g t c =
     let some = some_slot rows c.requires.some c.requires.positive in
     let path = path_goes_on c.args.stack.now _ _ _ _ c.in_ok-stack.ensures.rest c.in-Some.ensures.cases.0 in
     let child = c.in_ok-child-in-Err.child in
-    entered_gained rows some old n _ kept (frames_of _ ∙ frames_of _) _ _ path
-    (gained_branch (inside n) (inside _) rows some _ (top child) (own_of _ ∙ own_of _)
-    (more_marks n _ (top child) _ (own_of _ ∙ own_of _)
+    entered_gained rows some old n _ kept (frames_rolled _ ∙ frames_rolled _) _ _ path
+    (gained_branch (inside n) (inside _) rows some _ (top child) (counts_rolled _ ∙ counts_rolled _)
+    (more_filters n _ (top child) _ (counts_rolled _ ∙ counts_rolled _)
     (insert_top n _ same _ _ gap _ child (children_rolled _ ∙ children_rolled _ ∙ c.in_ok-insert_child-in-Err.ensures.ok))
-    (marks_of _ ∙ ap (λ k. bit_or k (marks_at child)) (marks_of _)) (normal_entered old n kept))
+    (filters_rolled _ ∙ ap (λ k. bit_or k (filters_at child)) (filters_rolled _)) (normal_entered old n kept))
     (insert_top n _ same _ _ gap _ child (children_rolled _ ∙ children_rolled _ ∙ c.in_ok-insert_child-in-Err.ensures.ok))
     (normal_entered old n kept)
     (no_top n _ same _ _ gap) (reverse c.in-Some.rest.now) c.in_ok-child-in-Err.ensures)

@@ -1,13 +1,13 @@
--- The counts of a child follow those of the children before it, and a node whose marks lack the slots' has none of theirs.
+-- The counts of a child follow those of the children before it, and a node whose filters lack the slots' has none of theirs.
 use Rattle.std.proofs.Common.{rules, ◌≡◌, ◌+◌, ◌<◌, List, ◌++◌, drop, false, append_assoc, append-nil, sym, ap, ◌∙◌, arith}
 use Rattle.htl_event.specs.declared.slot.Slot.{Slot}
 use Rattle.htl_event.specs.declared.slot.Count.{Count}
-use Rattle.htl_tree.specs.Nodes.{frames, marks_at, inside, own, kids, rows, height, asked_of, counts_in, IsNormal}
-use Rattle.htl_tree.proofs.NodeRows.{kid_rows}
+use Rattle.htl_tree.specs.Nodes.{frames, filters_at, inside, counts, children, rows, height, asked_of, counts_in, IsNormal}
+use Rattle.htl_tree.proofs.NodeRows.{child_rows}
 use Rattle.htl_tree.proofs.CountAdded.{normal_inside}
 use Rattle.htl_tree.proofs.Children.{IsChildAt, child_at, no_child_at, child_normal, child_height, inside_height}
-use Rattle.htl_tree.proofs.MarkedRows.{rows_marked, unmarked_counts}
-use Rattle.htl_tree.proofs.SlotRows.{asked_of-node, child_counts}
+use Rattle.htl_tree.proofs.FiltersOfRows.{rows_have_filters, no_filter_no_counts}
+use Rattle.htl_tree.proofs.SlotRows.{asked_of-node, counts_from_child}
 use Rattle.htl_tree.proofs.node.Node.+list_counts.Goals as goal
 
 pub returns-then-not-may_count : goal.returns-then-not-may_count
@@ -15,19 +15,19 @@ returns-then-not-may_count g t c =
     let n = c.args.self.now in
     let old : List (Slot × Count) = c.args.into.now.items in
     let missing : c.may_count.result ≡ false = c.if-not-may_count.true in
-    sym (append-nil old) ∙ ap (λ l. old ++ l) (sym (unmarked_counts (marks_at n) c.args.slots (rows (inside n))
-    (rows_marked (inside n) c.requires)
-    (λ s yes there. c.may_count.ensures missing (c.common_mark.ensures.of_each (marks_at n) s yes there))))
+    sym (append-nil old) ∙ ap (λ l. old ++ l) (sym (no_filter_no_counts (filters_at n) c.args.slots (rows (inside n))
+    (rows_have_filters (inside n) c.requires)
+    (λ s yes there. c.may_count.ensures missing (c.common_filter.ensures.of_each (filters_at n) s yes there))))
 
 pub loop-child-init : goal.loop-child-init
 loop-child-init g t c =
     let n = inside c.args.self.now in
     let slots = c.args.slots in
     let old : List (Slot × Count) = c.args.into.now.items in
-    let below : List (Slot × Count) = asked_of slots (counts_in (kid_rows (kids n))) in
-    let first : c.list_own_counts.new.into.items ≡ old ++ asked_of slots (own n) = c.in_ok-list_own_counts.ensures
+    let below : List (Slot × Count) = asked_of slots (counts_in (child_rows (children n))) in
+    let first : c.push_counts.new.into.items ≡ old ++ asked_of slots (counts n) = c.in_ok-push_counts.ensures
     ∙ ap (λ (es : List (Slot × Count)). old ++ asked_of slots es) c.deref.ensures.value in
-    ap (λ l. l ++ below) first ∙ append_assoc old (asked_of slots (own n)) below ∙ ap (λ l. old ++ l) (sym (asked_of-node slots n))
+    ap (λ l. l ++ below) first ∙ append_assoc old (asked_of slots (counts n)) below ∙ ap (λ l. old ++ l) (sym (asked_of-node slots n))
 
 pub list_counts-requires : goal.list_counts-requires
 list_counts-requires g t c κs within =
@@ -47,12 +47,12 @@ loop-child-preserved g t c =
     let slots = c.args.slots in
     let at : IsChildAt n i d = child_at n _ c.deref-child-items.ensures.value i d c.loop-child-test.true c.loop-child-item.is in
     let so_far : List (Slot × Count) = c.loop-child.into.items in
-    let rest : List (Slot × Count) = asked_of slots (counts_in (kid_rows (drop (i + 1) (kids (inside n))))) in
+    let rest : List (Slot × Count) = asked_of slots (counts_in (child_rows (drop (i + 1) (children (inside n))))) in
     ap (λ l. l ++ rest) c.in_ok-list_counts.ensures ∙ append_assoc so_far (asked_of slots (counts_in (rows (inside d.1)))) rest
-    ∙ ap (λ l. so_far ++ l) (sym (child_counts slots at)) ∙ c.loop-child.invariant
+    ∙ ap (λ l. so_far ++ l) (sym (counts_from_child slots at)) ∙ c.loop-child.invariant
 
 pub returns : goal.returns
 returns g t c =
     let none = no_child_at c.args.self.now _ c.deref-child-items.ensures.value _ c.loop-child-test.false in
     sym (append-nil c.loop-child.into.items)
-    ∙ ap (λ ks. c.loop-child.into.items ++ asked_of c.args.slots (counts_in (kid_rows ks))) (sym none) ∙ c.loop-child.invariant
+    ∙ ap (λ ks. c.loop-child.into.items ++ asked_of c.args.slots (counts_in (child_rows ks))) (sym none) ∙ c.loop-child.invariant

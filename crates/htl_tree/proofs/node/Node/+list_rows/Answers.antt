@@ -5,12 +5,12 @@ use Rattle.std.proofs.lemmas.List.{take_at}
 use Rattle.htl_event.specs.declared.slot.Slot.{Slot}
 use Rattle.htl_event.specs.declared.slot.Count.{Count}
 use Rattle.htl_tree.specs.Asked.{has_slot}
-use Rattle.htl_tree.specs.Nodes.{top, inside, frames, counts_of, marks_at, kids, rows, height, rows_at, own_at, IsNormal, IsShortFrom}
-use Rattle.htl_tree.proofs.NodeRows.{kid_rows}
+use Rattle.htl_tree.specs.Nodes.{top, inside, frames, counts_of, filters_at, children, rows, height, rows_at, rows_of_counts, IsNormal, IsShortFrom}
+use Rattle.htl_tree.proofs.NodeRows.{child_rows}
 use Rattle.htl_tree.proofs.CountAdded.{normal_inside}
 use Rattle.htl_tree.proofs.Children.{IsChildAt, child_at, no_child_at, child_normal, child_height, inside_height}
-use Rattle.htl_tree.proofs.MarkedRows.{rows_marked, unmarked_rows}
-use Rattle.htl_tree.proofs.SlotRows.{rows_at-node, rows_at-inside, child_rows, short_here, short_inside, short_child}
+use Rattle.htl_tree.proofs.FiltersOfRows.{rows_have_filters, no_filter_no_rows}
+use Rattle.htl_tree.proofs.SlotRows.{rows_at-node, rows_at-inside, rows_from_child, short_here, short_inside, short_child}
 use Rattle.htl_tree.proofs.node.Node.+list_rows.Goals as goal
 
 pub returns-then-not-may_count-clause-listed : goal.returns-then-not-may_count-clause-listed
@@ -19,19 +19,19 @@ returns-then-not-may_count-clause-listed g t c =
     let p = c.args.path.now.items in
     let old : List ((Slot × List ℕ) × Count) = c.args.into.now.items in
     let missing : c.may_count.result ≡ false = c.if-not-may_count.true in
-    sym (append-nil old) ∙ ap (λ l. old ++ l) (sym (unmarked_rows (marks_at n) c.args.slots p (rows (top n))
-    (rows_marked (top n) c.requires.normal)
-    (λ s yes there. c.may_count.ensures missing (c.common_mark.ensures.of_each (marks_at n) s yes there))))
+    sym (append-nil old) ∙ ap (λ l. old ++ l) (sym (no_filter_no_rows (filters_at n) c.args.slots p (rows (top n))
+    (rows_have_filters (top n) c.requires.normal)
+    (λ s yes there. c.may_count.ensures missing (c.common_filter.ensures.of_each (filters_at n) s yes there))))
 
-pub list_own-requires : goal.list_own-requires
-list_own-requires g t c some =
+pub push_rows-requires : goal.push_rows-requires
+push_rows-requires g t c some =
     let n = c.args.self.now in
     let p = c.args.path.now.items in
-    let own : 0 < length (counts_of n) = subst (λ (es : List (Slot × Count)). 0 < length es) c.deref-2.ensures.value some in
+    let counts : 0 < length (counts_of n) = subst (λ (es : List (Slot × Count)). 0 < length es) c.deref-2.ensures.value some in
     let path : c.deref-3.result.now ≡ p ++ frames n = c.deref-3.ensures.value ∙ c.in_ok-extend_from_slice.ensures.items
     ∙ ap (λ l. p ++ l) c.deref.ensures.value in
     let depth : length c.deref-3.result.now ≡ length p + length (frames n) = ap length path ∙ length-append p (frames n) in
-    let short = short_here (inside n) (length p + length (frames n)) (short_inside (frames n) n (length p) c.requires.short) own in
+    let short = short_here (inside n) (length p + length (frames n)) (short_inside (frames n) n (length p) c.requires.short) counts in
     omega (arith, depth, short)
 
 pub loop-frame-init : goal.loop-frame-init
@@ -41,16 +41,16 @@ loop-frame-init g t c =
     let p = c.args.path.now.items in
     let q = p ++ frames n in
     let old = c.args.into.now.items in
-    let own : List ((Slot × List ℕ) × Count) = own_at s q (counts_of n) in
-    let below : List ((Slot × List ℕ) × Count) = rows_at s q (kid_rows (kids (inside n))) in
+    let counts : List ((Slot × List ℕ) × Count) = rows_of_counts s q (counts_of n) in
+    let below : List ((Slot × List ℕ) × Count) = rows_at s q (child_rows (children (inside n))) in
     let path : c.extend_from_slice.new.self.items ≡ q = c.in_ok-extend_from_slice.ensures.items
     ∙ ap (λ l. p ++ l) c.deref.ensures.value in
-    let mine : c.list_own.new.into.items ≡ old ++ own = c.in_ok-list_own.ensures
-    ∙ ap (λ es. old ++ own_at s c.deref-3.result.now es) c.deref-2.ensures.value
-    ∙ ap (λ k. old ++ own_at s k (counts_of n)) (c.deref-3.ensures.value ∙ path) in
+    let mine : c.push_rows.new.into.items ≡ old ++ counts = c.in_ok-push_rows.ensures
+    ∙ ap (λ es. old ++ rows_of_counts s c.deref-3.result.now es) c.deref-2.ensures.value
+    ∙ ap (λ k. old ++ rows_of_counts s k (counts_of n)) (c.deref-3.ensures.value ∙ path) in
     record {
       path = path;
-      listed = ap (λ l. l ++ below) mine ∙ append_assoc old own below
+      listed = ap (λ l. l ++ below) mine ∙ append_assoc old counts below
           ∙ ap (λ l. old ++ l) (sym (rows_at-inside s (frames n) n p ∙ rows_at-node s (inside n) q));
     }
 
@@ -90,13 +90,13 @@ loop-frame-preserved g t c =
     let back : c.pop.new.self.items ≡ path = c.pop.ensures.rest ∙ ap (λ l. take (vec_len c.list_rows.new.path - 1) l) kept
     ∙ take_at path (d.0 ∷ []) (vec_len c.list_rows.new.path - 1) (sym len) in
     let below : List ((Slot × List ℕ) × Count) = rows_at s (path ++ d.0 ∷ []) (rows (top d.1)) in
-    let rest : List ((Slot × List ℕ) × Count) = rows_at s path (kid_rows (drop (i + 1) (kids (inside n)))) in
+    let rest : List ((Slot × List ℕ) × Count) = rows_at s path (child_rows (drop (i + 1) (children (inside n)))) in
     let listed : c.list_rows.new.into.items ≡ old ++ below = c.in_ok-list_rows.ensures.listed
     ∙ ap (λ l. old ++ rows_at s l (rows (top d.1))) grown in
     record {
       path = back;
       listed = ap (λ l. l ++ rest) listed ∙ append_assoc old below rest
-          ∙ ap (λ l. old ++ l) (sym (child_rows s at path)) ∙ c.loop-frame.invariant.listed;
+          ∙ ap (λ l. old ++ l) (sym (rows_from_child s at path)) ∙ c.loop-frame.invariant.listed;
     }
 
 pub returns-clause-path : goal.returns-clause-path
@@ -112,5 +112,5 @@ returns-clause-listed g t c =
     let path = c.args.path.now.items ++ frames n in
     let none = no_child_at n _ c.deref-frame-items.ensures.value _ c.loop-frame-test.false in
     sym (append-nil c.loop-frame.into.items)
-    ∙ ap (λ ks. c.loop-frame.into.items ++ rows_at (has_slot c.args.slots) path (kid_rows ks)) (sym none)
+    ∙ ap (λ ks. c.loop-frame.into.items ++ rows_at (has_slot c.args.slots) path (child_rows ks)) (sym none)
     ∙ c.loop-frame.invariant.listed

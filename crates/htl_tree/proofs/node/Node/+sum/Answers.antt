@@ -5,24 +5,24 @@ use Rattle.htl_event.specs.SlotOrder.{slot_cmp}
 use Rattle.htl_sorted.specs.Entries.{IsSorted}
 use Rattle.htl_event.specs.declared.slot.Count.{Count}
 use Rattle.htl_event.specs.Tallies.{plus_count, total_of}
-use Rattle.htl_tree.specs.Nodes.{frames, marks_at, inside, kids, count_in, rows, height, sum_under, IsNormal}
+use Rattle.htl_tree.specs.Nodes.{frames, filters_at, inside, children, count_in, rows, height, sum_under, IsNormal}
 use Rattle.htl_tree.proofs.CountAdded.{normal_here, normal_inside}
-use Rattle.htl_tree.proofs.MarkedRows.{rows_marked, unmarked_sum}
+use Rattle.htl_tree.proofs.FiltersOfRows.{rows_have_filters, no_filter_no_sum}
 use Rattle.htl_tree.proofs.Children.{IsChildAt, child_at, no_child_at, child_normal, child_height, inside_height}
 use Rattle.htl_tree.proofs.CopiesAndSums.{zero_right}
 use Rattle.htl_tree.proofs.SumsFromTally.{plus_assoc}
-use Rattle.htl_tree.proofs.Under.{kid_sum, child_sum, child_room, sum_node}
+use Rattle.htl_tree.proofs.Under.{child_sum, sum_from_child, child_room, sum_node}
 use Rattle.htl_tree.proofs.node.Node.+sum.Goals as goal
 
 pub returns-then-not-may_count : goal.returns-then-not-may_count
 returns-then-not-may_count g t c =
     let n = c.args.self.now in
     let missing : c.may_count.result ≡ false = c.if-not-may_count.true in
-    sym (unmarked_sum (marks_at n) c.args.slot [] (rows (inside n)) (rows_marked (inside n) c.requires.normal)
-    (λ there. c.may_count.ensures missing (ap (bit_and (marks_at n)) c.mark_of.ensures ∙ there ∙ sym c.mark_of.ensures)))
+    sym (no_filter_no_sum (filters_at n) c.args.slot [] (rows (inside n)) (rows_have_filters (inside n) c.requires.normal)
+    (λ there. c.may_count.ensures missing (ap (bit_and (filters_at n)) c.filter_of.ensures ∙ there ∙ sym c.filter_of.ensures)))
 
-pub count_of-sum-requires : goal.count_of-sum-requires
-count_of-sum-requires g t c =
+pub count_in-sum-requires : goal.count_in-sum-requires
+count_in-sum-requires g t c =
     let here = normal_here (inside c.args.self.now) c.requires.normal in
     subst (λ es. IsSorted slot_cmp es) (sym c.deref.ensures.value) here.slots
 
@@ -30,7 +30,7 @@ pub loop-child-init : goal.loop-child-init
 loop-child-init g t c =
     let n = c.args.self.now in
     let s = c.args.slot in
-    ap (λ d. plus_count d (kid_sum s (kids (inside n)))) (c.count_of-sum.ensures ∙ ap (λ es. count_in es s) c.deref.ensures.value)
+    ap (λ d. plus_count d (child_sum s (children (inside n)))) (c.count_in-sum.ensures ∙ ap (λ es. count_in es s) c.deref.ensures.value)
     ∙ sym (sum_node s (inside n) c.requires.normal)
 
 pub sum-below-requires : goal.sum-below-requires
@@ -63,12 +63,12 @@ loop-child-preserved g t c =
     let d = c.loop-child-item.result in
     let s = c.args.slot in
     let at : IsChildAt n i d = child_at n _ c.deref-child-items.ensures.value i d c.loop-child-test.true c.loop-child-item.is in
-    let rest : Count = kid_sum s (drop (i + 1) (kids (inside n))) in
+    let rest : Count = child_sum s (drop (i + 1) (children (inside n))) in
     ap (λ j. plus_count j rest) (c.sum_of-sum.ensures ∙ ap (plus_count c.loop-child.sum) c.sum-below.ensures)
     ∙ plus_assoc c.loop-child.sum (sum_under [] s (inside d.1)) rest
-    ∙ ap (plus_count c.loop-child.sum) (sym (child_sum s at)) ∙ c.loop-child.invariant
+    ∙ ap (plus_count c.loop-child.sum) (sym (sum_from_child s at)) ∙ c.loop-child.invariant
 
 pub returns : goal.returns
 returns g t c =
     let none = no_child_at c.args.self.now _ c.deref-child-items.ensures.value _ c.loop-child-test.false in
-    zero_right c.loop-child.sum ∙ ap (λ ks. plus_count c.loop-child.sum (kid_sum c.args.slot ks)) (sym none) ∙ c.loop-child.invariant
+    zero_right c.loop-child.sum ∙ ap (λ ks. plus_count c.loop-child.sum (child_sum c.args.slot ks)) (sym none) ∙ c.loop-child.invariant

@@ -9,8 +9,8 @@ returns g c =
     let s = c.args.slot in
     let sign = c.args.sign in
     if_parts (λ n. IsBranch (reverse c.args.stack.now) s sign (top n)) _ _ c.leaf.result
-    c.leaf.ensures.frames c.leaf.ensures.counts c.leaf.ensures.children c.leaf.ensures.marks
-    (λ n first counts children marked. subst (λ l. IsBranch l s sign (top n)) first (branch_top n s sign (branch_end (inside n) s sign
-    (counts ∙ c.in_ok-push.ensures.items ∙ ap (λ l. l ++ (s, c.bumped.result) ∷ []) c.in_ok-counts.ensures.items
-    ∙ ap (λ k. (s, k) ∷ []) c.bumped.ensures)
-    marked (ap tops children))))
+    c.leaf.ensures.frames c.leaf.ensures.counts c.leaf.ensures.children c.leaf.ensures.filters
+    (λ n first counts children filtered. subst (λ l. IsBranch l s sign (top n)) first (branch_top n s sign (branch_end (inside n) s sign
+    (counts ∙ c.in_ok-push.ensures.items ∙ ap (λ l. l ++ (s, c.add_one.result) ∷ []) c.in_ok-counts.ensures.items
+    ∙ ap (λ k. (s, k) ∷ []) c.add_one.ensures)
+    filtered (ap tops children))))

@@ -1,4 +1,4 @@
--- One more at a place is one more in all.
+-- One more of a slot at a stack is one more in all.
 use Rattle.std.proofs.Common.{◌≡◌, ◌+◌, ◌≤◌, ap, ◌∙◌, arith}
 use Rattle.htl_event.specs.Tallies.{total_of}
 use Rattle.htl_tree.specs.Trees.{count_at, total_count}

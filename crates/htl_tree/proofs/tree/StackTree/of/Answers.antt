@@ -1,4 +1,4 @@
--- A run more is counted, and the tree of the rows has the tally of the events.
+-- One list more is counted, and the tree of the rows has the tally of the events.
 use Rattle.std.proofs.Common.{◌≡◌, ℕ, ◌+◌, ◌≤◌, List, [], ◌∷◌, ◌++◌, length}
 use Rattle.std.proofs.Common.{take, get_or, Option, refl, sym, ap, ◌∙◌, subst, append-nil, length-append, arith}
 use Rattle.std.specs.List.{flat_map}
@@ -21,33 +21,33 @@ use Rattle.htl_tree.proofs.tree.StackTree.of.Goals as goal
 
 pub count_all-requires-clause-room : goal.count_all-requires-clause-room
 count_all-requires-clause-room g c =
-    let runs = c.args.runs.now in
-    let i = c.loop-run.run-index in
+    let lists = c.args.lists.now in
+    let i = c.loop-list.list-index in
     let of = g.R.EventList.events_of in
-    let most : length (flat_map of (take i runs)) + length (of (get_or runs i c.run-item.result)) ≤ length (flat_map of runs) =
-    length-flat_map-take of runs i c.run-item.result c.loop-run-test.true in
-    let its : length (c.events.result.now) ≡ length (of (get_or runs i c.run-item.result)) = ap length c.events.ensures
-    ∙ ap (λ r. length (of r)) c.run-item.is in
-    omega (arith, c.requires, most, its, c.loop-run.invariant.total)
+    let most : length (flat_map of (take i lists)) + length (of (get_or lists i c.list-item.result)) ≤ length (flat_map of lists) =
+    length-flat_map-take of lists i c.list-item.result c.loop-list-test.true in
+    let its : length (c.events.result.now) ≡ length (of (get_or lists i c.list-item.result)) = ap length c.events.ensures
+    ∙ ap (λ r. length (of r)) c.list-item.is in
+    omega (arith, c.requires, most, its, c.loop-list.invariant.total)
 
-pub loop-run-preserved : goal.loop-run-preserved
-loop-run-preserved g c =
-    let runs = c.args.runs.now in
-    let i = c.loop-run.run-index in
+pub loop-list-preserved : goal.loop-list-preserved
+loop-list-preserved g c =
+    let lists = c.args.lists.now in
+    let i = c.loop-list.list-index in
     let of = g.R.EventList.events_of in
-    let r = c.run-item.result in
-    let before : List Event = flat_map of (take i runs) in
+    let r = c.list-item.result in
+    let before : List Event = flat_map of (take i lists) in
     let one : flat_map of (r ∷ []) ≡ c.events.result.now = append-nil (of r) ∙ sym c.events.ensures in
-    let more : flat_map of (take (i + 1) runs) ≡ before ++ c.events.result.now =
-    ap (flat_map of) (take_more runs i r c.loop-run-test.true) ∙ ap (λ x. flat_map of (take i runs ++ x ∷ [])) (sym c.run-item.is)
-    ∙ flat_map-append of (take i runs) (r ∷ []) ∙ ap (λ l. before ++ l) one in
-    let longer : length (flat_map of (take (i + 1) runs)) ≡ length before + length c.events.result.now = ap length more
+    let more : flat_map of (take (i + 1) lists) ≡ before ++ c.events.result.now =
+    ap (flat_map of) (take_more lists i r c.loop-list-test.true) ∙ ap (λ x. flat_map of (take i lists ++ x ∷ [])) (sym c.list-item.is)
+    ∙ flat_map-append of (take i lists) (r ∷ []) ∙ ap (λ l. before ++ l) one in
+    let longer : length (flat_map of (take (i + 1) lists)) ≡ length before + length c.events.result.now = ap length more
     ∙ length-append before c.events.result.now in
     record {
       rows = c.in_ok-count_all.ensures.rows;
       tally = subst (λ (l : List Event). HaveTally c.count_all.new.self.rows.items l) (sym more)
-          (c.in_ok-count_all.ensures.tally before c.loop-run.invariant.tally);
-      total = omega (arith, longer, c.in_ok-count_all.ensures.total, c.loop-run.invariant.total);
+          (c.in_ok-count_all.ensures.tally before c.loop-list.invariant.tally);
+      total = omega (arith, longer, c.in_ok-count_all.ensures.total, c.loop-list.invariant.total);
     }
 
 -- the tree of rows has their tally and counts as many
@@ -59,20 +59,20 @@ made root total rows events h counts are tallied =
     (λ k c d. omega arith) (tree_of root) (root_is_tree root h) (entries_of rows) are.each.positive counts in
     (λ slot stack. counts slot stack ∙ tallied slot stack, are.counted ∙ sym is)
 
--- the tree of the rows has the tally of the events of all runs
-whole : (g : Over) (c : In_ok-root g) → HasTally (tree_of c.in_ok-root.root) (flat_map g.R.EventList.events_of c.args.runs.now)
+-- the tree of the rows has the tally of the events of all lists
+whole : (g : Over) (c : In_ok-root g) → HasTally (tree_of c.in_ok-root.root) (flat_map g.R.EventList.events_of c.args.lists.now)
     × (c.into_rows-rows.result.1 ≡ total_count (tree_of c.in_ok-root.root))
-    × (c.into_rows-rows.result.1 ≤ length (flat_map g.R.EventList.events_of c.args.runs.now))
+    × (c.into_rows-rows.result.1 ≤ length (flat_map g.R.EventList.events_of c.args.lists.now))
 whole g c =
     let same = ap (λ v. v.items) c.into_rows-rows.ensures.rows in
-    let tree = made c.in_ok-root.root c.loop-run.counting.total c.loop-run.counting.rows.items
-    (flat_map g.R.EventList.events_of (take c.loop-run.run-index c.args.runs.now)) c.in_ok-root.ensures.normal
+    let tree = made c.in_ok-root.root c.loop-list.counting.total c.loop-list.counting.rows.items
+    (flat_map g.R.EventList.events_of (take c.loop-list.list-index c.args.lists.now)) c.in_ok-root.ensures.normal
     (λ slot stack. c.in_ok-root.ensures.counts slot stack ∙ ap (λ (l : List Row). sum_at (entries_of l) slot stack) same)
-    c.loop-run.invariant.rows c.loop-run.invariant.tally in
-    let all = ap (flat_map g.R.EventList.events_of) (take_all c.loop-run.run-index c.args.runs.now c.loop-run-test.false) in (
+    c.loop-list.invariant.rows c.loop-list.invariant.tally in
+    let all = ap (flat_map g.R.EventList.events_of) (take_all c.loop-list.list-index c.args.lists.now c.loop-list-test.false) in (
       subst (λ (l : List Event). HasTally (tree_of c.in_ok-root.root) l) all tree.0,
       c.into_rows-rows.ensures.total ∙ tree.1,
-      omega (arith, c.into_rows-rows.ensures.total, c.loop-run.invariant.total, ap length all),
+      omega (arith, c.into_rows-rows.ensures.total, c.loop-list.invariant.total, ap length all),
     )
 
 pub invariant_of-result : goal.invariant_of-result

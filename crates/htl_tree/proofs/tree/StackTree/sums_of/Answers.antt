@@ -2,14 +2,11 @@
 use Rattle.std.proofs.Common.{◌<◌, ◌^◌, List, sym, subst, arith}
 use Rattle.htl_event.specs.declared.slot.Slot.{Slot}
 use Rattle.htl_event.specs.declared.slot.Count.{Count}
-use Rattle.htl_event.specs.SlotOrder.{slot_cmp}
-use Rattle.htl_event.specs.Tallies.{IsPositive, total_of}
+use Rattle.htl_event.specs.Tallies.{total_of}
 use Rattle.htl_tree.specs.Trees.{Tree, IsTree, ListsSums}
 use Rattle.htl_tree.specs.Nodes.{tree_of, asked_of, counts_in}
 use Rattle.htl_tree.proofs.Between.{if_ok, lists_sums, asked_total, asked_positive}
-use Rattle.htl_tree.proofs.EachValue.{each_moved}
-use Rattle.htl_tree.proofs.Gathered.{sorted_counts, added_moved}
-use Rattle.htl_tree.proofs.KeyedSums.{sum_at_key-permutation}
+use Rattle.htl_tree.proofs.SlotSums.{sorted_counts, added_moved, counts_at-moved, positive_moved}
 use Rattle.htl_tree.proofs.Roots.{root_is_tree}
 use Rattle.htl_tree.proofs.tree.StackTree.sums_of.Goals as goal
 
@@ -23,7 +20,7 @@ add_up-requires-clause-positive g c =
     let h = root_is_tree c.self.inside.root c.self.invariant.normal in
     let moved = sorted_counts all c.in_ok-counts.counts.items c.sort_by_slot.new.counts.items c.deref.result.now
     c.in_ok-counts.ensures c.sort_by_slot.ensures.moved c.deref.ensures.value in
-    each_moved IsPositive all c.deref.result.now moved (asked_positive c.args.slots t h.positive)
+    positive_moved all c.deref.result.now moved (asked_positive c.args.slots t h.positive)
 
 pub add_up-requires-clause-fit : goal.add_up-requires-clause-fit
 add_up-requires-clause-fit g c slot =
@@ -32,7 +29,7 @@ add_up-requires-clause-fit g c slot =
     let moved = sorted_counts all c.in_ok-counts.counts.items c.sort_by_slot.new.counts.items c.deref.result.now
     c.in_ok-counts.ensures c.sort_by_slot.ensures.moved c.deref.ensures.value in
     let most = asked_total c.args.slots slot t in
-    subst (λ d. total_of d < 2 ^ 64) (sym (sum_at_key-permutation slot_cmp (λ d. d) all c.deref.result.now moved slot))
+    subst (λ d. total_of d < 2 ^ 64) (sym (counts_at-moved all c.deref.result.now moved slot))
     (omega (arith, most, c.self.invariant.counted, c.self.invariant.fits))
 
 pub returns-clause-sums : goal.returns-clause-sums

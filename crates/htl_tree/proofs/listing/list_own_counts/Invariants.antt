@@ -1,7 +1,0 @@
--- The counts so far are listed.
-use Rattle.std.proofs.Common.{◌≡◌, ◌++◌, take}
-use Rattle.htl_tree.specs.Nodes.{asked_of}
-use Rattle.htl_tree.proofs.listing.list_own_counts.Given as goal
-
-abbrev pub invariant-loop-slot : goal.invariant-loop-slot
-invariant-loop-slot l = l.into.items ≡ l.fn.into.items ++ asked_of l.slots (take l.slot-index l.counts)

@@ -1,20 +1,24 @@
-//! Answers to questions over several parts: what each part folded, and the runs of events that it
+//! Answers to questions over several parts: what each part folded, and the lists of events that it
 //! still holds.
 //!
 //! `specs/Parts` says which events parts stand for. Each answer is that of htl_event's definitions
 //! over these events, whatever was folded and whatever is held. Handles are answered from the
-//! tables' rows of one process; what is counted is listed of one tree over all parts, which has the
-//! slots that are asked for.
+//! tables' rows of one process. What is counted is answered from rows: those that the parts' trees
+//! list of the slots that are asked for, and one for each held event. The rows of all parts are
+//! sorted, and those of one key added up, so that no tree is made.
 #![tactic(auto)]
 
+mod adding;
 mod asked;
 mod bad_references;
+mod counted_by;
 mod counts;
 mod handles;
 mod held;
 mod leaking;
 mod open;
 mod part;
+mod sums;
 mod tagging;
 mod whole;
 
@@ -24,5 +28,6 @@ pub use handles::{last_exit, latest, mark};
 pub use leaking::leaks;
 pub use open::{diff, outstanding};
 pub use part::Part;
+pub use sums::slot_sums;
 pub use tagging::{stacks, tags};
 pub use whole::whole_tree;

@@ -1,16 +1,15 @@
-//! What a summary tells of processes and objects, over several parts (`htl_answers::Part`): what
-//! each part folded, and the runs of events that it still holds.
+//! What a summary says of processes and objects, over several parts (`htl_answers::Part`): what
+//! each part folded, and the lists of events that it still holds.
 //!
-//! The parts' trees become one tree and their tables one table of each kind. Of the tree one walk
-//! lists how often each slot came; what these sums say of one process or one object is added up. So
-//! no process and no object is asked for alone.
+//! The parts' tables become one table of each kind. One list says how often each slot came
+//! (`htl_answers::slot_sums`); what these sums say of one process or one object is added up. So no
+//! process and no object is asked for alone.
 #![tactic(auto)]
 
 mod adding;
 mod balancing;
 mod leaking;
 mod rows;
-mod sums;
 mod tables;
 mod tags;
 mod usage;

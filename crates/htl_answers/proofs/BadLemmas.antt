@@ -1,10 +1,9 @@
 -- The bad references of a process, from the rows of slots.
 use Rattle.std.proofs.Common.{◌≡◌, ℕ, ◌<◌, Bool, true, false, cond, List, [], ◌∷◌, Option, Some, None, refl, sym, ap, subst, ◌∙◌, arith, ◌&&◌}
-use Rattle.std.specs.Prelude.{Contains, ◌↔◌, ◌==◌, filter}
+use Rattle.std.specs.Prelude.{Contains, ◌==◌}
 use Rattle.std.specs.List.{filter_map}
 use Rattle.std.specs.Option.{option_map}
 use Rattle.std.specs.Ordering.{nat_cmp, ordering_then}
-use Rattle.std.specs.FinMap.{nat_cmp-IsAntisymmetric}
 use Rattle.std.specs.declared.cmp.Ordering.{Ordering}
 use Rattle.std.specs.declared.cmp.Ordering.TheVariants.{Less, Equal, Greater}
 use Rattle.std.proofs.lemmas.Bool.Decides.{Decides-eqb}
@@ -20,16 +19,15 @@ use Rattle.htl_event.specs.declared.slot.Sign.TheVariants.{Minus}
 use Rattle.htl_event.specs.declared.slot.Count.{Count}
 use Rattle.htl_event.specs.Slots.{is_counted, is_slot, slot_by_kind}
 use Rattle.htl_event.specs.Stacks.{stack_cmp}
-use Rattle.htl_event.specs.Members.{IsRising}
+use Rattle.htl_event.specs.Members.{Lists}
 use Rattle.htl_event.specs.Tallies.{times, has_stack, tally, IsPositive, ByHandleAndStack, IsBad}
-use Rattle.htl_event.proofs.Members.{Contains-here, Contains-there, each_member, at_member}
 use Rattle.htl_tree.specs.declared.slots.Slots.TheVariants.{BadOf}
-use Rattle.htl_tree.specs.Trees.{Tree, HasTally, ListsRowsOf, count_at}
-use Rattle.htl_answers.specs.Asked.{is_asked}
 use Rattle.htl_answers.specs.Bad.{bad_row}
-use Rattle.htl_answers.proofs.AskedLemmas.{asked_all}
-use Rattle.htl_answers.proofs.TagLemmas.{Contains-filter_map, Contains-from_filter_map}
-use Rattle.htl_answers.proofs.Opens.{both_tied, stack_same, and_false}
+use Rattle.htl_answers.specs.RowOrder.{row_cmp}
+use Rattle.htl_answers.specs.Rows.{ByKey}
+use Rattle.htl_answers.proofs.FilterMaps.{Contains-filter_map, Contains-from_filter_map, IsRising-filter_map}
+use Rattle.htl_answers.proofs.SlotLists.{IsCount}
+use Rattle.htl_answers.proofs.Opens.{and_false}
 
 -- ---- a row
 
@@ -76,29 +74,6 @@ pub no_row : (stack : List ℕ) (count : Count) (o : Option ℕ) → ((handle : 
 no_row stack count None none row e = cc
 no_row stack count (Some handle) none row e = none handle refl
 
--- ---- rows in order
-
-abbrev bad_cmp : ℕ × List ℕ × ℕ → ℕ × List ℕ × ℕ → Ordering
-bad_cmp x y = ordering_then (ordering_then (nat_cmp x.0 y.0) (stack_cmp x.1 y.1)) (nat_cmp x.2 y.2)
-
-same_row : {h j : ℕ} {s t : List ℕ} {n m : ℕ} → h ≡ j → s ≡ t → n ≡ m → ◌≡◌ {A = ℕ × List ℕ × ℕ} (h, s, n) (j, t, m)
-same_row e f g = cc
-
-pub bad_ties : (x y : ℕ × List ℕ × ℕ) → bad_cmp x y ≡ Equal → x ≡ y
-bad_ties x y e =
-    let first = both_tied _ _ e in
-    let second = both_tied _ _ first.0 in
-    same_row (nat_cmp-IsAntisymmetric x.0 y.0 second.0) (stack_same x.1 y.1 second.1) (nat_cmp-IsAntisymmetric x.2 y.2 first.1)
-
--- rows in order whose number follows from the rest rise without it
-without_number : (r t : Ordering) → ordering_then r t ≡ Less → (r ≡ Equal → t ≡ Less → ⊥) → r ≡ Less
-without_number Less t e apart = refl
-without_number Equal t e apart = absurd (apart refl e)
-without_number Greater t e apart = e
-
-not_less : (n : ℕ) → nat_cmp n n ≡ Less → ⊥
-not_less n e = let tied = tied_itself nat_cmp_total n in cc
-
 -- ---- the answer
 
 no_minus : (events : List Event) (process handle : ℕ) (passes : Event → Bool) → times passes events (Bad process handle) Minus ≡ 0
@@ -117,27 +92,19 @@ no_minus (e ∷ es) process handle passes =
     never BadRef = and_false _
     never kind = refl
 
-module _ (tree : Tree) (events : List Event) (process : ℕ) (counts : List ((Slot × List ℕ) × Count))
-    (tallied : HasTally tree (filter (is_asked (BadOf process)) events)) (listed : ListsRowsOf tree (BadOf process) counts) where
-  abbrev number : ℕ → List ℕ → ℕ
-  number handle stack = (tally events (Bad process handle) stack).plus
-
+module _ (events : List Event) (process : ℕ) (counts : List ((Slot × List ℕ) × Count))
+    (listed : Lists (ByKey row_cmp) (IsCount (BadOf process) events) counts) where
   abbrev IsRow : ℕ × List ℕ × ℕ → Type 0
-  IsRow row = (row.2 ≡ number row.0 row.1) × (0 < row.2)
-
-  count_is : (handle : ℕ) (stack : List ℕ) → count_at tree (Bad process handle) stack ≡ tally events (Bad process handle) stack
-  count_is handle stack =
-      tallied (Bad process handle) stack ∙ asked_all (BadOf process) (has_stack stack) (Bad process handle) events
-      ((Decides-eqb process process).1 refl)
+  IsRow row = (row.2 ≡ (tally events (Bad process row.0) row.1).plus) × (0 < row.2)
 
   is_row : (row : ℕ × List ℕ × ℕ) → Contains (filter_map (row_of process) counts) row → IsRow row
   is_row row h =
       let from = Contains-from_filter_map (row_of process) counts row h in
       let at = row_is process from.0.0.0 from.0.0.1 from.0.1 row from.2 in
       let count = (listed.members from.0).0 from.1 in
-      let whole : from.0.1 ≡ tally events (Bad process row.0) row.1 = count.0 ∙ ap (λ s. count_at tree s from.0.0.1) at.slot_is
-      ∙ ap (count_at tree (Bad process row.0)) at.stack_is ∙ count_is row.0 row.1 in
-      let is : row.2 ≡ number row.0 row.1 = at.count_is ∙ ap (λ (n : Count). n.plus) whole in
+      let whole : from.0.1 ≡ tally events (Bad process row.0) row.1 = count.0 ∙ ap (λ s. tally events s from.0.0.1) at.slot_is
+      ∙ ap (tally events (Bad process row.0)) at.stack_is in
+      let is : row.2 ≡ (tally events (Bad process row.0) row.1).plus = at.count_is ∙ ap (λ (n : Count). n.plus) whole in
       let some : IsPositive (tally events (Bad process row.0) row.1) = subst IsPositive whole count.1 in
       let none = no_minus events process row.0 (has_stack row.1) in
       (is, omega (arith, is, some, none))
@@ -145,38 +112,32 @@ module _ (tree : Tree) (events : List Event) (process : ℕ) (counts : List ((Sl
   among_row : (row : ℕ × List ℕ × ℕ) → IsRow row → Contains (filter_map (row_of process) counts) row
   among_row row h =
       let slot = Bad process row.0 in
-      let count = count_at tree slot row.1 in
-      let of_count = count_is row.0 row.1 in
+      let count = tally events slot row.1 in
       let is = h.0 in
       let above = h.1 in
-      let some : IsPositive (tally events slot row.1) = omega (arith, is, above) in
-      let number_is : count.plus ≡ row.2 = ap (λ (n : Count). n.plus) of_count ∙ sym is in
+      let some : IsPositive count = omega (arith, is, above) in
       Contains-filter_map (row_of process) counts ((slot, row.1), count) row
-      ((listed.members ((slot, row.1), count)).1 (refl, subst IsPositive (sym of_count) some, (Decides-eqb process process).1 refl))
-      (row_at process row count number_is)
+      ((listed.members ((slot, row.1), count)).1 (refl, some, (Decides-eqb process process).1 refl))
+      (row_at process row count (sym is))
 
-  rows_less : (x y : ℕ × List ℕ × ℕ) → bad_cmp x y ≡ Less → x.2 ≡ number x.0 x.1 → y.2 ≡ number y.0 y.1 → ByHandleAndStack x y
-  rows_less x y less of_x of_y =
-      without_number (ordering_then (nat_cmp x.0 y.0) (stack_cmp x.1 y.1)) (nat_cmp x.2 y.2) less
-      (λ e g. (let tied = both_tied _ _ e in not_less y.2 (subst (λ n. nat_cmp n y.2 ≡ Less) (same tied.0 tied.1) g)))
+  rows_rise : (a b : (Slot × List ℕ) × Count) (x y : ℕ × List ℕ × ℕ) → ByKey row_cmp a b → row_of process a ≡ Some x
+      → row_of process b ≡ Some y → ByHandleAndStack x y
+  rows_rise a b x y less at_a at_b =
+      let one = row_is process a.0.0 a.0.1 a.1 x at_a in
+      let two = row_is process b.0.0 b.0.1 b.1 y at_b in
+      let both : ordering_then (ordering_then (nat_cmp process process) (ordering_then (nat_cmp x.0 y.0) Equal)) (stack_cmp x.1 y.1) ≡ Less =
+      rw (one.slot_is, one.stack_is, two.slot_is, two.stack_is) at less in
+      let own = tied_itself nat_cmp_total process in
+      let plain : ordering_then (ordering_then (nat_cmp x.0 y.0) Equal) (stack_cmp x.1 y.1) ≡ Less = rw own at both in
+      sym (ap (λ r. ordering_then r (stack_cmp x.1 y.1)) (then_nothing (nat_cmp x.0 y.0))) ∙ plain
     where
-      same : nat_cmp x.0 y.0 ≡ Equal → stack_cmp x.1 y.1 ≡ Equal → x.2 ≡ y.2
-      same e f = of_x ∙ ap (λ h. number h x.1) (nat_cmp-IsAntisymmetric x.0 y.0 e) ∙ ap (λ s. number y.0 s) (stack_same x.1 y.1 f)
-          ∙ sym of_y
+      then_nothing : (r : Ordering) → ordering_then r Equal ≡ r
+      then_nothing Less = refl
+      then_nothing Equal = refl
+      then_nothing Greater = refl
 
-  rows_rise : (rows : List (ℕ × List ℕ × ℕ)) → IsRising (λ a b. bad_cmp a b ≡ Less) rows
-      → ((row : ℕ × List ℕ × ℕ) → Contains rows row → IsRow row) → IsRising ByHandleAndStack rows
-  rows_rise [] rising are = tt
-  rows_rise (x ∷ xs) rising are = (
-    each_member (ByHandleAndStack x) xs (λ y h.
-        rows_less x y (at_member (λ b. bad_cmp x b ≡ Less) xs y rising.0 h) (are x (Contains-here x xs)).0
-        (are y (Contains-there x xs y h)).0),
-    rows_rise xs rising.1 (λ row h. are row (Contains-there x xs row h)),
-  )
-
-  pub bad_listed : (rows : List (ℕ × List ℕ × ℕ)) → IsRising (λ a b. bad_cmp a b ≡ Less) rows
-      → ((row : ℕ × List ℕ × ℕ) → Contains rows row ↔ Contains (filter_map (row_of process) counts) row) → IsBad events process rows
-  bad_listed rows rising same = record {
-    rising = rows_rise rows rising (λ row h. is_row row ((same row).0 h));
-    members = λ row. (λ h. is_row row ((same row).0 h), λ h. (same row).1 (among_row row h));
+  pub bad_listed : IsBad events process (filter_map (row_of process) counts)
+  bad_listed = record {
+    rising = IsRising-filter_map (ByKey row_cmp) ByHandleAndStack (row_of process) rows_rise counts listed.rising;
+    members = λ row. (is_row row, among_row row);
   }

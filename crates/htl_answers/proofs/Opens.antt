@@ -1,12 +1,10 @@
 -- How often stacks opened handles, over events that each open a handle of one process.
 use Rattle.std.proofs.Common.{◌≡◌, ℕ, ◌<◌, Bool, true, false, cond, List, [], ◌∷◌, map, refl, sym, ap, subst, ◌∙◌, arith, ◌&&◌}
 use Rattle.std.specs.Prelude.{Contains, ◌↔◌, count_by}
-use Rattle.std.specs.Ordering.{nat_cmp, is_eq, ordering_then}
-use Rattle.std.specs.Cmp.{unsigned_Decides}
-use Rattle.std.specs.Cmp.Lexicographic.{pointwise_decides}
+use Rattle.std.specs.Ordering.{nat_cmp, ordering_then}
 use Rattle.std.specs.FinMap.{nat_cmp-IsAntisymmetric}
 use Rattle.std.specs.declared.cmp.Ordering.{Ordering}
-use Rattle.std.specs.declared.cmp.Ordering.TheVariants.{Less, Equal, Greater}
+use Rattle.std.specs.declared.cmp.Ordering.TheVariants.{Less, Equal}
 use Rattle.std.specs.declared.cmp.Reverse.{Reverse}
 use Rattle.std.proofs.lemmas.Bool.{and_from}
 use Rattle.std.proofs.lemmas.Bool.Decides.{Decides-eqb}
@@ -20,10 +18,10 @@ use Rattle.htl_event.specs.declared.slot.Count.{Count}
 use Rattle.htl_event.specs.Slots.{slot_by_kind, is_slot, is_counted}
 use Rattle.htl_event.specs.Members.{IsRising, Lists}
 use Rattle.htl_event.specs.Stacks.{stack_cmp}
-use Rattle.htl_event.specs.OrderLaws.{stack_ties}
 use Rattle.htl_event.specs.Handles.{IsOutstanding}
 use Rattle.htl_event.specs.Tallies.{times, tally, has_stack, MostFirst, IsLeaks}
 use Rattle.htl_tree.specs.Trees.{Tree, HasTally, ListsRows, count_at}
+pub use Rattle.htl_answers.specs.RowOrder.{both_tied, stack_same}
 use Rattle.htl_answers.specs.Leaks.{counted_first, stack_before_number}
 use Rattle.htl_event.proofs.Members.{Contains-here, Contains-there, Contains-map, Contains-from_map, each_member, at_member}
 
@@ -90,14 +88,6 @@ IsRising-map before after f into (x ∷ xs) rising = (
 )
 
 -- ---- rows in order
-
-pub both_tied : (r s : Ordering) → ordering_then r s ≡ Equal → (r ≡ Equal) × (s ≡ Equal)
-both_tied Less s e = cc
-both_tied Equal s e = (refl, e)
-both_tied Greater s e = cc
-
-pub stack_same : (a b : List ℕ) → stack_cmp a b ≡ Equal → a ≡ b
-stack_same a b e = (pointwise_decides unsigned_Decides a b).0 (stack_ties a b ∙ ap is_eq e)
 
 row_of : ℕ → List ℕ → Reverse ℕ × List ℕ
 row_of n s = (record { 0 = n }, s)

@@ -1,10 +1,11 @@
 -- What public contracts cite.
 pub mod Parts
+pub mod Sums
 -- What only private ones cite.
-pub mod Asked
 pub mod Counts
+pub mod Rows
+pub mod RowOrder
 pub mod Candidates
 pub mod Leaks
 pub mod Tags
 pub mod Bad
-pub mod Whole

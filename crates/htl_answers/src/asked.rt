@@ -1,105 +1,103 @@
-//! The one tree of the slots that are asked for, over all parts.
+//! The counts of the slots that are asked for, over all parts.
 
-ghost use Rattle.std.specs.Prelude.{◌≡◌, ◌+◌, ◌<◌, ◌≤◌, ◌^◌, ◌++◌, List, map, flat_map, filter};
-ghost use Rattle.std.specs.Prelude.{IfOk, OnOk};
+ghost use Rattle.std.specs.Prelude.{◌≡◌, ◌≤◌, ◌<◌, ◌^◌, ◌++◌, List, map, flat_map, IfOk, OnOk};
 ghost use Rattle.htl_event.specs.Events.{Event};
-ghost use Rattle.htl_tree.specs.Trees.{HasTally, total_count};
-ghost use Rattle.htl_answers.specs.Parts.{AreEventsOf, size_of, size_of_all};
-ghost use Rattle.htl_answers.specs.Asked.{is_asked};
+ghost use Rattle.htl_event.specs.Members.{IsRising};
+ghost use Rattle.htl_event.specs.Slots.{slot_of};
+ghost use Rattle.htl_answers.specs.Parts.{AreEventsOf, size_of_all};
+ghost use Rattle.htl_answers.specs.Rows.{count_of, total_in, rows_of, if_asked};
+ghost use Rattle.htl_answers.specs.Rows.{ByKey, EachPositive};
 
+use crate::adding::add_up;
+use crate::counted_by::CountedBy;
+use crate::counts::one;
 use crate::part::Part;
-use htl_event::{EventList, NoMemory, SharedEvent};
-use htl_tree::{Slots, StackTree};
+use htl_event::{Count, EventList, NoMemory, SharedEvent, Sign, Slot};
+use htl_tree::Slots;
 use std::alloc::Global;
 
-/// How often each of these slots came with each stack, over all parts. Of the parts' trees the
-/// counts of these slots alone are copied, and they are put together in pairs.
-pub fn tree_of_slots<P: Part>(
+/// How often these slots came, over all parts, in the order of the keys. What the parts folded is
+/// listed of their trees, and what they hold is counted event by event: no tree is made.
+pub(crate) fn counts_of_slots<L: CountedBy, P: Part>(
     alloc: Global,
-    tree_alloc: &P::Alloc,
     parts: &[P],
     slots: Slots,
-) -> Result<StackTree<P::Alloc>, NoMemory>
+) -> Result<Vec<(L::Key, Count)>, NoMemory>
     requires { size_of_all (map P.contents parts.now) < 2 ^ 64 }
-    ensures tally { IfOk result (λ tree. (events : List Event)
-        → AreEventsOf (map P.contents parts.now) events
-        → HasTally tree (filter (is_asked slots) events)) }
-    ensures total { IfOk result (λ tree.
-        total_count tree ≤ size_of_all (map P.contents parts.now)) }
+    ensures rising { IfOk result (λ sums. IsRising (ByKey L.Key.cmp) sums.items) }
+    ensures counts { IfOk result (λ sums. (events : List Event)
+        → AreEventsOf (map P.contents parts.now) events → (k : L.Key)
+        → count_of L.Key.cmp k sums.items ≡ count_of L.Key.cmp k (rows_of L.key_of slots events)) }
+    ensures positive { IfOk result (λ sums. EachPositive sums.items) }
+    ensures total { IfOk result (λ sums.
+        total_in sums.items ≤ size_of_all (map P.contents parts.now)) }
 {
-    if parts.len() < 2 {
-        return match parts.first() {
-            None => Ok(StackTree::new(tree_alloc.clone()?)),
-            Some(part) => slots_of_part(alloc, tree_alloc, part, slots),
-        };
-    }
-    let (front, back) = parts.split_at(parts.len() / 2);
-    let left = tree_of_slots(alloc, tree_alloc, front, slots)?;
-    let right = tree_of_slots(alloc, tree_alloc, back, slots)?;
-    left.plus(&right)
+    let mut rows = rows_of_parts::<L, P>(alloc, parts, slots)?;
+    add_up::<L>(alloc, &mut rows)
 }
 
-/// The same of one part.
-fn slots_of_part<P: Part>(
+/// The rows of these slots, part by part.
+fn rows_of_parts<L: CountedBy, P: Part>(
     alloc: Global,
-    tree_alloc: &P::Alloc,
-    part: &P,
+    parts: &[P],
     slots: Slots,
-) -> Result<StackTree<P::Alloc>, NoMemory>
-    requires { size_of (P.contents part.now) < 2 ^ 64 }
-    ensures tally { IfOk result (λ tree. (folded : List Event)
-        → HasTally (P.contents part.now).tree folded
-        → HasTally tree (filter (is_asked slots) (folded ++ (P.contents part.now).held))) }
-    ensures total { IfOk result (λ tree. total_count tree ≤ size_of (P.contents part.now)) }
+) -> Result<Vec<(L::Key, Count)>, NoMemory>
+    ensures counts { IfOk result (λ rows. (events : List Event)
+        → AreEventsOf (map P.contents parts.now) events → (k : L.Key)
+        → count_of L.Key.cmp k rows.items ≡ count_of L.Key.cmp k (rows_of L.key_of slots events)) }
+    ensures positive { IfOk result (λ rows. EachPositive rows.items) }
+    ensures total { IfOk result (λ rows.
+        total_in rows.items ≤ size_of_all (map P.contents parts.now)) }
 {
-    let folded = part.tree().of_slots(alloc, slots)?;
-    if part.held().is_empty() {
-        return Ok(folded);
+    let mut rows = Vec::new(alloc);
+    for part in parts {
+        let mut folded = L::counts_in(alloc, part.tree(), slots)?;
+        rows.append(&mut folded)?;
+        add_held::<L, P::Held>(&mut rows, part.held(), slots)?;
     }
-    let events = asked_held(alloc, part.held(), slots)?;
-    let held = StackTree::of(tree_alloc.clone()?, &[events])?;
-    folded.plus(&held)
+    Ok(rows)
 }
 
-/// The events of the runs that are counted under these slots.
-fn asked_held<R: EventList>(
-    alloc: Global,
-    runs: &[R],
+/// Adds a row for each event of these lists whose slot is asked for.
+fn add_held<L: CountedBy, E: EventList>(
+    rows: &mut Vec<(L::Key, Count)>,
+    lists: &[E],
     slots: Slots,
-) -> Result<Vec<SharedEvent>, NoMemory>
-    ensures { IfOk result (λ asked. asked.items
-        ≡ filter (is_asked slots) (flat_map R.events_of runs.now)) }
+) -> Result<(), NoMemory>
+    ensures { OnOk result (rows.new.items
+        ≡ rows.old.items ++ rows_of L.key_of slots (flat_map E.events_of lists.now)) }
 {
-    let mut asked = Vec::new(alloc);
-    for run in runs {
-        add_asked(&mut asked, run.events(), slots)?;
+    for list in lists {
+        add_events::<L>(rows, list.events(), slots)?;
     }
-    Ok(asked)
+    Ok(())
 }
 
-/// Adds the events that are counted under these slots.
-fn add_asked(
-    asked: &mut Vec<SharedEvent>,
+/// Adds a row for each of these events whose slot is asked for.
+fn add_events<L: CountedBy>(
+    rows: &mut Vec<(L::Key, Count)>,
     events: &[SharedEvent],
     slots: Slots,
 ) -> Result<(), NoMemory>
-    ensures { OnOk result (asked.new.items
-        ≡ asked.old.items ++ filter (is_asked slots) events.now) }
+    ensures { OnOk result (rows.new.items
+        ≡ rows.old.items ++ rows_of L.key_of slots events.now) }
 {
     for event in events {
-        if is_asked(event, slots) {
-            asked.push(event.copy()?)?;
+        if let Some((slot, sign)) = if_asked(event, slots) {
+            rows.push((L::key(slot, &event.stack)?, one(sign)))?;
         }
     }
     Ok(())
 }
 
-/// Whether the event is counted under one of these slots.
-fn is_asked(event: &SharedEvent, slots: Slots) -> bool
-    ensures { result ≡ is_asked slots event.now }
+/// What the event is counted under, if that is asked for.
+fn if_asked(event: &SharedEvent, slots: Slots) -> Option<(Slot, Sign)>
+    ensures { result ≡ if_asked slots (slot_of event.now) }
 {
-    match event.slot() {
-        None => false,
-        Some((slot, _)) => slots.contains(slot),
+    let (slot, sign) = event.slot()?;
+    if slots.contains(slot) {
+        Some((slot, sign))
+    } else {
+        None
     }
 }

@@ -10,8 +10,8 @@ ghost use Rattle.htl_event.specs.Tallies.{IsBad};
 ghost use Rattle.htl_answers.specs.Parts.{AreEventsOf, size_of_all};
 ghost use Rattle.htl_answers.specs.Bad.{bad_row};
 
-use crate::asked::tree_of_slots;
-use crate::leaking::put_in_order;
+use crate::asked::counts_of_slots;
+use crate::counted_by::BySlotAndStack;
 use crate::part::Part;
 use htl_event::{Count, NoMemory, SharedStack, Slot};
 use htl_tree::Slots;
@@ -21,7 +21,7 @@ use std::alloc::Global;
 /// came, by handle and then in stack order.
 pub fn bad<P: Part>(
     alloc: Global,
-    tree_alloc: &P::Alloc,
+    _tree_alloc: &P::Alloc,
     parts: &[P],
     process: u32,
 ) -> Result<Vec<(u32, SharedStack, u64)>, NoMemory>
@@ -30,12 +30,8 @@ pub fn bad<P: Part>(
         → AreEventsOf (map P.contents parts.now) events
         → IsBad events process rows.items) }
 {
-    let slots = Slots::BadOf(process);
-    let tree = tree_of_slots(alloc, tree_alloc, parts, slots)?;
-    let counts = tree.rows_of(alloc, slots)?;
-    let mut rows = bad_rows(alloc, &counts, process)?;
-    put_in_order(&mut rows);
-    Ok(rows)
+    let counts = counts_of_slots::<BySlotAndStack, P>(alloc, parts, Slots::BadOf(process))?;
+    bad_rows(alloc, &counts, process)
 }
 
 /// The rows of those slots that are the process's bad references.

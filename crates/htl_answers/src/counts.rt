@@ -42,15 +42,15 @@ pub(crate) fn sum_of(one: Count, other: Count) -> Count
     }
 }
 
-/// The same over runs of events.
-fn under_held<R: EventList>(runs: &[R], path: &[u64], slot: Slot) -> Count
-    requires { length (flat_map R.events_of runs.now) < 2 ^ 64 }
-    ensures value { result ≡ under (flat_map R.events_of runs.now) path.now slot }
-    ensures few { total_of result ≤ length (flat_map R.events_of runs.now) }
+/// The same over lists of events.
+fn under_held<E: EventList>(lists: &[E], path: &[u64], slot: Slot) -> Count
+    requires { length (flat_map E.events_of lists.now) < 2 ^ 64 }
+    ensures value { result ≡ under (flat_map E.events_of lists.now) path.now slot }
+    ensures few { total_of result ≤ length (flat_map E.events_of lists.now) }
 {
     let mut sum = ZERO;
-    for run in runs {
-        sum = sum_of(sum, under_events(run.events(), path, slot));
+    for list in lists {
+        sum = sum_of(sum, under_events(list.events(), path, slot));
     }
     sum
 }
@@ -91,7 +91,7 @@ pub(crate) fn count_of_event(event: &SharedEvent, slot: Slot) -> Count
 }
 
 /// One on this side.
-fn one(sign: Sign) -> Count
+pub(crate) fn one(sign: Sign) -> Count
     ensures { result ≡ one_count sign }
 {
     match sign {

@@ -1,4 +1,4 @@
-//! What is asked of runs of events that were not folded.
+//! What is asked of lists of events that were not folded.
 
 ghost use Rattle.std.specs.Prelude.{◌≡◌, ◌↔◌, IsTrue, Contains, flat_map};
 ghost use Rattle.std.specs.Option.{option_copied};
@@ -54,14 +54,14 @@ fn latest_of_events(events: &[SharedEvent], process: u32, base: u32) -> Option<&
     latest
 }
 
-/// The latest open or close of the base handle of the process among the events of the runs.
-pub fn latest_held<R: EventList>(runs: &[R], process: u32, base: u32) -> Option<&SharedEvent>
-    ensures { LatestIs (Contains (flat_map R.events_of runs.now)) process base
+/// The latest open or close of the base handle of the process among the events of the lists.
+pub fn latest_held<E: EventList>(lists: &[E], process: u32, base: u32) -> Option<&SharedEvent>
+    ensures { LatestIs (Contains (flat_map E.events_of lists.now)) process base
         (option_copied result) }
 {
     let mut latest = None;
-    for run in runs {
-        latest = later_of(latest, latest_of_events(run.events(), process, base));
+    for list in lists {
+        latest = later_of(latest, latest_of_events(list.events(), process, base));
     }
     latest
 }
@@ -86,15 +86,15 @@ fn greatest_of_events(events: &[SharedEvent], kind: Kind, process: u32) -> u64
     greatest
 }
 
-/// The greatest sequence of the kind's events of the process among the events of the runs, 0 where
+/// The greatest sequence of the kind's events of the process among the events of the lists, 0 where
 /// there are none.
-pub fn greatest_held<R: EventList>(runs: &[R], kind: Kind, process: u32) -> u64
+pub fn greatest_held<E: EventList>(lists: &[E], kind: Kind, process: u32) -> u64
     ensures { IsGreatestSequence
-        (λ e. Contains (flat_map R.events_of runs.now) e × IsOf kind process e) result }
+        (λ e. Contains (flat_map E.events_of lists.now) e × IsOf kind process e) result }
 {
     let mut greatest = 0;
-    for run in runs {
-        greatest = greatest.max(greatest_of_events(run.events(), kind, process));
+    for list in lists {
+        greatest = greatest.max(greatest_of_events(list.events(), kind, process));
     }
     greatest
 }

@@ -3,25 +3,29 @@
 //!
 //! `specs/Parts` says which events parts stand for. Each answer is that of htl_event's definitions
 //! over these events, whatever was folded and whatever is held. Handles are answered from the
-//! tables' rows of one process; what is counted is listed of each part in order, and these lists
-//! are merged.
+//! tables' rows of one process. What is counted is answered from rows: those that the parts' trees
+//! list of the slots that are asked for, and one for each held event. The rows of all parts are
+//! sorted, and those of one key added up, so that no tree is made.
 //!
 //! Files, in reading order: `part.rt` (what the answers are made of), `held.rt` and `handles.rt`
 //! (what is asked of held events, and answers that take no memory), `open.rt` and `leaking.rt`
 //! (outstanding handles, differences, and the stacks that opened them), `counts.rt` (the prefix
-//! tally), `counted_by.rt`, `adding.rt` and `asked.rt` (the ordered counts of the slots that are
-//! asked for, of each part, and merged), `tagging.rt` and `bad_references.rt` (the answers made of
-//! these), `sums.rt` (how often each slot came), `whole.rt` (the one tree of all parts).
+//! tally), `counted_by.rt`, `adding.rt` and `asked.rt` (the rows of the slots that are asked for, of
+//! all parts), `tagging.rt` and `bad_references.rt` (the answers made of these), `sums.rt` (how
+//! often each slot came), `whole.rt` (the one tree of all parts).
 #![tactic(auto)]
 
+mod adding;
 mod asked;
 mod bad_references;
+mod counted_by;
 mod counts;
 mod handles;
 mod held;
 mod leaking;
 mod open;
 mod part;
+mod sums;
 mod tagging;
 mod whole;
 
@@ -31,5 +35,6 @@ pub use handles::{last_exit, latest, mark};
 pub use leaking::leaks;
 pub use open::{diff, outstanding};
 pub use part::Part;
+pub use sums::slot_sums;
 pub use tagging::{stacks, tags};
 pub use whole::whole_tree;

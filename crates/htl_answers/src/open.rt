@@ -87,16 +87,16 @@ fn add_copies(rows: &mut Vec<SharedEvent>, more: &[SharedEvent]) -> Result<(), N
     Ok(())
 }
 
-fn add_held<R: EventList>(
+fn add_held<E: EventList>(
     rows: &mut Vec<SharedEvent>,
-    runs: &[R],
+    lists: &[E],
     process: u32,
 ) -> Result<(), NoMemory>
     ensures { OnOk result (rows.new.items
-        ≡ rows.old.items ++ filter (touches process) (flat_map R.events_of runs.now)) }
+        ≡ rows.old.items ++ filter (touches process) (flat_map E.events_of lists.now)) }
 {
-    for run in runs {
-        add_touching(rows, run.events(), process)?;
+    for list in lists {
+        add_touching(rows, list.events(), process)?;
     }
     Ok(())
 }

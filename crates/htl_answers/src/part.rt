@@ -7,8 +7,8 @@ use htl_tables::{Exits, Latest, Marks};
 use htl_tree::StackTree;
 use std::alloc::Allocator;
 
-/// A part of what is known: what was folded of some events, and the runs of events that were not
-/// folded yet.
+/// A part of what is known: what was folded of some events, and the lists of events that were
+/// not folded yet.
 pub trait Part {
     ghost use Rattle.htl_answers.specs.Parts.{Contents};
 
@@ -34,7 +34,7 @@ pub trait Part {
     fn exits(&self) -> &Exits<Self::Alloc>
         ensures { result.now ≡ (contents self.now).exits };
 
-    /// The runs that were not folded yet.
+    /// The lists that were not folded yet.
     fn held(&self) -> &[Self::Held]
         ensures { flat_map Self.Held.events_of result.now ≡ (contents self.now).held };
 }

@@ -1,6 +1,6 @@
 //! The balances of an object's tags, and the stacks of one.
 
-ghost use Rattle.std.specs.Prelude.{◌≡◌, ◌<◌, ◌^◌, List, map, IfOk};
+ghost use Rattle.std.specs.Prelude.{◌≡◌, ◌<◌, ◌^◌, ℕ, List, map, IfOk};
 ghost use Rattle.std.specs.List.{filter_map};
 ghost use Rattle.htl_event.specs.Events.{Event};
 ghost use Rattle.htl_event.specs.declared.slot.Slot.{Slot};
@@ -9,7 +9,8 @@ ghost use Rattle.htl_event.specs.Tallies.{IsTags, IsStacks};
 ghost use Rattle.htl_answers.specs.Parts.{AreEventsOf, size_of_all};
 ghost use Rattle.htl_answers.specs.Tags.{tag_row};
 
-use crate::asked::tree_of_slots;
+use crate::asked::counts_of_slots;
+use crate::counted_by::{BySlot, BySlotAndStack};
 use crate::part::Part;
 use htl_event::{Count, NoMemory, SharedStack, Slot};
 use htl_tree::Slots;
@@ -19,7 +20,7 @@ use std::alloc::Global;
 /// dereferenced under it.
 pub fn tags<P: Part>(
     alloc: Global,
-    tree_alloc: &P::Alloc,
+    _tree_alloc: &P::Alloc,
     parts: &[P],
     object: u64,
 ) -> Result<Vec<([u8; 4], Count)>, NoMemory>
@@ -28,9 +29,7 @@ pub fn tags<P: Part>(
         → AreEventsOf (map P.contents parts.now) events
         → IsTags events object rows.items) }
 {
-    let slots = Slots::OfObject(object);
-    let tree = tree_of_slots(alloc, tree_alloc, parts, slots)?;
-    let sums = tree.sums_of(alloc, slots)?;
+    let sums = counts_of_slots::<BySlot, P>(alloc, parts, Slots::OfObject(object))?;
     tag_rows(alloc, &sums, object)
 }
 
@@ -71,7 +70,7 @@ fn tag_row(slot: Slot, count: Count, object: u64) -> Option<([u8; 4], Count)>
 /// The stacks with an event of the object and tag, each with its tally, in stack order.
 pub fn stacks<P: Part>(
     alloc: Global,
-    tree_alloc: &P::Alloc,
+    _tree_alloc: &P::Alloc,
     parts: &[P],
     object: u64,
     tag: [u8; 4],
@@ -82,6 +81,21 @@ pub fn stacks<P: Part>(
         → IsStacks events object tag rows.items) }
 {
     let slot = Slot::Tagged { object, tag };
-    let tree = tree_of_slots(alloc, tree_alloc, parts, Slots::One(slot))?;
-    tree.rows(alloc, slot)
+    let counts = counts_of_slots::<BySlotAndStack, P>(alloc, parts, Slots::One(slot))?;
+    without_slot(alloc, &counts)
+}
+
+/// The rows of one slot without it.
+fn without_slot(
+    alloc: Global,
+    counts: &[((Slot, SharedStack), Count)],
+) -> Result<Vec<(SharedStack, Count)>, NoMemory>
+    ensures { IfOk result (λ rows. rows.items
+        ≡ map (λ (row : (Slot × List ℕ) × Count). (row.0.1, row.1)) counts.now) }
+{
+    let mut rows = Vec::with_capacity(alloc, counts.len())?;
+    for ((_, stack), count) in counts {
+        rows.push((stack.copy()?, *count))?;
+    }
+    Ok(rows)
 }

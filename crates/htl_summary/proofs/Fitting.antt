@@ -12,7 +12,8 @@ use Rattle.htl_summary.specs.declared.usage.Usage.{Usage}
 use Rattle.htl_summary.specs.Totals.{total_at, CanAddUp}
 use Rattle.htl_summary.specs.Usages.{usage_of, both_usages, FitUsages}
 use Rattle.htl_summary.specs.ObjectTags.{one_if_unbalanced, tag_of, both_objects, FitObjects}
-use Rattle.htl_summary.proofs.Totals.{amount, sum_upto, sum_filter_map, total-fits}
+use Rattle.htl_answers.proofs.NumberSums.{amount, sum_upto, sum_filter_map}
+use Rattle.htl_summary.proofs.Totals.{total-fits}
 
 abbrev Sum : Type 0
 Sum = Slot × Count
@@ -38,7 +39,7 @@ module _ {Row : Type 0} (key : Row → ℕ) (both : Row → Row → Row) (f : Su
 abbrev of_sum : Sum → Option Usage
 of_sum sum = usage_of sum.0 sum.1
 
--- what a slot tells of a process has no more of a number than the slot's sum comes to
+-- what a slot says of a process has no more of a number than the slot's sum comes to
 usage_within : (field : Usage → ℕ) (slot : Slot) (count : Count)
     → ((p : ℕ) → field (record { process = p; opens = count.plus; closes = count.minus; bad = 0 }) ≤ total_of count)
     → ((p : ℕ) → field (record { process = p; opens = 0; closes = 0; bad = count.plus }) ≤ total_of count)

@@ -1,4 +1,4 @@
--- A row that joins the last sum or comes behind it keeps sums in order, and each key has what it had with the row joined.
+-- A row that joins the last sum or comes after it keeps sums in order, and each key has what it had with the row joined.
 use Rattle.std.proofs.Common.{◌≡◌, ℕ, ◌+◌, ◌-◌, ◌<◌, cond, List, [], ◌∷◌, ◌++◌, length, get_or, set, take, drop}
 use Rattle.std.proofs.Common.{Option, Some, None, refl, sym, ap, subst, ◌∙◌, arith, inl, inr}
 use Rattle.std.specs.List.{insert}
@@ -41,9 +41,9 @@ module _ {Row K X : Type 0} (key : Row → K) (value : Row → X) {R : K → K �
 
   module _ (rows : List Row) (sorted : IsSorted R (entries key value rows)) (row : Row) where
     -- all sums come before the row
-    gap_behind : (0 < length rows → (d : Row) → R (key (get_or rows (length rows - 1) d)) (key row) ≡ Less)
+    gap_after : (0 < length rows → (d : Row) → R (key (get_or rows (length rows - 1) d)) (key row) ≡ Less)
         → IsGap R (entries key value rows) (key row) (length rows)
-    gap_behind last = gap key value o (key row) rows (length rows) (omega arith) below (λ j d le lt. absurd (omega (arith, le, lt)))
+    gap_after last = gap key value o (key row) rows (length rows) (omega arith) below (λ j d le lt. absurd (omega (arith, le, lt)))
       where
         below : (j : ℕ) (d : Row) → j < length rows → R (key (get_or rows j d)) (key row) ≡ Less
         below j d lt =
@@ -56,7 +56,7 @@ module _ {Row K X : Type 0} (key : Row → K) (value : Row → X) {R : K → K �
     module _ (last : 0 < length rows → (d : Row) → R (key (get_or rows (length rows - 1) d)) (key row) ≡ Less) where
       pushed_is : entries key value (rows ++ row ∷ []) ≡ put R (key row) (value row) (entries key value rows)
       pushed_is = ap (entries key value) (sym (insert_end rows row))
-          ∙ insert_row key value R rows (key row) (length rows) (gap_behind last) row refl
+          ∙ insert_row key value R rows (key row) (length rows) (gap_after last) row refl
 
       pub pushed_sorted : IsSorted R (entries key value (rows ++ row ∷ []))
       pushed_sorted = subst (IsSorted R) (sym pushed_is) (is_sorted-put R o (key row) (value row) (entries key value rows) sorted)
@@ -64,7 +64,7 @@ module _ {Row K X : Type 0} (key : Row → K) (value : Row → X) {R : K → K �
       pub pushed_value : (q : K) → find R q (entries key value (rows ++ row ∷ []))
           ≡ joined_at join (find R q (entries key value rows)) (one_at R key value q row)
       pushed_value q = ap (find R q) pushed_is ∙ put_joined (entries key value rows) (key row) (value row) (value row)
-          (ap (λ a. joined_at join a (Some (value row))) (sym (gap_behind last).value)) q
+          (ap (λ a. joined_at join a (Some (value row))) (sym (gap_after last).value)) q
 
     module _ (x : Row) (some : 0 < length rows) (is_x : x ≡ get_or rows (length rows - 1) x) (tied : R (key x) (key row) ≡ Equal) where
       place_of_last : IsPlace R (entries key value rows) (key row) (length rows - 1)
@@ -86,7 +86,7 @@ module _ {Row K X : Type 0} (key : Row → K) (value : Row → X) {R : K → K �
         joined_value q = ap (find R q) joined_is ∙ put_joined (entries key value rows) (key row) (value row) (value z)
             (ap (λ v. Some v) same_value ∙ ap (λ a. joined_at join a (Some (value row))) (sym last_value)) q
 
-  -- the last key is that of the row that was put behind the others, or joined to the last one
+  -- the last key is that of the row that was put after the others, or joined to the last one
   pub pushed_last : (rows : List Row) (row : Row) → HasLastKey key (rows ++ row ∷ []) (key row)
   pushed_last rows row =
       let more = length-append rows (row ∷ []) in

@@ -31,11 +31,13 @@ use Rattle.htl_sorted.specs.Entries.{IsSorted}
 use Rattle.htl_sorted.proofs.Bools.{both_left, both_right, less}
 use Rattle.htl_tree.specs.Trees.{BySlot}
 use Rattle.htl_answers.specs.Tags.{tag_row}
-use Rattle.htl_answers.proofs.TagLemmas.{Contains-filter_map, Contains-from_filter_map, IsRising-filter_map, row_of, row_is, row_at, tags_rise}
-use Rattle.htl_summary.specs.Sums.{times_of, ListsSlotSums}
+use Rattle.htl_answers.proofs.FilterMaps.{Contains-filter_map, Contains-from_filter_map, IsRising-filter_map}
+use Rattle.htl_answers.proofs.TagLemmas.{row_of, row_is, row_at, tags_rise}
+use Rattle.htl_answers.specs.Sums.{times_of, ListsSlotSums}
 use Rattle.htl_summary.specs.Totals.{one_at}
 use Rattle.htl_summary.specs.ObjectTags.{one_if_unbalanced, tag_of, both_objects, by_object, object_at}
-use Rattle.htl_summary.proofs.Totals.{amount, sum_same, sum_filter_map, found_row, row_there, total-amount, total-keeps, number_at}
+use Rattle.htl_answers.proofs.NumberSums.{amount, sum_same, sum_filter_map}
+use Rattle.htl_summary.proofs.Totals.{found_row, row_there, total-amount, total-keeps, number_at}
 use Rattle.htl_summary.proofs.SlotSums.{came}
 use Rattle.htl_summary.proofs.Sorted.{below}
 
@@ -55,7 +57,7 @@ whole row = row
 abbrev pub shows : ObjectRow → Bool
 shows row = nat_lt 0 row.unbalanced
 
--- ---- what the sums tell of an object
+-- ---- what the sums say of an object
 
 -- the row of an object that has one tag
 abbrev single : ℕ → Count → ObjectRow

@@ -24,20 +24,21 @@ use Rattle.htl_event.specs.Summaries.{is_open, is_close, is_bad, how_many, HasOu
 use Rattle.htl_event.proofs.Members.{Contains-here, Contains-there, Contains-cases, Contains-nil}
 use Rattle.htl_event.proofs.Determined.{outstanding_same, IsGreatestSequence-unique}
 use Rattle.htl_sorted.specs.Entries.{IsSorted}
-use Rattle.htl_answers.proofs.TagLemmas.{Contains-from_filter_map}
+use Rattle.htl_answers.proofs.FilterMaps.{Contains-from_filter_map}
 use Rattle.htl_summary.specs.declared.usage.Usage.{Usage}
-use Rattle.htl_summary.specs.Sums.{times_of, ListsSlotSums}
+use Rattle.htl_answers.specs.Sums.{times_of, ListsSlotSums}
 use Rattle.htl_summary.specs.Totals.{one_at}
 use Rattle.htl_summary.specs.Usages.{usage_of, both_usages, by_process, usage_at}
 use Rattle.htl_summary.specs.Rows.{IsRowOf, AreRowsOf}
-use Rattle.htl_summary.proofs.Totals.{amount, sum_same, sum_zero, sum_filter_map, none_or_none, found_row, row_there, total-amount, total-keeps}
+use Rattle.htl_answers.proofs.NumberSums.{amount, sum_same, sum_zero, sum_filter_map, none_or_none}
+use Rattle.htl_summary.proofs.Totals.{found_row, row_there, total-amount, total-keeps}
 use Rattle.htl_summary.proofs.Totals.{number_at}
 use Rattle.htl_summary.proofs.SlotSums.{side, hits, sums_are_events}
 
 abbrev Sum : Type 0
 Sum = Slot × Count
 
--- ---- what slots tell of a process
+-- ---- what slots say of a process
 
 abbrev is_handles : ℕ → Slot → Bool
 is_handles process (Handles p) = process == p
@@ -89,7 +90,7 @@ no_minus events p h =
     sum_same (λ (e : Event). cond (is_counted (Bad p h) Minus e && true) 1 0) (λ (e : Event). 0) events
     (λ e there. ap (λ (b : Bool). cond (b && true) 1 0) (bad_never_minus e.kind e p h)) ∙ sum_zero events
 
--- ---- what the sums tell of a process
+-- ---- what the sums say of a process
 
 abbrev key : Usage → ℕ
 key usage = usage.process
@@ -97,7 +98,7 @@ key usage = usage.process
 abbrev whole : Usage → Usage
 whole usage = usage
 
--- the number of a process in what a slot tells
+-- the number of a process in what a slot says
 abbrev share : (Usage → ℕ) → ℕ → Sum → ℕ
 share field process sum = amount (λ (row : Usage). amount field (one_at nat_cmp key whole process row)) (usage_of sum.0 sum.1)
 

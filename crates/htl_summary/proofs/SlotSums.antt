@@ -1,11 +1,11 @@
--- Sums over the slots of a list that has each slot once: of a tree's counts, and of how often events came.
-use Rattle.std.proofs.Common.{◌≡◌, ◌≢◌, ℕ, ◌+◌, ◌<◌, ◌≤◌, Bool, true, false, cond, ◌&&◌, List, []}
+-- Sums over the slots of a list that has each slot once are counts of events.
+use Rattle.std.proofs.Common.{◌≡◌, ◌≢◌, ℕ, ◌<◌, Bool, true, false, cond, ◌&&◌, List, []}
 use Rattle.std.proofs.Common.{◌∷◌, Option, Some, None, refl, sym, ap, subst, ◌∙◌, arith, inl, inr}
 use Rattle.std.specs.Prelude.{Contains, count_by}
 use Rattle.std.specs.List.{sum_by}
 use Rattle.std.proofs.Math.Bool.{and-true}
 use Rattle.std.proofs.lemmas.Bool.{cases_Bool}
-use Rattle.std.proofs.lemmas.List.Sums.{sum_by-cons, sum_by-le-sum_by}
+use Rattle.std.proofs.lemmas.List.Sums.{sum_by-cons}
 use Rattle.htl_event.specs.Events.{Event}
 use Rattle.htl_event.specs.declared.slot.Slot.{Slot}
 use Rattle.htl_event.specs.declared.slot.Sign.{Sign}
@@ -14,15 +14,13 @@ use Rattle.htl_event.specs.declared.slot.Count.{Count}
 use Rattle.htl_event.specs.Slots.{slot_of, same_slot, same_sign, is_slot, is_counted}
 use Rattle.htl_event.specs.OrderLaws.{slot_total}
 use Rattle.htl_event.specs.Members.{IsRising, IsStrictOrder}
-use Rattle.htl_event.specs.Tallies.{total_of, plus_count, IsPositive}
+use Rattle.htl_event.specs.Tallies.{IsPositive}
 use Rattle.htl_event.proofs.Members.{Contains-here, Contains-there, Contains-cases, Contains-nil, at_member}
 use Rattle.htl_event.proofs.Orders.{strict_from_total}
-use Rattle.htl_tree.specs.Trees.{Tree, IsTree, HasTally, BySlot, ListsSums, count_under, total_count}
-use Rattle.htl_tree.specs.declared.slots.Slots.TheVariants.{All}
+use Rattle.htl_tree.specs.Trees.{BySlot}
 use Rattle.htl_tree.proofs.Under.{same_slot_Decides}
-use Rattle.htl_tree.proofs.Events.{under_events}
-use Rattle.htl_summary.specs.Sums.{times_of, ListsSlotSums}
-use Rattle.htl_summary.proofs.Totals.{sum_same, sum_zero, sum_swap, none_or_none}
+use Rattle.htl_answers.specs.Sums.{times_of, ListsSlotSums}
+use Rattle.htl_answers.proofs.NumberSums.{sum_same, sum_zero, sum_swap, cond_sum, none_or_none}
 
 abbrev Sum : Type 0
 Sum = Slot × Count
@@ -59,22 +57,6 @@ module _ (f : Slot → ℕ) (t : Slot) where
       let before : BySlot s.0 sum.0 = at_member (λ (x : Sum). BySlot s.0 x.0) sums sum rising.0 h in
       BySlot-strict.irreflexive s.0 (subst (BySlot s.0) (same ∙ sym is) before)
 
-  pub upto_once : (sums : List Sum) → AreRising sums → sum_by (here f t) sums ≤ f t
-  upto_once [] rising = omega arith
-  upto_once (s ∷ sums) rising =
-      let both = sum_by-cons (here f t) s sums in
-      elim (cases_Bool (same_slot s.0 t)) [
-        | inl is ↦
-            let same = (same_slot_Decides s.0 t).0 is in
-            let rest = elsewhere sums (after_it s sums rising same) in
-            let one : here f t s ≡ f t = ap (λ b. cond b (f s.0) 0) is ∙ ap f same in
-            omega (arith, both, rest, one)
-        | inr not ↦
-            let rest = upto_once sums rising.1 in
-            let none : here f t s ≡ 0 = ap (λ b. cond b (f s.0) 0) not in
-            omega (arith, both, rest, none)
-      ]
-
   pub once : (sums : List Sum) → AreRising sums → (count : Count) → Contains sums (t, count) → sum_by (here f t) sums ≡ f t
   once [] rising count h = absurd (Contains-nil (t, count) h)
   once (s ∷ sums) rising count h =
@@ -91,45 +73,6 @@ module _ (f : Slot → ℕ) (t : Slot) where
             let none : here f t s ≡ 0 = ap (λ b. cond b (f s.0) 0) (not_same s.0 t apart) in
             omega (arith, both, rest, none)
       ]
-
--- ---- the counts of a tree
-
-abbrev At : Type 0
-At = (List ℕ × Slot) × Count
-
-total_under : (tree : Tree) (s : Slot)
-    → total_of (count_under tree [] s) ≡ sum_by (λ (row : At). cond (same_slot s row.0.1) (total_of row.1) 0) tree
-total_under [] s = refl
-total_under (row ∷ tree) s =
-    let rest = total_under tree s in
-    let both = sum_by-cons (λ (r : At). cond (same_slot s r.0.1) (total_of r.1) 0) row tree in
-    let f = count_under tree [] s in
-    let one : total_of (cond (same_slot s row.0.1 && true) (plus_count row.1 f) f) ≡ cond (same_slot s row.0.1) (total_of row.1) 0 + total_of f =
-    elim (same_slot s row.0.1) as (λ b. total_of (cond (b && true) (plus_count row.1 f) f) ≡ cond b (total_of row.1) 0 + total_of f)
-    [ true ↦ omega arith | false ↦ omega arith ] in
-    omega (arith, rest, both, one)
-
--- the sums of different slots come to no more than the tree counts
-pub sums_upto_total : (tree : Tree) (sums : List Sum) → ListsSums tree All sums → sum_by (λ sum. total_of sum.1) sums ≤ total_count tree
-sums_upto_total tree sums listed =
-    let w : Sum → At → ℕ = λ sum row. cond (same_slot sum.0 row.0.1) (total_of row.1) 0 in
-    let each = sum_same (λ (sum : Sum). total_of sum.1) (λ (sum : Sum). sum_by (w sum) tree) sums
-    (λ sum h. ap total_of ((listed.members sum).0 h).0 ∙ total_under tree sum.0) in
-    let swapped = sum_swap w sums tree in
-    let upto = sum_by-le-sum_by (λ (row : At). sum_by (λ sum. w sum row) sums) (λ (row : At). total_of row.1) tree
-    (λ row. upto_once (λ s. total_of row.1) row.0.1 sums listed.rising) in
-    omega (arith, each, swapped, upto)
-
--- the sums of a tree that is the tally of events are theirs
-pub sums_listed : (tree : Tree) (events : List Event) (sums : List Sum) → IsTree tree → HasTally tree events → ListsSums tree All sums
-    → ListsSlotSums events sums
-sums_listed tree events sums is tallied listed = record {
-  rising = listed.rising;
-  members = λ sum. (
-    (λ h. let at = (listed.members sum).0 h in (at.0 ∙ under_events tree is events tallied [] sum.0, at.1)),
-    (λ h. (listed.members sum).1 (h.0 ∙ sym (under_events tree is events tallied [] sum.0), h.1, refl)),
-  );
-}
 
 -- ---- how often events came
 
@@ -183,10 +126,6 @@ side_is : (sign : Sign) (events : List Event) (slot : Slot)
     → side sign (times_of events slot) ≡ sum_by (λ e. one_if (is_counted slot sign e && true)) events
 side_is Plus events slot = refl
 side_is Minus events slot = refl
-
-cond_sum : {X : Type 0} (b : Bool) (f : X → ℕ) (xs : List X) → cond b (sum_by f xs) 0 ≡ sum_by (λ x. cond b (f x) 0) xs
-cond_sum true f xs = refl
-cond_sum false f xs = sym (sum_zero xs)
 
 module _ (passes : Slot → Bool) (sign : Sign) (events : List Event) (sums : List Sum) (listed : ListsSlotSums events sums) where
   abbrev w : Sum → Event → ℕ

@@ -1,6 +1,5 @@
 -- What only private contracts cite: the answers are those of htl_event's `Summaries`.
 pub mod Totals
-pub mod Sums
 pub mod Usages
 pub mod ObjectTags
 pub mod Tables

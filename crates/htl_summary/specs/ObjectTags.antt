@@ -37,6 +37,6 @@ pub record FitObjects (a b : ObjectRow) : Type 0 where
 abbrev pub by_object : List ObjectRow → List (ℕ × ObjectRow)
 by_object rows = entries (λ row. row.object) (λ row. row) rows
 
--- what the sums tell of an object
+-- what the sums say of an object
 abbrev pub object_at : ℕ → List (Slot × Count) → Option ObjectRow
 object_at object sums = total_at nat_cmp (λ row. row.object) (λ row. row) both_objects object (filter_map (λ sum. tag_of sum.0 sum.1) sums)

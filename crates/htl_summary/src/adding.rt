@@ -59,7 +59,7 @@ fn add_up_in_order<L: Joined>(
     Ok(Some(sums))
 }
 
-/// Joins a row to the last sum, if that has its key, or puts it behind a sum of a lesser key.
+/// Joins a row to the last sum, if that has its key, or puts it after a sum of a lesser key.
 /// False: the last sum has a greater key.
 fn add_row<L: Joined>(sums: &mut Vec<L::Row>, row: &L::Row) -> Result<bool, NoMemory>
     requires sorted { IsSorted L.Key.cmp (entries L.key_of L.value_of sums.old.items) }

@@ -8,14 +8,13 @@ ghost use Rattle.htl_event.specs.Members.{IsRising};
 ghost use Rattle.htl_event.specs.Summaries.{IsUnbalanced, IsNumberOfObjects, MostUnbalancedFirst};
 ghost use Rattle.htl_answers.specs.Parts.{AreEventsOf, size_of_all};
 
-use crate::sums::slot_sums;
 use crate::tags::object_rows;
-use htl_answers::Part;
+use htl_answers::{Part, slot_sums};
 use htl_event::{NoMemory, ObjectRow};
 use std::alloc::Global;
 use std::cmp::Reverse;
 
-/// What a summary tells of objects.
+/// What a summary says of objects.
 #[derive(Drop)]
 pub struct Objects {
     /// How many objects have an event.
@@ -27,7 +26,7 @@ pub struct Objects {
 /// Which objects were referenced or dereferenced, and whether their tags balance.
 pub fn balances<P: Part>(
     alloc: Global,
-    tree_alloc: &P::Alloc,
+    _tree_alloc: &P::Alloc,
     parts: &[P],
 ) -> Result<Objects, NoMemory>
     requires { size_of_all (map P.contents parts.now) < 2 ^ 64 }
@@ -38,7 +37,7 @@ pub fn balances<P: Part>(
         → AreEventsOf (map P.contents parts.now) events
         → IsUnbalanced events objects.unbalanced.items) }
 {
-    let sums = slot_sums(alloc, tree_alloc, parts)?;
+    let sums = slot_sums(alloc, parts)?;
     let mut rows = object_rows(alloc, &sums)?;
     let number = number_of(&rows);
     keep_unbalanced(&mut rows);

@@ -12,10 +12,9 @@ ghost use Rattle.htl_answers.specs.Candidates.{is_opened_after};
 ghost use Rattle.htl_summary.specs.Tables.{AreTablesOf};
 ghost use Rattle.htl_summary.specs.Rows.{IsRowOf, AreRowsOf};
 
-use crate::sums::slot_sums;
 use crate::tables::{Tables, tables_of};
 use crate::usage::{Usage, used_by_process};
-use htl_answers::Part;
+use htl_answers::{Part, slot_sums};
 use htl_event::{Kind, NoMemory, ProcessRow, SharedEvent};
 use std::alloc::{Allocator, Global};
 use std::cmp::Reverse;
@@ -32,7 +31,7 @@ pub fn processes<P: Part>(
         → AreEventsOf (map P.contents parts.now) events
         → HaveOwnSequences events → IsProcesses events rows.items) }
 {
-    let sums = slot_sums(alloc, tree_alloc, parts)?;
+    let sums = slot_sums(alloc, parts)?;
     let tables = tables_of(tree_alloc, parts)?;
     let used = used_by_process(alloc, &sums)?;
     let mut rows = process_rows(alloc, &used, &tables)?;

@@ -1,4 +1,4 @@
-//! Rows that the sums of slots tell.
+//! Rows that are made of the sums of slots.
 
 ghost use Rattle.std.specs.Prelude.{◌≡◌, Option, IfOk};
 ghost use Rattle.std.specs.List.{filter_map};
@@ -11,20 +11,20 @@ use std::alloc::Global;
 
 /// Rows that are added up, each from the sum of one slot.
 pub(crate) trait FromSum: Joined {
-    ghost told: { Slot → Count → Option Self.Row };
+    ghost row_of_sum: { Slot → Count → Option Self.Row };
 
-    /// What the sum of a slot tells, if it tells something.
+    /// The row of a slot that came so often, if it has one.
     fn from_sum(slot: Slot, count: Count) -> Option<Self::Row>
-        ensures { result ≡ told slot count };
+        ensures { result ≡ row_of_sum slot count };
 }
 
-/// What the sums of slots tell, not added up yet.
-pub(crate) fn rows_told<L: FromSum>(
+/// The rows of the sums of slots, not added up yet.
+pub(crate) fn rows_of_sums<L: FromSum>(
     alloc: Global,
     sums: &[(Slot, Count)],
 ) -> Result<Vec<L::Row>, NoMemory>
     ensures { IfOk result (λ rows. rows.items
-        ≡ filter_map (λ (sum : Slot × Count). L.told sum.0 sum.1) sums.now) }
+        ≡ filter_map (λ (sum : Slot × Count). L.row_of_sum sum.0 sum.1) sums.now) }
 {
     let mut rows = Vec::new(alloc);
     for (slot, count) in sums {

@@ -56,7 +56,7 @@ fn tables_of_part<P: Part>(alloc: &P::Alloc, part: &P) -> Result<Tables<P::Alloc
         → AreTablesOf (folded ++ (P.contents part.now).held)
         tables.latest tables.marks tables.exits) }
 {
-    let held = tables_of_runs(alloc, part.held())?;
+    let held = tables_of_lists(alloc, part.held())?;
     Ok(Tables {
         latest: part.latest().join(&held.latest)?,
         marks: part.marks().join(&held.marks)?,
@@ -64,18 +64,18 @@ fn tables_of_part<P: Part>(alloc: &P::Alloc, part: &P) -> Result<Tables<P::Alloc
     })
 }
 
-/// The tables of the events of the runs.
-fn tables_of_runs<A: Allocator + Clone, R: EventList>(
+/// The tables of the events of the lists.
+fn tables_of_lists<A: Allocator + Clone, E: EventList>(
     alloc: &A,
-    runs: &[R],
+    lists: &[E],
 ) -> Result<Tables<A>, NoMemory>
-    ensures { IfOk result (λ tables. AreTablesOf (flat_map R.events_of runs.now)
+    ensures { IfOk result (λ tables. AreTablesOf (flat_map E.events_of lists.now)
         tables.latest tables.marks tables.exits) }
 {
     Ok(Tables {
-        latest: Latest::of(alloc.clone()?, runs)?,
-        marks: Marks::of(alloc.clone()?, runs)?,
-        exits: Exits::of(alloc.clone()?, runs)?,
+        latest: Latest::of(alloc.clone()?, lists)?,
+        marks: Marks::of(alloc.clone()?, lists)?,
+        exits: Exits::of(alloc.clone()?, lists)?,
     })
 }
 

@@ -11,7 +11,7 @@ ghost use Rattle.htl_event.specs.declared.slot.Count.{Count};
 ghost use Rattle.htl_summary.specs.ObjectTags.{by_object, object_at};
 
 use crate::adding::add_up;
-use crate::rows::{FromSum, rows_told};
+use crate::rows::{FromSum, rows_of_sums};
 use htl_event::{Count, NoMemory, ObjectRow, Slot};
 use htl_sorted::{Joined, Keyed};
 use std::alloc::{AllocError, Global};
@@ -25,7 +25,7 @@ pub(crate) fn object_rows(alloc: Global, sums: &[(Slot, Count)]) -> Result<Vec<O
         → find nat_cmp object (by_object rows.items)
         ≡ object_at object sums.now) }
 {
-    let rows = rows_told::<ByObject>(alloc, sums)?;
+    let rows = rows_of_sums::<ByObject>(alloc, sums)?;
     add_up::<ByObject>(alloc, &rows)
 }
 
@@ -77,7 +77,7 @@ impl Joined for ByObject {
 impl FromSum for ByObject {
     ghost use Rattle.htl_summary.specs.ObjectTags.{tag_of};
 
-    ghost told = { tag_of };
+    ghost row_of_sum = { tag_of };
 
     /// The sum of a tag as the row of an object that has this tag alone.
     fn from_sum(slot: Slot, count: Count) -> Option<ObjectRow> {

@@ -11,7 +11,7 @@ ghost use Rattle.htl_event.specs.Tallies.{total_of};
 ghost use Rattle.htl_summary.specs.Usages.{by_process, usage_at};
 
 use crate::adding::add_up;
-use crate::rows::{FromSum, rows_told};
+use crate::rows::{FromSum, rows_of_sums};
 use htl_event::{Count, NoMemory, Slot};
 use htl_sorted::{Joined, Keyed};
 use std::alloc::{AllocError, Global};
@@ -33,7 +33,7 @@ pub(crate) fn used_by_process(alloc: Global, sums: &[(Slot, Count)]) -> Result<V
         → find nat_cmp process (by_process used.items)
         ≡ usage_at process sums.now) }
 {
-    let rows = rows_told::<ByProcess>(alloc, sums)?;
+    let rows = rows_of_sums::<ByProcess>(alloc, sums)?;
     add_up::<ByProcess>(alloc, &rows)
 }
 
@@ -84,7 +84,7 @@ impl Joined for ByProcess {
 impl FromSum for ByProcess {
     ghost use Rattle.htl_summary.specs.Usages.{usage_of};
 
-    ghost told = { usage_of };
+    ghost row_of_sum = { usage_of };
 
     fn from_sum(slot: Slot, count: Count) -> Option<Usage> {
         match slot {

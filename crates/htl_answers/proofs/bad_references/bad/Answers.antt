@@ -1,18 +1,18 @@
--- The gathered rows, in order.
-use Rattle.std.proofs.Common.{◌≡◌, ap, ◌∙◌}
+-- The rows of the process's slots.
+use Rattle.std.proofs.Common.{sym, subst, ◌∙◌, ap}
 use Rattle.std.specs.List.{filter_map}
-use Rattle.htl_answers.proofs.BadLemmas.{row_of, bad_ties, bad_listed}
+use Rattle.std.proofs.lemmas.Result.{IfOk-weaker}
+use Rattle.htl_event.specs.Tallies.{IsBad}
+use Rattle.htl_tree.specs.declared.slots.Slots.TheVariants.{BadOf}
+use Rattle.htl_answers.proofs.SlotLists.{counts_listed}
+use Rattle.htl_answers.proofs.BadLemmas.{row_of, bad_listed}
 use Rattle.htl_answers.proofs.bad_references.bad.Goals as goal
 
-pub put_in_order-requires : goal.put_in_order-requires
-put_in_order-requires g c = bad_ties
-
 pub returns : goal.returns
-returns g c = λ events are.
+returns g c =
     let process = c.args.process in
     let counts = c.in_ok-counts.counts.items in
-    let gathered : c.in_ok-rows.rows.items ≡ filter_map (row_of process) counts = c.in_ok-rows.ensures
-    ∙ ap (filter_map (row_of process)) c.deref.ensures.value in
-    bad_listed c.in_ok-tree.tree events process counts
-    (c.in_ok-tree.ensures.tally events are) c.in_ok-counts.ensures c.put_in_order.new.rows.items
-    c.put_in_order.ensures.rising (rw gathered at c.put_in_order.ensures.members)
+    IfOk-weaker c.bad_rows.result _ _ (λ rows is events are.
+    subst (λ l. IsBad events process l) (sym (is ∙ ap (filter_map (row_of process)) c.deref.ensures.value))
+    (bad_listed events process counts (counts_listed (BadOf process) events counts c.in_ok-counts.ensures.rising c.in_ok-counts.ensures.positive
+    (c.in_ok-counts.ensures.counts events are)))) c.bad_rows.ensures

@@ -2,7 +2,7 @@
 use Rattle.std.proofs.Common.{◌++◌, ◌∷◌, [], take, refl, sym, ap, ◌∙◌}
 use Rattle.std.specs.List.{filter_map}
 use Rattle.std.proofs.lemmas.List.{take_more}
-use Rattle.htl_answers.proofs.TagLemmas.{one_row_more, no_row_more}
+use Rattle.htl_answers.proofs.FilterMaps.{one_row_more, no_row_more}
 use Rattle.htl_answers.proofs.BadLemmas.{row_of, some_row, no_row}
 use Rattle.htl_answers.proofs.bad_references.bad_rows.Goals as goal
 use Rattle.htl_answers.proofs.bad_references.bad_rows.Goals.{in-Some+in_ok-copy+in_ok-push, in_default}

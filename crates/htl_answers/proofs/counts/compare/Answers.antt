@@ -1,4 +1,4 @@
--- Two runs of frames are compared as lists.
+-- Two lists of frames are compared as lists.
 use Rattle.std.proofs.Common.{◌≡◌, refl}
 use Rattle.std.specs.Ordering.{nat_cmp}
 use Rattle.std.proofs.lemmas.Iterator.{YieldsList-from_slice}

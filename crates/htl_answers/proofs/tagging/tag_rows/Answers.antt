@@ -3,7 +3,8 @@ use Rattle.std.proofs.Common.{take, get_or, refl, sym, ap, ◌∙◌}
 use Rattle.std.specs.List.{filter_map}
 use Rattle.std.proofs.lemmas.List.{take_more}
 use Rattle.htl_tree.proofs.Between.{no_count}
-use Rattle.htl_answers.proofs.TagLemmas.{row_of, one_row_more, no_row_more}
+use Rattle.htl_answers.proofs.FilterMaps.{one_row_more, no_row_more}
+use Rattle.htl_answers.proofs.TagLemmas.{row_of}
 use Rattle.htl_answers.proofs.tagging.tag_rows.Goals as goal
 use Rattle.htl_answers.proofs.tagging.tag_rows.Goals.{in-Some+in_ok-push, in_default}
 

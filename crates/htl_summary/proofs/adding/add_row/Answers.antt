@@ -1,4 +1,4 @@
--- The row joins the last sum, or comes behind it.
+-- The row joins the last sum, or comes after it.
 use Rattle.std.proofs.Common.{rules, ◌≡◌, ◌<◌, ◌-◌, length, get_or, sym, ◌∙◌, ap}
 use Rattle.std.specs.declared.cmp.Ordering.TheVariants.{Less}
 use Rattle.htl_summary.proofs.InOrder.{compared, pushed_sorted, pushed_value, pushed_last, last_value, joined_sorted, joined_value, joined_last}
@@ -20,16 +20,16 @@ returns-in_ok-push-in-Less g c =
     let rows = c.args.sums.now.items in
     let row = c.args.row.now in
     let less = compared g.L.Key.Ord.cmp _ _ _ _ _ _ c.key.ensures c.key-2.ensures c.cmp.ensures c.in-Less.is in
-    let behind : 0 < length rows → (d : g.row.L-Row.Denot)
+    let after : 0 < length rows → (d : g.row.L-Row.Denot)
     → g.L.Key.Ord.cmp (g.L.Keyed.key_of (get_or rows (length rows - 1) d)) (g.L.Keyed.key_of row) ≡ Less =
     (λ some d. ap (λ r. g.L.Key.Ord.cmp (g.L.Keyed.key_of r) (g.L.Keyed.key_of row)) (sym (item.3.1 d)) ∙ less) in
     record {
       sorted = λ added. rw (c.in_ok-push-in-Less.ensures.items, c.in_ok-copy-in-Less.ensures)
           (pushed_sorted g.L.Keyed.key_of g.L.Keyed.value_of g.met.L.Key.Ord.total g.met.L.Keyed.proper g.L.Joined.joined rows
-          c.requires.sorted row behind);
+          c.requires.sorted row after);
       values = λ added k. rw (c.in_ok-push-in-Less.ensures.items, c.in_ok-copy-in-Less.ensures)
           (pushed_value g.L.Keyed.key_of g.L.Keyed.value_of g.met.L.Key.Ord.total g.met.L.Keyed.proper g.L.Joined.joined rows
-          c.requires.sorted row behind k);
+          c.requires.sorted row after k);
       last = λ added. rw (c.in_ok-push-in-Less.ensures.items, c.in_ok-copy-in-Less.ensures)
           (pushed_last g.L.Keyed.key_of g.L.Keyed.value_of g.met.L.Key.Ord.total g.met.L.Keyed.proper g.L.Joined.joined rows row);
       falls = search rules;

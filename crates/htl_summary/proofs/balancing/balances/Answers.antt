@@ -2,7 +2,7 @@
 use Rattle.std.proofs.Common.{length, ap, ◌∙◌}
 use Rattle.std.specs.Prelude.{Contains, ◌↔◌, filter}
 use Rattle.htl_event.specs.declared.summary.ObjectRow.{ObjectRow}
-use Rattle.htl_summary.specs.Sums.{ListsSlotSums}
+use Rattle.htl_answers.specs.Sums.{ListsSlotSums}
 use Rattle.htl_summary.proofs.ObjectRows.{shows, are_objects, are_unbalanced}
 use Rattle.htl_summary.proofs.Sorted.{distinct_keys, distinct_filter}
 use Rattle.htl_summary.proofs.balancing.balances.Goals as goal

@@ -2,7 +2,7 @@
 use Rattle.std.proofs.Common.{List, map, nat_eq, sym, subst, ap, ◌∙◌}
 use Rattle.std.specs.List.{IsDistinct}
 use Rattle.htl_summary.specs.declared.usage.Usage.{Usage}
-use Rattle.htl_summary.specs.Sums.{ListsSlotSums}
+use Rattle.htl_answers.specs.Sums.{ListsSlotSums}
 use Rattle.htl_summary.specs.Rows.{AreRowsOf}
 use Rattle.htl_summary.proofs.ProcessRows.{are_processes}
 use Rattle.htl_summary.proofs.Sorted.{distinct_keys}

@@ -1,0 +1,43 @@
+-- The rows of a part more count its events.
+use Rattle.std.proofs.Common.{◌≡◌, ℕ, ◌+◌, ◌≤◌, List, ◌++◌, length, sym, ap, ◌∙◌, arith}
+use Rattle.std.specs.declared.cmp.Ordering.{Ordering}
+use Rattle.std.proofs.lemmas.List.Sums.{sum_by-append}
+use Rattle.htl_event.specs.Events.{Event}
+use Rattle.htl_event.specs.declared.slot.Slot.{Slot}
+use Rattle.htl_event.specs.declared.slot.Count.{Count}
+use Rattle.htl_event.specs.Tallies.{plus_count, total_of}
+use Rattle.htl_tree.specs.declared.slots.Slots.{Slots}
+use Rattle.htl_answers.specs.Rows.{count_of, total_in, rows_of}
+use Rattle.htl_answers.proofs.RowCounts.{count_of-append}
+use Rattle.htl_answers.proofs.EventRows.{rows_of-append, rows_few}
+
+plus_again : (a b c : Count) → plus_count (plus_count a b) c ≡ plus_count a (plus_count b c)
+plus_again a b c =
+    let p : a.plus + b.plus + c.plus ≡ a.plus + (b.plus + c.plus) = omega arith in
+    let m : a.minus + b.minus + c.minus ≡ a.minus + (b.minus + c.minus) = omega arith in
+    λ i. record { plus = p i; minus = m i }
+
+module _ {K : Type 0} (cmp : K → K → Ordering) (key : Slot → List ℕ → K) (slots : Slots) (before folded : List (K × Count))
+    (xs ys held : List Event) where
+  abbrev rows : List Event → List (K × Count)
+  rows events = rows_of key slots events
+
+  pub part_counted : (k : K) → count_of cmp k before ≡ count_of cmp k (rows xs) → count_of cmp k folded ≡ count_of cmp k (rows ys)
+      → count_of cmp k ((before ++ folded) ++ rows held) ≡ count_of cmp k (rows (xs ++ (ys ++ held)))
+  part_counted k of_before of_folded =
+      count_of-append cmp k (before ++ folded) (rows held)
+      ∙ ap (λ c. plus_count c (count_of cmp k (rows held))) (count_of-append cmp k before folded)
+      ∙ ap (λ c. plus_count (plus_count c (count_of cmp k folded)) (count_of cmp k (rows held))) of_before
+      ∙ ap (λ c. plus_count (plus_count (count_of cmp k (rows xs)) c) (count_of cmp k (rows held))) of_folded
+      ∙ plus_again (count_of cmp k (rows xs)) (count_of cmp k (rows ys)) (count_of cmp k (rows held))
+      ∙ ap (plus_count (count_of cmp k (rows xs))) (sym (ap (count_of cmp k) (rows_of-append key slots ys held) ∙ count_of-append cmp k (rows ys) (rows held)))
+      ∙ sym (ap (count_of cmp k) (rows_of-append key slots xs (ys ++ held)) ∙ count_of-append cmp k (rows xs) (rows (ys ++ held)))
+
+  pub part_total : (most size : ℕ) → total_in before ≤ most → total_in folded ≤ size
+      → total_in ((before ++ folded) ++ rows held) ≤ most + (size + length held)
+  part_total most size of_before of_folded =
+      let f : K × Count → ℕ = λ row. total_of row.1 in
+      let all = sum_by-append f (before ++ folded) (rows held) in
+      let first = sum_by-append f before folded in
+      let few = rows_few cmp key slots held in
+      omega (arith, of_before, of_folded, all, first, few)

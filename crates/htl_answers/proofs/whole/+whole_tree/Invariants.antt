@@ -1,0 +1,6 @@
+-- Half as many parts.
+use Rattle.std.proofs.Common.{length}
+use Rattle.htl_answers.proofs.whole.+whole_tree.Given as goal
+
+abbrev pub decreases-whole_tree : goal.decreases-whole_tree
+decreases-whole_tree g l = length l.parts.now

@@ -1,0 +1,28 @@
+-- One sum more.
+use Rattle.std.proofs.Common.{take, get_or, Option, refl, sym, ap, ◌∙◌}
+use Rattle.std.specs.List.{filter_map}
+use Rattle.std.proofs.lemmas.List.{take_more}
+use Rattle.htl_event.specs.declared.slot.Slot.{Slot}
+use Rattle.htl_event.specs.declared.slot.Count.{Count}
+use Rattle.htl_tree.proofs.Between.{no_count}
+use Rattle.htl_answers.proofs.FilterMaps.{one_row_more, no_row_more}
+use Rattle.htl_summary.proofs.rows.rows_of_sums.Goals as goal
+use Rattle.htl_summary.proofs.rows.rows_of_sums.Goals.{in-Some+in_ok-push, in_default}
+
+pub loop-slot-preserved : goal.loop-slot-preserved
+loop-slot-preserved g c =
+    let sums = c.args.sums.now in
+    let i = c.loop-slot.slot-index in
+    let sum = get_or sums i no_count in
+    let of_sum : Slot × Count → Option g.row.L-Row.Denot = λ s. g.L.FromSum.row_of_sum s.0 s.1 in
+    let found = c.from_sum.ensures in
+    let kept = c.loop-slot.invariant in
+    let longer = ap (filter_map of_sum) (take_more sums i no_count c.loop-slot-test.true) in
+    elim c.match-from_sum.branch [
+      | in-Some+in_ok-push w ↦
+          let more = longer ∙ one_row_more of_sum (take i sums) sum w.in-Some.row (sym found ∙ w.in-Some.is) in
+          rw (more, w.rows-is, w.in_ok-push.ensures.items, kept) refl
+      | in_default w ↦
+          let less = longer ∙ no_row_more of_sum (take i sums) sum (λ y e. w.in_default.not-Some y (found ∙ e)) in
+          rw (less, w.rows-is) kept
+    ]

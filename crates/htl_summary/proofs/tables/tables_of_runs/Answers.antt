@@ -1,5 +1,0 @@
--- Tables of runs are those of their events.
-use Rattle.htl_summary.proofs.tables.tables_of_runs.Goals as goal
-
-pub returns : goal.returns
-returns g c = record { latest_at = c.in_ok-of.ensures.latest; mark_at = c.in_ok-of-2.ensures; exit_at = c.in_ok-of-3.ensures }

@@ -3,15 +3,18 @@
 //!
 //! Every answer of an analyst is the definition's over exactly the events of the segments that it
 //! took, for every trace that its state is right about; taking, merging and compacting keep it
-//! right. `laws` has what follows: merge is commutative, associative and idempotent and gives the
-//! least state above both, and analysts that took the same segments are the same once compacted.
+//! right. Where two events may share a sequence, this holds of counts, marks and latest events;
+//! answers about outstanding handles ask that the sequences differ, which no call can test. `laws`
+//! has what follows: merge is commutative, associative and idempotent and gives the least state
+//! above both, and analysts that took the same segments are the same once compacted.
 //!
-//! `specs/` is read in this order: `States` and `Keys` (a state as a value), `Right` (when it is
-//! right about a trace), `Steps` and `Refusals` (what calls make of it, and why they are refused),
-//! `Answers`, `Moments` (up to which moment nothing is missing), `Same` and `Laws`. In `proofs/`,
-//! `Takes`, `Merges`, `Folds` and `Compacts` show that each step keeps a state right, `Determined`
-//! and `MergeLaws` the laws, `KeyEvents` and `Answered` that the events of the taken keys are those
-//! of the parts, and `Falling` what is complete.
+//! `specs/` is read in this order: `States`, `Keys` and `TakenEvents` (a state as a value), `Right`
+//! (when it is right about a trace), `Steps` and `Refusals` (what calls make of it, and why they
+//! are refused), `Moments` (up to which moment nothing is missing), `Same` and `Laws`. In
+//! `proofs/`, `Takes`, `Merges`, `Folds` and `Compacts` show that each step keeps a state right,
+//! `Counted` how many segments are taken after it, `Determined` and `MergeLaws` the laws,
+//! `KeyEvents` and `Answered` that the events of the taken keys are those of the parts, and
+//! `Falling` what is complete.
 #![tactic(auto)]
 
 mod analyst;

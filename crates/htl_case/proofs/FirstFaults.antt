@@ -7,10 +7,10 @@ use Rattle.std.proofs.lemmas.Option.{same_Some, slice_get_within, get_or_from_sl
 use Rattle.htl_case.specs.declared.step.Step.{Step}
 use Rattle.htl_case.specs.declared.fault.PlayFault.{PlayFault}
 use Rattle.htl_case.specs.declared.fault.PlayFault.TheVariants.{NoAnalyst, NoSegment, NoMemory}
-use Rattle.htl_case.specs.Faults.{IsLeast}
+use Rattle.htl_case.specs.Faults.{IsLeastSuch}
 use Rattle.htl_case.specs.Plays.{HasAt, NamesNoAnalyst, NamesNoSegment, IsFaulty, NoneIsFaulty, IsPlayRefusal}
 
-one_least : (P : ℕ → Type 0) (i j : ℕ) → IsLeast ◌<◌ P i → IsLeast ◌<◌ P j → i ≡ j
+one_least : (P : ℕ → Type 0) (i j : ℕ) → IsLeastSuch ◌<◌ P i → IsLeastSuch ◌<◌ P j → i ≡ j
 one_least P i j a b =
     elim (cases_eq i j) [
       | inl e ↦ e
@@ -21,7 +21,7 @@ one_least P i j a b =
     ]
 
 module _ (n m : ℕ) (steps : List Step) where
-  one_place : (i j : ℕ) → IsLeast ◌<◌ (HasAt (IsFaulty n m) steps) i → IsLeast ◌<◌ (HasAt (IsFaulty n m) steps) j → i ≡ j
+  one_place : (i j : ℕ) → IsLeastSuch ◌<◌ (HasAt (IsFaulty n m) steps) i → IsLeastSuch ◌<◌ (HasAt (IsFaulty n m) steps) j → i ≡ j
   one_place = one_least (HasAt (IsFaulty n m) steps)
 
   pub one_fault : (f g : PlayFault) → f ≢ NoMemory → g ≢ NoMemory → IsPlayRefusal n m steps f → IsPlayRefusal n m steps g → f ≡ g

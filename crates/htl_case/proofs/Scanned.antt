@@ -84,15 +84,6 @@ pub record AreScanned (seen left : List Content) (processor highest : ℕ) : Typ
   pub below : (t : Content) → Contains seen t → t.processor ≤ processor
   pub onward : (t : Content) → Contains left t → processor ≤ t.processor
 
-pub none_scanned : (ss : List Content) → AreScanned [] ss 0 0
-none_scanned ss = record {
-  none = λ key falls. Contains-nil falls.segment falls.has_segment;
-  bound = λ t f h. absurd (Contains-nil t h);
-  reached = inl refl;
-  below = λ t h. absurd (Contains-nil t h);
-  onward = λ t h. omega arith;
-}
-
 -- what the next segment's sequences have to be above: the highest of its processor
 record IsFloor (seen : List Content) (processor floor : ℕ) : Type 0 where
   pub bound : (t : Content) (f : Event) → Contains seen t → t.processor ≡ processor → Contains t.events f → f.sequence ≤ floor

@@ -1,8 +1,9 @@
 -- The runs of all processors folded, one after another.
 use Rattle.std.proofs.Common.{◌≡◌, ℕ, ◌+◌, ◌<◌, ◌≤◌, List, ◌++◌, length, take, drop, slice_set, append-nil, refl, sym, ap, ◌∙◌}
 use Rattle.std.proofs.Common.{subst, arith, inl, inr}
-use Rattle.std.specs.Prelude.{◌↔◌}
+use Rattle.std.specs.Prelude.{Contains, ◌↔◌}
 use Rattle.std.proofs.lemmas.Bool.{cases_eq, cases_lt}
+use Rattle.htl_segment.specs.Content.{Content}
 use Rattle.htl_segment.specs.Traces.{Trace}
 use Rattle.htl_taken.specs.NumberSets.{Has}
 use Rattle.htl_taken.specs.Numbers.{Numbers, numbers_at, no_numbers, settled, reach_of, front_at}
@@ -12,33 +13,35 @@ use Rattle.std.proofs.lemmas.List.{set-get_or}
 use Rattle.htl_segment.specs.Traces.{all_events}
 use Rattle.htl_taken.proofs.Reaching.{reach_from-ge}
 use Rattle.htl_taken.proofs.Numbers.{same_numbers, settled-drop}
-use Rattle.htl_analyst.specs.States.{Lane, lane, no_lane, lane_at, State, state}
-use Rattle.htl_analyst.specs.Keys.{HasTaken}
-use Rattle.htl_analyst.specs.Right.{IsDigestOf, IsState, IsRight, IsStanding}
+use Rattle.htl_analyst.specs.States.{Part, part, no_part, part_at, held_at, State, state}
+use Rattle.htl_analyst.specs.Keys.{HasTaken, number_taken}
+use Rattle.htl_analyst.specs.Right.{IsFolded, IsState, IsRight, IsStanding}
 use Rattle.htl_analyst.specs.StepParts.{run_length, run_of, IsCompactedAt}
-use Rattle.htl_analyst.proofs.Folds.{IsState-compacted, IsRight-compacted, place-compacted, place-compacted_other, HasTaken-compacted}
+use Rattle.htl_analyst.proofs.Counted.{number-compacted}
+use Rattle.htl_analyst.proofs.Folds.{IsState-compacted, IsRight-compacted, place-compacted, place-compacted_other, held-compacted}
+use Rattle.htl_analyst.proofs.Folds.{HasTaken-compacted}
 
 -- an empty run leaves the state as it is
 pub nothing_to_fold : (a : State) (p : ℕ) → IsState a → p < a.processors → run_length a p ≡ 0 → IsCompactedAt a a p
 nothing_to_fold a p is lt none =
     let q : Numbers = numbers_at a.taken p in
-    let k : Lane = lane_at a.lanes p in
+    let k : Part = part_at a.parts p in
     let ge = reach_from-ge q.front q.loose in
     let front : reach_of q ≡ q.front = omega (arith, none, ge) in
     let place : settled q ≡ q =
     same_numbers (settled q) q front (sym (settled-drop q (is.each p lt).proper) ∙ ap (λ (n : ℕ). drop n q.loose) none) in
-    let held : lane (drop (run_length a p) k.held) k.below ≡ k = ap (λ (n : ℕ). lane (drop n k.held) k.below) none in
+    let held : part (drop (run_length a p) k.held) k.folded ≡ k = ap (λ (n : ℕ). part (drop n k.held) k.folded) none in
     record {
-      below = k.below;
+      folded = k.folded;
       is = sym (
           ap (λ (x : Numbers). state a.trace_id a.processors (slice_set a.taken p x)
-          (slice_set a.lanes p (lane (drop (run_length a p) k.held) k.below))) place
-          ∙ ap (λ (x : Lane). state a.trace_id a.processors (slice_set a.taken p q) (slice_set a.lanes p x)) held
-          ∙ ap (λ (ps : List Numbers). state a.trace_id a.processors ps (slice_set a.lanes p k)) (set-get_or a.taken p no_numbers)
-          ∙ ap (λ (ks : List Lane). state a.trace_id a.processors a.taken ks) (set-get_or a.lanes p no_lane));
+          (slice_set a.parts p (part (drop (run_length a p) k.held) k.folded))) place
+          ∙ ap (λ (x : Part). state a.trace_id a.processors (slice_set a.taken p q) (slice_set a.parts p x)) held
+          ∙ ap (λ (ps : List Numbers). state a.trace_id a.processors ps (slice_set a.parts p k)) (set-get_or a.taken p no_numbers)
+          ∙ ap (λ (ks : List Part). state a.trace_id a.processors a.taken ks) (set-get_or a.parts p no_part));
       joins = λ events zero old.
           let empty : events ++ run_of a p ≡ events = ap (λ (n : ℕ). events ++ all_events (take n k.held)) none ∙ append-nil events in
-          subst (IsDigestOf k.below) (sym empty) old;
+          subst (IsFolded k.folded) (sym empty) old;
       bounded = omega arith;
     }
 
@@ -50,6 +53,8 @@ pub record AreCompacted (a b : State) (n : ℕ) : Type 0 where
   pub keys : (p m : ℕ) → HasTaken b p m ↔ HasTaken a p m
   pub right : (T : Trace) → IsRight a T → IsRight b T
   pub fronts : (p : ℕ) → front_at a.taken p ≤ front_at b.taken p
+  pub held : (p : ℕ) (s : Content) → Contains (held_at b.parts p) s → Contains (held_at a.parts p) s
+  pub number : number_taken b ≡ number_taken a
   pub least : (p : ℕ) → p < n → HasTaken b p (front_at b.taken p) → ⊥
 
 pub AreCompacted-none : (a : State) → IsState a → AreCompacted a a 0
@@ -60,6 +65,8 @@ AreCompacted-none a is = record {
   keys = λ p m. (λ h. h, λ h. h);
   right = λ T r. r;
   fronts = λ p. omega arith;
+  held = λ p s h. h;
+  number = refl;
   least = λ p lt. absurd (omega arith);
 }
 
@@ -85,6 +92,8 @@ AreCompacted-more a b d n old lt f = record {
         omega (arith, was, ge, now, then)
     | inr ne ↦ let same = ap (λ (x : Numbers). x.front) (place-compacted_other b d n old.state lt f p ne) in omega (arith, was, same)
   ];
+  held = λ p s h. old.held p s (held-compacted b d n old.state lt f p s h);
+  number = number-compacted b d n old.state lt f ∙ old.number;
   least = λ p below. elim (cases_eq p n) [
     | inl e ↦
         let q : Numbers = numbers_at b.taken n in

@@ -1,7 +1,7 @@
 -- The least of the last folded sequences: what it says of a trace, and that it never falls.
-use Rattle.std.proofs.Common.{◌≡◌, ℕ, ◌+◌, ◌<◌, ◌≤◌, min, ltb, eqb, List, [], ◌∷◌, sym, ap, subst, arith, inl, inr}
+use Rattle.std.proofs.Common.{◌≡◌, ℕ, ◌+◌, ◌<◌, ◌≤◌, min, ltb, eqb, List, [], ◌∷◌, sym, ap, ◌∙◌, subst, arith, inl, inr}
 use Rattle.std.specs.Prelude.{Contains}
-use Rattle.std.proofs.lemmas.Bool.{cases_lt, lt-ltb, ltb-true, and_from, and_parts, eqb-true, eq-eqb}
+use Rattle.std.proofs.lemmas.Bool.{cases_Bool, false≢true, cases_lt, lt-ltb, ltb-true, and_from, and_parts, eqb-true, eq-eqb}
 use Rattle.htl_event.specs.Events.{Event}
 use Rattle.htl_event.specs.Handles.{IsGreatestSequence}
 use Rattle.htl_event.proofs.Members.{Contains-nil, Contains-cases, at_member}
@@ -12,11 +12,14 @@ use Rattle.htl_segment.specs.Keys.{run_below}
 use Rattle.htl_segment.specs.Traces.{Trace}
 use Rattle.htl_segment.proofs.Traces.{members_agree}
 use Rattle.htl_taken.specs.Numbers.{front_at}
-use Rattle.htl_analyst.specs.States.{State, below_at}
+use Rattle.htl_analyst.specs.States.{State, folded_at}
+use Rattle.htl_analyst.specs.Keys.{keys}
+use Rattle.htl_analyst.specs.Laws.{NothingComesLater}
 use Rattle.htl_analyst.specs.Right.{IsRight, run_events}
 use Rattle.htl_analyst.specs.Steps.{IsMerge}
 use Rattle.htl_segment.specs.Rising.{SequencesRise}
-use Rattle.htl_analyst.specs.Moments.{IsLastFolded, IsLeastKept, IsCompleteTo, NothingMissing, NeverFalls}
+use Rattle.htl_analyst.specs.Moments.{IsLastFolded, IsLeastKept, IsLeastLastFolded, NothingMissing, NeverFalls}
+use Rattle.htl_analyst.proofs.KeyEvents.{taken_keys}
 use Rattle.htl_analyst.proofs.Takes.{of_trace}
 
 -- ---- the least of the first n
@@ -56,16 +59,16 @@ LeastOf-more f n old here new least e is =
 
 -- ---- what it says of a trace
 
-pub complete : (T : Trace) (a : State) (n : ℕ) → IsRight a T → IsLeastKept a n → IsCompleteTo T a n
+pub complete : (T : Trace) (a : State) (n : ℕ) → IsRight a T → IsLeastKept a n → IsLeastLastFolded T a n
 complete T a n right kept = record {
   bound = λ p m lt last.
-      let own = (right.each p lt).below.last in
-      let same = IsGreatestSequence-unique (Contains (run_events T p (front_at a.taken p))) (below_at a.lanes p).last_sequence m own last in
+      let own = (right.each p lt).folded.last in
+      let same = IsGreatestSequence-unique (Contains (run_events T p (front_at a.taken p))) (folded_at a.parts p).last_sequence m own last in
       let b = kept.bound p lt in
       omega (arith, b, same);
   processor = kept.processor;
   within = kept.within;
-  reached = subst (λ (m : ℕ). IsLastFolded T a kept.processor m) (sym kept.reached) (right.each kept.processor kept.within).below.last;
+  reached = subst (λ (m : ℕ). IsLastFolded T a kept.processor m) (sym kept.reached) (right.each kept.processor kept.within).folded.last;
 }
 
 -- the events of a segment have sequences above 0
@@ -87,9 +90,9 @@ below_front T p front x h =
 
 pub nothing_missing : (T : Trace) (a : State) (n : ℕ) → IsRight a T → IsLeastKept a n → SequencesRise T.segments → NothingMissing T a n
 nothing_missing T a n right kept rise s h absent e is =
-    let fits = at_member Fits T.segments s right.trace.fit h in
+    let fits = at_member Fits T.segments s right.collection.fit h in
     let lt : s.processor < a.processors = (let f = fits.processor in let c = (of_trace a T right s h).processors in omega (arith, f, c)) in
-    let last = (right.each s.processor lt).below.last in
+    let last = (right.each s.processor lt).folded.last in
     let b = kept.bound s.processor lt in
     let high : front_at a.taken s.processor ≤ s.number = not_below (λ low. absent (inl low)) in
     elim last.reached [
@@ -102,6 +105,18 @@ nothing_missing T a n right kept rise s h absent e is =
     ] where
       not_below : (s.number < front_at a.taken s.processor → ⊥) → front_at a.taken s.processor ≤ s.number
       not_below never = omega (arith, never)
+
+-- what any state has taken at or below the moment, this one has
+pub nothing_comes_later : NothingComesLater
+nothing_comes_later T a b n right rise kept e h le =
+    let r = (members_agree (keys b) T.segments e).0 h in
+    elim (cases_Bool (keys a (r.0).processor (r.0).number)) [
+      | inl taken ↦ (members_agree (keys a) T.segments e).1 (r.0, r.1, taken, r.3)
+      | inr absent ↦
+          let above = nothing_missing T a n right kept rise r.0 r.1
+          (λ has. false≢true (sym absent ∙ taken_keys a (r.0).processor (r.0).number has)) e r.3 in
+          absurd (omega (arith, above, le))
+    ]
 
 -- ---- it never falls
 
@@ -130,9 +145,9 @@ never_falls T a b ra rb rise n m x y =
     let lt : y.processor < a.processors = (let w = y.within in let e = ra.processors in let f = rb.processors in omega (arith, w, e, f)) in
     let low = x.bound y.processor lt in
     let up =
-    last_rises T y.processor (front_at a.taken y.processor) (front_at b.taken y.processor) (below_at a.lanes y.processor).last_sequence
-    (below_at b.lanes y.processor).last_sequence
-    (rise y.processor) (ra.each y.processor lt).below.last (rb.each y.processor y.within).below.last in
+    last_rises T y.processor (front_at a.taken y.processor) (front_at b.taken y.processor) (folded_at a.parts y.processor).last_sequence
+    (folded_at b.parts y.processor).last_sequence
+    (rise y.processor) (ra.each y.processor lt).folded.last (rb.each y.processor y.within).folded.last in
     let r = y.reached in
     omega (arith, low, up, r)
 

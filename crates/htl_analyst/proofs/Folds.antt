@@ -16,15 +16,16 @@ use Rattle.htl_taken.specs.declared.TheConstants.{MAX_FRONT}
 use Rattle.htl_taken.proofs.Reaching.{reach_from-ge, reach_from-le}
 use Rattle.htl_taken.proofs.Rising.{length-Rises}
 use Rattle.htl_taken.proofs.Numbers.{IsProper-settled, Has-settled, settled-drop}
-use Rattle.htl_analyst.specs.States.{Digest, Lane, lane, lane_at, held_at, below_at, State}
+use Rattle.htl_analyst.specs.States.{Folded, Part, part, part_at, held_at, folded_at, State}
 use Rattle.htl_analyst.specs.Keys.{HasTaken}
-use Rattle.htl_analyst.specs.Right.{IsOwned, IsDigestOf, run_events, IsLane, IsState, IsRightAt, IsRight}
+use Rattle.htl_analyst.specs.Right.{IsOwned, IsFolded, run_events, IsPart, IsState, IsRightAt, IsRight}
 use Rattle.htl_analyst.specs.StepParts.{run_length, run_of, settled_with, IsCompactedAt}
 use Rattle.htl_analyst.proofs.Lists.{all-drop, all-take, map-drop, length-take-le}
 use Rattle.htl_analyst.proofs.Held.{number}
 use Rattle.htl_analyst.proofs.Runs.{IsRunFrom, events_of-run, run_taken, run_has}
 use Rattle.htl_analyst.proofs.Fresh.{run_events-0}
-use Rattle.htl_analyst.proofs.Updates.{place-set_same, place-set_other, IsState-updated, IsRight-updated}
+use Rattle.htl_taken.proofs.Members.{Contains-drop}
+use Rattle.htl_analyst.proofs.Updates.{place-set_same, place-set_other, part-set_same, part-set_other, IsState-updated, IsRight-updated}
 
 pub run_reaches : (q : Numbers) → q.front + (reach_of q - q.front) ≡ reach_of q
 run_reaches q = let ge = reach_from-ge q.front q.loose in omega (arith, ge)
@@ -33,13 +34,13 @@ owned_by : (id count p : ℕ) (hs : List Content) → AllByRecursion (IsOwned id
 owned_by id count p hs all = AllByRecursion-weaker (IsOwned id count p) (λ s. s.processor ≡ p) hs (λ s o. o.processor) all
 
 -- the held segments of the run
-pub run_is : (id count p : ℕ) (q : Numbers) (k : Lane) → IsLane id count p q k
+pub run_is : (id count p : ℕ) (q : Numbers) (k : Part) → IsPart id count p q k
     → IsRunFrom p q.front (take (reach_of q - q.front) k.held) × (length (take (reach_of q - q.front) k.held) ≡ reach_of q - q.front)
 run_is id count p q k is =
     run_taken p q.front (reach_of q - q.front) k.held (owned_by id count p k.held is.owned)
     (run_reaches q ∙ ap (λ (ns : List ℕ). reach_from q.front ns) (sym is.numbers))
 
-pub run_within : (id count p : ℕ) (q : Numbers) (k : Lane) → IsLane id count p q k → reach_of q - q.front ≤ length k.held
+pub run_within : (id count p : ℕ) (q : Numbers) (k : Part) → IsPart id count p q k → reach_of q - q.front ≤ length k.held
 run_within id count p q k is =
     let r = (run_is id count p q k is).1 in
     let t = length-take-le (reach_of q - q.front) k.held in
@@ -55,7 +56,7 @@ events_few id count p (h ∷ hs) all =
     omega (arith, ih, here, both)
 
 -- its segments have 4,096 events each at most
-pub run_few : (id count p : ℕ) (q : Numbers) (k : Lane) → IsLane id count p q k
+pub run_few : (id count p : ℕ) (q : Numbers) (k : Part) → IsPart id count p q k
     → length (all_events (take (reach_of q - q.front) k.held)) ≤ 4096 * (reach_of q - q.front)
 run_few id count p q k is =
     let few =
@@ -64,7 +65,7 @@ run_few id count p q k is =
     omega (arith, few, len)
 
 -- so has the run that is read, of so many of the segments held
-pub run_read_few : (a : State) (p run : ℕ) (hs : List Content) (k : Lane) → IsLane a.trace_id a.processors p (numbers_at a.taken p) k
+pub run_read_few : (a : State) (p run : ℕ) (hs : List Content) (k : Part) → IsPart a.trace_id a.processors p (numbers_at a.taken p) k
     → run ≡ run_length a p → hs ≡ k.held → length (all_events (take run hs)) ≤ 4096 * run_length a p
 run_read_few a p run hs k is er eh =
     let few = run_few a.trace_id a.processors p (numbers_at a.taken p) k is in
@@ -73,8 +74,8 @@ run_read_few a p run hs k is er eh =
     omega (arith, few, same)
 
 -- no count outgrows 64 bits
-pub totals_fit : (id count p : ℕ) (q : Numbers) (k : Lane) → IsLane id count p q k
-    → total_count k.below.tree + 4096 * (reach_of q - q.front) < 2 ^ 64
+pub totals_fit : (id count p : ℕ) (q : Numbers) (k : Part) → IsPart id count p q k
+    → total_count k.folded.tree + 4096 * (reach_of q - q.front) < 2 ^ 64
 totals_fit id count p q k is =
     let old = is.bounded in
     let reach = reach_from-le q.front q.loose in
@@ -82,35 +83,35 @@ totals_fit id count p q k is =
     let r = run_reaches q in
     omega (arith, old, reach, high, r)
 
-module _ (a : State) (p : ℕ) (is : IsState a) (lt : p < a.processors) (below : Digest) where
+module _ (a : State) (p : ℕ) (is : IsState a) (lt : p < a.processors) (folded : Folded) where
   abbrev q : Numbers
   q = numbers_at a.taken p
 
   abbrev hs : List Content
-  hs = held_at a.lanes p
+  hs = held_at a.parts p
 
   abbrev k : ℕ
   k = run_length a p
 
-  was : IsLane a.trace_id a.processors p q (lane_at a.lanes p)
+  was : IsPart a.trace_id a.processors p q (part_at a.parts p)
   was = is.each p lt
 
   run : IsRunFrom p q.front (take k hs) × (length (take k hs) ≡ k)
-  run = run_is a.trace_id a.processors p q (lane_at a.lanes p) was
+  run = run_is a.trace_id a.processors p q (part_at a.parts p) was
 
-  settled_lane : total_count below.tree ≤ 4096 * reach_of q → IsLane a.trace_id a.processors p (settled q) (lane (drop k hs) below)
-  settled_lane bounded = record {
+  settled_part : total_count folded.tree ≤ 4096 * reach_of q → IsPart a.trace_id a.processors p (settled q) (part (drop k hs) folded)
+  settled_part bounded = record {
     proper = IsProper-settled q was.proper;
     numbers = map-drop number k hs ∙ ap (drop k) was.numbers ∙ settled-drop q was.proper;
     owned = all-drop (IsOwned a.trace_id a.processors p) k hs was.owned;
     bounded = bounded;
   }
 
-  pub IsState-settled : total_count below.tree ≤ 4096 * reach_of q → IsState (settled_with a p below)
-  IsState-settled bounded = IsState-updated a p (settled q) (lane (drop k hs) below) is lt (settled_lane bounded)
+  pub IsState-settled : total_count folded.tree ≤ 4096 * reach_of q → IsState (settled_with a p folded)
+  IsState-settled bounded = IsState-updated a p (settled q) (part (drop k hs) folded) is lt (settled_part bounded)
 
   module _ (T : Trace) (right : IsRight a T) where
-    old : IsRightAt T p q (lane_at a.lanes p)
+    old : IsRightAt T p q (part_at a.parts p)
     old = right.each p lt
 
     run_in_trace : AllByRecursion (Contains T.segments) (take k hs)
@@ -121,7 +122,7 @@ module _ (a : State) (p : ℕ) (is : IsState a) (lt : p < a.processors) (below :
     grown =
         let e : q.front + length (take k hs) ≡ reach_of q = (let r = run.1 in let s = run_reaches q in omega (arith, r, s)) in
         ap (λ (f : ℕ). run_events T p f) (sym e)
-        ∙ events_of-run T.segments right.trace.in_order p q.front (take k hs) run.0 run_in_trace
+        ∙ events_of-run T.segments right.collection.in_order p q.front (take k hs) run.0 run_in_trace
 
     complete : (n : ℕ) → n < reach_of q → HasKey T p n
     complete n below_reach =
@@ -135,21 +136,21 @@ module _ (a : State) (p : ℕ) (is : IsState a) (lt : p < a.processors) (below :
     none_below : q.front ≡ 0 → run_events T p q.front ≡ []
     none_below e = ap (λ (f : ℕ). run_events T p f) e ∙ run_events-0 p T.segments
 
-    pub IsRight-settled : total_count below.tree ≤ 4096 * reach_of q
-        → ((events : List Event) → (q.front ≡ 0 → events ≡ []) → IsDigestOf (below_at a.lanes p) events
-        → IsDigestOf below (events ++ run_of a p))
-        → IsRight (settled_with a p below) T
+    pub IsRight-settled : total_count folded.tree ≤ 4096 * reach_of q
+        → ((events : List Event) → (q.front ≡ 0 → events ≡ []) → IsFolded (folded_at a.parts p) events
+        → IsFolded folded (events ++ run_of a p))
+        → IsRight (settled_with a p folded) T
     IsRight-settled bounded joins =
-        IsRight-updated a p (settled q) (lane (drop k hs) below) is lt T right (settled_lane bounded) (record {
+        IsRight-updated a p (settled q) (part (drop k hs) folded) is lt T right (settled_part bounded) (record {
           complete = complete;
           held = all-drop (Contains T.segments) k hs old.held;
-          below = subst (IsDigestOf below) (sym grown) (joins (run_events T p q.front) none_below old.below);
+          folded = subst (IsFolded folded) (sym grown) (joins (run_events T p q.front) none_below old.folded);
         })
 
 -- ---- the fold as a step
 
 module _ (a b : State) (p : ℕ) (is : IsState a) (lt : p < a.processors) (f : IsCompactedAt a b p) where
-  bounded : total_count (f.below).tree ≤ 4096 * reach_of (numbers_at a.taken p)
+  bounded : total_count (f.folded).tree ≤ 4096 * reach_of (numbers_at a.taken p)
   bounded =
       let old = (is.each p lt).bounded in
       let new = f.bounded in
@@ -157,16 +158,16 @@ module _ (a b : State) (p : ℕ) (is : IsState a) (lt : p < a.processors) (f : I
       omega (arith, old, new, r)
 
   pub IsState-compacted : IsState b
-  IsState-compacted = subst IsState (sym f.is) (IsState-settled a p is lt f.below bounded)
+  IsState-compacted = subst IsState (sym f.is) (IsState-settled a p is lt f.folded bounded)
 
   pub IsRight-compacted : (T : Trace) → IsRight a T → IsRight b T
-  IsRight-compacted T right = subst (λ (x : State). IsRight x T) (sym f.is) (IsRight-settled a p is lt f.below T right bounded f.joins)
+  IsRight-compacted T right = subst (λ (x : State). IsRight x T) (sym f.is) (IsRight-settled a p is lt f.folded T right bounded f.joins)
 
   in_places : p < length a.taken
   in_places = let e = is.places in omega (arith, e)
 
-  in_lanes : p < length a.lanes
-  in_lanes = let e = is.lanes in omega (arith, e)
+  in_parts : p < length a.parts
+  in_parts = let e = is.parts in omega (arith, e)
 
   pub place-compacted : numbers_at b.taken p ≡ settled (numbers_at a.taken p)
   place-compacted = ap (λ (x : State). numbers_at x.taken p) f.is ∙ place-set_same a.taken p (settled (numbers_at a.taken p)) in_places
@@ -174,6 +175,27 @@ module _ (a b : State) (p : ℕ) (is : IsState a) (lt : p < a.processors) (f : I
   pub place-compacted_other : (r : ℕ) → r ≢ p → numbers_at b.taken r ≡ numbers_at a.taken r
   place-compacted_other r ne =
       ap (λ (x : State). numbers_at x.taken r) f.is ∙ place-set_other a.taken p r (settled (numbers_at a.taken p)) ne
+
+  pub part-compacted : part_at b.parts p ≡ part (drop (run_length a p) (held_at a.parts p)) f.folded
+  part-compacted =
+      ap (λ (x : State). part_at x.parts p) f.is
+      ∙ part-set_same a.parts p (part (drop (run_length a p) (held_at a.parts p)) f.folded) in_parts
+
+  pub part-compacted_other : (r : ℕ) → r ≢ p → part_at b.parts r ≡ part_at a.parts r
+  part-compacted_other r ne =
+      ap (λ (x : State). part_at x.parts r) f.is
+      ∙ part-set_other a.parts p r (part (drop (run_length a p) (held_at a.parts p)) f.folded) ne
+
+  -- what is held was held before
+  pub held-compacted : (r : ℕ) (s : Content) → Contains (held_at b.parts r) s → Contains (held_at a.parts r) s
+  held-compacted r s h =
+      elim (cases_eq r p) [
+        | inl e ↦
+            subst (λ (x : ℕ). Contains (held_at a.parts x) s) (sym e)
+            (Contains-drop (run_length a p) (held_at a.parts p) s
+            (subst (λ (k : Part). Contains k.held s) part-compacted (subst (λ (x : ℕ). Contains (held_at b.parts x) s) e h)))
+        | inr ne ↦ subst (λ (k : Part). Contains k.held s) (part-compacted_other r ne) h
+      ]
 
   pub HasTaken-compacted : (r n : ℕ) → HasTaken b r n ↔ HasTaken a r n
   HasTaken-compacted r n =

@@ -6,13 +6,13 @@ use Rattle.std.proofs.lemmas.Bool.{cases_lt, le-ltb, and_right}
 use Rattle.htl_event.proofs.Members.{Contains-nil}
 use Rattle.htl_segment.specs.Content.{Content}
 use Rattle.htl_segment.specs.Keys.{run_below}
-use Rattle.htl_segment.specs.Traces.{Trace, IsTrace, events_of}
+use Rattle.htl_segment.specs.Traces.{Trace, events_of}
 use Rattle.htl_segment.proofs.Traces.{events_of-skip}
 use Rattle.htl_taken.specs.NumberSets.{Has}
 use Rattle.htl_taken.specs.Numbers.{Numbers, numbers_at, no_numbers}
-use Rattle.htl_analyst.specs.States.{no_lane, no_digest}
+use Rattle.htl_analyst.specs.States.{no_part, no_folded}
 use Rattle.htl_analyst.specs.Keys.{HasTaken}
-use Rattle.htl_analyst.specs.Right.{IsDigestOf, IsLane, IsState, IsRight}
+use Rattle.htl_analyst.specs.Right.{IsCollection, IsFolded, IsPart, IsState, IsRight}
 use Rattle.htl_analyst.specs.Steps.{new_state}
 
 -- a read of a list of one value
@@ -30,37 +30,39 @@ run_events-0 p (s ∷ ss) =
     events_of-skip (run_below p 0) s ss (and_right (eqb s.processor p) (ltb s.number 0) (le-ltb s.number 0 (omega arith)))
     ∙ run_events-0 p ss
 
-pub IsDigestOf-nothing : IsDigestOf no_digest []
-IsDigestOf-nothing = record {
-  tree = λ slot stack. refl;
-  latest = λ process base x h. absurd (Contains-nil x h);
-  marks = λ process. record { bound = λ x h. absurd (Contains-nil x h.0); reached = inl refl };
-  exits = λ process. record { bound = λ x h. absurd (Contains-nil x h.0); reached = inl refl };
+pub IsFolded-nothing : IsFolded no_folded []
+IsFolded-nothing = record {
+  fold = record {
+    tree = λ slot stack. refl;
+    latest = λ process base x h. absurd (Contains-nil x h);
+    mark = λ process. record { bound = λ x h. absurd (Contains-nil x h.0); reached = inl refl };
+    last_exit = λ process. record { bound = λ x h. absurd (Contains-nil x h.0); reached = inl refl };
+  };
   last = record { bound = λ x h. absurd (Contains-nil x h); reached = inl refl };
 }
 
-IsLane-no_lane : (id count p : ℕ) → IsLane id count p no_numbers no_lane
-IsLane-no_lane id count p = record { proper = record { rises = omega arith }; numbers = refl; owned = tt; bounded = omega arith }
+IsPart-no_part : (id count p : ℕ) → IsPart id count p no_numbers no_part
+IsPart-no_part id count p = record { proper = record { rises = omega arith }; numbers = refl; owned = tt; bounded = omega arith }
 
 pub IsState-new : (id n : ℕ) → 0 < n → n ≤ 256 → IsState (new_state id n)
 IsState-new id n some few = record {
   some = some;
   few = few;
   places = length-replicate n no_numbers;
-  lanes = length-replicate n no_lane;
-  each = λ p lt. rw (get_or_any-replicate n p no_numbers, get_or_any-replicate n p no_lane) (IsLane-no_lane id n p);
+  parts = length-replicate n no_part;
+  each = λ p lt. rw (get_or_any-replicate n p no_numbers, get_or_any-replicate n p no_part) (IsPart-no_part id n p);
 }
 
-pub IsRight-new : (T : Trace) (id n : ℕ) → 0 < n → n ≤ 256 → IsTrace T → T.id ≡ id → T.processors ≡ n → IsRight (new_state id n) T
-IsRight-new T id n some few trace ei en = record {
-  trace = trace;
+pub IsRight-new : (T : Trace) (id n : ℕ) → 0 < n → n ≤ 256 → IsCollection T → T.id ≡ id → T.processors ≡ n → IsRight (new_state id n) T
+IsRight-new T id n some few collection ei en = record {
+  collection = collection;
   id = ei;
   processors = en;
   state = IsState-new id n some few;
-  each = λ p lt. rw (get_or_any-replicate n p no_numbers, get_or_any-replicate n p no_lane) (record {
+  each = λ p lt. rw (get_or_any-replicate n p no_numbers, get_or_any-replicate n p no_part) (record {
     complete = λ m below. absurd (omega arith);
     held = tt;
-    below = subst (IsDigestOf no_digest) (sym (run_events-0 p T.segments)) IsDigestOf-nothing;
+    folded = subst (IsFolded no_folded) (sym (run_events-0 p T.segments)) IsFolded-nothing;
   });
 }
 

@@ -5,6 +5,7 @@ use Rattle.std.specs.Prelude.{Contains}
 use Rattle.std.specs.List.{AllByRecursion}
 use Rattle.htl_segment.specs.Content.{Content}
 use Rattle.htl_segment.specs.Traces.{AreInOrder, IsBefore}
+use Rattle.htl_analyst.specs.Laws.{TracesAreCollections}
 use Rattle.htl_taken.specs.Rising.{Rises}
 use Rattle.htl_taken.proofs.Rising.{Rises-member}
 use Rattle.htl_event.proofs.Members.{Contains-nil, Contains-cases, Contains-map, at_member}
@@ -13,6 +14,9 @@ abbrev pub number : Content → ℕ
 number s = s.number
 
 -- ---- in a trace
+
+pub collection_of : TracesAreCollections
+collection_of T trace = record { in_order = trace.in_order; fit = trace.fit; same = trace.same }
 
 keys_differ : (s t : Content) → IsBefore s t → s.processor ≡ t.processor → s.number ≡ t.number → ⊥
 keys_differ s t (inl lt) ep en = omega arith

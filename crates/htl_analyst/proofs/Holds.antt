@@ -8,15 +8,15 @@ use Rattle.htl_segment.specs.Content.{Content}
 use Rattle.htl_taken.specs.Numbers.{Numbers, numbers_at, loose_at, with_loose, settled}
 use Rattle.htl_taken.specs.Rising.{gap_of}
 use Rattle.htl_taken.proofs.Rising.{gap_within}
-use Rattle.htl_analyst.specs.States.{Digest, Lane, lane, no_lane, lane_at, held_at, State, state}
-use Rattle.htl_analyst.specs.Right.{IsLane}
+use Rattle.htl_analyst.specs.States.{Folded, Part, part, no_part, part_at, held_at, State, state}
+use Rattle.htl_analyst.specs.Right.{IsPart}
 use Rattle.htl_analyst.specs.Steps.{with_segment}
 use Rattle.htl_analyst.specs.StepParts.{run_length, settled_with}
 use Rattle.htl_analyst.proofs.Held.{length-numbers}
 
--- the lane that was read is that of the processor
-pub lane_read : (ls : List Lane) (p : ℕ) (now k : Lane) → p < length ls → now ≡ get_or ls p now → k ≡ now → k ≡ lane_at ls p
-lane_read ls p now k lt read is = is ∙ read ∙ get_or_default ls p now no_lane lt
+-- the part that was read is that of the processor
+pub part_read : (ls : List Part) (p : ℕ) (now k : Part) → p < length ls → now ≡ get_or ls p now → k ≡ now → k ≡ part_at ls p
+part_read ls p now k lt read is = is ∙ read ∙ get_or_default ls p now no_part lt
 
 -- a number that wasn't taken is inserted
 pub inserted : (r : Result Bool NoMemory) (old new more : List Numbers) (known : Bool) → is_err r ≡ false
@@ -27,50 +27,50 @@ inserted (Ok false) old new more known e fresh value absent = absurd (false≢tr
 inserted (Err x) old new more known e fresh value absent = cc
 
 -- the gap of a number is inside the held list
-pub gap_inside : (id count p : ℕ) (q : Numbers) (k : Lane) → IsLane id count p q k → (n : ℕ) → gap_of n q.loose ≤ length k.held
+pub gap_inside : (id count p : ℕ) (q : Numbers) (k : Part) → IsPart id count p q k → (n : ℕ) → gap_of n q.loose ≤ length k.held
 gap_inside id count p q k is n =
     let within = gap_within n q.loose in
     let same = ap length is.numbers in
     let len = length-numbers k.held in
     omega (arith, within, same, len)
 
-pub hold_made : (a now : State) (s : Content) (p i n place : ℕ) (read : Lane) (held kept more : List Content) (below : Digest)
+pub hold_made : (a now : State) (s : Content) (p i n place : ℕ) (read : Part) (held kept more : List Content) (folded : Folded)
     (ts : List Numbers)
-    → a ≡ now → p ≡ s.processor → i ≡ p → n ≡ s.number → p < length a.lanes → read ≡ get_or a.lanes i read → lane held below ≡ read
+    → a ≡ now → p ≡ s.processor → i ≡ p → n ≡ s.number → p < length a.parts → read ≡ get_or a.parts i read → part held folded ≡ read
     → place ≡ gap_of n (loose_at a.taken p) → ts ≡ slice_set a.taken p (with_loose (numbers_at a.taken p) n) → kept ≡ held
     → more ≡ insert kept place s
-    → state a.trace_id a.processors ts (slice_set a.lanes i (lane more below)) ≡ with_segment now s
-hold_made a now s p i n place read held kept more below ts ea ep ei en lt er el eg et ek em =
-    let er' : read ≡ get_or a.lanes p read = er ∙ ap (λ (j : ℕ). get_or a.lanes j read) ei in
-    let l : lane held below ≡ lane_at a.lanes p = lane_read a.lanes p read (lane held below) lt er' el in
-    let eheld : held ≡ held_at a.lanes p = ap (λ (k : Lane). k.held) l in
-    let ebelow : below ≡ (lane_at a.lanes p).below = ap (λ (k : Lane). k.below) l in
-    let whole : more ≡ insert (held_at a.lanes p) (gap_of n (loose_at a.taken p)) s =
-    em ∙ ap (λ (ks : List Content). insert ks place s) (ek ∙ eheld) ∙ ap (λ (j : ℕ). insert (held_at a.lanes p) j s) eg in
-    let lanes : slice_set a.lanes i (lane more below) ≡ slice_set a.lanes p
-    (lane (insert (held_at a.lanes p) (gap_of n (loose_at a.taken p)) s) (lane_at a.lanes p).below) =
-    ap (λ (j : ℕ). slice_set a.lanes j (lane more below)) ei
-    ∙ ap (λ (ks : List Content). slice_set a.lanes p (lane ks below)) whole
-    ∙ ap (λ (d : Digest). slice_set a.lanes p (lane (insert (held_at a.lanes p) (gap_of n (loose_at a.taken p)) s) d)) ebelow in
-    ap (λ (us : List Numbers). state a.trace_id a.processors us (slice_set a.lanes i (lane more below))) et
-    ∙ ap (λ (ls : List Lane). state a.trace_id a.processors (slice_set a.taken p (with_loose (numbers_at a.taken p) n)) ls) lanes
+    → state a.trace_id a.processors ts (slice_set a.parts i (part more folded)) ≡ with_segment now s
+hold_made a now s p i n place read held kept more folded ts ea ep ei en lt er el eg et ek em =
+    let er' : read ≡ get_or a.parts p read = er ∙ ap (λ (j : ℕ). get_or a.parts j read) ei in
+    let l : part held folded ≡ part_at a.parts p = part_read a.parts p read (part held folded) lt er' el in
+    let eheld : held ≡ held_at a.parts p = ap (λ (k : Part). k.held) l in
+    let efolded : folded ≡ (part_at a.parts p).folded = ap (λ (k : Part). k.folded) l in
+    let whole : more ≡ insert (held_at a.parts p) (gap_of n (loose_at a.taken p)) s =
+    em ∙ ap (λ (ks : List Content). insert ks place s) (ek ∙ eheld) ∙ ap (λ (j : ℕ). insert (held_at a.parts p) j s) eg in
+    let parts : slice_set a.parts i (part more folded) ≡ slice_set a.parts p
+    (part (insert (held_at a.parts p) (gap_of n (loose_at a.taken p)) s) (part_at a.parts p).folded) =
+    ap (λ (j : ℕ). slice_set a.parts j (part more folded)) ei
+    ∙ ap (λ (ks : List Content). slice_set a.parts p (part ks folded)) whole
+    ∙ ap (λ (d : Folded). slice_set a.parts p (part (insert (held_at a.parts p) (gap_of n (loose_at a.taken p)) s) d)) efolded in
+    ap (λ (us : List Numbers). state a.trace_id a.processors us (slice_set a.parts i (part more folded))) et
+    ∙ ap (λ (ls : List Part). state a.trace_id a.processors (slice_set a.taken p (with_loose (numbers_at a.taken p) n)) ls) parts
     ∙ rw (ep, en) (ap (λ (b : State). with_segment b s) ea)
 
 -- the same for the code that settles
-pub settle_made : (a now : State) (p i run : ℕ) (read : Lane) (held rest : List Content) (old below : Digest) (ts : List Numbers)
-    → a ≡ now → i ≡ p → p < length a.lanes → read ≡ get_or a.lanes i read → lane held old ≡ read → run ≡ run_length now p
+pub settle_made : (a now : State) (p i run : ℕ) (read : Part) (held rest : List Content) (old folded : Folded) (ts : List Numbers)
+    → a ≡ now → i ≡ p → p < length a.parts → read ≡ get_or a.parts i read → part held old ≡ read → run ≡ run_length now p
     → ts ≡ slice_set a.taken p (settled (numbers_at a.taken p)) → rest ≡ drop run held
-    → state a.trace_id a.processors ts (slice_set a.lanes i (lane rest below)) ≡ settled_with now p below
-settle_made a now p i run read held rest old below ts ea ei lt er el ek et eh =
-    let er' : read ≡ get_or a.lanes p read = er ∙ ap (λ (j : ℕ). get_or a.lanes j read) ei in
-    let l : lane held old ≡ lane_at a.lanes p = lane_read a.lanes p read (lane held old) lt er' el in
-    let eheld : held ≡ held_at a.lanes p = ap (λ (k : Lane). k.held) l in
+    → state a.trace_id a.processors ts (slice_set a.parts i (part rest folded)) ≡ settled_with now p folded
+settle_made a now p i run read held rest old folded ts ea ei lt er el ek et eh =
+    let er' : read ≡ get_or a.parts p read = er ∙ ap (λ (j : ℕ). get_or a.parts j read) ei in
+    let l : part held old ≡ part_at a.parts p = part_read a.parts p read (part held old) lt er' el in
+    let eheld : held ≡ held_at a.parts p = ap (λ (k : Part). k.held) l in
     let ek' : run ≡ run_length a p = ek ∙ ap (λ (x : State). run_length x p) (sym ea) in
-    let whole : rest ≡ drop (run_length a p) (held_at a.lanes p) =
-    eh ∙ ap (drop run) eheld ∙ ap (λ (j : ℕ). drop j (held_at a.lanes p)) ek' in
-    ap (λ (us : List Numbers). state a.trace_id a.processors us (slice_set a.lanes i (lane rest below))) et
+    let whole : rest ≡ drop (run_length a p) (held_at a.parts p) =
+    eh ∙ ap (drop run) eheld ∙ ap (λ (j : ℕ). drop j (held_at a.parts p)) ek' in
+    ap (λ (us : List Numbers). state a.trace_id a.processors us (slice_set a.parts i (part rest folded))) et
     ∙ ap (λ (j : ℕ). state a.trace_id a.processors (slice_set a.taken p (settled (numbers_at a.taken p)))
-    (slice_set a.lanes j (lane rest below))) ei
+    (slice_set a.parts j (part rest folded))) ei
     ∙ ap (λ (ks : List Content). state a.trace_id a.processors (slice_set a.taken p (settled (numbers_at a.taken p)))
-    (slice_set a.lanes p (lane ks below))) whole
-    ∙ ap (λ (x : State). settled_with x p below) ea
+    (slice_set a.parts p (part ks folded))) whole
+    ∙ ap (λ (x : State). settled_with x p folded) ea

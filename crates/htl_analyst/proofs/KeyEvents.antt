@@ -20,9 +20,9 @@ use Rattle.htl_taken.specs.declared.TheConstants.{MAX_FRONT}
 use Rattle.htl_taken.specs.Rising.{Rises}
 use Rattle.htl_taken.proofs.Members.{Contains-head}
 use Rattle.htl_taken.proofs.Rising.{Rises-member}
-use Rattle.htl_analyst.specs.States.{lane_at, held_at, State}
+use Rattle.htl_analyst.specs.States.{part_at, held_at, State}
 use Rattle.htl_analyst.specs.Keys.{HasTaken, keys}
-use Rattle.htl_analyst.specs.Right.{IsOwned, run_events, IsLane, IsRight}
+use Rattle.htl_analyst.specs.Right.{IsOwned, run_events, IsPart, IsRight}
 use Rattle.htl_analyst.specs.Laws.{Agree}
 use Rattle.htl_analyst.proofs.Held.{number, one_segment}
 
@@ -162,7 +162,7 @@ module _ (T : Trace) (a : State) (right : IsRight a T) (p : ℕ) (lt : p < a.pro
   q = numbers_at a.taken p
 
   abbrev held : List Content
-  held = held_at a.lanes p
+  held = held_at a.parts p
 
   abbrev ss : List Content
   ss = T.segments
@@ -173,7 +173,7 @@ module _ (T : Trace) (a : State) (right : IsRight a T) (p : ℕ) (lt : p < a.pro
   abbrev rest : List Content
   rest = filter (key_is_in (from_on (p + 1) (keys a))) ss
 
-  is : IsLane a.trace_id a.processors p q (lane_at a.lanes p)
+  is : IsPart a.trace_id a.processors p q (part_at a.parts p)
   is = right.state.each p lt
 
   owner : (s : Content) → Contains held s → s.processor ≡ p
@@ -202,7 +202,7 @@ module _ (T : Trace) (a : State) (right : IsRight a T) (p : ℕ) (lt : p < a.pro
       append_ordered held rest
       (held_ordered p q.front MAX_FRONT held (subst (Rises q.front MAX_FRONT) (sym is.numbers) is.proper.rises)
       (each_member (λ s. s.processor ≡ p) held owner))
-      (filter_ordered (key_is_in (from_on (p + 1) (keys a))) ss right.trace.in_order)
+      (filter_ordered (key_is_in (from_on (p + 1) (keys a))) ss right.collection.in_order)
       (λ x y h k. let e = owner x h in let r = in_rest y k in inl (omega (arith, e, r.1)))
 
   after_run : (x y : Content) → Contains run x → Contains (held ++ rest) y → IsBefore x y
@@ -218,13 +218,13 @@ module _ (T : Trace) (a : State) (right : IsRight a T) (p : ℕ) (lt : p < a.pro
 
   whole_ordered : AreInOrder (run ++ (held ++ rest))
   whole_ordered =
-      append_ordered run (held ++ rest) (filter_ordered (key_is_in (run_below p q.front)) ss right.trace.in_order) tail_ordered after_run
+      append_ordered run (held ++ rest) (filter_ordered (key_is_in (run_below p q.front)) ss right.collection.in_order) tail_ordered after_run
 
   -- a segment of a loose number is held
   found : (s : Content) → Contains ss s → s.processor ≡ p → Contains q.loose s.number → Contains held s
   found s h e loose_s =
       let f = Contains-from_map number held s.number (subst (λ (ns : List ℕ). Contains ns s.number) (sym is.numbers) loose_s) in
-      subst (Contains held) (one_segment ss right.trace.in_order f.0 s (in_trace f.0 f.1) h (owner f.0 f.1 ∙ sym e) f.2) f.1
+      subst (Contains held) (one_segment ss right.collection.in_order f.0 s (in_trace f.0 f.1) h (owner f.0 f.1 ∙ sym e) f.2) f.1
 
   into : (s : Content) → Contains (filter (key_is_in (from_on p (keys a))) ss) s → Contains (run ++ (held ++ rest)) s
   into s h =
@@ -270,7 +270,7 @@ module _ (T : Trace) (a : State) (right : IsRight a T) (p : ℕ) (lt : p < a.pro
       (all_events held ++ events_of (from_on (p + 1) (keys a)) ss)
   events_from =
       ap all_events (ordered_same (filter (key_is_in (from_on p (keys a))) ss) (run ++ (held ++ rest))
-      (filter_ordered (key_is_in (from_on p (keys a))) ss right.trace.in_order) whole_ordered into from)
+      (filter_ordered (key_is_in (from_on p (keys a))) ss right.collection.in_order) whole_ordered into from)
       ∙ flat_map-append (λ (s : Content). s.events) run (held ++ rest)
       ∙ ap (λ (es : List Event). run_events T p q.front ++ es) (flat_map-append (λ (s : Content). s.events) held rest)
 
@@ -284,8 +284,8 @@ none_from S p (s ∷ ss) low =
 
 pub events_past : (T : Trace) (a : State) → IsRight a T → (p : ℕ) → a.processors ≤ p → events_of (from_on p (keys a)) T.segments ≡ []
 events_past T a right p le = none_from (keys a) p T.segments (λ s h.
-    let fits = (at_member Fits T.segments s right.trace.fit h).processor in
-    let same = (at_member (λ (x : Content). (x.trace_id ≡ T.id) × (x.processors ≡ T.processors)) T.segments s right.trace.same h).1 in
+    let fits = (at_member Fits T.segments s right.collection.fit h).processor in
+    let same = (at_member (λ (x : Content). (x.trace_id ≡ T.id) × (x.processors ≡ T.processors)) T.segments s right.collection.same h).1 in
     let n = right.processors in
     omega (arith, fits, same, n, le))
 

@@ -4,9 +4,10 @@ pub mod Updates
 pub mod Takes
 pub mod Holds
 pub mod Fresh
-pub mod Digests
+pub mod Joined
 pub mod Runs
 pub mod Folds
+pub mod Counted
 pub mod Compacts
 pub mod Merges
 pub mod United

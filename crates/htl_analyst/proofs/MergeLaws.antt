@@ -13,7 +13,7 @@ use Rattle.htl_analyst.specs.States.{State}
 use Rattle.htl_analyst.specs.Keys.{HasTaken}
 use Rattle.htl_analyst.specs.Right.{IsState, IsRight}
 use Rattle.htl_analyst.specs.Steps.{IsMerge}
-use Rattle.htl_analyst.specs.Laws.{IsCommutative, IsAssociative, IsIdempotent, IsLeast, AreEqualOnceCompacted}
+use Rattle.htl_analyst.specs.Laws.{IsCommutative, IsAssociative, IsIdempotent, IsLeastMerge, AreEqualOnceCompacted}
 use Rattle.htl_analyst.proofs.Merges.{of_one_trace, IsRight-merged, HasTaken-merged}
 use Rattle.htl_analyst.proofs.Determined.{determined}
 
@@ -36,35 +36,34 @@ are_proper a is p =
     ]
 
 pub commutative : IsCommutative
-commutative T a b ab ba ra rb m w =
-    determined T ab ba (right_merged T a b ab ra rb m) (right_merged T b a ba rb ra w)
+commutative T a b ab ba trace ra rb m w =
+    determined T ab ba trace (right_merged T a b ab ra rb m) (right_merged T b a ba rb ra w)
     (sets.commutative a.taken b.taken ab.taken ba.taken (as_many_places T a b ra rb) (are_union a b ab ra.state m)
     (are_union b a ba rb.state w))
 
 pub associative : IsAssociative
-associative T a b c ab bc l r ra rb rc mab mbc ml mr =
+associative T a b c ab bc l r trace ra rb rc mab mbc ml mr =
     let rab = right_merged T a b ab ra rb mab in
     let rbc = right_merged T b c bc rb rc mbc in
-    determined T l r (right_merged T ab c l rab rc ml) (right_merged T a bc r ra rbc mr)
+    determined T l r trace (right_merged T ab c l rab rc ml) (right_merged T a bc r ra rbc mr)
     (sets.associative a.taken b.taken c.taken ab.taken bc.taken l.taken r.taken
     (are_union a b ab ra.state mab) (are_union b c bc rb.state mbc) (are_union ab c l rab.state ml) (are_union a bc r ra.state mr))
 
 pub idempotent : IsIdempotent
-idempotent T a c ra m =
-    determined T c a (right_merged T a a c ra ra m) ra
+idempotent T a c trace ra m =
+    determined T c a trace (right_merged T a a c ra ra m) ra
     (sets.idempotent a.taken c.taken (are_proper a ra.state) (are_union a a c ra.state m))
 
-pub least : IsLeast
+pub least : IsLeastMerge
 least T a b m ra rb is =
     let rm = right_merged T a b m ra rb is in
-    let one = of_one_trace T a b ra rb in
     record {
-      left = record { lower = ra; upper = rm; keys = λ p n h. (HasTaken-merged a b m one is p n).1 (inl h) };
-      right = record { lower = rb; upper = rm; keys = λ p n h. (HasTaken-merged a b m one is p n).1 (inr h) };
+      left = record { lower = ra; upper = rm; keys = λ p n h. (HasTaken-merged a b m is p n).1 (inl h) };
+      right = record { lower = rb; upper = rm; keys = λ p n h. (HasTaken-merged a b m is p n).1 (inr h) };
       least = λ c x y. record {
         lower = rm;
         upper = x.upper;
-        keys = λ p n h. elim ((HasTaken-merged a b m one is p n).0 h) [ inl l ↦ x.keys p n l | inr r ↦ y.keys p n r ];
+        keys = λ p n h. elim ((HasTaken-merged a b m is p n).0 h) [ inl l ↦ x.keys p n l | inr r ↦ y.keys p n r ];
       };
     }
 
@@ -78,7 +77,7 @@ are_settled a absent p =
     ]
 
 pub equal_once_compacted : AreEqualOnceCompacted
-equal_once_compacted T a b sa sb into from =
-    determined T a b sa.right sb.right
+equal_once_compacted T a b trace sa sb into from =
+    determined T a b trace sa.right sb.right
     (sets.determined a.taken b.taken (as_many_places T a b sa.right sb.right) (are_proper a sa.right.state) (are_proper b sb.right.state)
     (are_settled a sa.least) (are_settled b sb.least) (keys_within a.taken b.taken into) (keys_within b.taken a.taken from))

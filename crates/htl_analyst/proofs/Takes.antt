@@ -10,9 +10,9 @@ use Rattle.htl_taken.specs.NumberSets.{Has}
 use Rattle.htl_taken.specs.Numbers.{Numbers, numbers_at, with_loose}
 use Rattle.htl_taken.specs.Rising.{gap_of}
 use Rattle.htl_taken.proofs.Numbers.{IsProper-with_loose, Has-with_loose}
-use Rattle.htl_analyst.specs.States.{Lane, lane, lane_at, held_at, State}
+use Rattle.htl_analyst.specs.States.{Part, part, part_at, held_at, State}
 use Rattle.htl_analyst.specs.Keys.{HasTaken}
-use Rattle.htl_analyst.specs.Right.{IsOwned, IsLane, IsState, IsRight}
+use Rattle.htl_analyst.specs.Right.{IsOwned, IsPart, IsState, IsRight}
 use Rattle.htl_analyst.specs.declared.fault.TakeFault.{TakeFault}
 use Rattle.htl_analyst.specs.declared.fault.TakeFault.TheVariants.{OtherTrace, OtherProcessors, Conflict, NoMemory}
 use Rattle.htl_analyst.specs.Refusals.{HoldsOther, IsOfState, TakeRefused}
@@ -31,17 +31,17 @@ module _ (a : State) (s : Content) (is : IsState a) (fits : Fits s) (of_state : 
   abbrev q : Numbers
   q = numbers_at a.taken s.processor
 
-  abbrev k : Lane
-  k = lane_at a.lanes s.processor
+  abbrev k : Part
+  k = part_at a.parts s.processor
 
-  abbrev with_held : Lane
-  with_held = lane (insert k.held (gap_of s.number q.loose) s) k.below
+  abbrev with_held : Part
+  with_held = part (insert k.held (gap_of s.number q.loose) s) k.folded
 
-  was : IsLane a.trace_id a.processors s.processor q k
+  was : IsPart a.trace_id a.processors s.processor q k
   was = is.each s.processor here
 
-  lane_with : IsLane a.trace_id a.processors s.processor (with_loose q s.number) with_held
-  lane_with =
+  part_with : IsPart a.trace_id a.processors s.processor (with_loose q s.number) with_held
+  part_with =
       let low : s.number < MAX_FRONT = (let le = fits.number in omega (arith, le)) in
       record {
         proper = IsProper-with_loose q s.number was.proper (not_below (λ lt. new (inl lt))) low (λ h. new (inr h));
@@ -55,17 +55,17 @@ module _ (a : State) (s : Content) (is : IsState a) (fits : Fits s) (of_state : 
         not_below never = omega (arith, never)
 
   pub IsState-with_segment : IsState (with_segment a s)
-  IsState-with_segment = IsState-updated a s.processor (with_loose q s.number) with_held is here lane_with
+  IsState-with_segment = IsState-updated a s.processor (with_loose q s.number) with_held is here part_with
 
   pub IsRight-with_segment : (T : Trace) → IsRight a T → Contains T.segments s → IsRight (with_segment a s) T
   IsRight-with_segment T right in_trace =
       let old = right.each s.processor here in
-      IsRight-updated a s.processor (with_loose q s.number) with_held is here T right lane_with
+      IsRight-updated a s.processor (with_loose q s.number) with_held is here T right part_with
       (record {
         complete = old.complete;
         held =
             all-insert (Contains T.segments) k.held (gap_of s.number q.loose) s old.held in_trace;
-        below = old.below;
+        folded = old.folded;
       })
 
   -- the keys with one more
@@ -99,44 +99,44 @@ module _ (a : State) (s : Content) (is : IsState a) (fits : Fits s) (of_state : 
 
 pub of_trace : (a : State) (T : Trace) → IsRight a T → (s : Content) → Contains T.segments s → IsOfState a s
 of_trace a T right s in_trace =
-    let same = at_member (λ (x : Content). (x.trace_id ≡ T.id) × (x.processors ≡ T.processors)) T.segments s right.trace.same in_trace in
+    let same = at_member (λ (x : Content). (x.trace_id ≡ T.id) × (x.processors ≡ T.processors)) T.segments s right.collection.same in_trace in
     record { trace_id = same.0 ∙ right.id; processors = same.1 ∙ right.processors }
 
 pub fits_of_trace : (a : State) (T : Trace) → IsRight a T → (s : Content) → Contains T.segments s → Fits s
-fits_of_trace a T right s in_trace = at_member Fits T.segments s right.trace.fit in_trace
+fits_of_trace a T right s in_trace = at_member Fits T.segments s right.collection.fit in_trace
 
 -- what is held of its key is that segment
 pub agrees : (a : State) (T : Trace) → IsRight a T → (s : Content) → Contains T.segments s → HoldsOther a s → ⊥
 agrees a T right s in_trace other =
     let lt : s.processor < a.processors =
     (let f = (fits_of_trace a T right s in_trace).processor in let e = (of_trace a T right s in_trace).processors in omega (arith, f, e)) in
-    let held = held_at a.lanes s.processor in
+    let held = held_at a.parts s.processor in
     let owned =
     at_member (IsOwned a.trace_id a.processors s.processor) held other.held (right.state.each s.processor lt).owned other.here in
     let there = at_member (Contains T.segments) held other.held (right.each s.processor lt).held other.here in
-    other.other (one_segment T.segments right.trace.in_order other.held s there in_trace owned.processor other.number)
+    other.other (one_segment T.segments right.collection.in_order other.held s there in_trace owned.processor other.number)
 
 -- ---- what is held
 
-pub held_above : (id count p : ℕ) (q : Numbers) (k : Lane) → IsLane id count p q k → (s : Content) → Contains k.held s
+pub held_above : (id count p : ℕ) (q : Numbers) (k : Part) → IsPart id count p q k → (s : Content) → Contains k.held s
     → (q.front ≤ s.number) × (s.number < MAX_FRONT)
 held_above id count p q k is s h =
     Rises-member q.front MAX_FRONT q.loose s.number is.proper.rises
     (subst (λ (ns : List ℕ). Contains ns s.number) is.numbers (Contains-map number k.held s h))
 
-pub held_once : (id count p : ℕ) (q : Numbers) (k : Lane) → IsLane id count p q k → (s t : Content) → Contains k.held s
+pub held_once : (id count p : ℕ) (q : Numbers) (k : Part) → IsPart id count p q k → (s t : Content) → Contains k.held s
     → Contains k.held t → s.number ≡ t.number → s ≡ t
 held_once id count p q k is s t =
     one_held q.front MAX_FRONT k.held (subst (Rises q.front MAX_FRONT) (sym is.numbers) is.proper.rises) s t
 
 -- where no held segment has the number, it isn't loose
-pub not_loose_not_held : (id count p : ℕ) (q : Numbers) (k : Lane) → IsLane id count p q k → (n : ℕ) → (Contains q.loose n → ⊥)
+pub not_loose_not_held : (id count p : ℕ) (q : Numbers) (k : Part) → IsPart id count p q k → (n : ℕ) → (Contains q.loose n → ⊥)
     → (s : Content)
     → Contains k.held s → s.number ≡ n → ⊥
 not_loose_not_held id count p q k is n absent s h e =
     absent (subst (λ (ns : List ℕ). Contains ns n) is.numbers (subst (Contains (map number k.held)) e (Contains-map number k.held s h)))
 
-pub held_few : (id count p : ℕ) (q : Numbers) (k : Lane) → IsLane id count p q k → length k.held ≤ MAX_FRONT
+pub held_few : (id count p : ℕ) (q : Numbers) (k : Part) → IsPart id count p q k → length k.held ≤ MAX_FRONT
 held_few id count p q k is =
     let long = length-Rises q.front MAX_FRONT q.loose is.proper.rises in
     let same = ap length is.numbers in

@@ -1,25 +1,31 @@
--- Laws of states that are right about one trace.
-use Rattle.std.specs.Prelude.{◌≡◌}
-use Rattle.htl_segment.specs.Traces.{Trace, events_of}
+-- Laws of states that are right about the segments of one trace. Where two events may share a sequence, a state
+-- that is right need not be determined, so some laws ask that the sequences differ (`IsTrace`).
+use Rattle.std.specs.Prelude.{◌≡◌, ◌↔◌, ◌⊎◌, ◌≤◌, ℕ, Contains}
+use Rattle.htl_event.specs.Events.{Event}
+use Rattle.htl_segment.specs.Rising.{SequencesRise}
+use Rattle.htl_segment.specs.Traces.{Trace, IsTrace, events_of}
 use Rattle.htl_analyst.specs.States.{State}
-use Rattle.htl_analyst.specs.Keys.{keys}
-use Rattle.htl_analyst.specs.Right.{IsRight, IsStanding, IsWithin, IsBelow}
+use Rattle.htl_analyst.specs.Keys.{keys, HasTaken}
+use Rattle.htl_analyst.specs.Right.{IsCollection, IsRight, IsStanding, KeysAreIn, IsBelow}
 use Rattle.htl_analyst.specs.Same.{IsSame}
 use Rattle.htl_analyst.specs.Steps.{IsMerge}
+use Rattle.htl_analyst.specs.Moments.{IsLeastKept}
+use Rattle.htl_analyst.specs.TakenEvents.{taken_events}
 
 -- fronts and loose numbers determine a state
 abbrev pub IsDetermined : Type 0
-IsDetermined = (T : Trace) (a b : State) → IsRight a T → IsRight b T → a.taken ≡ b.taken → IsSame a b
+IsDetermined = (T : Trace) (a b : State) → IsTrace T → IsRight a T → IsRight b T → a.taken ≡ b.taken → IsSame a b
 
 abbrev pub IsCommutative : Type 0
-IsCommutative = (T : Trace) (a b ab ba : State) → IsRight a T → IsRight b T → IsMerge a b ab → IsMerge b a ba → IsSame ab ba
+IsCommutative = (T : Trace) (a b ab ba : State) → IsTrace T → IsRight a T → IsRight b T
+    → IsMerge a b ab → IsMerge b a ba → IsSame ab ba
 
 abbrev pub IsAssociative : Type 0
-IsAssociative = (T : Trace) (a b c ab bc l r : State) → IsRight a T → IsRight b T → IsRight c T
+IsAssociative = (T : Trace) (a b c ab bc l r : State) → IsTrace T → IsRight a T → IsRight b T → IsRight c T
     → IsMerge a b ab → IsMerge b c bc → IsMerge ab c l → IsMerge a bc r → IsSame l r
 
 abbrev pub IsIdempotent : Type 0
-IsIdempotent = (T : Trace) (a c : State) → IsRight a T → IsMerge a a c → IsSame c a
+IsIdempotent = (T : Trace) (a c : State) → IsTrace T → IsRight a T → IsMerge a a c → IsSame c a
 
 -- the state is above both, and below every state that is above both
 pub record IsLeastAbove (T : Trace) (a b m : State) : Type 0 where
@@ -27,14 +33,29 @@ pub record IsLeastAbove (T : Trace) (a b m : State) : Type 0 where
   pub right : IsBelow T b m
   pub least : (c : State) → IsBelow T a c → IsBelow T b c → IsBelow T m c
 
-abbrev pub IsLeast : Type 0
-IsLeast = (T : Trace) (a b m : State) → IsRight a T → IsRight b T → IsMerge a b m → IsLeastAbove T a b m
+abbrev pub IsLeastMerge : Type 0
+IsLeastMerge = (T : Trace) (a b m : State) → IsRight a T → IsRight b T → IsMerge a b m → IsLeastAbove T a b m
 
 -- standing states with the same keys are the same
 abbrev pub AreEqualOnceCompacted : Type 0
-AreEqualOnceCompacted = (T : Trace) (a b : State) → IsStanding a T → IsStanding b T → IsWithin a b → IsWithin b a → IsSame a b
+AreEqualOnceCompacted = (T : Trace) (a b : State) → IsTrace T → IsStanding a T → IsStanding b T
+    → KeysAreIn a b → KeysAreIn b a → IsSame a b
 
 -- states that the same segments reached have the same events, whose answers every answer is
 abbrev pub Agree : Type 0
-Agree = (T : Trace) (a b : State) → IsRight a T → IsRight b T → IsWithin a b → IsWithin b a
+Agree = (T : Trace) (a b : State) → IsRight a T → IsRight b T → KeysAreIn a b → KeysAreIn b a
     → events_of (keys a) T.segments ≡ events_of (keys b) T.segments
+
+-- the keys of a merge are those of both
+abbrev pub UnitesKeys : Type 0
+UnitesKeys = (a b c : State) → IsMerge a b c → (p n : ℕ) → HasTaken c p n ↔ (HasTaken a p n ⊎ HasTaken b p n)
+
+-- No later take or merge brings an event at or below the moment up to which a state is complete: what any other
+-- state has taken of the trace there, the state has taken.
+abbrev pub NothingComesLater : Type 0
+NothingComesLater = (T : Trace) (a b : State) (n : ℕ) → IsRight a T → SequencesRise T.segments → IsLeastKept a n
+    → (e : Event) → Contains (taken_events T b) e → e.sequence ≤ n → Contains (taken_events T a) e
+
+-- every trace is a collection
+abbrev pub TracesAreCollections : Type 0
+TracesAreCollections = (T : Trace) → IsTrace T → IsCollection T

@@ -6,7 +6,7 @@ pub mod Same
 pub mod Refusals
 pub mod Steps
 pub mod Moments
-pub mod Answers
+pub mod TakenEvents
 pub mod Laws
 -- cited by private contracts alone
 pub mod StepParts

@@ -5,7 +5,7 @@ use Rattle.htl_event.specs.Handles.{IsGreatestSequence}
 use Rattle.htl_segment.specs.Content.{Content}
 use Rattle.htl_segment.specs.Traces.{Trace}
 use Rattle.htl_taken.specs.Numbers.{front_at}
-use Rattle.htl_analyst.specs.States.{State, below_at}
+use Rattle.htl_analyst.specs.States.{State, folded_at}
 use Rattle.htl_analyst.specs.Keys.{HasTaken}
 use Rattle.htl_analyst.specs.Right.{run_events}
 
@@ -15,13 +15,13 @@ IsLastFolded T a p n = IsGreatestSequence (Contains (run_events T p (front_at a.
 
 -- the least, over all processors, of the greatest sequences that the state keeps
 pub record IsLeastKept (a : State) (n : ℕ) : Type 0 where
-  pub bound : (p : ℕ) → p < a.processors → n ≤ (below_at a.lanes p).last_sequence
+  pub bound : (p : ℕ) → p < a.processors → n ≤ (folded_at a.parts p).last_sequence
   pub processor : ℕ
   pub within : processor < a.processors
-  pub reached : n ≡ (below_at a.lanes processor).last_sequence
+  pub reached : n ≡ (folded_at a.parts processor).last_sequence
 
 -- the least, over all processors, of the last folded sequences
-pub record IsCompleteTo (T : Trace) (a : State) (n : ℕ) : Type 0 where
+pub record IsLeastLastFolded (T : Trace) (a : State) (n : ℕ) : Type 0 where
   pub bound : (p m : ℕ) → p < a.processors → IsLastFolded T a p m → n ≤ m
   pub processor : ℕ
   pub within : processor < a.processors

@@ -12,7 +12,7 @@ use Rattle.htl_analyst.specs.declared.fault.MergeFault.TheVariants as merges
 -- a segment of this key with other content is held
 pub record HoldsOther (a : State) (s : Content) : Type 0 where
   pub held : Content
-  pub here : Contains (held_at a.lanes s.processor) held
+  pub here : Contains (held_at a.parts s.processor) held
   pub number : held.number ≡ s.number
   pub other : held ≢ s
 
@@ -35,7 +35,7 @@ pub record TakeAccepted (a : State) (s : Content) : Type 0 where
 -- both hold a segment of this key, with two contents
 pub record HoldTwo (a b : State) (p n : ℕ) : Type 0 where
   pub segment : Content
-  pub here : Contains (held_at b.lanes p) segment
+  pub here : Contains (held_at b.parts p) segment
   pub number : segment.number ≡ n
   pub other : HoldsOther a segment
 

@@ -1,17 +1,17 @@
 -- When a state is right about a trace.
-use Rattle.std.specs.Prelude.{◌≡◌, ℕ, ◌*◌, ◌<◌, ◌≤◌, List, length, map, Contains}
+use Rattle.std.specs.Prelude.{◌≡◌, ℕ, ◌*◌, ◌<◌, ◌≤◌, List, [], length, map, Contains}
 use Rattle.std.specs.List.{AllByRecursion}
 use Rattle.htl_event.specs.Events.{Event}
-use Rattle.htl_event.specs.Handles.{LatestIs, IsMark, IsLastExit, IsGreatestSequence}
+use Rattle.htl_event.specs.Handles.{IsGreatestSequence}
 use Rattle.htl_segment.specs.Content.{Content, Fits}
 use Rattle.htl_segment.specs.Keys.{run_below}
-use Rattle.htl_segment.specs.Traces.{Trace, IsTrace, HasKey, events_of}
-use Rattle.htl_tree.specs.Trees.{HasTally, total_count}
-use Rattle.htl_tables.specs.Latest.{event_at}
-use Rattle.htl_tables.specs.Greatest.{sequence_at}
+use Rattle.htl_segment.specs.Traces.{Trace, AreInOrder, HasKey, events_of}
+use Rattle.htl_tree.specs.Trees.{total_count}
 use Rattle.htl_taken.specs.Numbers.{Numbers, numbers_at, front_at, IsProper}
-use Rattle.htl_analyst.specs.States.{Digest, Lane, State, lane_at}
+use Rattle.htl_answers.specs.Parts.{IsFoldOf}
+use Rattle.htl_analyst.specs.States.{Folded, Part, part, State, part_at}
 use Rattle.htl_analyst.specs.Keys.{HasTaken}
+use Rattle.htl_analyst.specs.TakenEvents.{contents_of}
 
 -- ---- what every state is, whatever segments it took
 
@@ -23,47 +23,51 @@ pub record IsOwned (id count p : ℕ) (s : Content) : Type 0 where
   pub processor : s.processor ≡ p
 
 -- A segment is held for each loose number, in order, and no other. A segment has 4,096 events at most.
-pub record IsLane (id count p : ℕ) (q : Numbers) (k : Lane) : Type 0 where
+pub record IsPart (id count p : ℕ) (q : Numbers) (k : Part) : Type 0 where
   pub proper : IsProper q
   pub numbers : map (λ s. s.number) k.held ≡ q.loose
   pub owned : AllByRecursion (IsOwned id count p) k.held
-  pub bounded : total_count k.below.tree ≤ 4096 * q.front
+  pub bounded : total_count k.folded.tree ≤ 4096 * q.front
 
 pub record IsState (a : State) : Type 0 where
   pub some : 0 < a.processors
   pub few : a.processors ≤ 256
   pub places : length a.taken ≡ a.processors
-  pub lanes : length a.lanes ≡ a.processors
-  pub each : (p : ℕ) → p < a.processors → IsLane a.trace_id a.processors p (numbers_at a.taken p) (lane_at a.lanes p)
+  pub parts : length a.parts ≡ a.processors
+  pub each : (p : ℕ) → p < a.processors → IsPart a.trace_id a.processors p (numbers_at a.taken p) (part_at a.parts p)
 
 -- ---- what is right about a trace
 
--- counts, latest events, marks, last exits and greatest sequence are those of the events
-pub record IsDigestOf (f : Digest) (events : List Event) : Type 0 where
-  pub tree : HasTally f.tree events
-  pub latest : (process base : ℕ) → LatestIs (Contains events) process base (event_at f.latest process base)
-  pub marks : (process : ℕ) → IsMark (Contains events) process (sequence_at f.marks process)
-  pub exits : (process : ℕ) → IsLastExit (Contains events) process (sequence_at f.exits process)
+-- Each key has one segment, which has the trace's id and processor count. A trace is this and has an own
+-- sequence for each event, which nothing that takes segments can test.
+pub record IsCollection (T : Trace) : Type 0 where
+  pub in_order : AreInOrder T.segments
+  pub fit : AllByRecursion Fits T.segments
+  pub same : AllByRecursion (λ s. (s.trace_id ≡ T.id) × (s.processors ≡ T.processors)) T.segments
+
+-- what was folded is what an answer takes for a fold of the events, with their greatest sequence
+pub record IsFolded (f : Folded) (events : List Event) : Type 0 where
+  pub fold : IsFoldOf (contents_of (part [] f)) events
   pub last : IsGreatestSequence (Contains events) f.last_sequence
 
 -- the events of a processor's segments below a front
 abbrev pub run_events : Trace → ℕ → ℕ → List Event
 run_events T p front = events_of (run_below p front) T.segments
 
-pub record IsRightAt (T : Trace) (p : ℕ) (q : Numbers) (k : Lane) : Type 0 where
+pub record IsRightAt (T : Trace) (p : ℕ) (q : Numbers) (k : Part) : Type 0 where
   pub complete : (n : ℕ) → n < q.front → HasKey T p n
   pub held : AllByRecursion (Contains T.segments) k.held
-  pub below : IsDigestOf k.below (run_events T p q.front)
+  pub folded : IsFolded k.folded (run_events T p q.front)
 
--- Right about a trace: it has the trace's id and processor count, all numbers below the fronts are numbers
--- of the trace's segments, what is held are segments of the trace, and what was folded is a digest of
--- the events below the front.
+-- Right about the segments of a trace: the state has the trace's id and processor count, all numbers below the
+-- fronts are numbers of its segments, what is held are segments of it, and what was folded are the events below
+-- the front. Whether sequences differ is no part of it.
 pub record IsRight (a : State) (T : Trace) : Type 0 where
-  pub trace : IsTrace T
+  pub collection : IsCollection T
   pub id : T.id ≡ a.trace_id
   pub processors : T.processors ≡ a.processors
   pub state : IsState a
-  pub each : (p : ℕ) → p < a.processors → IsRightAt T p (numbers_at a.taken p) (lane_at a.lanes p)
+  pub each : (p : ℕ) → p < a.processors → IsRightAt T p (numbers_at a.taken p) (part_at a.parts p)
 
 -- Standing state: right, and each front is the least number that wasn't taken.
 pub record IsStanding (a : State) (T : Trace) : Type 0 where
@@ -71,11 +75,11 @@ pub record IsStanding (a : State) (T : Trace) : Type 0 where
   pub least : (p : ℕ) → HasTaken a p (front_at a.taken p) → ⊥
 
 -- every key of the one is a key of the other
-abbrev pub IsWithin : State → State → Type 0
-IsWithin a b = (p n : ℕ) → HasTaken a p n → HasTaken b p n
+abbrev pub KeysAreIn : State → State → Type 0
+KeysAreIn a b = (p n : ℕ) → HasTaken a p n → HasTaken b p n
 
 -- Order of states: both are right about the trace, and the other has all keys of the one.
 pub record IsBelow (T : Trace) (a b : State) : Type 0 where
   pub lower : IsRight a T
   pub upper : IsRight b T
-  pub keys : IsWithin a b
+  pub keys : KeysAreIn a b

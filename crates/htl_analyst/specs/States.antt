@@ -7,47 +7,47 @@ use Rattle.htl_taken.specs.Numbers.{Numbers}
 
 -- What is left of the segments of one processor that were folded: counts by stack, the latest event of
 -- each handle, snapshot marks and last exits of each process, and the greatest sequence.
-pub record Digest : Type 0 where
+pub record Folded : Type 0 where
   pub tree : Tree
   pub latest : List Event
   pub marks : List (ℕ × ℕ)
   pub exits : List (ℕ × ℕ)
   pub last_sequence : ℕ
 
-abbrev pub digest : Tree → List Event → List (ℕ × ℕ) → List (ℕ × ℕ) → ℕ → Digest
-digest tree latest marks exits last_sequence =
+abbrev pub folded : Tree → List Event → List (ℕ × ℕ) → List (ℕ × ℕ) → ℕ → Folded
+folded tree latest marks exits last_sequence =
     record { tree = tree; latest = latest; marks = marks; exits = exits; last_sequence = last_sequence }
 
-abbrev pub no_digest : Digest
-no_digest = digest [] [] [] [] 0
+abbrev pub no_folded : Folded
+no_folded = folded [] [] [] [] 0
 
 -- what is kept of one processor: the segments of its loose numbers, and what was folded below its front
-pub record Lane : Type 0 where
+pub record Part : Type 0 where
   pub held : List Content
-  pub below : Digest
+  pub folded : Folded
 
-abbrev pub lane : List Content → Digest → Lane
-lane held below = record { held = held; below = below }
+abbrev pub part : List Content → Folded → Part
+part held folded = record { held = held; folded = folded }
 
-abbrev pub no_lane : Lane
-no_lane = lane [] no_digest
+abbrev pub no_part : Part
+no_part = part [] no_folded
 
-abbrev pub lane_at : List Lane → ℕ → Lane
-lane_at lanes p = slice_index_or lanes p no_lane
+abbrev pub part_at : List Part → ℕ → Part
+part_at parts p = slice_index_or parts p no_part
 
-abbrev pub held_at : List Lane → ℕ → List Content
-held_at lanes p = (lane_at lanes p).held
+abbrev pub held_at : List Part → ℕ → List Content
+held_at parts p = (part_at parts p).held
 
-abbrev pub below_at : List Lane → ℕ → Digest
-below_at lanes p = (lane_at lanes p).below
+abbrev pub folded_at : List Part → ℕ → Folded
+folded_at parts p = (part_at parts p).folded
 
--- fronts and loose numbers, and a lane, of each processor
+-- of each processor its fronts and loose numbers, and what is kept of it
 pub record State : Type 0 where
   pub trace_id : ℕ
   pub processors : ℕ
   pub taken : List Numbers
-  pub lanes : List Lane
+  pub parts : List Part
 
-abbrev pub state : ℕ → ℕ → List Numbers → List Lane → State
-state trace_id processors taken lanes =
-    record { trace_id = trace_id; processors = processors; taken = taken; lanes = lanes }
+abbrev pub state : ℕ → ℕ → List Numbers → List Part → State
+state trace_id processors taken parts =
+    record { trace_id = trace_id; processors = processors; taken = taken; parts = parts }

@@ -6,26 +6,26 @@ use Rattle.htl_segment.specs.Content.{Content}
 use Rattle.htl_segment.specs.Traces.{all_events}
 use Rattle.htl_tree.specs.Trees.{total_count}
 use Rattle.htl_taken.specs.Numbers.{Numbers, numbers_at, front_at, reach_of, settled}
-use Rattle.htl_analyst.specs.States.{Digest, Lane, lane, lane_at, held_at, below_at, State}
-use Rattle.htl_analyst.specs.Right.{IsDigestOf}
+use Rattle.htl_analyst.specs.States.{Folded, Part, part, part_at, held_at, folded_at, State}
+use Rattle.htl_analyst.specs.Right.{IsFolded}
 use Rattle.htl_analyst.specs.Steps.{updated}
 
 -- ---- of a merge
 
--- the segments of these loose numbers, from either lane
-pub record IsHeldOfBoth (k l : Lane) (u : Numbers) (held : List Content) : Type 0 where
+-- the segments of these loose numbers, from either part
+pub record IsHeldOfBoth (k l : Part) (u : Numbers) (held : List Content) : Type 0 where
   pub numbers : map (λ s. s.number) held ≡ u.loose
   pub from : AllByRecursion (λ s. Contains k.held s ⊎ Contains l.held s) held
 
--- the first lanes hold what a merge of the two states holds
-pub record AreHeldOfBoth (a b : State) (taken : List Numbers) (lanes : List Lane) (n : ℕ) : Type 0 where
-  pub len : length lanes ≡ n
-  pub each : (p : ℕ) → p < n → IsHeldOfBoth (lane_at a.lanes p) (lane_at b.lanes p) (numbers_at taken p) (held_at lanes p)
+-- the first parts hold what a merge of the two states holds
+pub record AreHeldOfBoth (a b : State) (taken : List Numbers) (parts : List Part) (n : ℕ) : Type 0 where
+  pub len : length parts ≡ n
+  pub each : (p : ℕ) → p < n → IsHeldOfBoth (part_at a.parts p) (part_at b.parts p) (numbers_at taken p) (held_at parts p)
 
--- the first lanes have what the second state has folded where its front is greater
-pub record AreGreaterOf (a b : State) (lanes : List Lane) (n : ℕ) : Type 0 where
-  pub len : length lanes ≡ n
-  pub each : (p : ℕ) → p < n → front_at a.taken p < front_at b.taken p → below_at lanes p ≡ below_at b.lanes p
+-- the first parts have what the second state has folded where its front is greater
+pub record AreGreaterOf (a b : State) (parts : List Part) (n : ℕ) : Type 0 where
+  pub len : length parts ≡ n
+  pub each : (p : ℕ) → p < n → front_at a.taken p < front_at b.taken p → folded_at parts p ≡ folded_at b.parts p
 
 -- ---- of a compaction
 
@@ -35,17 +35,17 @@ run_length a p = reach_of (numbers_at a.taken p) - front_at a.taken p
 
 -- their events
 abbrev pub run_of : State → ℕ → List Event
-run_of a p = all_events (take (run_length a p) (held_at a.lanes p))
+run_of a p = all_events (take (run_length a p) (held_at a.parts p))
 
 -- the front moved to its reach, over what was folded by then
-abbrev pub settled_with : State → ℕ → Digest → State
-settled_with a p below =
-    updated a p (settled (numbers_at a.taken p)) (lane (drop (run_length a p) (held_at a.lanes p)) below)
+abbrev pub settled_with : State → ℕ → Folded → State
+settled_with a p folded =
+    updated a p (settled (numbers_at a.taken p)) (part (drop (run_length a p) (held_at a.parts p)) folded)
 
 -- the run of one processor is folded
 pub record IsCompactedAt (a b : State) (p : ℕ) : Type 0 where
-  pub below : Digest
-  pub is : b ≡ settled_with a p below
-  pub joins : (events : List Event) → (front_at a.taken p ≡ 0 → events ≡ []) → IsDigestOf (below_at a.lanes p) events
-      → IsDigestOf below (events ++ run_of a p)
-  pub bounded : total_count below.tree ≤ total_count (below_at a.lanes p).tree + 4096 * run_length a p
+  pub folded : Folded
+  pub is : b ≡ settled_with a p folded
+  pub joins : (events : List Event) → (front_at a.taken p ≡ 0 → events ≡ []) → IsFolded (folded_at a.parts p) events
+      → IsFolded folded (events ++ run_of a p)
+  pub bounded : total_count folded.tree ≤ total_count (folded_at a.parts p).tree + 4096 * run_length a p

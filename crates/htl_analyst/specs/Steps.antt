@@ -6,16 +6,16 @@ use Rattle.htl_taken.specs.Numbers.{Numbers, no_numbers, numbers_at, loose_at, w
 use Rattle.htl_taken.specs.Rising.{gap_of}
 use Rattle.htl_analyst.specs.declared.fault.Took.{Took}
 use Rattle.htl_analyst.specs.declared.fault.Took.TheVariants.{New, Repeat}
-use Rattle.htl_analyst.specs.States.{Lane, lane, no_lane, lane_at, held_at, below_at, State, state}
+use Rattle.htl_analyst.specs.States.{Part, part, no_part, part_at, held_at, folded_at, State, state}
 
 -- nothing taken
 abbrev pub new_state : ℕ → ℕ → State
 new_state trace_id processors =
-    state trace_id processors (replicate processors no_numbers) (replicate processors no_lane)
+    state trace_id processors (replicate processors no_numbers) (replicate processors no_part)
 
--- one processor's place and lane exchanged
-abbrev pub updated : State → ℕ → Numbers → Lane → State
-updated a p q k = state a.trace_id a.processors (slice_set a.taken p q) (slice_set a.lanes p k)
+-- one processor's place and part exchanged
+abbrev pub updated : State → ℕ → Numbers → Part → State
+updated a p q k = state a.trace_id a.processors (slice_set a.taken p q) (slice_set a.parts p k)
 
 -- ---- taking
 
@@ -23,7 +23,7 @@ updated a p q k = state a.trace_id a.processors (slice_set a.taken p q) (slice_s
 abbrev pub with_segment : State → Content → State
 with_segment a s =
     updated a s.processor (with_loose (numbers_at a.taken s.processor) s.number)
-    (lane (insert (held_at a.lanes s.processor) (gap_of s.number (loose_at a.taken s.processor)) s) (below_at a.lanes s.processor))
+    (part (insert (held_at a.parts s.processor) (gap_of s.number (loose_at a.taken s.processor)) s) (folded_at a.parts s.processor))
 
 -- a repeat changes nothing
 abbrev pub taken_as : Took → State → Content → State
@@ -34,8 +34,8 @@ taken_as Repeat a s = a
 
 -- One processor of a merge: what was folded is that of the greater front, the first state's where both
 -- are equal. The held segments are those of the loose numbers, from either state.
-pub record IsMergedLane (q : Numbers) (k : Lane) (r : Numbers) (l : Lane) (u : Numbers) (m : Lane) : Type 0 where
-  pub below : m.below ≡ (if nat_lt q.front r.front then l.below else k.below)
+pub record IsMergedPart (q : Numbers) (k : Part) (r : Numbers) (l : Part) (u : Numbers) (m : Part) : Type 0 where
+  pub folded : m.folded ≡ (if nat_lt q.front r.front then l.folded else k.folded)
   pub numbers : map (λ s. s.number) m.held ≡ u.loose
   pub from : AllByRecursion (λ s. Contains k.held s ⊎ Contains l.held s) m.held
 
@@ -44,8 +44,8 @@ pub record IsMerge (a b c : State) : Type 0 where
   pub trace_id : c.trace_id ≡ a.trace_id
   pub processors : c.processors ≡ a.processors
   pub places : length c.taken ≡ a.processors
-  pub lanes : length c.lanes ≡ a.processors
+  pub parts : length c.parts ≡ a.processors
   pub taken : (p : ℕ) → IsUnion (numbers_at a.taken p) (numbers_at b.taken p) (numbers_at c.taken p)
   pub each : (p : ℕ) → p < a.processors
-      → IsMergedLane (numbers_at a.taken p) (lane_at a.lanes p) (numbers_at b.taken p) (lane_at b.lanes p)
-      (numbers_at c.taken p) (lane_at c.lanes p)
+      → IsMergedPart (numbers_at a.taken p) (part_at a.parts p) (numbers_at b.taken p) (part_at b.parts p)
+      (numbers_at c.taken p) (part_at c.parts p)

@@ -1,6 +1,6 @@
 //! The analyst: its state, and what it tells of that.
 ghost use Rattle.std.specs.Prelude.{◌≡◌, IfOk, replicate};
-ghost use Rattle.htl_analyst.specs.States.{no_lane};
+ghost use Rattle.htl_analyst.specs.States.{no_part};
 
 use crate::MAX_PROCESSORS;
 use crate::fault::AnalystFault;
@@ -34,14 +34,14 @@ impl<A: Allocator> Model for Analyst<A> {
 impl<A: Allocator> Analyst<A> {
     ghost use Rattle.std.specs.Prelude.{◌≡◌, ◌↔◌, ◌<◌, ℕ, length, sum_by, IsTrue, IfSome, IfNone};
     ghost use Rattle.std.specs.Prelude.{Contains};
-    ghost use Rattle.htl_taken.specs.Numbers.{numbers_at, front_at, size_of};
-    ghost use Rattle.htl_analyst.specs.States.{lane_at, held_at};
-    ghost use Rattle.htl_analyst.specs.Keys.{keys};
-    ghost use Rattle.htl_analyst.specs.Right.{IsLane, IsState, IsRight};
-    ghost use Rattle.htl_analyst.specs.Same.{IsSame, IsSameLane};
+    ghost use Rattle.htl_taken.specs.Numbers.{numbers_at, front_at};
+    ghost use Rattle.htl_analyst.specs.States.{part_at, held_at};
+    ghost use Rattle.htl_analyst.specs.Keys.{keys, number_taken};
+    ghost use Rattle.htl_analyst.specs.Right.{IsPart, IsState, IsRight};
+    ghost use Rattle.htl_analyst.specs.Same.{IsSame, IsSamePart};
     ghost use Rattle.htl_segment.specs.Traces.{Trace};
     ghost use Rattle.htl_segment.specs.Rising.{SequencesRise};
-    ghost use Rattle.htl_analyst.specs.Moments.{IsLeastKept, IsCompleteTo, NothingMissing};
+    ghost use Rattle.htl_analyst.specs.Moments.{IsLeastKept, IsLeastLastFolded, NothingMissing};
 
     /// The number that all segments of the trace share.
     pub fn trace_id(&self) -> u64
@@ -76,7 +76,7 @@ impl<A: Allocator> Analyst<A> {
 
     /// How many segments are held.
     pub fn held(&self) -> u64
-        ensures { result ≡ sum_by (λ k. length k.held) self.now.lanes }
+        ensures { result ≡ sum_by (λ k. length k.held) self.now.parts }
     {
         let mut held = 0;
         for processor in 0..self.processors {
@@ -87,7 +87,7 @@ impl<A: Allocator> Analyst<A> {
 
     /// How many segments were taken.
     pub fn taken(&self) -> u64
-        ensures { result ≡ sum_by size_of self.now.taken }
+        ensures { result ≡ number_taken self.now }
     {
         self.taken.len()
     }
@@ -110,14 +110,14 @@ impl<A: Allocator> Analyst<A> {
     /// processor: the least, over all processors, of the greatest sequences that were folded.
     pub fn complete_to(&self) -> u64
         ensures kept { IsLeastKept self.now result }
-        ensures complete { (T : Trace) → IsRight self.now T → IsCompleteTo T self.now result }
+        ensures complete { (T : Trace) → IsRight self.now T → IsLeastLastFolded T self.now result }
         ensures missing { (T : Trace) → IsRight self.now T → SequencesRise T.segments
             → NothingMissing T self.now result }
     {
         let _some = &self.trace_id;
-        let mut least = self.part(0).below().last_sequence();
+        let mut least = self.part(0).folded().last_sequence();
         for processor in 1..self.processors {
-            least = self.part(processor).below().last_sequence().min(least);
+            least = self.part(processor).folded().last_sequence().min(least);
         }
         least
     }
@@ -126,7 +126,7 @@ impl<A: Allocator> Analyst<A> {
     fn parts_are_same(&self, other: &Analyst<A>) -> bool
         requires { self.now.processors ≡ other.now.processors }
         ensures { IsTrue result ↔ ((p : ℕ) → p < self.now.processors
-            → IsSameLane (lane_at self.now.lanes p) (lane_at other.now.lanes p)) }
+            → IsSamePart (part_at self.now.parts p) (part_at other.now.parts p)) }
     {
         for processor in 0..self.processors {
             if !self.part(processor).same(other.part(processor)) {
@@ -139,8 +139,8 @@ impl<A: Allocator> Analyst<A> {
     /// What is kept of one processor.
     pub(crate) fn part(&self, processor: u16) -> &Part<A>
         requires { processor < self.now.processors }
-        ensures value { result.now ≡ lane_at self.now.lanes processor }
-        ensures lane { IsLane self.now.trace_id self.now.processors processor
+        ensures value { result.now ≡ part_at self.now.parts processor }
+        ensures part { IsPart self.now.trace_id self.now.processors processor
             (numbers_at self.now.taken processor) result.now }
     {
         &self.parts[usize::from(processor)]
@@ -149,8 +149,8 @@ impl<A: Allocator> Analyst<A> {
 
 impl<A: Allocator + Clone> Analyst<A> {
     ghost use Rattle.std.specs.Prelude.{◌≡◌, ◌⊎◌, ◌↔◌, ◌<◌, ℕ, IfOk};
-    ghost use Rattle.htl_segment.specs.Traces.{Trace, IsTrace};
-    ghost use Rattle.htl_analyst.specs.Right.{IsRight};
+    ghost use Rattle.htl_segment.specs.Traces.{Trace};
+    ghost use Rattle.htl_analyst.specs.Right.{IsCollection, IsRight};
     ghost use Rattle.htl_analyst.specs.Keys.{HasTaken};
     ghost use Rattle.htl_analyst.specs.Steps.{new_state};
 
@@ -160,7 +160,7 @@ impl<A: Allocator + Clone> Analyst<A> {
         ensures processors { (result ≡ Err AnalystFault.Processors)
             ↔ ((processors ≡ 0) ⊎ (256 < processors)) }
         ensures keys { IfOk result (λ a. (p n : ℕ) → HasTaken a p n → ⊥) }
-        ensures right { IfOk result (λ a. (T : Trace) → IsTrace T → T.id ≡ trace_id
+        ensures right { IfOk result (λ a. (T : Trace) → IsCollection T → T.id ≡ trace_id
             → T.processors ≡ processors → IsRight a T) }
     {
         if processors == 0 || processors > MAX_PROCESSORS {
@@ -191,7 +191,7 @@ impl<A: Allocator + Clone> Analyst<A> {
 
 /// A part that has nothing for each processor.
 fn no_parts<A: Allocator + Clone>(alloc: A, processors: u16) -> Result<Vec<Part<A>, A>, NoMemory>
-    ensures { IfOk result (λ parts. parts.items ≡ replicate processors no_lane) }
+    ensures { IfOk result (λ parts. parts.items ≡ replicate processors no_part) }
 {
     let mut parts = Vec::with_capacity(alloc.clone()?, usize::from(processors))?;
     for _ in 0..processors {

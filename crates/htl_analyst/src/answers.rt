@@ -10,7 +10,7 @@ use htl_tree::StackTree;
 use std::alloc::{Allocator, Global};
 
 impl<A: Allocator + Clone> answers::Part for Part<A> {
-    ghost use Rattle.htl_analyst.specs.Answers.{contents_of};
+    ghost use Rattle.htl_analyst.specs.TakenEvents.{contents_of};
 
     type Held = Segment;
 
@@ -19,19 +19,19 @@ impl<A: Allocator + Clone> answers::Part for Part<A> {
     ghost contents = { contents_of };
 
     fn tree(&self) -> &StackTree<A> {
-        self.below().tree()
+        self.folded().tree()
     }
 
     fn latest(&self) -> &Latest<A> {
-        self.below().latest()
+        self.folded().latest()
     }
 
     fn marks(&self) -> &Marks<A> {
-        self.below().marks()
+        self.folded().marks()
     }
 
     fn exits(&self) -> &Exits<A> {
-        self.below().exits()
+        self.folded().exits()
     }
 
     fn held(&self) -> &[Segment] {
@@ -46,9 +46,9 @@ impl<A: Allocator + Clone> Analyst<A> {
     ghost use Rattle.htl_event.specs.Handles.{LatestIs, IsMark, IsOutstanding, IsDiff};
     ghost use Rattle.htl_event.specs.Tallies.{under, IsTags, IsBad, IsLeaks, IsStacks};
     ghost use Rattle.htl_tree.specs.Trees.{HasTally};
-    ghost use Rattle.htl_segment.specs.Traces.{Trace};
+    ghost use Rattle.htl_segment.specs.Traces.{Trace, IsTrace};
     ghost use Rattle.htl_analyst.specs.Right.{IsRight};
-    ghost use Rattle.htl_analyst.specs.Answers.{taken_events};
+    ghost use Rattle.htl_analyst.specs.TakenEvents.{taken_events};
 
     /// The latest open or close of the handle's base in the process.
     pub fn latest(&self, process: u32, handle: u32) -> Option<&SharedEvent>
@@ -78,7 +78,7 @@ impl<A: Allocator + Clone> Analyst<A> {
 
     /// The outstanding handles of the process: the events that opened them, by base handle.
     pub fn outstanding(&self, alloc: Global, process: u32) -> Result<Vec<SharedEvent>, NoMemory>
-        ensures { IfOk result (λ rows. (T : Trace) → IsRight self.now T
+        ensures { IfOk result (λ rows. (T : Trace) → IsTrace T → IsRight self.now T
             → IsOutstanding (Contains (taken_events T self.now)) process rows.items) }
     {
         let rows = answers::outstanding(alloc, &self.parts, process)?;
@@ -92,7 +92,7 @@ impl<A: Allocator + Clone> Analyst<A> {
         process: u32,
         since: u64,
     ) -> Result<Vec<SharedEvent>, NoMemory>
-        ensures { IfOk result (λ rows. (T : Trace) → IsRight self.now T
+        ensures { IfOk result (λ rows. (T : Trace) → IsTrace T → IsRight self.now T
             → IsDiff (Contains (taken_events T self.now)) process since rows.items) }
     {
         let rows = answers::diff(alloc, &self.parts, process, since)?;
@@ -122,7 +122,7 @@ impl<A: Allocator + Clone> Analyst<A> {
     /// The stacks that opened outstanding handles of the process, each with their number, the
     /// greatest number first and then in stack order.
     pub fn leaks(&self, alloc: Global, process: u32) -> Result<Vec<(SharedStack, u64)>, NoMemory>
-        ensures { IfOk result (λ rows. (T : Trace) → IsRight self.now T
+        ensures { IfOk result (λ rows. (T : Trace) → IsTrace T → IsRight self.now T
             → IsLeaks (Contains (taken_events T self.now)) process rows.items) }
     {
         let rows = answers::leaks(alloc, &self.parts, process)?;

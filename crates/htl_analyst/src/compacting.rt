@@ -9,14 +9,15 @@ use std::alloc::Allocator;
 
 impl<A: Allocator + Clone> Analyst<A> {
     ghost use Rattle.std.specs.Prelude.{◌≡◌, ◌↔◌, ◌<◌, ◌≤◌, ◌+◌, ◌*◌, ◌++◌, ℕ, List, [], IfOk};
-    ghost use Rattle.std.specs.Prelude.{OnOk, OnErr};
+    ghost use Rattle.std.specs.Prelude.{OnOk, OnErr, Contains};
     ghost use Rattle.htl_event.specs.Events.{Event};
+    ghost use Rattle.htl_segment.specs.Content.{Content};
     ghost use Rattle.htl_segment.specs.Traces.{Trace};
     ghost use Rattle.htl_tree.specs.Trees.{total_count};
     ghost use Rattle.htl_taken.specs.Numbers.{front_at};
-    ghost use Rattle.htl_analyst.specs.States.{below_at};
-    ghost use Rattle.htl_analyst.specs.Keys.{HasTaken};
-    ghost use Rattle.htl_analyst.specs.Right.{IsDigestOf, IsRight, IsStanding};
+    ghost use Rattle.htl_analyst.specs.States.{held_at, folded_at};
+    ghost use Rattle.htl_analyst.specs.Keys.{HasTaken, number_taken};
+    ghost use Rattle.htl_analyst.specs.Right.{IsFolded, IsRight, IsStanding};
     ghost use Rattle.htl_analyst.specs.Moments.{NeverFalls};
     ghost use Rattle.htl_analyst.specs.StepParts.{IsCompactedAt, run_length, run_of, settled_with};
 
@@ -29,6 +30,12 @@ impl<A: Allocator + Clone> Analyst<A> {
             → HasTaken self.new p (front_at self.new.taken p) → ⊥) }
         ensures trace { (self.new.trace_id ≡ self.old.trace_id)
             × (self.new.processors ≡ self.old.processors) }
+        ensures fronts { (p : ℕ) → front_at self.old.taken p ≤ front_at self.new.taken p }
+        ensures held { (p : ℕ) (s : Content) → Contains (held_at self.new.parts p) s
+            → Contains (held_at self.old.parts p) s }
+        ensures number { number_taken self.new ≡ number_taken self.old }
+
+        // A trace that the state is right about.
         ensures right { (T : Trace) → IsRight self.old T → IsRight self.new T }
         ensures standing { OnOk result ((T : Trace) → IsRight self.old T → IsStanding self.new T) }
         ensures never_falls { (T : Trace) → IsRight self.old T → NeverFalls self.old self.new }
@@ -49,8 +56,8 @@ impl<A: Allocator + Clone> Analyst<A> {
         if run == 0 {
             return Ok(());
         }
-        let below = self.folded(processor, run)?;
-        self.settle(processor, run, below);
+        let folded = self.folded(processor, run)?;
+        self.settle(processor, run, folded);
         Ok(())
     }
 
@@ -58,12 +65,12 @@ impl<A: Allocator + Clone> Analyst<A> {
     fn folded(&self, processor: u16, run: usize) -> Result<Folded<A>, NoMemory>
         requires here { processor < self.now.processors }
         requires run { run ≡ run_length self.now processor }
-        ensures joins { IfOk result (λ below. (events : List Event)
+        ensures joins { IfOk result (λ folded. (events : List Event)
             → (front_at self.now.taken processor ≡ 0 → events ≡ [])
-            → IsDigestOf (below_at self.now.lanes processor) events
-            → IsDigestOf below (events ++ run_of self.now processor)) }
-        ensures bounded { IfOk result (λ below. total_count below.tree
-            ≤ total_count (below_at self.now.lanes processor).tree
+            → IsFolded (folded_at self.now.parts processor) events
+            → IsFolded folded (events ++ run_of self.now processor)) }
+        ensures bounded { IfOk result (λ folded. total_count folded.tree
+            ≤ total_count (folded_at self.now.parts processor).tree
             + 4096 * run_length self.now processor) }
     {
         let part = self.part(processor);
@@ -72,22 +79,22 @@ impl<A: Allocator + Clone> Analyst<A> {
         if self.front(processor) == 0 {
             return Ok(newer);
         }
-        let both = part.below().joined(&newer)?;
+        let both = part.folded().joined(&newer)?;
         Ok(both)
     }
 
     /// Moves the front of one processor to its reach, over what was folded by then.
-    fn settle(&mut self, processor: u16, run: usize, below: Folded<A>)
+    fn settle(&mut self, processor: u16, run: usize, folded: Folded<A>)
         requires here { processor < self.old.processors }
         requires run { run ≡ run_length self.old processor }
-        requires bounded { total_count below.tree
-            ≤ total_count (below_at self.old.lanes processor).tree
+        requires bounded { total_count folded.tree
+            ≤ total_count (folded_at self.old.parts processor).tree
             + 4096 * run_length self.old processor }
-        ensures { self.new ≡ settled_with self.old processor below }
+        ensures { self.new ≡ settled_with self.old processor folded }
     {
         self.taken.settle(processor);
         let part = &mut self.parts[usize::from(processor)];
-        part.below = below;
+        part.folded = folded;
         drop_front(&mut part.held, run);
     }
 }

@@ -24,17 +24,17 @@ pub(crate) struct Folded<A: Allocator> {
 }
 
 impl<A: Allocator> Model for Folded<A> {
-    ghost use Rattle.htl_analyst.specs.States.{Digest, digest};
+    ghost use Rattle.htl_analyst.specs.States.{Folded, folded};
 
-    ghost Value = { Digest };
+    ghost Value = { Folded };
 
-    ghost view = { λ f. digest f.tree f.latest f.marks f.exits f.last_sequence };
+    ghost view = { λ f. folded f.tree f.latest f.marks f.exits f.last_sequence };
 }
 
 impl<A: Allocator> Folded<A> {
     ghost use Rattle.std.specs.Prelude.{◌≡◌, ◌↔◌, IsTrue};
     ghost use Rattle.htl_tree.specs.Trees.{total_count};
-    ghost use Rattle.htl_analyst.specs.Same.{IsSameDigest};
+    ghost use Rattle.htl_analyst.specs.Same.{IsSameFolded};
 
     /// The counts of the folded events, by stack.
     pub fn tree(&self) -> &StackTree<A>
@@ -73,7 +73,7 @@ impl<A: Allocator> Folded<A> {
 
     /// Whether both come to the same counts, tables and sequence.
     pub fn same(&self, other: &Folded<A>) -> bool
-        ensures { IsTrue result ↔ IsSameDigest self.now other.now }
+        ensures { IsTrue result ↔ IsSameFolded self.now other.now }
     {
         if self.last_sequence != other.last_sequence {
             return false;
@@ -96,12 +96,12 @@ impl<A: Allocator + Clone> Folded<A> {
     ghost use Rattle.htl_event.specs.Events.{Event};
     ghost use Rattle.htl_segment.specs.Traces.{all_events};
     ghost use Rattle.htl_tree.specs.Trees.{total_count};
-    ghost use Rattle.htl_analyst.specs.States.{no_digest};
-    ghost use Rattle.htl_analyst.specs.Right.{IsDigestOf};
+    ghost use Rattle.htl_analyst.specs.States.{no_folded};
+    ghost use Rattle.htl_analyst.specs.Right.{IsFolded};
 
     /// A fold of no events.
     pub fn new(alloc: A) -> Result<Folded<A>, NoMemory>
-        ensures { IfOk result (λ f. f ≡ no_digest) }
+        ensures { IfOk result (λ f. f ≡ no_folded) }
     {
         Ok(Folded {
             tree: StackTree::new(alloc.clone()?),
@@ -115,7 +115,7 @@ impl<A: Allocator + Clone> Folded<A> {
     /// What the events of the segments come to.
     pub fn of(alloc: A, segments: &[Segment]) -> Result<Folded<A>, NoMemory>
         requires { length (all_events segments.now) < 2 ^ 64 }
-        ensures digest { IfOk result (λ f. IsDigestOf f (all_events segments.now)) }
+        ensures folded { IfOk result (λ f. IsFolded f (all_events segments.now)) }
         ensures bounded { IfOk result (λ f. total_count f.tree ≤ length (all_events segments.now)) }
     {
         Ok(Folded {
@@ -130,9 +130,9 @@ impl<A: Allocator + Clone> Folded<A> {
     /// What both come to.
     pub fn joined(&self, other: &Folded<A>) -> Result<Folded<A>, NoMemory>
         requires { total_count self.now.tree + total_count other.now.tree < 2 ^ 64 }
-        ensures digest { IfOk result (λ f. (events more : List Event)
-            → IsDigestOf self.now events → IsDigestOf other.now more
-            → IsDigestOf f (events ++ more)) }
+        ensures folded { IfOk result (λ f. (events more : List Event)
+            → IsFolded self.now events → IsFolded other.now more
+            → IsFolded f (events ++ more)) }
         ensures bounded { IfOk result (λ f.
             total_count f.tree ≡ total_count self.now.tree + total_count other.now.tree) }
     {

@@ -1,8 +1,15 @@
 //! Laws of analysts that are right about one trace. Each function's contract is the law; none does
-//! anything when it runs.
+//! anything when it runs. Below stands what a caller shows by the clauses of `take` alone.
 
+ghost use Rattle.std.specs.Prelude.{◌≡◌, ◌≤◌, ◌+◌};
+ghost use Rattle.htl_analyst.specs.Keys.{number_taken};
 ghost use Rattle.htl_analyst.specs.Laws.{IsDetermined, IsCommutative, IsAssociative, IsIdempotent};
-ghost use Rattle.htl_analyst.specs.Laws.{IsLeast, AreEqualOnceCompacted, Agree};
+ghost use Rattle.htl_analyst.specs.Laws.{IsLeastMerge, AreEqualOnceCompacted, Agree, UnitesKeys};
+ghost use Rattle.htl_analyst.specs.Laws.{NothingComesLater, TracesAreCollections};
+
+use crate::analyst::Analyst;
+use htl_segment::Segment;
+use std::alloc::Allocator;
 
 /// Fronts and loose numbers determine what an analyst knows.
 pub fn states_are_determined()
@@ -26,7 +33,12 @@ pub fn merge_is_idempotent()
 
 /// A merge is the least state above both.
 pub fn merge_is_least()
-    ensures { IsLeast }
+    ensures { IsLeastMerge }
+{}
+
+/// A merge has the segments of both, and no other.
+pub fn merge_unites_keys()
+    ensures { UnitesKeys }
 {}
 
 /// Analysts that took the same segments are the same once compacted.
@@ -39,3 +51,23 @@ pub fn equal_once_compacted()
 pub fn analysts_agree()
     ensures { Agree }
 {}
+
+/// No later take or merge brings an event at or below the moment up to which an analyst is
+/// complete.
+pub fn nothing_comes_later()
+    ensures { NothingComesLater }
+{}
+
+/// What holds of states that are right about the segments of a collection holds for each trace.
+pub fn traces_are_collections()
+    ensures { TracesAreCollections }
+{}
+
+// A segment that is taken twice counts once at most.
+fn take_twice<A: Allocator>(analyst: &mut Analyst<A>, segment: Segment, again: Segment)
+    requires { again ≡ segment }
+    ensures { number_taken analyst.new ≤ number_taken analyst.old + 1 }
+{
+    let _first = analyst.take(segment);
+    let _second = analyst.take(again);
+}

@@ -1,7 +1,7 @@
 //! Taking over what another analyst knows.
 ghost use Rattle.std.specs.Prelude.{◌≡◌, ℕ, ◌<◌, ◌≤◌, length, nat_lt, if◌then◌else◌};
 ghost use Rattle.htl_taken.specs.Numbers.{front_at};
-ghost use Rattle.htl_analyst.specs.States.{lane, lane_at, held_at, below_at};
+ghost use Rattle.htl_analyst.specs.States.{part, part_at, held_at, folded_at};
 
 use crate::analyst::Analyst;
 use crate::fault::MergeFault;
@@ -79,7 +79,7 @@ impl<A: Allocator + Clone> Analyst<A> {
     ghost use Rattle.std.specs.List.{AllByRecursion};
     ghost use Rattle.htl_segment.specs.Traces.{Trace};
     ghost use Rattle.htl_taken.specs.Numbers.{numbers_at, front_at, loose_at, IsUnion};
-    ghost use Rattle.htl_analyst.specs.States.{lane_at, held_at, below_at};
+    ghost use Rattle.htl_analyst.specs.States.{part_at, held_at, folded_at};
     ghost use Rattle.htl_analyst.specs.Keys.{HasTaken};
     ghost use Rattle.htl_analyst.specs.Right.{IsState, IsRight};
     ghost use Rattle.htl_analyst.specs.Refusals.{MergeRefused, MergeAccepted};
@@ -214,16 +214,16 @@ impl<A: Allocator + Clone> Analyst<A> {
         requires union { IsUnion (numbers_at self.now.taken processor)
             (numbers_at other.now.taken processor)
             (numbers_at taken.now processor) }
-        ensures { IfOk result (λ part. IsHeldOfBoth (lane_at self.now.lanes processor)
-            (lane_at other.now.lanes processor) (numbers_at taken.now processor) part.held) }
+        ensures { IfOk result (λ part. IsHeldOfBoth (part_at self.now.parts processor)
+            (part_at other.now.parts processor) (numbers_at taken.now processor) part.held) }
     {
         let numbers = taken.loose(processor);
         let mut held = Vec::with_capacity(self.parts.allocator().clone()?, numbers.len())?;
         for number in numbers {
             held.push(self.copy_held(other, processor, *number)?)?;
         }
-        let below = Folded::new(self.parts.allocator().clone()?)?;
-        Ok(Part { held, below })
+        let folded = Folded::new(self.parts.allocator().clone()?)?;
+        Ok(Part { held, folded })
     }
 
     /// The segment of a loose number of either side. Where both hold one, the two are equal.
@@ -238,8 +238,8 @@ impl<A: Allocator + Clone> Analyst<A> {
         requires loose { Contains (loose_at self.now.taken processor) number
             ⊎ Contains (loose_at other.now.taken processor) number }
         ensures number { IfOk result (λ s. s.number ≡ number) }
-        ensures from { IfOk result (λ s. Contains (held_at self.now.lanes processor) s
-            ⊎ Contains (held_at other.now.lanes processor) s) }
+        ensures from { IfOk result (λ s. Contains (held_at self.now.parts processor) s
+            ⊎ Contains (held_at other.now.parts processor) s) }
     {
         match self.find_held(processor, number) {
             Some(segment) => segment.copy(),
@@ -271,14 +271,14 @@ impl<A: Allocator + Clone> Analyst<A> {
         requires there { processor < other.now.processors }
         ensures { IfOk result (λ part.
             front_at self.now.taken processor < front_at other.now.taken processor
-            → part.below ≡ below_at other.now.lanes processor) }
+            → part.folded ≡ folded_at other.now.parts processor) }
     {
         let alloc = self.parts.allocator().clone()?;
         if self.front(processor) < other.front(processor) {
-            let below = other.part(processor).below().copy()?;
+            let folded = other.part(processor).folded().copy()?;
             return Ok(Part {
                 held: Vec::new(alloc),
-                below,
+                folded,
             });
         }
         let part = Part::new(alloc)?;
@@ -300,10 +300,10 @@ fn unite<A: Allocator>(
     requires theirs { processors ≤ length theirs.old.items }
     requires incoming { processors ≤ length incoming.old.items }
     ensures len { length incoming.new.items ≡ length incoming.old.items }
-    ensures lanes { (p : ℕ) → p < processors → lane_at incoming.new.items p
-        ≡ lane (held_at incoming.old.items p)
+    ensures parts { (p : ℕ) → p < processors → part_at incoming.new.items p
+        ≡ part (held_at incoming.old.items p)
         (if nat_lt (front_at own_taken.now p) (front_at their_taken.now p)
-        then below_at theirs.old.items p else below_at own.old.items p) }
+        then folded_at theirs.old.items p else folded_at own.old.items p) }
 {
     for processor in 0..processors {
         let place = usize::from(processor);
@@ -324,12 +324,12 @@ fn unite_at<A: Allocator>(
     incoming: &mut Part<A>,
     theirs_is_greater: bool,
 )
-    ensures { incoming.new ≡ lane incoming.old.held
-        (if theirs_is_greater then theirs.old.below else own.old.below) }
+    ensures { incoming.new ≡ part incoming.old.held
+        (if theirs_is_greater then theirs.old.folded else own.old.folded) }
 {
     if theirs_is_greater {
-        incoming.swap_below(theirs);
+        incoming.swap_folded(theirs);
     } else {
-        incoming.swap_below(own);
+        incoming.swap_folded(own);
     }
 }

@@ -10,21 +10,21 @@ use std::mem;
 #[derive(Drop)]
 pub(crate) struct Part<A: Allocator> {
     pub held: Vec<Segment, A>,
-    pub below: Folded<A>,
+    pub folded: Folded<A>,
 }
 
 impl<A: Allocator> Model for Part<A> {
-    ghost use Rattle.htl_analyst.specs.States.{Lane, lane};
+    ghost use Rattle.htl_analyst.specs.States.{Part, part};
 
-    ghost Value = { Lane };
+    ghost Value = { Part };
 
-    ghost view = { λ k. lane k.held.items k.below };
+    ghost view = { λ k. part k.held.items k.folded };
 }
 
 impl<A: Allocator> Part<A> {
     ghost use Rattle.std.specs.Prelude.{◌≡◌, ◌↔◌, IsTrue};
-    ghost use Rattle.htl_analyst.specs.States.{lane};
-    ghost use Rattle.htl_analyst.specs.Same.{IsSameLane};
+    ghost use Rattle.htl_analyst.specs.States.{part};
+    ghost use Rattle.htl_analyst.specs.Same.{IsSamePart};
 
     /// The held segments, in rising order of their numbers.
     pub fn held(&self) -> &[Segment]
@@ -34,42 +34,42 @@ impl<A: Allocator> Part<A> {
     }
 
     /// What was folded below the front.
-    pub fn below(&self) -> &Folded<A>
-        ensures { result.now ≡ self.now.below }
+    pub fn folded(&self) -> &Folded<A>
+        ensures { result.now ≡ self.now.folded }
     {
-        &self.below
+        &self.folded
     }
 
     /// Exchanges what was folded. Each keeps its held segments.
-    pub fn swap_below(&mut self, other: &mut Part<A>)
-        ensures own { self.new ≡ lane self.old.held other.old.below }
-        ensures others { other.new ≡ lane other.old.held self.old.below }
+    pub fn swap_folded(&mut self, other: &mut Part<A>)
+        ensures own { self.new ≡ part self.old.held other.old.folded }
+        ensures others { other.new ≡ part other.old.held self.old.folded }
     {
-        mem::swap(&mut self.below, &mut other.below);
+        mem::swap(&mut self.folded, &mut other.folded);
     }
 
     /// Whether both hold the same segments and have folded the same.
     pub fn same(&self, other: &Part<A>) -> bool
-        ensures { IsTrue result ↔ IsSameLane self.now other.now }
+        ensures { IsTrue result ↔ IsSamePart self.now other.now }
     {
         if !are_same(self.held(), other.held()) {
             return false;
         }
-        self.below.same(&other.below)
+        self.folded.same(&other.folded)
     }
 }
 
 impl<A: Allocator + Clone> Part<A> {
     ghost use Rattle.std.specs.Prelude.{◌≡◌, IfOk};
-    ghost use Rattle.htl_analyst.specs.States.{no_lane};
+    ghost use Rattle.htl_analyst.specs.States.{no_part};
 
     /// A part that has nothing.
     pub fn new(alloc: A) -> Result<Part<A>, NoMemory>
-        ensures { IfOk result (λ part. part ≡ no_lane) }
+        ensures { IfOk result (λ part. part ≡ no_part) }
     {
         Ok(Part {
             held: Vec::new(alloc.clone()?),
-            below: Folded::new(alloc)?,
+            folded: Folded::new(alloc)?,
         })
     }
 
@@ -79,7 +79,7 @@ impl<A: Allocator + Clone> Part<A> {
     {
         Ok(Part {
             held: copies(self.held.allocator().clone()?, &self.held)?,
-            below: self.below.copy()?,
+            folded: self.folded.copy()?,
         })
     }
 }

@@ -23,14 +23,14 @@ impl<A: Allocator> Analyst<A> {
 impl<A: Allocator + Clone> Analyst<A> {
     ghost use Rattle.std.specs.Prelude.{IfOk};
     ghost use Rattle.htl_event.specs.Summaries.{IsProcesses, IsUnbalanced, IsNumberOfObjects};
-    ghost use Rattle.htl_segment.specs.Traces.{Trace};
+    ghost use Rattle.htl_segment.specs.Traces.{Trace, IsTrace};
     ghost use Rattle.htl_analyst.specs.Right.{IsRight};
-    ghost use Rattle.htl_analyst.specs.Answers.{taken_events};
+    ghost use Rattle.htl_analyst.specs.TakenEvents.{taken_events};
 
     /// Each process with an open, a close or a bad reference, the most outstanding handles first
     /// and then by process.
     pub fn processes(&self, alloc: Global) -> Result<Vec<ProcessRow>, NoMemory>
-        ensures { IfOk result (λ rows. (T : Trace) → IsRight self.now T
+        ensures { IfOk result (λ rows. (T : Trace) → IsTrace T → IsRight self.now T
             → IsProcesses (taken_events T self.now) rows.items) }
     {
         let rows = htl_summary::processes(alloc, self.parts.allocator(), &self.parts)?;

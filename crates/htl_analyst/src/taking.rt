@@ -8,13 +8,13 @@ use htl_segment::Segment;
 use std::alloc::Allocator;
 
 impl<A: Allocator> Analyst<A> {
-    ghost use Rattle.std.specs.Prelude.{◌≡◌, ◌≢◌, ◌↔◌, ◌⊎◌, ◌<◌, ℕ, IsTrue, IfOk, IfErr, IfSome};
+    ghost use Rattle.std.specs.Prelude.{◌≡◌, ◌≢◌, ◌↔◌, ◌⊎◌, ◌<◌, ◌+◌, ℕ, IsTrue, IfOk, IfErr, IfSome};
     ghost use Rattle.std.specs.Prelude.{IfNone, OnOk, OnErr, Contains};
     ghost use Rattle.htl_segment.specs.Content.{Content, Fits};
     ghost use Rattle.htl_segment.specs.Traces.{Trace};
     ghost use Rattle.htl_taken.specs.Numbers.{front_at, loose_at};
     ghost use Rattle.htl_analyst.specs.States.{held_at};
-    ghost use Rattle.htl_analyst.specs.Keys.{HasTaken};
+    ghost use Rattle.htl_analyst.specs.Keys.{HasTaken, number_taken};
     ghost use Rattle.htl_analyst.specs.Right.{IsState, IsRight};
     ghost use Rattle.htl_analyst.specs.Refusals.{TakeRefused, TakeAccepted, IsOfState};
     ghost use Rattle.htl_analyst.specs.Steps.{with_segment, taken_as};
@@ -29,6 +29,10 @@ impl<A: Allocator> Analyst<A> {
         ensures new { IfOk result (λ took. (took ≡ Took.New)
             ↔ (HasTaken self.old segment.processor segment.number → ⊥)) }
         ensures state { IfOk result (λ took. self.new ≡ taken_as took self.old segment) }
+        ensures one_more { IfOk result (λ took. took ≡ Took.New
+            → number_taken self.new ≡ number_taken self.old + 1) }
+        // What every analyst's state is, so that callers have it too.
+        ensures is_state { IsState self.new }
 
         ensures accepted { OnOk result (TakeAccepted self.old segment) }
         ensures refused { IfErr result (λ e. TakeRefused self.old segment e.0) }
@@ -87,12 +91,12 @@ impl<A: Allocator> Analyst<A> {
     /// The held segment of this key.
     pub(crate) fn find_held(&self, processor: u16, number: u32) -> Option<&Segment>
         requires { processor < self.now.processors }
-        ensures some { IfSome result (λ s. Contains (held_at self.now.lanes processor) s.now
+        ensures some { IfSome result (λ s. Contains (held_at self.now.parts processor) s.now
             × (s.now.number ≡ number)) }
-        ensures none { IfNone result ((s : Content) → Contains (held_at self.now.lanes processor) s
+        ensures none { IfNone result ((s : Content) → Contains (held_at self.now.parts processor) s
             → s.number ≡ number → ⊥) }
-        ensures one { (s t : Content) → Contains (held_at self.now.lanes processor) s
-            → Contains (held_at self.now.lanes processor) t → s.number ≡ t.number → s ≡ t }
+        ensures one { (s t : Content) → Contains (held_at self.now.parts processor) s
+            → Contains (held_at self.now.parts processor) t → s.number ≡ t.number → s ≡ t }
         ensures taken { IfNone result (HasTaken self.now processor number
             → number < front_at self.now.taken processor) }
         ensures loose { IfNone result (Contains (loose_at self.now.taken processor) number → ⊥) }

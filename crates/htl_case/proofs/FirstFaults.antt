@@ -1,16 +1,16 @@
 -- The first faulty step of a list and its fault are one, and there is none where no step is faulty.
-use Rattle.std.proofs.Common.{◌≡◌, ◌≢◌, ℕ, ◌+◌, ◌<◌, ◌≤◌, List, length, get_or, Some, refl, sym, ap, ◌∙◌, subst, inl, inr}
+use Rattle.std.proofs.Common.{◌≡◌, ◌≢◌, ℕ, ◌+◌, ◌<◌, ◌≤◌, List, length, get_or, refl, sym, ap, ◌∙◌, subst, inl, inr}
 use Rattle.std.proofs.Common.{arith}
 use Rattle.std.specs.Prelude.{slice_get}
 use Rattle.std.proofs.lemmas.Bool.{cases_eq, cases_lt}
-use Rattle.std.proofs.lemmas.Option.{same_Some, slice_get_within, get_or_from_slice_get}
+use Rattle.std.proofs.lemmas.Option.{slice_get_within, get_or_from_slice_get}
 use Rattle.htl_case.specs.declared.step.Step.{Step}
 use Rattle.htl_case.specs.declared.fault.PlayFault.{PlayFault}
 use Rattle.htl_case.specs.declared.fault.PlayFault.TheVariants.{NoAnalyst, NoSegment, NoMemory}
-use Rattle.htl_case.specs.Faults.{IsLeast}
+use Rattle.htl_case.specs.Faults.{IsLeastSuch}
 use Rattle.htl_case.specs.Plays.{HasAt, NamesNoAnalyst, NamesNoSegment, IsFaulty, NoneIsFaulty, IsPlayRefusal}
 
-one_least : (P : ℕ → Type 0) (i j : ℕ) → IsLeast ◌<◌ P i → IsLeast ◌<◌ P j → i ≡ j
+one_least : (P : ℕ → Type 0) (i j : ℕ) → IsLeastSuch ◌<◌ P i → IsLeastSuch ◌<◌ P j → i ≡ j
 one_least P i j a b =
     elim (cases_eq i j) [
       | inl e ↦ e
@@ -21,7 +21,7 @@ one_least P i j a b =
     ]
 
 module _ (n m : ℕ) (steps : List Step) where
-  one_place : (i j : ℕ) → IsLeast ◌<◌ (HasAt (IsFaulty n m) steps) i → IsLeast ◌<◌ (HasAt (IsFaulty n m) steps) j → i ≡ j
+  one_place : (i j : ℕ) → IsLeastSuch ◌<◌ (HasAt (IsFaulty n m) steps) i → IsLeastSuch ◌<◌ (HasAt (IsFaulty n m) steps) j → i ≡ j
   one_place = one_least (HasAt (IsFaulty n m) steps)
 
   pub one_fault : (f g : PlayFault) → f ≢ NoMemory → g ≢ NoMemory → IsPlayRefusal n m steps f → IsPlayRefusal n m steps g → f ≡ g
@@ -61,17 +61,3 @@ module _ (n m : ℕ) (steps : List Step) where
   none_all i all before k faulty =
       let within = slice_get_within steps k faulty.step faulty.here in
       before k (omega arith) faulty
-
-  pub first_no_analyst : (i : ℕ) (step : Step) → NoneBefore i → slice_get steps i ≡ Some step → NamesNoAnalyst n step
-      → IsPlayRefusal n m steps (NoAnalyst i)
-  first_no_analyst i step before at names = (
-    record { step = step; here = at; holds = names },
-    record { holds = record { step = step; here = at; holds = inl names }; least = before },
-  )
-
-  pub first_no_segment : (i : ℕ) (step : Step) → NoneBefore i → slice_get steps i ≡ Some step → (NamesNoAnalyst n step → ⊥)
-      → NamesNoSegment m step → IsPlayRefusal n m steps (NoSegment i)
-  first_no_segment i step before at there names = (
-    (λ h. there (subst (NamesNoAnalyst n) (same_Some h.step step (sym h.here ∙ at)) h.holds)),
-    record { holds = record { step = step; here = at; holds = inr names }; least = before },
-  )

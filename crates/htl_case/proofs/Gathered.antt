@@ -1,10 +1,8 @@
 -- What is gathered from the events of one segment after the other.
-use Rattle.std.proofs.Common.{◌≡◌, ℕ, ◌+◌, ◌<◌, Bool, List, [], ◌∷◌, ◌++◌, length, get_or, map, take, sym, ap, ◌∙◌}
+use Rattle.std.proofs.Common.{◌≡◌, ℕ, ◌+◌, ◌<◌, List, [], ◌∷◌, ◌++◌, length, get_or, map, take, sym, ap, ◌∙◌}
 use Rattle.std.proofs.Common.{append-nil}
-use Rattle.std.specs.Prelude.{filter}
 use Rattle.std.proofs.lemmas.List.{take_more, map-append}
 use Rattle.std.proofs.lemmas.List.Concat.{flat_map-append}
-use Rattle.std.proofs.lemmas.List.Elements.{filter-append}
 use Rattle.htl_event.specs.Events.{Event}
 use Rattle.htl_segment.specs.Content.{Content}
 use Rattle.htl_segment.specs.Traces.{all_events}
@@ -25,11 +23,3 @@ sequences_more ss i s old new lt is so_far more =
     more ∙ ap (λ (xs : List ℕ). xs ++ map sequence_of s.events) so_far
     ∙ sym (map-append sequence_of (all_events (take i ss)) s.events)
     ∙ ap (map sequence_of) (sym (events_more ss i s lt is))
-
-pub filtered_more : (p : Event → Bool) (ss : List Content) (i : ℕ) (s : Content) (old new : List Event) → i < length ss
-    → s ≡ get_or ss i s
-    → old ≡ filter p (all_events (take i ss)) → new ≡ old ++ filter p s.events → new ≡ filter p (all_events (take (i + 1) ss))
-filtered_more p ss i s old new lt is so_far more =
-    more ∙ ap (λ (xs : List Event). xs ++ filter p s.events) so_far
-    ∙ sym (filter-append p (all_events (take i ss)) s.events)
-    ∙ ap (filter p) (sym (events_more ss i s lt is))

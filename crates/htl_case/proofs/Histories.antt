@@ -18,6 +18,7 @@ use Rattle.htl_analyst.specs.Keys.{keys, HasTaken}
 use Rattle.htl_analyst.specs.Right.{IsRight, IsStanding}
 use Rattle.htl_analyst.specs.Steps.{new_state, with_segment, taken_as, IsMerge}
 use Rattle.htl_analyst.proofs.Fresh.{IsRight-new, HasTaken-new}
+use Rattle.htl_analyst.proofs.Held.{collection_of}
 use Rattle.htl_analyst.proofs.KeyEvents.{keys_taken, taken_keys}
 use Rattle.htl_analyst.proofs.Merges.{of_one_trace, IsRight-merged, HasTaken-merged}
 use Rattle.htl_analyst.proofs.Takes.{of_trace, fits_of_trace, IsRight-with_segment, HasTaken-with_segment, repeat_keys}
@@ -116,7 +117,7 @@ merge_right T old other new is right theirs = IsRight-merged old other new (of_o
 merge_keys : (T : Trace) (old other new : State) → IsMerge old other new → IsRight old T → IsRight other T → (p n : ℕ)
     → keys new p n ≡ (keys old p n || keys other p n)
 merge_keys T old other new is right theirs p n =
-    key_united old.taken other.taken new.taken p n (HasTaken-merged old other new (of_one_trace T old other right theirs) is p n)
+    key_united old.taken other.taken new.taken p n (HasTaken-merged old other new is p n)
 
 -- ---- lists of steps
 
@@ -125,7 +126,8 @@ module _ (T : Trace) (trace : IsTrace T) (analysts : ℕ) where
   lead_right [] after begun = λ i a at.
       let new = item_replicated analysts i (new_state T.id T.processors) a
       (subst (λ (states : List State). slice_get states i ≡ Some a) begun.state at) in
-      subst (λ (b : State). IsRight b T) (sym new) (IsRight-new T T.id T.processors begun.some begun.few trace refl refl)
+      subst (λ (b : State). IsRight b T) (sym new) (IsRight-new T T.id T.processors begun.some begun.few (collection_of T trace)
+      refl refl)
   lead_right (Take analyst segment ∷ steps) after lead =
       changed (λ i a. IsRight a T) (λ i a. IsRight a T) analyst (IsTake T segment) lead.0 after lead.2 (lead_right steps lead.0 lead.1)
       (take_right T segment) (λ i a ne right. right)

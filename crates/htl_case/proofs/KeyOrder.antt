@@ -76,9 +76,6 @@ sorted_by_key (s ∷ ss) up =
 -- ---- lists in strict order
 
 -- what is in a list in order is the head, or comes after it
-pub IsBefore-key : (s t : Content) → IsBefore s t → IsKeyBefore (key_of s) (key_of t)
-IsBefore-key s t before = before
-
 pub in_order_differ : (s : Content) (ss : List Content) → AreInOrder (s ∷ ss) → (t : Content) → Contains ss t → s ≡ t → ⊥
 in_order_differ s ss ordered t h same =
     not_itself (key_of s) (subst (λ (x : Content). IsBefore s x) (sym same) (at_member (IsBefore s) ss t ordered.0 h))

@@ -13,7 +13,7 @@ use Rattle.htl_segment.specs.Rising.{IsKeyBefore}
 use Rattle.htl_case.specs.declared.fault.CaseFault.TheVariants.{Empty, OtherTrace, OtherProcessors, TwoContents}
 use Rattle.htl_case.specs.declared.fault.CaseFault.TheVariants.{SequenceTwice, NoMemory, Falling}
 use Rattle.htl_case.specs.Cases.{IsCaseOf}
-use Rattle.htl_case.specs.Faults.{IsLeast, Differs, HasOtherTrace, HasOtherProcessors, HasTwoContents}
+use Rattle.htl_case.specs.Faults.{IsLeastSuch, Differs, HasOtherTrace, HasOtherProcessors, HasTwoContents}
 use Rattle.htl_case.specs.Faults.{HaveOneTrace, HaveOneCount, HaveOneContent, ComesTwice, Falls, IsRefusal, IsOutcome}
 use Rattle.htl_case.specs.Faults.{key_of}
 use Rattle.htl_case.proofs.KeyOrder.{cases_key, not_itself, before_before}
@@ -219,7 +219,7 @@ none_earlier ss NoMemory later lt told b r = b
 
 -- ---- one fault
 
-one_number : (P : ℕ → Type 0) (x y : ℕ) → IsLeast ◌<◌ P x → IsLeast ◌<◌ P y → x ≡ y
+one_number : (P : ℕ → Type 0) (x y : ℕ) → IsLeastSuch ◌<◌ P x → IsLeastSuch ◌<◌ P y → x ≡ y
 one_number P x y a b =
     elim (cases_order x y) [
       | inl same ↦ same
@@ -227,7 +227,7 @@ one_number P x y a b =
       | inr (inr gt) ↦ absurd (a.least y gt b.holds)
     ]
 
-one_key : (P : ℕ × ℕ → Type 0) (x y : ℕ × ℕ) → IsLeast IsKeyBefore P x → IsLeast IsKeyBefore P y → x ≡ y
+one_key : (P : ℕ × ℕ → Type 0) (x y : ℕ × ℕ) → IsLeastSuch IsKeyBefore P x → IsLeastSuch IsKeyBefore P y → x ≡ y
 one_key P x y a b =
     elim (cases_key x y) [
       | inl before ↦ absurd (b.least x before a.holds)

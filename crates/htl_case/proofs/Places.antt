@@ -8,14 +8,14 @@ use Rattle.std.proofs.lemmas.Option.{same_Some, none-some, slice_get-get_or, get
 use Rattle.std.proofs.lemmas.List.Quantifiers.{position-Some}
 use Rattle.std.proofs.lemmas.List.Sums.{fails_before_first}
 use Rattle.htl_segment.specs.Content.{Content}
-use Rattle.htl_case.specs.Faults.{IsLeast, Differs}
+use Rattle.htl_case.specs.Faults.{IsLeastSuch, Differs}
 
 module _ (value : Content → ℕ) (v : ℕ) where
   abbrev other : Content → Bool
   other s = not (value s == v)
 
   pub first_other : (ss : List Content) (first : Content) (place : ℕ) → slice_get ss 0 ≡ Some first → value first ≡ v
-      → position other ss ≡ Some place → IsLeast ◌<◌ (Differs value ss) place
+      → position other ss ≡ Some place → IsLeastSuch ◌<◌ (Differs value ss) place
   first_other ss first place at is found =
       let here = position-Some other ss place first found in
       record {

@@ -9,7 +9,7 @@ use Rattle.htl_segment.specs.Traces.{trace, all_events}
 use Rattle.htl_case.specs.declared.fault.CaseFault.{CaseFault}
 use Rattle.htl_case.specs.Cases.{IsCase, IsCaseOf}
 use Rattle.htl_segment.specs.Rising.{IsKeyBefore}
-use Rattle.htl_case.specs.Faults.{IsLeast, ComesTwice, Falls, AreOfOneTrace, IsRefusal}
+use Rattle.htl_case.specs.Faults.{IsLeastSuch, ComesTwice, Falls, AreOfOneTrace, IsRefusal}
 use Rattle.htl_case.specs.Ordered.{AreOf, IsInOrder, IsTwoContents}
 use Rattle.htl_case.proofs.Scanned.{falls_moved, rise_from_none}
 
@@ -42,7 +42,7 @@ module _ (given ordered : List Content) (id processors : ℕ) (of : AreOf given 
     in_other = two.in_other;
   }
 
-  pub twice_refused : (x : ℕ) → IsLeast ◌<◌ (ComesTwice ordered) x → AreOfOneTrace given × IsLeast ◌<◌ (ComesTwice given) x
+  pub twice_refused : (x : ℕ) → IsLeastSuch ◌<◌ (ComesTwice ordered) x → AreOfOneTrace given × IsLeastSuch ◌<◌ (ComesTwice given) x
   twice_refused x least = (
     of_one_trace,
     record {
@@ -51,8 +51,8 @@ module _ (given ordered : List Content) (id processors : ℕ) (of : AreOf given 
     },
   )
 
-  pub falling_refused : (key : ℕ × ℕ) → ((x : ℕ) → ComesTwice ordered x → ⊥) → IsLeast IsKeyBefore (Falls ordered) key
-      → AreOfOneTrace given × ((x : ℕ) → ComesTwice given x → ⊥) × IsLeast IsKeyBefore (Falls given) key
+  pub falling_refused : (key : ℕ × ℕ) → ((x : ℕ) → ComesTwice ordered x → ⊥) → IsLeastSuch IsKeyBefore (Falls ordered) key
+      → AreOfOneTrace given × ((x : ℕ) → ComesTwice given x → ⊥) × IsLeastSuch IsKeyBefore (Falls given) key
   falling_refused key once least = (
     of_one_trace,
     (λ x two. once x (twice_moved given ordered x (λ s h. (put.members s).1 h) two)),

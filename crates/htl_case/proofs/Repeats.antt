@@ -12,7 +12,7 @@ use Rattle.htl_event.proofs.Members.{each_member}
 use Rattle.htl_segment.specs.Content.{Content}
 use Rattle.htl_segment.specs.Traces.{AreInOrder, IsBefore}
 use Rattle.htl_segment.specs.Rising.{IsKeyBefore}
-use Rattle.htl_case.specs.Faults.{IsLeast, HasTwoContents, HaveOneContent, key_of}
+use Rattle.htl_case.specs.Faults.{IsLeastSuch, HasTwoContents, HaveOneContent, key_of}
 use Rattle.htl_case.specs.Ordered.{AreSorted, same_key, IsInOrder}
 use Rattle.htl_case.proofs.KeyOrder.{same_pair, cases_key, not_itself}
 
@@ -87,7 +87,7 @@ none_lower s ss sorted x h before =
     ]
 
 two_found : (segments : List Content) (s t : Content) (ss : List Content) → key_of t ≡ key_of s → t ≢ s
-    → AreGoneThrough segments (s ∷ t ∷ ss) → IsLeast IsKeyBefore (HasTwoContents segments) (key_of t)
+    → AreGoneThrough segments (s ∷ t ∷ ss) → IsLeastSuch IsKeyBefore (HasTwoContents segments) (key_of t)
 two_found segments s t ss same differ gone = record {
   holds = record {
     one = t;
@@ -120,7 +120,7 @@ gone_more segments rest i last next lt is agree gone =
 
 pub gone_found : (segments rest : List Content) (i : ℕ) (last next : Content) → i < length rest → next ≡ get_or rest i next
     → key_of next ≡ key_of last → next ≢ last
-    → AreGoneThrough segments (last ∷ drop i rest) → IsLeast IsKeyBefore (HasTwoContents segments) (key_of next)
+    → AreGoneThrough segments (last ∷ drop i rest) → IsLeastSuch IsKeyBefore (HasTwoContents segments) (key_of next)
 gone_found segments rest i last next lt is same differ gone =
     two_found segments last next (drop (i + 1) rest) same differ
     (subst (λ (left : List Content). AreGoneThrough segments (last ∷ left)) (next_at rest i next lt is) gone)
@@ -233,7 +233,7 @@ two_moved a b key into two = record {
 }
 
 pub least_moved : (given sorted : List Content) (key : ℕ × ℕ) → IsPermutation given sorted
-    → IsLeast IsKeyBefore (HasTwoContents sorted) key → IsLeast IsKeyBefore (HasTwoContents given) key
+    → IsLeastSuch IsKeyBefore (HasTwoContents sorted) key → IsLeastSuch IsKeyBefore (HasTwoContents given) key
 least_moved given sorted key moved least = record {
   holds = two_moved sorted given key (λ s h. Contains-permutation sorted given s (IsPermutation-sym given sorted moved) h) least.holds;
   least = λ lower before two. least.least lower before

@@ -11,7 +11,7 @@ use Rattle.htl_event.proofs.Members.{Contains-here, Contains-cases, Contains-nil
 use Rattle.htl_segment.specs.Content.{Content, Fits}
 use Rattle.htl_segment.specs.Traces.{AreInOrder, IsBefore}
 use Rattle.htl_segment.specs.Rising.{IsKeyBefore, SequencesRise}
-use Rattle.htl_case.specs.Faults.{IsLeast, Falls, key_of}
+use Rattle.htl_case.specs.Faults.{IsLeastSuch, Falls, key_of}
 use Rattle.htl_case.specs.Sequences.{IsSpan}
 use Rattle.htl_case.proofs.KeyOrder.{not_itself, before_before}
 use Rattle.htl_case.proofs.Spans.{above}
@@ -83,15 +83,6 @@ pub record AreScanned (seen left : List Content) (processor highest : ℕ) : Typ
       (f.sequence ≡ highest))
   pub below : (t : Content) → Contains seen t → t.processor ≤ processor
   pub onward : (t : Content) → Contains left t → processor ≤ t.processor
-
-pub none_scanned : (ss : List Content) → AreScanned [] ss 0 0
-none_scanned ss = record {
-  none = λ key falls. Contains-nil falls.segment falls.has_segment;
-  bound = λ t f h. absurd (Contains-nil t h);
-  reached = inl refl;
-  below = λ t h. absurd (Contains-nil t h);
-  onward = λ t h. omega arith;
-}
 
 -- what the next segment's sequences have to be above: the highest of its processor
 record IsFloor (seen : List Content) (processor floor : ℕ) : Type 0 where
@@ -230,7 +221,7 @@ seen_before seen s left place t h before =
 
 fall_found : (seen : List Content) (s : Content) (left : List Content) (floor first last : ℕ) → IsAmong seen s left
     → IsFloor seen s.processor floor → ((key : ℕ × ℕ) → Falls seen key → ⊥)
-    → Fits s → IsSpan s.events first last → first ≤ floor → IsLeast IsKeyBefore (Falls (seen ++ s ∷ left)) (key_of s)
+    → Fits s → IsSpan s.events first last → first ≤ floor → IsLeastSuch IsKeyBefore (Falls (seen ++ s ∷ left)) (key_of s)
 fall_found seen s left floor first last place low none fit span le = record {
   holds = elim low.reached [
     | inl zero ↦
@@ -319,9 +310,9 @@ module _ (ss : List Content) (ordered : AreInOrder ss) (i : ℕ) (s : Content) (
 
   pub scan_found : (processor highest floor first last : ℕ) → AreScanned (take i ss) (drop i ss) processor highest
       → floor ≡ cond (eqb s.processor processor) highest 0
-      → Fits s → IsSpan s.events first last → first ≤ floor → IsLeast IsKeyBefore (Falls ss) (key_of s)
+      → Fits s → IsSpan s.events first last → first ≤ floor → IsLeastSuch IsKeyBefore (Falls ss) (key_of s)
   scan_found processor highest floor first last scanned floor_is fit span le =
-      subst (λ (all : List Content). IsLeast IsKeyBefore (Falls all) (key_of s)) whole
+      subst (λ (all : List Content). IsLeastSuch IsKeyBefore (Falls all) (key_of s)) whole
       (fall_found (take i ss) s (drop (i + 1) ss) floor first last place (floor_here processor highest floor scanned floor_is)
       scanned.none fit span le)
 

@@ -9,8 +9,10 @@ use Rattle.htl_event.proofs.Members.{Contains-here, Contains-there, at_member, f
 use Rattle.htl_event.proofs.Members.{Contains-from_filter, Contains-map, Contains-from_map}
 use Rattle.htl_segment.specs.Content.{Content, Fits}
 use Rattle.htl_segment.specs.Traces.{Trace, AreInOrder, IsBefore, HasKey, key_is_in}
+use Rattle.htl_taken.specs.NumberSets.{Has}
 use Rattle.htl_taken.specs.Rising.{Rises}
 use Rattle.htl_taken.specs.Numbers.{Numbers, numbers_at, no_numbers, has_number, size_of}
+use Rattle.htl_taken.proofs.NumberSets.{numbers_at-past, Has-no_numbers}
 use Rattle.htl_taken.proofs.Rising.{Rises-member, Rises-same}
 use Rattle.htl_taken.proofs.SetLaws.{counts_numbers}
 use Rattle.htl_analyst.specs.States.{State, held_at}
@@ -98,14 +100,24 @@ module _ (T : Trace) (a : State) (right : IsRight a T) where
   key_there : (p n : ℕ) → p < a.processors → HasTaken a p n → HasKey T p n
   key_there p n lt (inl low) = (right.each p lt).complete n low
   key_there p n lt (inr loose) =
-      let lane = right.state.each p lt in
-      let held = Contains-from_map (λ s. s.number) (held_at a.lanes p) n
-      (subst (λ (ns : List ℕ). Contains ns n) (sym lane.numbers) loose) in (
+      let part = right.state.each p lt in
+      let held = Contains-from_map (λ s. s.number) (held_at a.parts p) n
+      (subst (λ (ns : List ℕ). Contains ns n) (sym part.numbers) loose) in (
         held.0,
-        at_member (Contains T.segments) (held_at a.lanes p) held.0 (right.each p lt).held held.1,
-        (at_member (IsOwned a.trace_id a.processors p) (held_at a.lanes p) held.0 lane.owned held.1).processor,
+        at_member (Contains T.segments) (held_at a.parts p) held.0 (right.each p lt).held held.1,
+        (at_member (IsOwned a.trace_id a.processors p) (held_at a.parts p) held.0 part.owned held.1).processor,
         held.2,
       )
+
+  -- nothing was taken of a processor that isn't there
+  pub key_of_trace : (p n : ℕ) → HasTaken a p n → HasKey T p n
+  key_of_trace p n h =
+      elim (cases_lt p a.processors) [
+        | inl lt ↦ key_there p n lt h
+        | inr past ↦
+            let out : length a.taken ≤ p = (let e = right.state.places in omega (arith, e, past)) in
+            absurd (Has-no_numbers n (subst (λ (q : Numbers). Has q n) (numbers_at-past a.taken p out) h))
+      ]
 
   -- the segments of one processor are as many as its taken numbers
   of_processor : (k : ℕ) → k < a.processors → count_by (at (keys a) k) T.segments ≡ size_of (numbers_at a.taken k)
@@ -143,7 +155,7 @@ module _ (T : Trace) (a : State) (right : IsRight a T) where
         same : map number (filter (at (keys a) k) T.segments) ≡ c.0
         same =
             Rises-same 0 0 c.1 (map number (filter (at (keys a) k) T.segments)) c.0
-            (numbers_rise (keys a) k 0 c.1 T.segments right.trace.in_order
+            (numbers_rise (keys a) k 0 c.1 T.segments right.collection.in_order
             (λ s h pass. Rises-member 0 c.1 c.0 s.number c.2 (listed s pass)) (omega arith)) c.2 into back
 
   up_to : (k : ℕ) → k ≤ a.processors → count_by (below (keys a) k) T.segments ≡ sum_by size_of (take k a.taken)
@@ -166,8 +178,8 @@ module _ (T : Trace) (a : State) (right : IsRight a T) where
       ∙ count_same (below (keys a) a.processors) (key_is_in (keys a)) T.segments within where
         within : (s : Content) → Contains T.segments s → below (keys a) a.processors s ≡ key_is_in (keys a) s
         within s h =
-            let fits = (at_member Fits T.segments s right.trace.fit h).processor in
-            let count = (at_member (λ s. (s.trace_id ≡ T.id) × (s.processors ≡ T.processors)) T.segments s right.trace.same h).1 in
+            let fits = (at_member Fits T.segments s right.collection.fit h).processor in
+            let count = (at_member (λ s. (s.trace_id ≡ T.id) × (s.processors ≡ T.processors)) T.segments s right.collection.same h).1 in
             let e = right.processors in
             let lt : s.processor < a.processors = omega arith in
             rw (lt-ltb s.processor a.processors lt) refl

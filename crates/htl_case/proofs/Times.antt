@@ -9,7 +9,7 @@ use Rattle.std.proofs.lemmas.List.{drop_more, drop_all}
 use Rattle.std.proofs.lemmas.List.Sums.{sum_by-cons}
 use Rattle.htl_event.proofs.Members.{Contains-there, Contains-cases, Contains-cons, Contains-nil}
 use Rattle.htl_event.proofs.Members.{each_member, AllByRecursion-weaker}
-use Rattle.htl_case.specs.Faults.{IsLeast}
+use Rattle.htl_case.specs.Faults.{IsLeastSuch}
 use Rattle.htl_case.specs.Sequences.{times}
 
 pub times-cons : (x y : ℕ) (ys : List ℕ) → times x (y ∷ ys) ≡ cond (eqb y x) 1 0 + times x ys
@@ -83,7 +83,7 @@ one_gone xs last next rest other gone = record {
 }
 
 found_twice : (xs : List ℕ) (last next : ℕ) (rest : List ℕ) → next ≡ last → AreGone xs (last ∷ next ∷ rest)
-    → IsLeast ◌<◌ (λ x. 2 ≤ times x xs) last
+    → IsLeastSuch ◌<◌ (λ x. 2 ≤ times x xs) last
 found_twice xs last next rest same gone = record {
   holds = omega (arith, gone.inside last, times_same last last (next ∷ rest) refl, times_same last next rest same);
   least = λ y lt two.
@@ -110,7 +110,7 @@ gone_more xs rest i last next d lt is other gone =
     (subst (λ (left : List ℕ). AreGone xs (last ∷ left)) (next_at rest i next d lt is) gone)
 
 pub gone_found : (xs rest : List ℕ) (i last next d : ℕ) → i < length rest → next ≡ get_or rest i d → next ≡ last
-    → AreGone xs (last ∷ drop i rest) → IsLeast ◌<◌ (λ x. 2 ≤ times x xs) last
+    → AreGone xs (last ∷ drop i rest) → IsLeastSuch ◌<◌ (λ x. 2 ≤ times x xs) last
 gone_found xs rest i last next d lt is same gone =
     found_twice xs last next (drop (i + 1) rest) same
     (subst (λ (left : List ℕ). AreGone xs (last ∷ left)) (next_at rest i next d lt is) gone)

@@ -15,7 +15,7 @@ use Rattle.htl_event.proofs.Members.{Contains-from_map, Contains-flat_map, Conta
 use Rattle.htl_segment.specs.declared.version.Version.{Version}
 use Rattle.htl_segment.specs.Content.{Content, EventsFit, Fits}
 use Rattle.htl_segment.specs.Traces.{AreInOrder, all_events}
-use Rattle.htl_case.specs.Faults.{IsLeast, ComesTwice}
+use Rattle.htl_case.specs.Faults.{IsLeastSuch, ComesTwice}
 use Rattle.htl_case.specs.Sequences.{sequence_of, times}
 use Rattle.htl_case.proofs.KeyOrder.{in_order_differ}
 use Rattle.htl_case.proofs.Times.{times-cons, times_same, times_other, some_times, some_there}
@@ -156,11 +156,11 @@ times-IsPermutation x xs ys moved = sum_by-IsPermutation (λ (y : ℕ). cond (eq
 
 pub told_twice : (ss : List Content) (sequences sorted : List ℕ) (r : Option ℕ) → AreInOrder ss → All Fits ss
     → sequences ≡ map sequence_of (all_events ss) → IsPermutation sequences sorted
-    → MatchOption r ((x : ℕ) → times x sorted ≤ 1) (IsLeast ◌<◌ (λ x. 2 ≤ times x sorted))
-    → MatchOption r (((x : ℕ) → ComesTwice ss x → ⊥) × HaveOwnSequences (all_events ss)) (IsLeast ◌<◌ (ComesTwice ss))
+    → MatchOption r ((x : ℕ) → times x sorted ≤ 1) (IsLeastSuch ◌<◌ (λ x. 2 ≤ times x sorted))
+    → MatchOption r (((x : ℕ) → ComesTwice ss x → ⊥) × HaveOwnSequences (all_events ss)) (IsLeastSuch ◌<◌ (ComesTwice ss))
 told_twice ss sequences sorted r ordered fit is moved told = elim r as (λ (o : Option ℕ).
-    MatchOption o ((x : ℕ) → times x sorted ≤ 1) (IsLeast ◌<◌ (λ x. 2 ≤ times x sorted))
-    → MatchOption o (((x : ℕ) → ComesTwice ss x → ⊥) × HaveOwnSequences (all_events ss)) (IsLeast ◌<◌ (ComesTwice ss))) [
+    MatchOption o ((x : ℕ) → times x sorted ≤ 1) (IsLeastSuch ◌<◌ (λ x. 2 ≤ times x sorted))
+    → MatchOption o (((x : ℕ) → ComesTwice ss x → ⊥) × HaveOwnSequences (all_events ss)) (IsLeastSuch ◌<◌ (ComesTwice ss))) [
       | None ↦ λ once. (
         λ x two. (let n = twice_counted ss x two in omega (arith, n, same x, once x)),
         own_from_times (all_events ss) (λ x. omega (arith, same x, once x)),

@@ -11,7 +11,7 @@ use Rattle.htl_case.specs.declared.fault.CaseFault.TheVariants.{SequenceTwice, N
 use Rattle.htl_case.specs.Cases.{IsCaseOf}
 
 -- it has the property, and nothing before it has
-pub record IsLeast {X : Type 0} (Before : X → X → Type 0) (P : X → Type 0) (x : X) : Type 0 where
+pub record IsLeastSuch {X : Type 0} (Before : X → X → Type 0) (P : X → Type 0) (x : X) : Type 0 where
   pub holds : P x
   pub least : (y : X) → Before y x → P y → ⊥
 
@@ -91,14 +91,14 @@ pub record AreOfOneTrace (segments : List Content) : Type 0 where
 -- memory is told only where the rules that are tried without memory hold.
 abbrev pub IsRefusal : List Content → CaseFault → Type 0
 IsRefusal segments Empty = segments ≡ []
-IsRefusal segments (OtherTrace place) = IsLeast ◌<◌ (HasOtherTrace segments) place
-IsRefusal segments (OtherProcessors place) = HaveOneTrace segments × IsLeast ◌<◌ (HasOtherProcessors segments) place
+IsRefusal segments (OtherTrace place) = IsLeastSuch ◌<◌ (HasOtherTrace segments) place
+IsRefusal segments (OtherProcessors place) = HaveOneTrace segments × IsLeastSuch ◌<◌ (HasOtherProcessors segments) place
 IsRefusal segments (TwoContents processor number) =
-    HaveOneTrace segments × HaveOneCount segments × IsLeast IsKeyBefore (HasTwoContents segments) (processor, number)
-IsRefusal segments (SequenceTwice sequence) = AreOfOneTrace segments × IsLeast ◌<◌ (ComesTwice segments) sequence
+    HaveOneTrace segments × HaveOneCount segments × IsLeastSuch IsKeyBefore (HasTwoContents segments) (processor, number)
+IsRefusal segments (SequenceTwice sequence) = AreOfOneTrace segments × IsLeastSuch ◌<◌ (ComesTwice segments) sequence
 IsRefusal segments NoMemory = AreOfOneTrace segments
 IsRefusal segments (Falling processor number) =
-    AreOfOneTrace segments × ((x : ℕ) → ComesTwice segments x → ⊥) × IsLeast IsKeyBefore (Falls segments) (processor, number)
+    AreOfOneTrace segments × ((x : ℕ) → ComesTwice segments x → ⊥) × IsLeastSuch IsKeyBefore (Falls segments) (processor, number)
 
 -- what a list of segments comes to: its case, or the first rule that it breaks (out of memory is none)
 abbrev pub IsOutcome : List Content → Result Trace CaseFault → Type 0

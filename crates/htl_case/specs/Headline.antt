@@ -2,9 +2,9 @@
 -- in any order and with repeats, each analyst's answer to every question is the definition's value over
 -- exactly the segments that reached it; analysts that the same segments reached agree, and are equal once
 -- compacted; and merge is commutative, associative, idempotent and gives the least state above both.
-use Rattle.std.specs.Prelude.{◌≡◌, ◌≢◌, ◌↔◌, ◌⊎◌, ℕ, ◌<◌, ◌≤◌, Bool, List, [], ◌∷◌, replicate, Some, slice_get, slice_set}
+use Rattle.std.specs.Prelude.{◌≡◌, ◌≢◌, ◌↔◌, ◌⊎◌, ℕ, ◌<◌, ◌≤◌, Bool, true, List, [], ◌∷◌, replicate, Some, slice_get, slice_set}
 use Rattle.htl_segment.specs.Content.{Content}
-use Rattle.htl_segment.specs.Traces.{Trace, IsTrace}
+use Rattle.htl_segment.specs.Traces.{Trace, IsTrace, HasKey}
 use Rattle.htl_analyst.specs.declared.fault.Took.{Took}
 use Rattle.htl_analyst.specs.declared.fault.Took.TheVariants.{New}
 use Rattle.htl_analyst.specs.States.{State}
@@ -12,11 +12,12 @@ use Rattle.htl_analyst.specs.Keys.{keys, HasTaken}
 use Rattle.htl_analyst.specs.Right.{IsRight, IsStanding}
 use Rattle.htl_analyst.specs.Steps.{new_state, taken_as, IsMerge}
 use Rattle.htl_analyst.specs.Same.{IsSame}
-use Rattle.htl_analyst.specs.Laws.{IsCommutative, IsAssociative, IsIdempotent, IsLeast, AreEqualOnceCompacted}
+use Rattle.htl_analyst.specs.Laws.{IsCommutative, IsAssociative, IsIdempotent, IsLeastMerge, UnitesKeys}
+use Rattle.htl_analyst.specs.Laws.{AreEqualOnceCompacted}
 use Rattle.htl_case.specs.declared.step.Step.{Step}
 use Rattle.htl_case.specs.declared.step.Step.TheVariants.{Take, Merge, Compact}
 use Rattle.htl_case.specs.Reached.{reached}
-use Rattle.htl_case.specs.Questions.{Question, Answer, IsAnswer, Answers, IsSameAnswer}
+use Rattle.htl_case.specs.Questions.{AnalystQuestion, Answer, IsAnswer, AnalystAnswers, IsSameAnswer}
 
 -- ---- lists of steps, and the states that they leave
 
@@ -96,17 +97,29 @@ pub record Headline : Type 0 where
   pub keys : (T : Trace) (S : ℕ → ℕ → Bool) (a : State) → IsReachedBy T S a → (p n : ℕ) → keys a p n ≡ S p n
   -- Its answer to every question is the definition's value over exactly the segments that reached it.
   pub answers : (T : Trace) (S : ℕ → ℕ → Bool) (a : State) → IsReachedBy T S a
-      → (q : Question) (x : Answer q) → Answers a q x → IsAnswer T S q x
+      → (q : AnalystQuestion) (x : Answer q) → AnalystAnswers a q x → IsAnswer T S q x
   -- Analysts that the same segments reached agree, by one list of steps or by two,
   pub agree : (T : Trace) (S : ℕ → ℕ → Bool) (a b : State) → IsReachedBy T S a → IsReachedBy T S b
-      → (q : Question) (x y : Answer q) → Answers a q x → Answers b q y → IsSameAnswer q x y
+      → (q : AnalystQuestion) (x y : Answer q) → AnalystAnswers a q x → AnalystAnswers b q y → IsSameAnswer q x y
   -- and are equal once compacted.
   pub equal : (T : Trace) (S : ℕ → ℕ → Bool) (a b : State) (ra : IsReachedBy T S a) (rb : IsReachedBy T S b)
       → IsCompacted ra.steps ra.analyst → IsCompacted rb.steps rb.analyst → IsSame a b
-  -- Merge is commutative, associative, idempotent and gives the least state above both, on all states that
-  -- are right about one trace.
+  -- Merge unites the keys, is commutative, associative, idempotent and gives the least state above both, on
+  -- all states that are right about one trace.
+  pub united : UnitesKeys
   pub commutative : IsCommutative
   pub associative : IsAssociative
   pub idempotent : IsIdempotent
-  pub least : IsLeast
+  pub least : IsLeastMerge
   pub antisymmetric : AreEqualOnceCompacted
+
+-- ---- what follows where all is known
+
+-- every segment of the trace is in the set
+abbrev pub HasAll : Trace → (ℕ → ℕ → Bool) → Type 0
+HasAll T S = (p n : ℕ) → HasKey T p n → S p n ≡ true
+
+-- Analysts that every segment reached are the same once compacted, whatever their histories.
+abbrev pub AreSameOnceWhole : Type 0
+AreSameOnceWhole = (T : Trace) (S R : ℕ → ℕ → Bool) (a b : State) (ra : IsReachedBy T S a) (rb : IsReachedBy T R b)
+    → HasAll T S → HasAll T R → IsCompacted ra.steps ra.analyst → IsCompacted rb.steps rb.analyst → IsSame a b

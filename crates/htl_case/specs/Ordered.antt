@@ -6,7 +6,7 @@ use Rattle.htl_segment.specs.Traces.{AreInOrder}
 use Rattle.htl_case.specs.declared.fault.CaseFault.{CaseFault}
 use Rattle.htl_case.specs.declared.fault.CaseFault.TheVariants.{TwoContents}
 use Rattle.htl_segment.specs.Rising.{IsKeyBefore}
-use Rattle.htl_case.specs.Faults.{IsLeast, HasTwoContents, HaveOneContent, key_of}
+use Rattle.htl_case.specs.Faults.{IsLeastSuch, HasTwoContents, HaveOneContent, key_of}
 
 abbrev pub same_key : Content → Content → Bool
 same_key s t = (s.processor == t.processor) && (s.number == t.number)
@@ -30,4 +30,4 @@ pub record AreOf (segments : List Content) (trace_id processors : ℕ) : Type 0 
 
 abbrev pub IsTwoContents : List Content → CaseFault → Type 0
 IsTwoContents segments fault =
-    (processor number : ℕ) × (fault ≡ TwoContents processor number) × IsLeast IsKeyBefore (HasTwoContents segments) (processor, number)
+    (processor number : ℕ) × (fault ≡ TwoContents processor number) × IsLeastSuch IsKeyBefore (HasTwoContents segments) (processor, number)

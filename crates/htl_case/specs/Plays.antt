@@ -4,7 +4,7 @@ use Rattle.htl_case.specs.declared.step.Step.{Step}
 use Rattle.htl_case.specs.declared.step.Step.TheVariants.{Take, Merge, Compact}
 use Rattle.htl_case.specs.declared.fault.PlayFault.{PlayFault}
 use Rattle.htl_case.specs.declared.fault.PlayFault.TheVariants.{NoAnalyst, NoSegment, NoMemory}
-use Rattle.htl_case.specs.Faults.{IsLeast}
+use Rattle.htl_case.specs.Faults.{IsLeastSuch}
 
 -- an analyst that isn't one of the first n
 abbrev pub NamesNoAnalyst : ℕ → Step → Type 0
@@ -35,7 +35,7 @@ NoneIsFaulty n m steps = (place : ℕ) → HasAt (IsFaulty n m) steps place → 
 -- a missing segment. Out of memory is told only where no step is faulty.
 abbrev pub IsPlayRefusal : ℕ → ℕ → List Step → PlayFault → Type 0
 IsPlayRefusal n m steps (NoAnalyst place) =
-    HasAt (NamesNoAnalyst n) steps place × IsLeast ◌<◌ (HasAt (IsFaulty n m) steps) place
+    HasAt (NamesNoAnalyst n) steps place × IsLeastSuch ◌<◌ (HasAt (IsFaulty n m) steps) place
 IsPlayRefusal n m steps (NoSegment place) =
-    (HasAt (NamesNoAnalyst n) steps place → ⊥) × IsLeast ◌<◌ (HasAt (IsFaulty n m) steps) place
+    (HasAt (NamesNoAnalyst n) steps place → ⊥) × IsLeastSuch ◌<◌ (HasAt (IsFaulty n m) steps) place
 IsPlayRefusal n m steps NoMemory = NoneIsFaulty n m steps

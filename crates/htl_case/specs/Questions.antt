@@ -9,27 +9,27 @@ use Rattle.htl_event.specs.Handles.{LatestIs, IsMark, IsOutstanding, IsDiff}
 use Rattle.htl_event.specs.Tallies.{IsTags, IsBad, IsLeaks, IsStacks}
 use Rattle.htl_event.specs.Tallies.{under as prefix_tally}
 use Rattle.htl_tree.specs.Trees.{Tree, HasTally, IsSameTally}
-use Rattle.htl_segment.specs.Traces.{Trace, key_is_in, events_of}
+use Rattle.htl_segment.specs.Traces.{Trace, IsTrace, key_is_in, events_of}
 use Rattle.htl_analyst.specs.States.{State}
 use Rattle.htl_analyst.specs.Keys.{keys}
 use Rattle.htl_analyst.specs.Right.{IsRight}
 
-pub data Question : Type 0 where
-  has : ℕ → ℕ → Question
-  taken : Question
-  latest : ℕ → ℕ → Question
-  mark : ℕ → Question
-  under : List ℕ → Slot → Question
-  outstanding : ℕ → Question
-  diff : ℕ → ℕ → Question
-  tags : ℕ → Question
-  bad : ℕ → Question
-  leaks : ℕ → Question
-  stacks : ℕ → List ℕ → Question
-  whole_tree : Question
+pub data AnalystQuestion : Type 0 where
+  has : ℕ → ℕ → AnalystQuestion
+  taken : AnalystQuestion
+  latest : ℕ → ℕ → AnalystQuestion
+  mark : ℕ → AnalystQuestion
+  under : List ℕ → Slot → AnalystQuestion
+  outstanding : ℕ → AnalystQuestion
+  diff : ℕ → ℕ → AnalystQuestion
+  tags : ℕ → AnalystQuestion
+  bad : ℕ → AnalystQuestion
+  leaks : ℕ → AnalystQuestion
+  stacks : ℕ → List ℕ → AnalystQuestion
+  whole_tree : AnalystQuestion
 
 -- what an answer is
-abbrev pub Answer : Question → Type 0
+abbrev pub Answer : AnalystQuestion → Type 0
 Answer (has processor number) = Bool
 Answer taken = ℕ
 Answer (latest process handle) = Option Event
@@ -44,7 +44,7 @@ Answer (stacks object tag) = List (List ℕ × Count)
 Answer whole_tree = Tree
 
 -- The definition's value over the segments of the trace whose keys are in the set.
-abbrev pub IsAnswer : Trace → (ℕ → ℕ → Bool) → (q : Question) → Answer q → Type 0
+abbrev pub IsAnswer : Trace → (ℕ → ℕ → Bool) → (q : AnalystQuestion) → Answer q → Type 0
 IsAnswer T S (has processor number) x = x ≡ S processor number
 IsAnswer T S taken x = x ≡ count_by (key_is_in S) T.segments
 IsAnswer T S (latest process handle) x = LatestIs (Contains (events_of S T.segments)) process (base_of handle) x
@@ -59,11 +59,14 @@ IsAnswer T S (stacks object tag) x = IsStacks (events_of S T.segments) object ta
 IsAnswer T S whole_tree x = HasTally x (events_of S T.segments)
 
 -- What an analyst in this state answers: for every trace that the state is right about, the definition's value
--- over the taken keys. (`laws` shows it of each call.)
-abbrev pub Answers : State → (q : Question) → Answer q → Type 0
-Answers a q x = (T : Trace) → IsRight a T → IsAnswer T (keys a) q x
+-- over the taken keys; which handles are outstanding, where sequences differ. (`laws` shows it of each call.)
+abbrev pub AnalystAnswers : State → (q : AnalystQuestion) → Answer q → Type 0
+AnalystAnswers a (outstanding process) x = (T : Trace) → IsTrace T → IsRight a T → IsAnswer T (keys a) (outstanding process) x
+AnalystAnswers a (diff process since) x = (T : Trace) → IsTrace T → IsRight a T → IsAnswer T (keys a) (diff process since) x
+AnalystAnswers a (leaks process) x = (T : Trace) → IsTrace T → IsRight a T → IsAnswer T (keys a) (leaks process) x
+AnalystAnswers a other x = (T : Trace) → IsRight a T → IsAnswer T (keys a) other x
 
 -- two trees have the same tally; other answers are equal
-abbrev pub IsSameAnswer : (q : Question) → Answer q → Answer q → Type 0
+abbrev pub IsSameAnswer : (q : AnalystQuestion) → Answer q → Answer q → Type 0
 IsSameAnswer whole_tree x y = IsSameTally x y
 IsSameAnswer other x y = x ≡ y

@@ -5,7 +5,7 @@ ghost use Rattle.std.specs.Prelude.{IsTrue, IfOk, IfErr, MatchOption};
 ghost use Rattle.std.specs.List.{dedup};
 ghost use Rattle.std.specs.List.Sorted.{IsPermutation};
 ghost use Rattle.htl_segment.specs.Rising.{IsKeyBefore};
-ghost use Rattle.htl_case.specs.Faults.{IsLeast, HasTwoContents, HaveOneContent, IsRefusal, key_of};
+ghost use Rattle.htl_case.specs.Faults.{IsLeastSuch, HasTwoContents, HaveOneContent, IsRefusal, key_of};
 ghost use Rattle.htl_case.specs.Ordered.{AreSorted, AreOf, IsInOrder, same_key, IsTwoContents};
 
 use crate::fault::CaseFault;
@@ -83,7 +83,7 @@ fn two_contents(segments: &[Segment]) -> Option<(u16, u32)>
     requires { AreSorted segments.now }
     ensures { MatchOption result
         (HaveOneContent segments.now)
-        (IsLeast IsKeyBefore (HasTwoContents segments.now)) }
+        (IsLeastSuch IsKeyBefore (HasTwoContents segments.now)) }
 {
     let (first, rest) = segments.split_first()?;
     let mut last = first;

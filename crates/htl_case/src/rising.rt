@@ -4,7 +4,7 @@ ghost use Rattle.std.specs.Prelude.{◌≡◌, ℕ, [], if◌then◌else◌, ◌
 ghost use Rattle.htl_segment.specs.Content.{Fits};
 ghost use Rattle.htl_segment.specs.Traces.{AreInOrder};
 ghost use Rattle.htl_segment.specs.Rising.{IsKeyBefore};
-ghost use Rattle.htl_case.specs.Faults.{IsLeast, Falls};
+ghost use Rattle.htl_case.specs.Faults.{IsLeastSuch, Falls};
 ghost use Rattle.htl_case.specs.Sequences.{IsSpan};
 
 use crate::ordering::key;
@@ -16,7 +16,7 @@ pub fn falling(segments: &[Segment]) -> Option<(u16, u32)>
     requires fit { All Fits segments.now }
     ensures { MatchOption result
         ((key : ℕ × ℕ) → Falls segments.now key → ⊥)
-        (IsLeast IsKeyBefore (Falls segments.now)) }
+        (IsLeastSuch IsKeyBefore (Falls segments.now)) }
 {
     let mut processor = 0;
     let mut highest = 0;

@@ -5,7 +5,7 @@ ghost use Rattle.std.specs.List.Sorted.{IsNonDecreasing};
 ghost use Rattle.htl_event.specs.Handles.{HaveOwnSequences};
 ghost use Rattle.htl_segment.specs.Content.{Fits};
 ghost use Rattle.htl_segment.specs.Traces.{AreInOrder, all_events};
-ghost use Rattle.htl_case.specs.Faults.{IsLeast, ComesTwice};
+ghost use Rattle.htl_case.specs.Faults.{IsLeastSuch, ComesTwice};
 ghost use Rattle.htl_case.specs.Sequences.{sequence_of, times};
 
 use htl_event::{NoMemory, SharedEvent};
@@ -17,7 +17,7 @@ pub fn repeated_sequence(alloc: Global, segments: &[Segment]) -> Result<Option<u
     requires { AreInOrder segments.now }
     ensures found { IfOk result (λ found. MatchOption found
         (((x : ℕ) → ComesTwice segments.now x → ⊥) × HaveOwnSequences (all_events segments.now))
-        (IsLeast ◌<◌ (ComesTwice segments.now))) }
+        (IsLeastSuch ◌<◌ (ComesTwice segments.now))) }
     ensures fit { OnOk result (All Fits segments.now) }
 {
     let mut sequences = sequences_of(alloc, segments)?;
@@ -61,7 +61,7 @@ fn first_repeated(sequences: &[u64]) -> Option<u64>
     requires { IsNonDecreasing sequences.now }
     ensures { MatchOption result
         ((x : ℕ) → times x sequences.now ≤ 1)
-        (IsLeast ◌<◌ (λ x. 2 ≤ times x sequences.now)) }
+        (IsLeastSuch ◌<◌ (λ x. 2 ≤ times x sequences.now)) }
 {
     let (first, rest) = sequences.split_first()?;
     let mut last = *first;

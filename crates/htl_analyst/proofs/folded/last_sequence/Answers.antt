@@ -1,5 +1,5 @@
 -- An event more may have a greater sequence.
-use Rattle.htl_analyst.proofs.Digests.{greatest_none, greatest_more, greatest_all}
+use Rattle.htl_analyst.proofs.Joined.{greatest_none, greatest_more, greatest_all}
 use Rattle.htl_analyst.proofs.folded.last_sequence.Goals as goal
 
 pub loop-event-init : goal.loop-event-init

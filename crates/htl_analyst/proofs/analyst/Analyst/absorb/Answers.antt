@@ -2,7 +2,7 @@
 use Rattle.std.proofs.Common.{◌≡◌, ◌<◌, ℕ, ap, sym, ◌∙◌, subst}
 use Rattle.std.specs.Prelude.{nat_lt, if◌then◌else◌}
 use Rattle.htl_taken.specs.Numbers.{front_at}
-use Rattle.htl_analyst.specs.States.{State, state, lane, lane_at, held_at, below_at}
+use Rattle.htl_analyst.specs.States.{State, state, part, part_at, held_at, folded_at}
 use Rattle.htl_analyst.specs.Right.{IsState, IsRight}
 use Rattle.htl_analyst.specs.Steps.{IsMerge}
 use Rattle.htl_analyst.proofs.Merges.{IsMerge-made, IsState-merged, IsRight-merged, HasTaken-merged, merge_lawful}
@@ -26,15 +26,15 @@ made g c =
     let incoming = c.in-Ok.incoming.items in
     let theirs = c.other.inside.parts.items in
     let new = c.unite.new.incoming.items in
-    let own_side = subst (λ (x : State). (p : ℕ) → p < x.processors → lane_at new p
-    ≡ lane (held_at incoming p) (if nat_lt (front_at x.taken p) (front_at o.taken p) then below_at theirs p else below_at x.lanes p))
-    c.self.view_is c.unite.ensures.lanes in
-    let both = subst (λ (y : State). (p : ℕ) → p < now.processors → lane_at new p
-    ≡ lane (held_at incoming p) (if nat_lt (front_at now.taken p) (front_at y.taken p) then below_at theirs p else below_at now.lanes p))
+    let own_side = subst (λ (x : State). (p : ℕ) → p < x.processors → part_at new p
+    ≡ part (held_at incoming p) (if nat_lt (front_at x.taken p) (front_at o.taken p) then folded_at theirs p else folded_at x.parts p))
+    c.self.view_is c.unite.ensures.parts in
+    let both = subst (λ (y : State). (p : ℕ) → p < now.processors → part_at new p
+    ≡ part (held_at incoming p) (if nat_lt (front_at now.taken p) (front_at y.taken p) then folded_at theirs p else folded_at now.parts p))
     c.other.view_is own_side in
     let e = c.in-Ok.ensures in
     IsMerge-made now b c.in-Ok.taken theirs incoming new e.len e.union e.held
-    (λ p lt low. ap (λ (x : State). below_at x.lanes p) c.other.view_is) (c.unite.ensures.len ∙ e.held.len) both
+    (λ p lt low. ap (λ (x : State). folded_at x.parts p) c.other.view_is) (c.unite.ensures.len ∙ e.held.len) both
 
 pub invariant_of-self : goal.invariant_of-self
 invariant_of-self g c =
@@ -52,7 +52,7 @@ returns-in-Ok-clause-merged g c =
 pub returns-in-Ok-clause-keys : goal.returns-in-Ok-clause-keys
 returns-in-Ok-clause-keys g c =
     HasTaken-merged c.args.self.now c.args.other (state c.args.self.now.trace_id c.args.self.now.processors c.in-Ok.taken
-    c.unite.new.incoming.items) c.in-Ok.ensures.accepted.of_one (made g c)
+    c.unite.new.incoming.items) (made g c)
 
 pub returns-in-Ok-clause-right : goal.returns-in-Ok-clause-right
 returns-in-Ok-clause-right g c = λ T ra rb.

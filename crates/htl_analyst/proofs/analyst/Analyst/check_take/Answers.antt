@@ -3,7 +3,7 @@ use Rattle.std.proofs.Common.{◌≡◌, ◌<◌, ℕ, sym, ap, ◌∙◌, subst
 use Rattle.std.specs.Prelude.{Contains}
 use Rattle.htl_segment.specs.Content.{Content}
 use Rattle.htl_taken.specs.Numbers.{numbers_at, front_at}
-use Rattle.htl_analyst.specs.States.{State, lane_at, held_at}
+use Rattle.htl_analyst.specs.States.{State, part_at, held_at}
 use Rattle.htl_analyst.specs.Right.{IsState}
 use Rattle.htl_analyst.proofs.Takes.{held_above}
 use Rattle.htl_analyst.proofs.analyst.Analyst.check_take.Goals as goal
@@ -25,7 +25,7 @@ returns-then-number-front-clause-accepted g c =
       of_state = record { trace_id = et; processors = ep };
       agrees = λ other.
           let above =
-          held_above a.trace_id a.processors s.processor (numbers_at a.taken s.processor) (lane_at a.lanes s.processor)
+          held_above a.trace_id a.processors s.processor (numbers_at a.taken s.processor) (part_at a.parts s.processor)
           (is.each s.processor here) other.held other.here in
           omega (arith, above.0, other.number, low);
     }
@@ -40,7 +40,7 @@ returns-in-None-clause-accepted g c =
     record {
       of_state = record { trace_id = et; processors = ep };
       agrees = λ other. c.in-None.ensures.none other.held
-          (subst (λ (p : ℕ). Contains (held_at a.lanes p) other.held) (sym c.processor-processor.ensures.value) other.here)
+          (subst (λ (p : ℕ). Contains (held_at a.parts p) other.held) (sym c.processor-processor.ensures.value) other.here)
           (other.number ∙ sym c.number-number.ensures);
     }
 
@@ -54,7 +54,7 @@ returns-in-Some-clause-accepted g c =
     record {
       of_state = record { trace_id = et; processors = ep };
       agrees = λ other.
-          let there = subst (λ (p : ℕ). Contains (held_at a.lanes p) other.held) (sym c.processor-processor.ensures.value) other.here in
+          let there = subst (λ (p : ℕ). Contains (held_at a.parts p) other.held) (sym c.processor-processor.ensures.value) other.here in
           let found = c.in-Some.ensures.some in
           let one =
           c.in-Some.ensures.one other.held c.in-Some.held.now there found.0 (other.number ∙ sym c.number-number.ensures ∙ sym found.1) in

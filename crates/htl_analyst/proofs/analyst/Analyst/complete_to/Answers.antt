@@ -1,6 +1,6 @@
 -- The least of the last folded sequences is what the trace is complete to.
 use Rattle.std.proofs.Common.{ℕ, ap, ◌∙◌, subst, arith}
-use Rattle.htl_analyst.specs.States.{State, Digest, Lane, below_at}
+use Rattle.htl_analyst.specs.States.{State, Folded, Part, folded_at}
 use Rattle.htl_analyst.specs.Right.{IsState}
 use Rattle.htl_analyst.specs.Moments.{IsLeastKept}
 use Rattle.htl_analyst.proofs.Falling.{LeastOf-first, LeastOf-more, complete, nothing_missing}
@@ -8,17 +8,17 @@ use Rattle.htl_analyst.proofs.analyst.Analyst.complete_to.Goals as goal
 
 pub loop-processor-init : goal.loop-processor-init
 loop-processor-init g c =
-    LeastOf-first (λ (p : ℕ). (below_at c.args.self.now.lanes p).last_sequence) c.last_sequence-least.result
-    (c.last_sequence-least.ensures ∙ ap (λ (d : Digest). d.last_sequence)
-    (c.below.ensures ∙ ap (λ (k : Lane). k.below) c.part.ensures.value))
+    LeastOf-first (λ (p : ℕ). (folded_at c.args.self.now.parts p).last_sequence) c.last_sequence-least.result
+    (c.last_sequence-least.ensures ∙ ap (λ (d : Folded). d.last_sequence)
+    (c.folded.ensures ∙ ap (λ (k : Part). k.folded) c.part.ensures.value))
 
 pub loop-processor-preserved : goal.loop-processor-preserved
 loop-processor-preserved g c =
-    LeastOf-more (λ (p : ℕ). (below_at c.args.self.now.lanes p).last_sequence) c.loop-processor.processor c.loop-processor.least
+    LeastOf-more (λ (p : ℕ). (folded_at c.args.self.now.parts p).last_sequence) c.loop-processor.processor c.loop-processor.least
     c.last_sequence.result c.min-least.result
     c.loop-processor.invariant
-    (c.last_sequence.ensures ∙ ap (λ (d : Digest). d.last_sequence)
-    (c.below-in-loop-processor.ensures ∙ ap (λ (k : Lane). k.below) c.part-in-loop-processor.ensures.value))
+    (c.last_sequence.ensures ∙ ap (λ (d : Folded). d.last_sequence)
+    (c.folded-in-loop-processor.ensures ∙ ap (λ (k : Part). k.folded) c.part-in-loop-processor.ensures.value))
     (omega (arith, c.min-least.ensures))
 
 pub returns : goal.returns

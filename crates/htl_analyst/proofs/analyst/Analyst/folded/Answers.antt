@@ -5,8 +5,8 @@ use Rattle.htl_event.specs.Events.{Event}
 use Rattle.htl_segment.specs.Content.{Content}
 use Rattle.htl_segment.specs.Traces.{all_events}
 use Rattle.htl_taken.specs.Numbers.{numbers_at}
-use Rattle.htl_analyst.specs.States.{State, Digest, Lane, below_at}
-use Rattle.htl_analyst.specs.Right.{IsDigestOf}
+use Rattle.htl_analyst.specs.States.{State, Folded, Part, folded_at}
+use Rattle.htl_analyst.specs.Right.{IsFolded}
 use Rattle.htl_analyst.specs.StepParts.{run_length, run_of}
 use Rattle.htl_analyst.proofs.Folds.{run_within, run_read_few, totals_fit}
 use Rattle.htl_analyst.proofs.analyst.Analyst.folded.Goals as goal
@@ -16,7 +16,7 @@ slice_bounds-of-end g c =
     let a : State = c.args.self.now in
     let within =
     run_within a.trace_id a.processors c.args.processor (numbers_at a.taken c.args.processor) c.part-part.result.now
-    c.part-part.ensures.lane in
+    c.part-part.ensures.part in
     let same : length c.held.result.now ≡ length c.part-part.result.now.held = ap length c.held.ensures in
     let le : c.args.run ≤ length c.held.result.now = omega (arith, c.requires.run, within, same) in
     let len = length-take c.args.run c.held.result.now in
@@ -27,8 +27,8 @@ of-requires g c =
     let a : State = c.args.self.now in
     let p = c.args.processor in
     let k = c.part-part.result.now in
-    let few = run_read_few a p c.args.run c.held.result.now k c.part-part.ensures.lane c.requires.run c.held.ensures in
-    let fit = totals_fit a.trace_id a.processors p (numbers_at a.taken p) k c.part-part.ensures.lane in
+    let few = run_read_few a p c.args.run c.held.result.now k c.part-part.ensures.part c.requires.run c.held.ensures in
+    let fit = totals_fit a.trace_id a.processors p (numbers_at a.taken p) k c.part-part.ensures.part in
     omega (arith, few, fit)
 
 pub returns-then-front-eq0-clause-bounded : goal.returns-then-front-eq0-clause-bounded
@@ -36,7 +36,7 @@ returns-then-front-eq0-clause-bounded g c =
     let a : State = c.args.self.now in
     let p = c.args.processor in
     let k = c.part-part.result.now in
-    let few = run_read_few a p c.args.run c.held.result.now k c.part-part.ensures.lane c.requires.run c.held.ensures in
+    let few = run_read_few a p c.args.run c.held.result.now k c.part-part.ensures.part c.requires.run c.held.ensures in
     let newer = c.in_ok-newer.ensures.bounded in
     omega (arith, few, newer)
 
@@ -45,30 +45,30 @@ joined-requires g c =
     let a : State = c.args.self.now in
     let p = c.args.processor in
     let k = c.part-part.result.now in
-    let few = run_read_few a p c.args.run c.held.result.now k c.part-part.ensures.lane c.requires.run c.held.ensures in
-    let fit = totals_fit a.trace_id a.processors p (numbers_at a.taken p) c.part-part.result.now c.part-part.ensures.lane in
+    let few = run_read_few a p c.args.run c.held.result.now k c.part-part.ensures.part c.requires.run c.held.ensures in
+    let fit = totals_fit a.trace_id a.processors p (numbers_at a.taken p) c.part-part.result.now c.part-part.ensures.part in
     let newer = c.in_ok-newer.ensures.bounded in
-    rw c.below.ensures (omega (arith, few, fit, newer))
+    rw c.folded.ensures (omega (arith, few, fit, newer))
 
 pub returns-clause-joins : goal.returns-clause-joins
 returns-clause-joins g c = λ events zero old.
     let a : State = c.args.self.now in
     let p = c.args.processor in
-    let eb : c.below.result.now ≡ below_at a.lanes p = c.below.ensures ∙ ap (λ (k : Lane). k.below) c.part-part.ensures.value in
+    let eb : c.folded.result.now ≡ folded_at a.parts p = c.folded.ensures ∙ ap (λ (k : Part). k.folded) c.part-part.ensures.value in
     let er : all_events (take c.args.run c.held.result.now) ≡ run_of a p =
     ap (λ (n : ℕ). all_events (take n c.held.result.now)) c.requires.run
     ∙ ap (λ (hs : List Content). all_events (take (run_length a p) hs))
-    (c.held.ensures ∙ ap (λ (k : Lane). k.held) c.part-part.ensures.value) in
-    c.in_ok-both.ensures.digest events (run_of a p) (subst (λ (d : Digest). IsDigestOf d events) (sym eb) old)
-    (subst (λ (es : List Event). IsDigestOf c.in_ok-newer.newer es) er c.in_ok-newer.ensures.digest)
+    (c.held.ensures ∙ ap (λ (k : Part). k.held) c.part-part.ensures.value) in
+    c.in_ok-both.ensures.folded events (run_of a p) (subst (λ (d : Folded). IsFolded d events) (sym eb) old)
+    (subst (λ (es : List Event). IsFolded c.in_ok-newer.newer es) er c.in_ok-newer.ensures.folded)
 
 pub returns-clause-bounded : goal.returns-clause-bounded
 returns-clause-bounded g c =
     let a : State = c.args.self.now in
     let p = c.args.processor in
     let k = c.part-part.result.now in
-    let few = run_read_few a p c.args.run c.held.result.now k c.part-part.ensures.lane c.requires.run c.held.ensures in
+    let few = run_read_few a p c.args.run c.held.result.now k c.part-part.ensures.part c.requires.run c.held.ensures in
     let newer = c.in_ok-newer.ensures.bounded in
-    let eb : c.below.result.now ≡ below_at a.lanes p = c.below.ensures ∙ ap (λ (k : Lane). k.below) c.part-part.ensures.value in
+    let eb : c.folded.result.now ≡ folded_at a.parts p = c.folded.ensures ∙ ap (λ (k : Part). k.folded) c.part-part.ensures.value in
     let sum = rw eb at c.in_ok-both.ensures.bounded in
     omega (arith, few, newer, sum)

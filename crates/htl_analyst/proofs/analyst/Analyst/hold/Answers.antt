@@ -4,10 +4,10 @@ use Rattle.htl_taken.specs.NumberSets.{Has}
 use Rattle.htl_taken.specs.Numbers.{numbers_at, loose_at, has_key, with_loose}
 use Rattle.htl_taken.specs.Rising.{gap_of}
 use Rattle.htl_taken.proofs.Keys.{absent_key}
-use Rattle.htl_analyst.specs.States.{State, state, Lane, lane, lane_at}
+use Rattle.htl_analyst.specs.States.{State, state, Part, part, part_at}
 use Rattle.htl_analyst.specs.Keys.{HasTaken}
 use Rattle.htl_analyst.specs.Right.{IsState}
-use Rattle.htl_analyst.proofs.Holds.{lane_read, inserted, gap_inside, hold_made}
+use Rattle.htl_analyst.proofs.Holds.{part_read, inserted, gap_inside, hold_made}
 use Rattle.htl_analyst.proofs.Takes.{IsState-with_segment}
 use Rattle.htl_analyst.proofs.analyst.Analyst.hold.Goals as goal
 use Rattle.htl_analyst.proofs.analyst.Analyst.hold.Goals.{in-Ok, in-Ok-2}
@@ -23,13 +23,13 @@ insert_reserved-requires-clause-within g c =
     let lt : p < a.processors =
     (let v = c.processor-processor.ensures in let e =
     ap (λ (x : State). x.processors) c.self.view_is in omega (arith, v.below, c.requires.of_state.processors, e)) in
-    let lanes : p < length a.lanes = (let e = c.self.invariant.lanes in omega (arith, e, lt)) in
-    let l : lane c.part.inside.held.items c.part.inside.below ≡ lane_at a.lanes p =
-    lane_read a.lanes p c.index_mut-part.result.now (lane c.part.inside.held.items c.part.inside.below) lanes
+    let parts : p < length a.parts = (let e = c.self.invariant.parts in omega (arith, e, lt)) in
+    let l : part c.part.inside.held.items c.part.inside.folded ≡ part_at a.parts p =
+    part_read a.parts p c.index_mut-part.result.now (part c.part.inside.held.items c.part.inside.folded) parts
     (rw c.from.ensures at c.index_mut-part.ensures.value) c.part.view_is in
-    let inside = gap_inside a.trace_id a.processors p (numbers_at a.taken p) (lane_at a.lanes p) (c.self.invariant.each p lt) n in
+    let inside = gap_inside a.trace_id a.processors p (numbers_at a.taken p) (part_at a.parts p) (c.self.invariant.each p lt) n in
     let kept : length c.reserve.new.self.items ≡ length c.part.inside.held.items = ap length c.reserve.ensures.items in
-    let same : length c.part.inside.held.items ≡ length (lane_at a.lanes p).held = ap (λ (k : Lane). length k.held) l in
+    let same : length c.part.inside.held.items ≡ length (part_at a.parts p).held = ap (λ (k : Part). length k.held) l in
     omega (arith, gap, inside, kept, same)
 
 pub invariant_of-self-2 : goal.invariant_of-self-2
@@ -46,7 +46,7 @@ invariant_of-self-2 g c =
     let lt : p < a.processors =
     (let v = c.processor-processor.ensures in let e =
     ap (λ (x : State). x.processors) c.self.view_is in omega (arith, v.below, c.requires.of_state.processors, e)) in
-    let lanes : p < length a.lanes = (let e = c.self.invariant.lanes in omega (arith, e, lt)) in
+    let parts : p < length a.parts = (let e = c.self.invariant.parts in omega (arith, e, lt)) in
     let absent : Has (numbers_at a.taken p) n → ⊥ =
     (λ h. c.requires.new (subst (λ (x : State). HasTaken x s.processor s.number) c.self.view_is
     (rw (c.processor-processor.ensures.value, c.number-number.ensures) at h))) in
@@ -54,8 +54,8 @@ invariant_of-self-2 g c =
     inserted c.insert.result a.taken c.insert.new.self (slice_set a.taken p (with_loose (numbers_at a.taken p) n)) (has_key a.taken p n)
     (sym c.is_err-2.ensures.value ∙ c.if-is_err-2.false) c.insert.ensures.fresh c.insert.ensures.ok (absent_key a.taken p n absent) in
     let made = hold_made a now s p c.from.result n c.match-search.place c.index_mut-part.result.now
-    c.part.inside.held.items c.reserve.new.self.items c.insert_reserved.new.held.items c.part.inside.below c.insert.new.self
-    c.self.view_is c.processor-processor.ensures.value c.from.ensures c.number-number.ensures lanes
+    c.part.inside.held.items c.reserve.new.self.items c.insert_reserved.new.held.items c.part.inside.folded c.insert.new.self
+    c.self.view_is c.processor-processor.ensures.value c.from.ensures c.number-number.ensures parts
     c.index_mut-part.ensures.value c.part.view_is gap ts c.reserve.ensures.items c.insert_reserved.ensures in
     subst IsState (sym made) (IsState-with_segment now s is c.fits.ensures c.requires.of_state c.requires.new)
 
@@ -72,7 +72,7 @@ returns-clause-ok g c =
     let lt : p < a.processors =
     (let v = c.processor-processor.ensures in let e =
     ap (λ (x : State). x.processors) c.self.view_is in omega (arith, v.below, c.requires.of_state.processors, e)) in
-    let lanes : p < length a.lanes = (let e = c.self.invariant.lanes in omega (arith, e, lt)) in
+    let parts : p < length a.parts = (let e = c.self.invariant.parts in omega (arith, e, lt)) in
     let absent : Has (numbers_at a.taken p) n → ⊥ =
     (λ h. c.requires.new (subst (λ (x : State). HasTaken x s.processor s.number) c.self.view_is
     (rw (c.processor-processor.ensures.value, c.number-number.ensures) at h))) in
@@ -80,6 +80,6 @@ returns-clause-ok g c =
     inserted c.insert.result a.taken c.insert.new.self (slice_set a.taken p (with_loose (numbers_at a.taken p) n)) (has_key a.taken p n)
     (sym c.is_err-2.ensures.value ∙ c.if-is_err-2.false) c.insert.ensures.fresh c.insert.ensures.ok (absent_key a.taken p n absent) in
     hold_made a now s p c.from.result n c.match-search.place c.index_mut-part.result.now
-    c.part.inside.held.items c.reserve.new.self.items c.insert_reserved.new.held.items c.part.inside.below c.insert.new.self
-    c.self.view_is c.processor-processor.ensures.value c.from.ensures c.number-number.ensures lanes
+    c.part.inside.held.items c.reserve.new.self.items c.insert_reserved.new.held.items c.part.inside.folded c.insert.new.self
+    c.self.view_is c.processor-processor.ensures.value c.from.ensures c.number-number.ensures parts
     c.index_mut-part.ensures.value c.part.view_is gap ts c.reserve.ensures.items c.insert_reserved.ensures

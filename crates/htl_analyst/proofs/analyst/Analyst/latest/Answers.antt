@@ -2,7 +2,7 @@
 use Rattle.std.proofs.Common.{inl, inr}
 use Rattle.std.proofs.lemmas.Bool.{cases_eq}
 use Rattle.htl_event.specs.Slots.{base_of}
-use Rattle.htl_analyst.specs.Answers.{taken_events}
+use Rattle.htl_analyst.specs.TakenEvents.{taken_events}
 use Rattle.htl_analyst.proofs.Answered.{are_events_read, latest_of_base_0}
 use Rattle.htl_analyst.proofs.analyst.Analyst.latest.Goals as goal
 

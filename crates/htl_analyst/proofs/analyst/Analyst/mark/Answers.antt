@@ -1,5 +1,5 @@
 -- The parts answer for the taken events.
-use Rattle.htl_analyst.specs.Answers.{taken_events}
+use Rattle.htl_analyst.specs.TakenEvents.{taken_events}
 use Rattle.htl_analyst.proofs.Answered.{are_events_read}
 use Rattle.htl_analyst.proofs.analyst.Analyst.mark.Goals as goal
 

@@ -1,4 +1,4 @@
--- A state with nothing taken is right about every trace of its id and processor count.
+-- A state with nothing taken is right about every collection of its id and processor count.
 use Rattle.std.proofs.Common.{◌≤◌, ◌<◌, arith, inl, inr}
 use Rattle.htl_analyst.proofs.Fresh.{IsState-new, IsRight-new}
 use Rattle.htl_analyst.proofs.analyst.Analyst.new.Goals as goal
@@ -19,7 +19,7 @@ returns-clause-processors g c = (
 )
 
 pub returns-clause-right : goal.returns-clause-right
-returns-clause-right g c = λ T trace ei en.
+returns-clause-right g c = λ T collection ei en.
     let some : 0 < c.args.processors = omega (arith, c.if-processors-eq0.false) in
     let few : c.args.processors ≤ 256 = omega (arith, c.if-processors-gt-MAX_PROCESSORS.false) in
-    rw (c.in_ok-taken.ensures, c.in_ok-parts.ensures) (IsRight-new T c.args.trace_id c.args.processors some few trace ei en)
+    rw (c.in_ok-taken.ensures, c.in_ok-parts.ensures) (IsRight-new T c.args.trace_id c.args.processors some few collection ei en)

@@ -9,6 +9,6 @@ use Rattle.htl_analyst.proofs.analyst.Analyst.part_of_both.Given as goal
 abbrev pub invariant-loop-number : goal.invariant-loop-number
 invariant-loop-number g l = record {
   numbers : map (λ (s : Content). s.number) l.held.items ≡ take l.number-index l.numbers;
-  from : AllByRecursion (λ (s : Content). Contains (held_at l.self.lanes l.processor) s ⊎ Contains (held_at l.other.lanes l.processor) s)
+  from : AllByRecursion (λ (s : Content). Contains (held_at l.self.parts l.processor) s ⊎ Contains (held_at l.other.parts l.processor) s)
       l.held.items;
 }

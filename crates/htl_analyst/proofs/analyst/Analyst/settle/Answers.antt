@@ -2,9 +2,9 @@
 use Rattle.std.proofs.Common.{◌≡◌, ◌≤◌, ◌<◌, ◌*◌, length, ap, sym, ◌∙◌, subst, arith}
 use Rattle.htl_tree.specs.Trees.{total_count}
 use Rattle.htl_taken.specs.Numbers.{numbers_at, reach_of}
-use Rattle.htl_analyst.specs.States.{State, state, Lane, lane, lane_at}
+use Rattle.htl_analyst.specs.States.{State, state, Part, part, part_at}
 use Rattle.htl_analyst.specs.Right.{IsState}
-use Rattle.htl_analyst.proofs.Holds.{lane_read, settle_made}
+use Rattle.htl_analyst.proofs.Holds.{part_read, settle_made}
 use Rattle.htl_analyst.proofs.Folds.{run_within, run_reaches, IsState-settled}
 use Rattle.htl_analyst.proofs.analyst.Analyst.settle.Goals as goal
 
@@ -16,13 +16,13 @@ drop_front-requires g c =
     let is : IsState now = subst IsState c.self.view_is c.self.invariant in
     let p = c.args.processor in
     let n = ap (λ (x : State). x.processors) c.self.view_is in
-    let lanes : p < length a.lanes = (let e = c.self.invariant.lanes in omega (arith, e, n, c.requires.here)) in
-    let l : lane c.part.inside.held.items c.part.inside.below ≡ lane_at a.lanes p =
-    lane_read a.lanes p c.index_mut-part.result.now (lane c.part.inside.held.items c.part.inside.below) lanes
+    let parts : p < length a.parts = (let e = c.self.invariant.parts in omega (arith, e, n, c.requires.here)) in
+    let l : part c.part.inside.held.items c.part.inside.folded ≡ part_at a.parts p =
+    part_read a.parts p c.index_mut-part.result.now (part c.part.inside.held.items c.part.inside.folded) parts
     (rw c.from.ensures at c.index_mut-part.ensures.value) c.part.view_is in
-    let m : length c.part.inside.held.items ≡ length (lane_at now.lanes p).held =
-    ap (λ (x : Lane). length x.held) l ∙ ap (λ (x : State). length (lane_at x.lanes p).held) c.self.view_is in
-    let within = run_within now.trace_id now.processors p (numbers_at now.taken p) (lane_at now.lanes p) (is.each p c.requires.here) in
+    let m : length c.part.inside.held.items ≡ length (part_at now.parts p).held =
+    ap (λ (x : Part). length x.held) l ∙ ap (λ (x : State). length (part_at x.parts p).held) c.self.view_is in
+    let within = run_within now.trace_id now.processors p (numbers_at now.taken p) (part_at now.parts p) (is.each p c.requires.here) in
     omega (arith, m, c.requires.run, within)
 
 pub invariant_of-self : goal.invariant_of-self
@@ -33,13 +33,13 @@ invariant_of-self g c =
     let is : IsState now = subst IsState c.self.view_is c.self.invariant in
     let p = c.args.processor in
     let n = ap (λ (x : State). x.processors) c.self.view_is in
-    let lanes : p < length a.lanes = (let e = c.self.invariant.lanes in omega (arith, e, n, c.requires.here)) in
+    let parts : p < length a.parts = (let e = c.self.invariant.parts in omega (arith, e, n, c.requires.here)) in
     let made =
     settle_made a now p c.from.result c.args.run c.index_mut-part.result.now c.part.inside.held.items c.drop_front.new.held.items
-    c.part.inside.below c.args.below c.settle.new.self
-    c.self.view_is c.from.ensures lanes c.index_mut-part.ensures.value c.part.view_is c.requires.run c.settle.ensures.value
+    c.part.inside.folded c.args.folded c.settle.new.self
+    c.self.view_is c.from.ensures parts c.index_mut-part.ensures.value c.part.view_is c.requires.run c.settle.ensures.value
     c.drop_front.ensures in
     let old = (is.each p c.requires.here).bounded in
     let r = run_reaches (numbers_at now.taken p) in
-    let bounded : total_count c.args.below.tree ≤ 4096 * reach_of (numbers_at now.taken p) = omega (arith, c.requires.bounded, old, r) in
-    subst IsState (sym made) (IsState-settled now p is c.requires.here c.args.below bounded)
+    let bounded : total_count c.args.folded.tree ≤ 4096 * reach_of (numbers_at now.taken p) = omega (arith, c.requires.bounded, old, r) in
+    subst IsState (sym made) (IsState-settled now p is c.requires.here c.args.folded bounded)

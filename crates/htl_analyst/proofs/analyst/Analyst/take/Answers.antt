@@ -2,7 +2,8 @@
 use Rattle.std.proofs.Common.{arith}
 use Rattle.htl_analyst.specs.Steps.{with_segment}
 use Rattle.htl_analyst.proofs.Falling.{never_falls-same, never_falls}
-use Rattle.htl_analyst.proofs.Takes.{HasTaken-with_segment, fronts-with_segment, IsRight-with_segment, take_lawful, repeat_keys}
+use Rattle.htl_analyst.proofs.Counted.{number-with_segment}
+use Rattle.htl_analyst.proofs.Takes.{here, IsState-with_segment, HasTaken-with_segment, fronts-with_segment, IsRight-with_segment, take_lawful, repeat_keys}
 use Rattle.htl_analyst.proofs.analyst.Analyst.take.Goals as goal
 
 pub returns-in-Err-clause-lawful : goal.returns-in-Err-clause-lawful
@@ -18,6 +19,20 @@ returns-in-Ok-clause-keys g c =
     let e = c.check_take.ensures in
     rw c.in-Ok.ensures.ok (HasTaken-with_segment c.args.self.now c.args.segment e.state e.fits c.in-Ok-New.ensures.accepted.of_state
     (c.in-Ok-New.ensures.new.0 c.in-Ok-New.field-0-is))
+
+pub returns-in-Ok-clause-is_state : goal.returns-in-Ok-clause-is_state
+returns-in-Ok-clause-is_state g c =
+    let e = c.check_take.ensures in
+    rw c.in-Ok.ensures.ok (IsState-with_segment c.args.self.now c.args.segment e.state e.fits c.in-Ok-New.ensures.accepted.of_state
+    (c.in-Ok-New.ensures.new.0 c.in-Ok-New.field-0-is))
+
+pub returns-in-Ok-clause-one_more : goal.returns-in-Ok-clause-one_more
+returns-in-Ok-clause-one_more g c =
+    let e = c.check_take.ensures in
+    let a = c.args.self.now in
+    let s = c.args.segment in
+    let lt = here a s e.state e.fits c.in-Ok-New.ensures.accepted.of_state (c.in-Ok-New.ensures.new.0 c.in-Ok-New.field-0-is) in
+    rw c.in-Ok.ensures.ok (λ new. number-with_segment a s e.state lt)
 
 pub returns-in-Ok-clause-right : goal.returns-in-Ok-clause-right
 returns-in-Ok-clause-right g c =

@@ -1,5 +1,5 @@
 -- The parts answer for the taken events, and their counts fit.
-use Rattle.htl_analyst.specs.Answers.{taken_events}
+use Rattle.htl_analyst.specs.TakenEvents.{taken_events}
 use Rattle.htl_analyst.proofs.Answered.{are_events_read, sizes_fit_read}
 use Rattle.htl_analyst.proofs.analyst.Analyst.under.Goals as goal
 

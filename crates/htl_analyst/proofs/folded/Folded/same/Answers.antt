@@ -1,4 +1,4 @@
--- Digests are the same exactly where each of their tables is.
+-- What was folded is the same exactly where each of its tables is.
 use Rattle.std.proofs.Common.{sym, ◌∙◌}
 use Rattle.std.proofs.lemmas.Bool.{false≢true}
 use Rattle.htl_analyst.proofs.folded.Folded.same.Goals as goal

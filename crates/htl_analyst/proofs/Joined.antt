@@ -1,4 +1,4 @@
--- Digests of events, put together.
+-- What was folded of events, put together.
 use Rattle.std.proofs.Common.{◌≡◌, ℕ, ◌+◌, ◌<◌, ◌≤◌, max, List, [], ◌∷◌, ◌++◌, length, take, get_or, refl, sym, ap, ◌∙◌, subst}
 use Rattle.std.proofs.Common.{arith, inl, inr, append-nil}
 use Rattle.std.specs.Prelude.{Contains}

@@ -3,19 +3,19 @@ use Rattle.std.specs.Prelude.{List}
 use Rattle.htl_event.specs.Events.{Event}
 use Rattle.htl_segment.specs.Traces.{Trace, all_events, events_of}
 use Rattle.htl_answers.specs.Parts.{Contents}
-use Rattle.htl_analyst.specs.States.{Lane, State}
+use Rattle.htl_analyst.specs.States.{Part, State}
 use Rattle.htl_analyst.specs.Keys.{keys}
 
 -- the trace's events of the taken keys
 abbrev pub taken_events : Trace → State → List Event
 taken_events T a = events_of (keys a) T.segments
 
--- a lane as a part of an answer
-abbrev pub contents_of : Lane → Contents
+-- what is kept of a processor, as a part of an answer
+abbrev pub contents_of : Part → Contents
 contents_of k = record {
-  tree = k.below.tree;
-  latest = k.below.latest;
-  marks = k.below.marks;
-  exits = k.below.exits;
+  tree = k.folded.tree;
+  latest = k.folded.latest;
+  marks = k.folded.marks;
+  exits = k.folded.exits;
   held = all_events k.held;
 }

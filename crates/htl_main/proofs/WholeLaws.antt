@@ -15,7 +15,7 @@ use Rattle.htl_analyst.specs.States.{State, held_at}
 use Rattle.htl_analyst.specs.Keys.{HasTaken, keys}
 use Rattle.htl_analyst.specs.Moments as moments
 use Rattle.htl_analyst.specs.Right.{IsOwned, IsRight, run_events}
-use Rattle.htl_analyst.specs.Answers.{taken_events}
+use Rattle.htl_analyst.specs.TakenEvents.{taken_events}
 use Rattle.htl_analyst.proofs.KeyEvents.{taken_keys}
 use Rattle.htl_exchange.specs.Desks.{IsWholeStanding}
 use Rattle.htl_main.specs.Printed.{IsText, IsTextOver}
@@ -41,7 +41,7 @@ first_missing T a whole p lt = record {
   missing = λ key. whole.standing.least p (whole.keys p (front_at a.taken p) key);
 }
 
-pub complete : (T : Trace) (a : State) (n : ℕ) → IsWholeStanding T a → moments.IsCompleteTo T a n → IsCompleteTo T n
+pub complete : (T : Trace) (a : State) (n : ℕ) → IsWholeStanding T a → moments.IsLeastLastFolded T a n → IsCompleteTo T n
 complete T a n whole is =
     let count = whole.standing.right.processors in
     record {
@@ -58,12 +58,12 @@ complete T a n whole is =
 taken_there : (T : Trace) (a : State) → IsRight a T → (p n : ℕ) → p < a.processors → HasTaken a p n → HasKey T p n
 taken_there T a right p n lt (inl low) = (right.each p lt).complete n low
 taken_there T a right p n lt (inr loose) =
-    let lane = right.state.each p lt in
-    let held = Contains-from_map (λ s. s.number) (held_at a.lanes p) n
-    (subst (λ (ns : List ℕ). Contains ns n) (sym lane.numbers) loose) in (
+    let of_part = right.state.each p lt in
+    let held = Contains-from_map (λ s. s.number) (held_at a.parts p) n
+    (subst (λ (ns : List ℕ). Contains ns n) (sym of_part.numbers) loose) in (
       held.0,
-      at_member (Contains T.segments) (held_at a.lanes p) held.0 (right.each p lt).held held.1,
-      (at_member (IsOwned a.trace_id a.processors p) (held_at a.lanes p) held.0 lane.owned held.1).processor,
+      at_member (Contains T.segments) (held_at a.parts p) held.0 (right.each p lt).held held.1,
+      (at_member (IsOwned a.trace_id a.processors p) (held_at a.parts p) held.0 of_part.owned held.1).processor,
       held.2,
     )
 

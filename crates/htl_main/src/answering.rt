@@ -2,11 +2,11 @@
 
 ghost use Rattle.std.specs.Prelude.{◌≡◌, ◌≢◌, ◌⊎◌, ℕ, List, IfOk, IfErr, IfSome, IfNone, Contains};
 ghost use Rattle.htl_event.specs.Handles.{IsMark};
-ghost use Rattle.htl_segment.specs.Traces.{Trace, all_events};
+ghost use Rattle.htl_segment.specs.Traces.{Trace, IsTrace, all_events};
 ghost use Rattle.htl_symbols.specs.Ranges.{Range};
 ghost use Rattle.htl_report.specs.Texts.{text_of};
 ghost use Rattle.htl_analyst.specs.Right.{IsRight};
-ghost use Rattle.htl_analyst.specs.Answers.{taken_events};
+ghost use Rattle.htl_analyst.specs.TakenEvents.{taken_events};
 ghost use Rattle.htl_exchange.specs.Desks.{IsWholeStanding};
 ghost use Rattle.htl_main.specs.Printed.{IsText, IsTextOver, WorkersFit};
 ghost use Rattle.htl_main.specs.Questions.{IsOfAnalyst};
@@ -63,8 +63,10 @@ fn standing<Rt: Threads + Wait + Sync>(
 ) -> Result<Analyst<Global>, RunFault>
     requires { WorkersFit workers }
     ensures ok { IfOk result (IsWholeStanding case) }
+    ensures trace { IfOk result (λ _. IsTrace case) }
     ensures err { IfErr result (λ fault. (fault ≡ RunFault.Memory) ⊎ (fault ≡ RunFault.NoThread)) }
 {
+    let _is_case = case.segments();
     Ok(survey_owned(rt, alloc, case, workers, &Free)?)
 }
 
@@ -75,8 +77,8 @@ fn answer_of(
     question: Question,
 ) -> Result<Answer, NoMemory>
     requires { IsOfAnalyst question }
-    ensures { IfOk result (λ answer. (T : Trace) → IsRight analyst.now T → (table : List Range)
-        → IsTextOver (taken_events T analyst.now) table question (text_of table answer)) }
+    ensures { IfOk result (λ answer. (T : Trace) → IsTrace T → IsRight analyst.now T
+        → (table : List Range) → IsTextOver (taken_events T analyst.now) table question (text_of table answer)) }
 {
     Ok(match question {
         Question::Outstanding { process } => Answer::Outstanding {

@@ -1,7 +1,7 @@
 //! The summary of a case.
 
 ghost use Rattle.std.specs.Prelude.{◌≡◌, ◌<◌, ◌^◌, List, IfOk, length};
-ghost use Rattle.htl_segment.specs.Traces.{Trace, all_events};
+ghost use Rattle.htl_segment.specs.Traces.{Trace, IsTrace, all_events};
 ghost use Rattle.htl_symbols.specs.Ranges.{Range};
 ghost use Rattle.htl_event.specs.Summaries.{IsNumberOfObjects};
 ghost use Rattle.htl_report.specs.Texts.{text_of};
@@ -48,7 +48,7 @@ pub(crate) fn summary(
     sizes: Sizes,
     analyst: &Analyst<Global>,
 ) -> Result<Answer, NoMemory>
-    ensures { IfOk result (λ answer. (T : Trace) → AreSizes T sizes
+    ensures { IfOk result (λ answer. (T : Trace) → IsTrace T → AreSizes T sizes
         → IsWholeStanding T analyst.now → (table : List Range)
         → IsText T table asked.Summary (text_of table answer)) }
 {

@@ -6,7 +6,7 @@ use Rattle.htl_main.proofs.WholeLaws.{whole_events, whole_gaps}
 use Rattle.htl_main.proofs.summarizing.summary.Goals as goal
 
 pub returns : goal.returns
-returns c T sizes whole table =
+returns c T trace sizes whole table =
     let a = c.args.analyst.now in
     let right = whole.standing.right in
     let events = whole_events T a whole in
@@ -21,7 +21,7 @@ returns c T sizes whole table =
       c.totals.ensures T sizes whole
           (subst (λ (es : List Event). IsNumberOfObjects es number) events (c.in_ok-number.ensures.number T right)),
       whole_gaps T a gaps whole c.in_ok-gaps.ensures,
-      subst (λ (es : List Event). IsProcesses es processes) events (c.in_ok-processes.ensures T right),
+      subst (λ (es : List Event). IsProcesses es processes) events (c.in_ok-processes.ensures T trace right),
       subst (λ (es : List Event). IsUnbalanced es objects) events (c.in_ok-number.ensures.unbalanced T right),
       refl,
     )

@@ -113,22 +113,6 @@ piece_boundary b offset fault refused =
       | inr asked ↦ record { before = asked.1.before; rest = asked.1.rest; splits = asked.1.splits; offset_is = asked.1.offset_is }
     ]
 
--- memory was refused where the last bytes were to be kept
-pub tail_refused : (b : List ℕ) (old new : List Content) (rest : List ℕ) → SplitsMore b old new rest → IsRest rest → 0 < length rest
-    → IsPieceRefused b (length b - length rest) faults.NoMemory
-tail_refused b old new rest split is_rest some =
-    inr (
-      refl,
-      record {
-        before = split.more;
-        rest = rest;
-        splits = split.splits;
-        offset_is = omega (arith, ap length split.splits.parts, length-append (bundle split.more) rest);
-        some = some;
-        is_rest = is_rest;
-      },
-    )
-
 -- ---- what follows a first segment
 
 encodes_itself : (s : Content) → Fits s → Splits (encoding s) (s ∷ []) []
@@ -178,20 +162,6 @@ late_refused b fault some is late =
       late,
     ))
 
-pub rest_refused : (b : List ℕ) → 0 < length b → IsRest b → IsPieceRefused b 0 faults.NoMemory
-rest_refused b some is_rest =
-    inr (
-      refl,
-      record {
-        before = [];
-        rest = b;
-        splits = record { parts = refl; fits = All-nil Fits };
-        offset_is = refl;
-        some = some;
-        is_rest = is_rest;
-      },
-    )
-
 -- what `decode` tells of a whole segment, whatever follows it
 pub whole_refused : (w left : List ℕ) (fault : Fault) (first : Option Fault) → 32 ≤ length w → header_fault w ≡ None
     → length_in w ≡ length w
@@ -222,12 +192,6 @@ parts_encoded head left n s len long front =
 pub extends_nothing : (b : List ℕ) → Extends b b
 extends_nothing b = record { more = []; is = sym (append-nil b) }
 
-pub extends_twice : (old mid new : List ℕ) → Extends old mid → Extends mid new → Extends old new
-extends_twice old mid new first second = record {
-  more = first.more ++ second.more;
-  is = second.is ∙ ap (λ (x : List ℕ). x ++ second.more) first.is ∙ append_assoc old first.more second.more;
-}
-
 pub extends_same : (old new : List ℕ) → new ≡ old → Extends old new
 extends_same old new same = record { more = []; is = same ∙ sym (append-nil old) }
 
@@ -237,13 +201,6 @@ pub parts_joined : (rest piece taken left head : List ℕ) → head ≡ rest ++ 
 parts_joined rest piece taken left head first second = rw (first, second) (append_assoc rest taken left)
 
 -- ---- what is kept
-
--- a part of a header
-pub part_is_rest : (b : List ℕ) → length b < 32 → IsRest b
-part_is_rest b short = record { cut_off = inl short }
-
-pub part_has_room : (b : List ℕ) (c : ℕ) → length b < 32 → 32 ≤ c → HasRoom b c
-part_has_room b c short room = record { header = λ _. room; records = λ long. absurd (omega arith) }
 
 -- a header that more bytes follow, and all the bytes that it tells aren't there
 pub cut_is_rest : (old more : List ℕ) → 32 ≤ length old → header_fault old ≡ None → length old + length more < length_in old

@@ -173,9 +173,6 @@ pub record Carries {K X Y Z : Type 0} (R : K → K → Ordering) (P : Option X �
   pub rest : (ts : List (K × Z)) → Made P (join R (drop i es) (drop j fs)) ts → Made P (join R es fs) (out ++ ts)
 
 module _ {K X Y Z : Type 0} (R : K → K → Ordering) (P : Option X × Option Y → Z → Type 0) (es : List (K × X)) (fs : List (K × Y)) where
-  pub carries_start : Carries R P es fs 0 0 []
-  carries_start = record { i_in = omega arith; j_in = omega arith; rest = λ ts m. m }
-
   carry : (i j i' j' : ℕ) (out new : List (K × Z)) (k : K) (c : Option X × Option Y) (v : Z) → Carries R P es fs i j out
       → i' ≤ length es → j' ≤ length fs → join R (drop i es) (drop j fs) ≡ (k, c) ∷ join R (drop i' es) (drop j' fs) → P c v
       → new ≡ out ++ (k, v) ∷ [] → Carries R P es fs i' j' new
@@ -204,24 +201,6 @@ module _ {K X Y Z : Type 0} (R : K → K → Ordering) (P : Option X × Option Y
         → P (Some (get_or es i d).1, Some (get_or fs j c).1) v → new ≡ out ++ ((get_or es i d).0, v) ∷ []
         → Carries R P es fs (i + 1) (j + 1) new
     carry_equal lt lu v e p is = carry i j (i + 1) (j + 1) out new _ _ v h (omega arith) (omega arith) (heads lt lu ∙ rw e refl) p is
-
-    -- the second list is at its end
-    pub carry_left : i < length es → length fs ≤ j → (v : Z) → P (Some (get_or es i d).1, None) v
-        → new ≡ out ++ ((get_or es i d).0, v) ∷ [] → Carries R P es fs (i + 1) j new
-    carry_left lt past v p is = carry i j (i + 1) j out new _ _ v h (omega arith) h.j_in
-        (rw (drop_more es i d lt, drop_all j fs past) refl) p is
-
-    -- the first list is at its end
-    pub carry_right : length es ≤ i → j < length fs → (v : Z) → P (None, Some (get_or fs j c).1) v
-        → new ≡ out ++ ((get_or fs j c).0, v) ∷ [] → Carries R P es fs i (j + 1) new
-    carry_right past lu v p is = carry i j i (j + 1) out new _ _ v h h.i_in (omega arith)
-        (rw (drop_all i es past, drop_more fs j c lu) refl) p is
-
-  -- nothing is left
-  pub carried : (i j : ℕ) (out : List (K × Z)) → Carries R P es fs i j out → length es ≤ i → length fs ≤ j → Made P (join R es fs) out
-  carried i j out h past_es past_fs =
-      let none : Made P (join R (drop i es) (drop j fs)) [] = rw (drop_all i es past_es, drop_all j fs past_fs) tt in
-      rw (sym (append-nil out)) (h.rest [] none)
 
   left_alone : (xs : List (K × X)) → join {Y = Y} R xs [] ≡ map (λ e. (e.0, (Some e.1, None))) xs
   left_alone [] = refl

@@ -71,9 +71,6 @@ module _ {X : Type 0} (events_of : X → List Event) (runs : List X) where
     FirstKeyIs n o = MatchOption o ((k : ℕ) (u : SortKey) → k < n → slice_get keys k ≡ Some u → HasHandle process base u → ⊥)
         (IsFirstKey n)
 
-    pub no_keys : FirstKeyIs 0 None
-    no_keys = λ k u lt. absurd (omega (arith, lt))
-
     module _ (are : AreCandidates events_of runs keys) (sorted : IsSorted sort_key_cmp keys) where
       here : (k : ℕ) (u : SortKey) → slice_get keys k ≡ Some u → IsKeyIn events_of runs u
       here k u at = are.each u (k, slice_get_within keys k u at, get_or_from_slice_get keys k u u at)

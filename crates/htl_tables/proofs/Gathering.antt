@@ -27,9 +27,6 @@ module _ (r : ℕ) (events : List Event) (old : List SortKey) where
     pub met : (k : SortKey) → IsMet old k → IsMet new k
     pub all : (i : ℕ) (e : Event) → i < n → slice_get events i ≡ Some e → opens_or_closes e.kind ≡ true → IsMet new (sort_key_of e r i)
 
-  pub gathers_none : GathersFirst 0 old
-  gathers_none = record { each = λ k h. inl h; met = λ k m. m; all = λ i e lt. absurd (omega (arith, lt)) }
-
   -- an event between the first n and the next
   at_next : (n i : ℕ) (e x : Event) → (i < n → ⊥) → i < n + 1 → slice_get events n ≡ Some e → slice_get events i ≡ Some x
       → record { place : n ≡ i; event : e ≡ x }

@@ -1,36 +1,13 @@
 -- A sort key offered to others: it is added, put in the place of a later one, or one of them meets it.
-use Rattle.std.proofs.Common.{◌≡◌, ℕ, true, false, ◌<◌, List, [], ◌∷◌, ◌++◌, length, get_or, set}
+use Rattle.std.proofs.Common.{◌≡◌, ℕ, true, false, ◌<◌, List, length, get_or, set}
 use Rattle.std.proofs.Common.{refl, sym, ap, ◌∙◌, inl, inr, ◌⊎◌, arith, subst, Contains}
 use Rattle.std.specs.Ordering.{is_lt}
 use Rattle.std.proofs.lemmas.Bool.{cases_eq}
 use Rattle.std.proofs.lemmas.Option.{slice_get_within, get_or_from_slice_get}
 use Rattle.std.proofs.lemmas.List.{get_or_default, get_or-set_same, get_or-set_other, length-set}
-use Rattle.std.proofs.lemmas.List.Elements.{Contains-push, Contains-push_cases, Contains-append_left}
 use Rattle.htl_tables.specs.declared.sort_key.SortKey.{SortKey}
-use Rattle.htl_tables.specs.SortKeys.{sort_key_cmp, IsMet, IsPlaceOf, Offers}
+use Rattle.htl_tables.specs.SortKeys.{sort_key_cmp, IsPlaceOf, Offers}
 use Rattle.htl_tables.proofs.SortKeyOrder.{no_later-same, no_later-trans, less_no_later}
-
--- ---- met by others
-
--- what is met by some keys is met by more
-pub met_more : (keys more : List SortKey) (k : SortKey) → IsMet keys k → IsMet (keys ++ more) k
-met_more keys more k m = record {
-  key = m.key;
-  here = Contains-append_left keys more m.key m.here;
-  process = m.process;
-  base = m.base;
-  order = m.order;
-}
-
-met_pushed : (keys : List SortKey) (k : SortKey) → IsMet (keys ++ k ∷ []) k
-met_pushed keys k = record { key = k; here = Contains-push keys k; process = refl; base = refl; order = no_later-same k }
-
-pub offered_pushed : (keys : List SortKey) (k : SortKey) → Offers k keys (keys ++ k ∷ [])
-offered_pushed keys k = record {
-  each = λ u h. Contains-push_cases keys k u h;
-  met = λ u m. met_more keys (k ∷ []) u m;
-  own = met_pushed keys k;
-}
 
 -- ---- at the place of one of its handle
 

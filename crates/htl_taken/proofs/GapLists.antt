@@ -316,11 +316,3 @@ gaps_more has p high front loose gaps rises same so_far = record {
               Contains-append_right gaps (gaps_of p front loose) (Absent r) ((one.members (Absent r)).1
               (e, λ n k. h.1 n (subst (λ (s : ℕ). has s n) (sym e) ((same n).1 k))))
         ]
-
--- of no processor there is none
-pub gaps_none : (has : ℕ → ℕ → Type 0) → IsGaps has 0 []
-gaps_none has = record { rising = tt; members = λ gap. ((λ h. absurd (Contains-nil gap h)), nothing gap) }
-  where
-    nothing : (gap : Gap) → IsGap has 0 gap → Contains [] gap
-    nothing (Between r from to) h = let lt = h.0 in absurd (omega (arith, lt))
-    nothing (Absent r) h = let lt = h.0 in absurd (omega (arith, lt))

@@ -1,7 +1,8 @@
 //! Laws of sets of taken segments. Each function's contract is the law; none does anything when it
 //! runs.
 
-ghost use Rattle.htl_taken.specs.Laws.{UnitesKeys, IsUnionCommutative, IsUnionAssociative, IsUnionIdempotent};
+ghost use Rattle.htl_taken.specs.Laws.{UnitesKeys, IsUnionCommutative, IsUnionAssociative};
+ghost use Rattle.htl_taken.specs.Laws.{IsUnionIdempotent};
 ghost use Rattle.htl_taken.specs.Laws.{SettlesOnce, IsDetermined, CountsNumbers};
 ghost use Rattle.htl_taken.specs.Gaps.{GapsAreDetermined};
 

@@ -152,7 +152,8 @@ module _ {K : Type 0} {cmp : K → K → Ordering} (o : IsTotalOrder cmp) where
                 let last = sum_by-cons f x [] in
                 omega (arith, left, one, right, other, whole, last);
             positive = λ each.
-                let of_rows : EachPositive (front ++ x ∷ []) = λ r h. each r (Contains-append_left rows (row ∷ []) r (subst (λ l. Contains l r) (sym split) h)) in
+                let of_rows : EachPositive (front ++ x ∷ []) =
+                λ r h. each r (Contains-append_left rows (row ∷ []) r (subst (λ l. Contains l r) (sym split) h)) in
                 positive_both front (sum ∷ []) (λ r h. of_rows r (Contains-append_left front (x ∷ []) r h)) (λ r h. (elim (Contains-cases sum [] r h) [
                   | inl is ↦ let some : IsPositive x.1 = of_rows x (Contains-append_right front (x ∷ []) x (Contains-here x [])) in
                       subst (λ z. IsPositive z.1) is (more x.1 row.1 some)

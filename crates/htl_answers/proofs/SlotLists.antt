@@ -88,7 +88,8 @@ stacks_listed events object tag rows listed = record {
         let is = (listed.members from.0).0 from.1 in
         subst (λ (r : List ℕ × Count). (r.1 ≡ tally events (Tagged object tag) r.0) × IsPositive r.1) from.2
         (is.0 ∙ ap (λ s. tally events s from.0.0.1) (sym (of_slot from.0 is)), is.1)),
-    λ h. Contains-map strip rows ((Tagged object tag, row.0), row.1) ((listed.members ((Tagged object tag, row.0), row.1)).1 (h.0, h.1, (same_slot_Decides (Tagged object tag) (Tagged object tag)).1 refl)),
+    λ h. Contains-map strip rows ((Tagged object tag, row.0), row.1)
+        ((listed.members ((Tagged object tag, row.0), row.1)).1 (h.0, h.1, (same_slot_Decides (Tagged object tag) (Tagged object tag)).1 refl)),
   );
 }
   where

@@ -26,7 +26,9 @@ loop-part-preserved g c =
     let held = rows_of key slots part.held in
     let appended : c.append.new.self.items ≡ before ++ folded = search rules in
     let new_is : c.add_held.new.rows.items ≡ (before ++ folded) ++ held =
-    c.in_ok-add_held.ensures ∙ ap (λ l. l ++ rows_of key slots (flat_map g.P.Held.EventList.events_of c.held.result.now)) appended ∙ ap (λ es. (before ++ folded) ++ rows_of key slots es) c.held.ensures in
+    c.in_ok-add_held.ensures
+    ∙ ap (λ l. l ++ rows_of key slots (flat_map g.P.Held.EventList.events_of c.held.result.now)) appended
+    ∙ ap (λ es. (before ++ folded) ++ rows_of key slots es) c.held.ensures in
     let size = ap total_count c.tree.ensures in
     record {
       counts = λ events are k.

@@ -105,7 +105,7 @@ impl<A: Allocator + Clone> Analyst<A> {
         ensures { IfOk result (λ rows. (T : Trace) → IsRight self.now T
             → IsTags (taken_events T self.now) object rows.items) }
     {
-        let rows = answers::tags(alloc, self.parts.allocator(), &self.parts, object)?;
+        let rows = answers::tags(alloc, &self.parts, object)?;
         Ok(rows)
     }
 
@@ -115,7 +115,7 @@ impl<A: Allocator + Clone> Analyst<A> {
         ensures { IfOk result (λ rows. (T : Trace) → IsRight self.now T
             → IsBad (taken_events T self.now) process rows.items) }
     {
-        let rows = answers::bad(alloc, self.parts.allocator(), &self.parts, process)?;
+        let rows = answers::bad(alloc, &self.parts, process)?;
         Ok(rows)
     }
 
@@ -140,7 +140,7 @@ impl<A: Allocator + Clone> Analyst<A> {
         ensures { IfOk result (λ rows. (T : Trace) → IsRight self.now T
             → IsStacks (taken_events T self.now) object tag rows.items) }
     {
-        let rows = answers::stacks(alloc, self.parts.allocator(), &self.parts, object, tag)?;
+        let rows = answers::stacks(alloc, &self.parts, object, tag)?;
         Ok(rows)
     }
 

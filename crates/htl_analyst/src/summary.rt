@@ -45,7 +45,7 @@ impl<A: Allocator + Clone> Analyst<A> {
         ensures unbalanced { IfOk result (λ objects. (T : Trace) → IsRight self.now T
             → IsUnbalanced (taken_events T self.now) objects.unbalanced.items) }
     {
-        let objects = htl_summary::balances(alloc, self.parts.allocator(), &self.parts)?;
+        let objects = htl_summary::balances(alloc, &self.parts)?;
         Ok(objects)
     }
 }

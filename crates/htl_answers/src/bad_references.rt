@@ -21,7 +21,6 @@ use std::alloc::Global;
 /// came, by handle and then in stack order.
 pub fn bad<P: Part>(
     alloc: Global,
-    _tree_alloc: &P::Alloc,
     parts: &[P],
     process: u32,
 ) -> Result<Vec<(u32, SharedStack, u64)>, NoMemory>

@@ -20,7 +20,6 @@ use std::alloc::Global;
 /// dereferenced under it.
 pub fn tags<P: Part>(
     alloc: Global,
-    _tree_alloc: &P::Alloc,
     parts: &[P],
     object: u64,
 ) -> Result<Vec<([u8; 4], Count)>, NoMemory>
@@ -70,7 +69,6 @@ fn tag_row(slot: Slot, count: Count, object: u64) -> Option<([u8; 4], Count)>
 /// The stacks with an event of the object and tag, each with its tally, in stack order.
 pub fn stacks<P: Part>(
     alloc: Global,
-    _tree_alloc: &P::Alloc,
     parts: &[P],
     object: u64,
     tag: [u8; 4],

@@ -24,11 +24,7 @@ pub struct Objects {
 }
 
 /// Which objects were referenced or dereferenced, and whether their tags balance.
-pub fn balances<P: Part>(
-    alloc: Global,
-    _tree_alloc: &P::Alloc,
-    parts: &[P],
-) -> Result<Objects, NoMemory>
+pub fn balances<P: Part>(alloc: Global, parts: &[P]) -> Result<Objects, NoMemory>
     requires { size_of_all (map P.contents parts.now) < 2 ^ 64 }
     ensures number { IfOk result (λ objects. (events : List Event)
         → AreEventsOf (map P.contents parts.now) events

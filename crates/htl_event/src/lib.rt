@@ -16,8 +16,6 @@ mod shared_stack;
 mod slot;
 mod stack;
 mod summary;
-#[cfg(test)]
-mod tests;
 
 ghost use Rattle.std.specs.Prelude.{◌≡◌};
 ghost use Rattle.htl_event.specs.Slots.{base_of};

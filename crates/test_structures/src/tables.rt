@@ -1,4 +1,4 @@
-//! Tests of what no clause says: worked rows, many runs, and refused growths, each call under heaps
+//! Tests of what no clause says: worked rows, many runs, and refused allocations, each call under heaps
 //! of its own.
 
 use htl_event::{NoMemory, SharedEvent};
@@ -203,7 +203,7 @@ fn tables_of_made_up_segments(rt: HostRuntime) -> Result<(), Fail> {
     Ok(())
 }
 
-// ---- refused growths
+// ---- refused allocations
 
 /// Opens, closes and exits, most of which make a row of their own.
 const LINES: &str = "O 1 0x44, exit 2, C 3 0x48, exit 4 process=3, O 5 0x10, O 6 0x44 process=2, \

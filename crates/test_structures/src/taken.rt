@@ -1,4 +1,4 @@
-//! Tests of what no clause says: worked rows, and refused growths, each call under heaps of its
+//! Tests of what no clause says: worked rows, and refused allocations, each call under heaps of its
 //! own.
 
 use htl_event::NoMemory;
@@ -62,7 +62,7 @@ fn nothing_is_taken_of_a_processor_that_is_not_there(rt: HostRuntime) -> Result<
     Ok(())
 }
 
-// ---- refused growths
+// ---- refused allocations
 
 const SEGMENTS: [(u16, u32); 8] = [
     (0, 0),

@@ -1,4 +1,4 @@
-//! Worked trees, trees of random events, and growths that are refused.
+//! Worked trees, trees of random events, and refused allocations.
 
 use htl_event::{Count, Event, Kind, NoMemory, SharedEvent, SharedStack, Sign, Slot, Stack};
 use htl_tree::{Slots, StackTree, fits_events};
@@ -86,7 +86,7 @@ fn shared_outer_frames_under_two_allocators(rt: HostRuntime) -> Result<(), Fail>
 }
 
 #[test]
-fn a_sum_of_three_is_two_sums_of_two(rt: HostRuntime) -> Result<(), Fail> {
+fn sums_of_three(rt: HostRuntime) -> Result<(), Fail> {
     let alloc = rt.alloc();
     let one = three(&rt, alloc, &[0, 2])?;
     let two = three(&rt, alloc, &[1, 2, 0])?;
@@ -96,12 +96,15 @@ fn a_sum_of_three_is_two_sums_of_two(rt: HostRuntime) -> Result<(), Fail> {
     assert!(rt; one.fits(two.total()));
     let both = one.plus(&two)?;
     assert!(rt; both.fits(other.total()));
-    let sum = StackTree::sum_of_all(alloc, &[&one, &two, &other])?;
-    assert!(rt; sum.same(&both.plus(&other)?));
+    let sum = both.plus(&other)?;
+    assert!(rt; two.fits(other.total()));
+    let last_two = two.plus(&other)?;
+    assert!(rt; one.fits(last_two.total()));
+    assert!(rt; sum.same(&one.plus(&last_two)?));
     assert_eq!(rt; sum.total(), 8);
-    let none = StackTree::sum_of_all(alloc, &[])?;
-    let alone = StackTree::sum_of_all(alloc, &[&none, &one])?;
-    assert!(rt; alone.same(&one));
+    let none = StackTree::new(alloc);
+    assert!(rt; none.fits(one.total()));
+    assert!(rt; none.plus(&one)?.same(&one));
     Ok(())
 }
 
@@ -129,9 +132,9 @@ fn lists_rows_and_sums(rt: HostRuntime) -> Result<(), Fail> {
     assert!(rt; rows.as_slice() == expected.as_slice());
     let sums = tree.sums_of(rt.alloc(), Slots::OfObject(0x1000))?;
     assert_eq!(rt; sums.as_slice(), [(SLOT, count(2, 1))].as_slice());
-    let others = tree.of_slots(rt.alloc(), Slots::One(OTHER))?;
-    assert_eq!(rt; others.total(), 1);
-    assert_eq!(rt; others.at(OTHER, &stack(&X)), count(1, 0));
+    let others = tree.rows_of(rt.alloc(), Slots::One(OTHER))?;
+    let expected = [((OTHER, shared(rt.alloc(), &X, 2)?), count(1, 0))];
+    assert!(rt; others.as_slice() == expected.as_slice());
     assert_eq!(rt;
         tree.slots(rt.alloc())?.as_slice(),
         [SLOT, OTHER].as_slice()
@@ -141,7 +144,7 @@ fn lists_rows_and_sums(rt: HostRuntime) -> Result<(), Fail> {
 
 // There are more processes than marks. Handles of every other one were opened.
 #[test]
-fn slots_with_one_mark_are_told_apart(rt: HostRuntime) -> Result<(), Fail> {
+fn slots_with_one_mark_are_distinct(rt: HostRuntime) -> Result<(), Fail> {
     let mut tree = StackTree::new(rt.alloc());
     for number in 0..256u32 {
         let slot = Slot::Handles {

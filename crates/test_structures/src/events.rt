@@ -1,6 +1,6 @@
 //! The length of stacks, and the orders of stacks and slots.
 
-use crate::{Slot, Stack};
+use htl_event::{Slot, Stack};
 
 fn stack(addresses: &[u64]) -> Stack {
     let mut stack = Stack::new();

@@ -1,6 +1,6 @@
 //! Counts of words merged and searched.
 
-use super::*;
+use htl_sorted::{Joined, Keyed, merge, search};
 use std::alloc::AllocError;
 use std::test::Fail;
 

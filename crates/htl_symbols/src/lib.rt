@@ -13,6 +13,3 @@ mod symbols;
 
 pub use fault::SymbolFault;
 pub use symbols::Symbols;
-
-#[cfg(test)]
-mod tests;

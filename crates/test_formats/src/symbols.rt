@@ -1,5 +1,5 @@
 //! Tables from worked rows: what addresses resolve to, and why rows are refused.
-use super::*;
+use htl_symbols::{SymbolFault, Symbols};
 use std::alloc::{AllocError, Global};
 use std::test::Fail;
 

@@ -1,6 +1,7 @@
 //! What lines write, and that generated segments rise.
-use crate::{SMALL, SampleFault, TRACE, Trace, event, events, shared_events};
 use htl_event::Kind;
+use htl_samples::{SMALL, SampleFault, TRACE, Trace, event, events, shared_events};
+use htl_segment::decode_bundle;
 use std::test::Fail;
 
 #[test]
@@ -65,7 +66,7 @@ fn made_up_traces(rt: HostRuntime) -> Result<(), Fail> {
     let segments = SMALL.segments(rt.alloc())?;
     assert_eq!(rt; segments.len(), 6);
     let bytes = SMALL.bundle(rt.alloc())?;
-    let read = htl_segment::decode_bundle(rt.alloc(), &bytes)?;
+    let read = decode_bundle(rt.alloc(), &bytes)?;
     assert_eq!(rt; read.len(), 6);
     for (made, read) in segments.iter().zip(&read) {
         assert!(rt; made.same(read));

@@ -1,6 +1,6 @@
 //! The eight texts, and how addresses print.
-use crate::{Answer, Totals, text};
 use htl_event::{Count, ObjectRow, ProcessRow};
+use htl_report::{Answer, Totals, text};
 use htl_samples::{shared_events, shared_stack};
 use htl_symbols::Symbols;
 use htl_taken::Gap;

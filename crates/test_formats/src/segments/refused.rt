@@ -1,13 +1,10 @@
-//! Small caches, and refused growths: `rt try --test --fail-alloc N` refuses growth N of each test.
-//! The call that meets it has to report out of memory, and has to answer when it is asked again.
+//! Refused allocations: `rt try --test --fail-alloc N` refuses allocation N of each test. The call
+//! that meets it has to report out of memory, and has to answer when it is asked again.
 
-use crate::stack_cache::StackCache;
-use crate::tests::{deep_event, event};
-use crate::{
-    Fault, HexFault, Segment, SegmentBytes, Splitter, decode, decode_bundle, decode_pieces, encode,
-    from_hex,
+use super::deep_event;
+use htl_segment::{
+    Fault, HexFault, Segment, Splitter, decode, decode_bundle, decode_pieces, encode, from_hex,
 };
-use htl_event::Kind;
 
 /// The empty segment, and then one with an open of handle 0x44 without frames: 32 and 68 bytes.
 const BUNDLE: [u8; 100] = *b"HLS1\x01\0\x01\0\0\0\0\0\0\0\0\0\x07\0\0\0\0\0\0\0\0\0\0\0\x20\0\0\0\
@@ -15,7 +12,7 @@ const BUNDLE: [u8; 100] = *b"HLS1\x01\0\x01\0\0\0\0\0\0\0\0\0\x07\0\0\0\0\0\0\0\
     \x01\0\0\0\0\0\0\0\x01\0\0\0\x04\0\0\0\x0c\0\0\0\x44\0\0\0\0\0\0\0\0\0\0\0\0\0\0\0";
 
 #[test]
-fn refused_growths_of_reading(rt: HostRuntime) {
+fn refused_allocations_of_reading(rt: HostRuntime) {
     let alloc = rt.alloc();
     let bundle = BUNDLE;
     let bytes = bundle.as_slice();
@@ -57,7 +54,7 @@ fn refused_growths_of_reading(rt: HostRuntime) {
 }
 
 #[test]
-fn refused_growths_of_a_splitter(rt: HostRuntime) {
+fn refused_allocations_of_a_splitter(rt: HostRuntime) {
     let alloc = rt.alloc();
     let bundle = BUNDLE;
     let bytes = bundle.as_slice();
@@ -67,20 +64,20 @@ fn refused_growths_of_a_splitter(rt: HostRuntime) {
     for piece in bytes.chunks(40) {
         assert!(rt; splitter.fed() < 1_000 && piece.len() < 1_000);
         let fed = splitter.fed();
-        let mut told = splitter.feed(alloc, piece);
-        if let Err((offset, fault)) = told {
+        let mut fed_now = splitter.feed(alloc, piece);
+        if let Err((offset, fault)) = fed_now {
             assert!(rt; (offset == 0 || offset == 32) && fault == Fault::NoMemory);
             assert!(rt; splitter.fed() == fed && splitter.fed() < 1_000);
-            told = splitter.feed(alloc, piece);
+            fed_now = splitter.feed(alloc, piece);
         }
-        let segments = told.expect(&rt, "no fault");
+        let segments = fed_now.expect(&rt, "no fault");
         found = segments.len().wrapping_add(found);
     }
     assert_eq!(rt; (found, splitter.finish()), (2, Ok(())));
 }
 
 #[test]
-fn refused_growths_of_building(rt: HostRuntime) {
+fn refused_allocations_of_building(rt: HostRuntime) {
     let alloc = rt.alloc();
     let mut events = Vec::new(alloc);
     if events.push(deep_event()).is_err() {
@@ -92,30 +89,4 @@ fn refused_growths_of_building(rt: HostRuntime) {
         built = Segment::build2(alloc, 7, 1, 0, 0, events);
     }
     assert_eq!(rt; built.ok().expect(&rt, "a segment").events().len(), 1);
-}
-
-#[test]
-fn stacks_through_two_cells(rt: HostRuntime) {
-    let alloc = rt.alloc();
-    let mut events = Vec::new(alloc);
-    for place in 0..64u64 {
-        let mut next = event(place + 1, Kind::Opened, 0x44);
-        // Seven stacks that come again and again, so that each pushes others out.
-        for frame in 0..place % 7 {
-            next.stack.push(frame);
-        }
-        events.push(next).expect(&rt, "the memory");
-    }
-    let segment = Segment::build(alloc, 7, 1, 0, 0, events)
-        .ok()
-        .expect(&rt, "a segment");
-    let bytes = encode(alloc, &segment).expect(&rt, "the memory");
-    let found = SegmentBytes::check(&bytes).expect(&rt, "a segment");
-    for most_cells in [0, 1, 2, 64] {
-        let mut cache = StackCache::with_most(alloc, most_cells);
-        let read = found
-            .to_segment_with(alloc, &mut cache)
-            .expect(&rt, "the memory");
-        assert!(rt; read.same(&segment), "{most_cells}");
-    }
 }

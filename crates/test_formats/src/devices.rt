@@ -1,7 +1,8 @@
-// Devices that give or take a few bytes, and that fail.
+//! Devices that give or take a few bytes, and that fail.
+
 ghost use Rattle.std.specs.Prelude.{◌≡◌, false};
 
-use crate::{Failed, ReadFault, Reading, Sink, Source, Writing, read_whole, write_whole};
+use htl_device::{Failed, ReadFault, Reading, Sink, Source, Writing, read_whole, write_whole};
 use std::io;
 use std::io::{Read, Write};
 use std::test::Fail;
@@ -68,7 +69,7 @@ fn reads_pieces(rt: HostRuntime) -> Result<(), Fail> {
 }
 
 #[test]
-fn tells_a_failed_read(rt: HostRuntime) {
+fn reports_a_failed_read(rt: HostRuntime) {
     let mut source = Reading::new(Pieces {
         bytes: TEXT,
         piece: 7,
@@ -92,7 +93,7 @@ fn writes_pieces(rt: HostRuntime) {
 }
 
 #[test]
-fn tells_a_failed_write(rt: HostRuntime) {
+fn reports_a_failed_write(rt: HostRuntime) {
     for (piece, went) in [(10, "outstandin"), (0, "")] {
         let mut narrow = Narrow {
             held: Vec::new(rt.alloc()),

@@ -1,9 +1,12 @@
 //! Worked segments and bundles, and their faults.
-use crate::{
+
+mod refused;
+
+use htl_event::{Event, Kind, MAX_FRAMES, SharedEvent, Stack};
+use htl_segment::{
     Fault, HexFault, Segment, SegmentBytes, Splitter, decode, decode_bundle, decode_pieces, encode,
     from_hex,
 };
-use htl_event::{Event, Kind, MAX_FRAMES, SharedEvent, Stack};
 use std::alloc::Global;
 use std::process::Abort;
 
@@ -42,7 +45,7 @@ fn code(rt: &impl Abort, alloc: Global, fault: Fault) -> String {
 }
 
 /// An event of process 4 and thread 12 without frames.
-pub fn event(sequence: u64, kind: Kind, handle: u32) -> Event {
+fn event(sequence: u64, kind: Kind, handle: u32) -> Event {
     Event {
         sequence,
         kind,
@@ -131,11 +134,11 @@ fn faults_of_changed_bytes(rt: HostRuntime) {
     ];
     for (texts, changes, wanted) in table {
         let bytes = changed(&rt, alloc, texts, changes);
-        let told = decode(alloc, &bytes)
+        let fault = decode(alloc, &bytes)
             .err()
             .map(|fault| code(&rt, alloc, fault));
         assert_eq!(rt;
-            told.as_ref().map(|text| text.as_str()),
+            fault.as_ref().map(|text| text.as_str()),
             Some(wanted),
             "{changes:?}"
         );
@@ -209,8 +212,8 @@ fn hexadecimal(rt: HostRuntime) {
         ("", Ok(&[])),
     ];
     for (text, wanted) in table {
-        let told = from_hex(alloc, text.as_bytes());
-        match (told, wanted) {
+        let read = from_hex(alloc, text.as_bytes());
+        match (read, wanted) {
             (Ok(bytes), Ok(wanted)) => assert!(rt; bytes.as_slice() == wanted, "{text}"),
             (Err(fault), Err(wanted)) => assert_eq!(rt; fault, wanted, "{text}"),
             _ => assert!(rt; false, "{text}"),
@@ -292,6 +295,39 @@ fn deepest_stack(rt: HostRuntime) {
     assert!(rt; !deep_event().stack.push(64));
 }
 
+/// Opens of stacks that come again and again, so many of them.
+fn repeating(rt: &impl Abort, alloc: Global, stacks: u64) -> Vec<Event> {
+    let mut events = Vec::new(alloc);
+    for place in 0..2048u64 {
+        let number = place % stacks.max(1);
+        let mut next = event(place + 1, Kind::Opened, 0x44);
+        for frame in 0..number % 7 {
+            next.stack.push(number + frame);
+        }
+        events.push(next).expect(rt, "the memory");
+    }
+    events
+}
+
+/// A cache of stacks begins with a few cells, of which each stack may have two: many stacks push one
+/// another out, and the cache is made larger.
+#[test]
+fn stacks_through_two_cells(rt: HostRuntime) {
+    let alloc = rt.alloc();
+    for stacks in [7, 60, 1500] {
+        let events = repeating(&rt, alloc, stacks);
+        let segment = Segment::build(alloc, 7, 1, 0, 0, repeating(&rt, alloc, stacks))
+            .ok()
+            .expect(&rt, "a segment");
+        assert!(rt; same_events(segment.events(), &events), "{stacks}");
+        let bytes = encode(alloc, &segment).expect(&rt, "the memory");
+        let found = SegmentBytes::check(&bytes).expect(&rt, "a segment");
+        let read = found.to_segment(alloc).expect(&rt, "the memory");
+        assert!(rt; read.same(&segment), "{stacks}");
+        assert!(rt; same_events(read.events(), &events), "{stacks}");
+    }
+}
+
 #[test]
 fn bundles_in_pieces(rt: HostRuntime) {
     let alloc = rt.alloc();
@@ -331,7 +367,7 @@ fn bundles_in_pieces(rt: HostRuntime) {
             && joined.len() == 2
     );
 
-    // A fault in the second segment is told for good.
+    // A fault in the second segment is reported for good.
     let bundle = changed(&rt, alloc, &[EMPTY, STORED], &[(100, "01")]);
     let bytes = bundle.as_slice();
     assert_eq!(rt; bytes.len(), 188);
@@ -375,7 +411,7 @@ fn too_many(rt: &impl Abort, alloc: Global) -> Vec<Event> {
 }
 
 /// An open with as many frames as a stack has room for.
-pub fn deep_event() -> Event {
+fn deep_event() -> Event {
     let mut event = event(1, Kind::Opened, 0x44);
     for address in 0..MAX_FRAMES {
         event.stack.push(address as u64);

@@ -1,6 +1,11 @@
-//! A symbol table, and the rows of an answer whose stacks it names.
+//! How long it takes to read a symbol table and to print an answer under it. The size is the number
+//! of the answer's rows, of 16 frames each, and the table has half as many ranges.
 
+use crate::stopwatch::Stopwatch;
+use anyhow::Result;
 use htl_event::{Kind, NoMemory, SharedEvent, SharedStack};
+use htl_report::{Answer, text};
+use htl_symbols::Symbols;
 use std::alloc::{AllocError, Global};
 
 /// How many addresses a range has; the next one starts at twice that distance.
@@ -8,8 +13,23 @@ const LENGTH: u64 = 0x40;
 
 const FRAMES: usize = 16;
 
+pub fn measure(rt: &HostRuntime, size: u32) -> Result<()> {
+    let alloc = rt.alloc();
+    let table = table(alloc, size / 2)?;
+    let answer = Answer::Outstanding {
+        process: 4,
+        rows: rows(alloc, size)?,
+    };
+    let mut watch = Stopwatch::start(rt)?;
+    let symbols = Symbols::read(alloc, table.as_bytes())?;
+    watch.lap("bytes of a symbol table", table.len() as u64)?;
+    let printed = text(alloc, &answer, &symbols)?;
+    watch.lap("bytes of text", printed.len() as u64)?;
+    Ok(())
+}
+
 /// A table of so many ranges, in no order.
-pub fn table(alloc: Global, ranges: u32) -> Result<String, AllocError> {
+fn table(alloc: Global, ranges: u32) -> Result<String, AllocError> {
     let mut table = String::from_str(alloc, "start,end,module,name\n")?;
     for range in 0..ranges {
         let start = u64::from(range.reverse_bits()) * 2 * LENGTH;
@@ -23,7 +43,7 @@ pub fn table(alloc: Global, ranges: u32) -> Result<String, AllocError> {
 }
 
 /// So many opens, each with a stack of its own.
-pub fn rows(alloc: Global, count: u32) -> Result<Vec<SharedEvent>, NoMemory> {
+fn rows(alloc: Global, count: u32) -> Result<Vec<SharedEvent>, NoMemory> {
     let mut rows = Vec::with_capacity(alloc, count as usize)?;
     for row in 0..count {
         rows.push(open(alloc, row, count / 2)?)?;

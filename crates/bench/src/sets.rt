@@ -1,19 +1,22 @@
-//! Sets of numbers.
+//! How long sets of taken segments take that are filled and united. The size counts 4,096 numbers.
 
 ghost use Rattle.std.specs.Prelude.{◌≡◌, ◌<◌, length, IfOk};
 
-use bench_clock::Stopwatch;
+use crate::stopwatch::Stopwatch;
+use anyhow::Result;
 use htl_event::NoMemory;
 use htl_taken::Taken;
 use std::alloc::Global;
-use std::time::Clock;
+
+pub fn measure(rt: &HostRuntime, size: u32) -> Result<()> {
+    let mut watch = Stopwatch::start(rt)?;
+    let count = size.saturating_mul(4096);
+    settle_run(rt.alloc(), &mut watch, count)?;
+    unite_halves(rt.alloc(), &mut watch, count)
+}
 
 /// Inserts loose numbers in order, then the one below them, and settles.
-pub fn settle_run(
-    alloc: Global,
-    watch: &mut Stopwatch<impl Clock + Print + Eprint>,
-    size: u32,
-) -> anyhow::Result<()> {
+fn settle_run(alloc: Global, watch: &mut Stopwatch, size: u32) -> Result<()> {
     let mut taken = numbers_from(alloc, 1, size, 1)?;
     taken.insert(0, 0)?;
     watch.lap("numbers inserted", taken.len())?;
@@ -23,11 +26,7 @@ pub fn settle_run(
 }
 
 /// Unites the even numbers with the odd ones.
-pub fn unite_halves(
-    alloc: Global,
-    watch: &mut Stopwatch<impl Clock + Print + Eprint>,
-    size: u32,
-) -> anyhow::Result<()> {
+fn unite_halves(alloc: Global, watch: &mut Stopwatch, size: u32) -> Result<()> {
     let odd = numbers_from(alloc, 1, size, 2)?;
     let even = numbers_from(alloc, 2, size, 2)?;
     watch.lap("halves inserted", odd.len())?;

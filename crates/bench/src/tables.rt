@@ -1,12 +1,13 @@
-//! Tables of segments.
+//! How long tables take that are made of generated segments, copied and joined. The size is the
+//! number of segments, of 4,096 events each.
 
-use bench_clock::Stopwatch;
+use crate::stopwatch::Stopwatch;
+use anyhow::Result;
 use htl_event::{EventList, SharedEvent};
 use htl_samples::{RandomTrace, SMALL};
 use htl_segment::Segment;
 use htl_tables::{Exits, Latest, Marks};
 use std::alloc::Global;
-use std::time::Clock;
 
 /// A trace of one processor. About half of its events open or close a handle.
 fn trace(segments: u32, handles: u32) -> RandomTrace {
@@ -22,7 +23,7 @@ fn trace(segments: u32, handles: u32) -> RandomTrace {
 }
 
 /// All events in one run, the last of them first.
-fn turned(alloc: Global, segments: &[Segment]) -> anyhow::Result<Vec<SharedEvent>> {
+fn turned(alloc: Global, segments: &[Segment]) -> Result<Vec<SharedEvent>> {
     let mut events = Vec::new(alloc);
     for segment in segments.iter().rev() {
         for event in segment.events().iter().rev() {
@@ -32,12 +33,14 @@ fn turned(alloc: Global, segments: &[Segment]) -> anyhow::Result<Vec<SharedEvent
     Ok(events)
 }
 
+pub fn measure(rt: &HostRuntime, size: u32) -> Result<()> {
+    let mut watch = Stopwatch::start(rt)?;
+    make_tables(rt.alloc(), &mut watch, size)?;
+    join_tables(rt.alloc(), &mut watch, size)
+}
+
 /// Tables of 100,000 handles, by two orders of events.
-pub fn make_tables(
-    alloc: Global,
-    watch: &mut Stopwatch<impl Clock + Print + Eprint>,
-    segments: u32,
-) -> anyhow::Result<()> {
+fn make_tables(alloc: Global, watch: &mut Stopwatch, segments: u32) -> Result<()> {
     let segments = trace(segments, 100_000).segments(alloc)?;
     let turned = [turned(alloc, &segments)?];
     watch.lap("events made", turned[0].len() as u64)?;
@@ -55,11 +58,7 @@ pub fn make_tables(
 }
 
 /// Tables of a million handles.
-pub fn join_tables(
-    alloc: Global,
-    watch: &mut Stopwatch<impl Clock + Print + Eprint>,
-    segments: u32,
-) -> anyhow::Result<()> {
+fn join_tables(alloc: Global, watch: &mut Stopwatch, segments: u32) -> Result<()> {
     let segments = trace(segments, 1_000_000).segments(alloc)?;
     watch.lap("segments made", segments.len() as u64)?;
     let all = Latest::of(alloc, &segments)?;

@@ -1,35 +1,21 @@
-//! What every benchmark does: it reads its size from the command line and times its steps.
-#![tactic(auto)]
+//! The time that each step of a measurement takes.
 
-use std::alloc::Global;
-use std::rt::Env;
-use std::time::{Clock, Instant};
-use std::{env, io};
-
-/// The size that the first word behind the program's name tells, or `otherwise` where there is
-/// none. A word that is no decimal number below 2^32 is refused.
-pub fn size<R: Env + Alloc<A = Global>>(rt: &R, otherwise: u32) -> io::Result<u32> {
-    match env::args(rt)?.nth(1) {
-        None => Ok(otherwise),
-        Some(word) => word
-            .parse::<u32>()
-            .map_err(|_| io::Error::from(io::ErrorKind::InvalidInput)),
-    }
-}
+use std::io;
+use std::time::Instant;
 
 /// Times one step after the other.
 ///
 /// What a step went through goes to standard output, which is the same in each run, and how long it
 /// took to standard error.
 #[derive(Drop)]
-pub struct Stopwatch<'a, R> {
-    rt: &'a R,
+pub struct Stopwatch<'a> {
+    rt: &'a HostRuntime,
     started: Instant,
 }
 
-impl<'a, R: Clock + Print + Eprint> Stopwatch<'a, R> {
+impl<'a> Stopwatch<'a> {
     /// Begins the first step.
-    pub fn start(rt: &'a R) -> io::Result<Stopwatch<'a, R>> {
+    pub fn start(rt: &'a HostRuntime) -> io::Result<Stopwatch<'a>> {
         let started = Instant::now(rt)?;
         Ok(Stopwatch { rt, started })
     }

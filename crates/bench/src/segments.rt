@@ -1,15 +1,13 @@
-//! How fast bundles are read, and in how much memory. The argument is the number of segments that
-//! each of four processors has, 1 where there is none; a segment has some 0.8 MB. Counts go to
-//! standard output, speeds and memory to standard error.
-#![tactic(auto)]
+//! How fast bundles are read, and in how much memory. The size is the number of segments that each
+//! of four processors has; a segment has some 0.8 MB. How much memory is kept goes to standard
+//! error.
 
+use crate::stopwatch::Stopwatch;
 use anyhow::Result;
-use bench_clock::Stopwatch;
 use htl_samples::{RandomTrace, SMALL};
 use htl_segment::{Fault, Segment, SegmentBytes, Splitter, decode, decode_bundle};
 use std::alloc::Global;
 use std::fs;
-use std::rt::{Clock, Files};
 
 /// How many bytes a source gives at once.
 const PIECE: usize = 65_536;
@@ -71,8 +69,8 @@ fn in_pieces(alloc: Global, bytes: &[u8], len: usize) -> Result<Vec<Segment>> {
     Ok(segments)
 }
 
-/// How many bytes of memory the program has, where the system tells it.
-fn memory<R: Files + Alloc<A = Global>>(rt: &R) -> u64 {
+/// How many bytes of memory the program has, if the system says so.
+fn memory(rt: &HostRuntime) -> u64 {
     let Ok(text) = fs::read_to_string(rt, "/proc/self/statm") else {
         return 0;
     };
@@ -83,11 +81,14 @@ fn memory<R: Files + Alloc<A = Global>>(rt: &R) -> u64 {
     pages.unwrap_or(0).wrapping_mul(4096)
 }
 
-fn measure<R: Clock + Print + Eprint + Files + Alloc<A = Global>>(
-    rt: &R,
-    per_processor: u32,
-    stacks: u32,
-) -> Result<()> {
+pub fn measure(rt: &HostRuntime, size: u32) -> Result<()> {
+    for stacks in [2_000, 100_000] {
+        measure_stacks(rt, size, stacks)?;
+    }
+    Ok(())
+}
+
+fn measure_stacks(rt: &HostRuntime, per_processor: u32, stacks: u32) -> Result<()> {
     let alloc = rt.alloc();
     let trace = trace_of(per_processor, stacks);
     let segments = per_processor.wrapping_mul(4);
@@ -122,13 +123,5 @@ fn measure<R: Clock + Print + Eprint + Files + Alloc<A = Global>>(
     let events = one_by_one(alloc, &bytes, segments)?;
     watch.lap("bytes decoded one by one", len)?;
     println!(rt; "events: {events}")?;
-    Ok(())
-}
-
-fn main(rt: HostRuntime) -> Result<()> {
-    let segments = bench_clock::size(&rt, 1)?;
-    for stacks in [2_000, 100_000] {
-        measure(&rt, segments, stacks)?;
-    }
     Ok(())
 }

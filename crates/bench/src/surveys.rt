@@ -1,16 +1,16 @@
-//! How long workers take to take in a whole case: `bench_exchange EVENTS` (16 by default, at most
-//! 4,096) in each of 256 segments, of 8 processors. One analyst that takes all segments and
-//! compacts comes first, and then surveys by 1, 2 and 4 workers, each of which has to come to the
-//! same state. Counts go to standard output, times to standard error.
-#![tactic(auto)]
+//! How long workers take to take in a whole case. The size is the number of events, at most 4,096, in
+//! each of 256 segments, of 8 processors. One analyst that takes all segments and compacts comes
+//! first, and then surveys by 1, 2 and 4 workers, each of which has to come to the same state.
 
-use anyhow::Context;
-use bench_clock::Stopwatch;
+use crate::stopwatch::Stopwatch;
+use anyhow::{Context, Result};
 use htl_analyst::Analyst;
 use htl_case::Case;
 use htl_exchange::{Free, survey};
 use htl_samples::{RandomTrace, SMALL};
 use std::alloc::Global;
+use std::sync::Wait;
+use std::thread::Threads;
 
 const PROCESSORS: u16 = 8;
 
@@ -18,7 +18,7 @@ const PROCESSORS: u16 = 8;
 const SEGMENTS: u32 = 32;
 
 /// The case of a trace of 10,000 stacks and 16 processes.
-fn case(alloc: Global, events: u32) -> anyhow::Result<Case> {
+fn case(alloc: Global, events: u32) -> Result<Case> {
     let trace = RandomTrace {
         processors: PROCESSORS,
         segments: SEGMENTS,
@@ -34,7 +34,7 @@ fn case(alloc: Global, events: u32) -> anyhow::Result<Case> {
 }
 
 /// One analyst that takes all segments, by processor, and compacts once.
-fn alone(alloc: Global, case: &Case) -> anyhow::Result<Analyst<Global>> {
+fn alone(alloc: Global, case: &Case) -> Result<Analyst<Global>> {
     let mut analyst = Analyst::new(alloc, case.trace_id(), case.processors())
         .ok()
         .context("no analyst")?;
@@ -48,16 +48,17 @@ fn alone(alloc: Global, case: &Case) -> anyhow::Result<Analyst<Global>> {
     Ok(analyst)
 }
 
-fn main(rt: HostRuntime) -> anyhow::Result<()> {
+/// The workers are threads of `threads`.
+pub fn measure<R: Threads + Wait + Sync>(rt: &HostRuntime, threads: &R, size: u32) -> Result<()> {
     let alloc = rt.alloc();
-    let case = case(alloc, bench_clock::size(&rt, 16)?)?;
-    let mut watch = Stopwatch::start(&rt)?;
+    let case = case(alloc, size)?;
+    let mut watch = Stopwatch::start(rt)?;
     let whole = alone(alloc, &case)?;
     watch.lap("segments taken in by one analyst", whole.taken())?;
     for workers in [1, 2, 4] {
         println!(rt; "workers: {workers}")?;
         watch.restart()?;
-        let surveyed = survey(&rt, alloc, &case, workers, &Free)
+        let surveyed = survey(threads, alloc, &case, workers, &Free)
             .ok()
             .context("no survey")?;
         watch.lap("segments surveyed", surveyed.taken())?;

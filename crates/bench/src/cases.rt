@@ -1,14 +1,12 @@
-//! How fast a case is made and a handle is listed, of 4 and of 64 processors. The argument is the
-//! number of events that each of 64 segments has, 64 where there is none. The counts go to standard
-//! output and the speeds to standard error.
-#![tactic(auto)]
+//! How fast a case is made and a handle is listed, of 4 and of 64 processors. The size is the number
+//! of events that each of 64 segments has.
 
-use bench_clock::Stopwatch;
+use crate::stopwatch::Stopwatch;
+use anyhow::Result;
 use htl_case::Case;
 use htl_samples::{RandomTrace, SMALL, SampleFault};
 use htl_segment::Segment;
 use std::alloc::Global;
-use std::time::Clock;
 
 /// How many segments all processors have.
 const SEGMENTS: u32 = 64;
@@ -49,12 +47,16 @@ impl Sample {
     }
 }
 
-fn measure<R: Clock + Print + Eprint>(
-    rt: &R,
-    alloc: Global,
-    watch: &mut Stopwatch<R>,
-    sample: &Sample,
-) -> anyhow::Result<()> {
+pub fn measure(rt: &HostRuntime, size: u32) -> Result<()> {
+    let mut watch = Stopwatch::start(rt)?;
+    for processors in [4, 64] {
+        measure_sample(rt, &mut watch, &Sample::new(processors, size))?;
+    }
+    Ok(())
+}
+
+fn measure_sample(rt: &HostRuntime, watch: &mut Stopwatch, sample: &Sample) -> Result<()> {
+    let alloc = rt.alloc();
     println!(rt; "processors: {}", sample.trace.processors)?;
     let segments = sample.trace.segments(alloc)?;
     watch.restart()?;
@@ -75,15 +77,5 @@ fn measure<R: Clock + Print + Eprint>(
         sample.events,
     )?;
     println!(rt; "segments: {}", case.segments().len())?;
-    Ok(())
-}
-
-fn main(rt: HostRuntime) -> anyhow::Result<()> {
-    let events = bench_clock::size(&rt, 64)?;
-    let mut watch = Stopwatch::start(&rt)?;
-    for processors in [4, 64] {
-        let sample = Sample::new(processors, events);
-        measure(&rt, rt.alloc(), &mut watch, &sample)?;
-    }
     Ok(())
 }

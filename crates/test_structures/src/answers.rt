@@ -6,7 +6,8 @@ ghost use Rattle.htl_tree.specs.Trees.{total_count};
 use htl_answers::{
     Part, bad, diff, last_exit, latest, leaks, mark, outstanding, stacks, tags, under, whole_tree,
 };
-use htl_event::{Count, Event, Kind, NoMemory, SharedEvent, SharedStack, Slot};
+use htl_event::{Count, NoMemory, SharedEvent, Slot};
+use htl_samples::{SampleFault, shared_events};
 use htl_tables::{Exits, Latest, Marks};
 use htl_tree::StackTree;
 use std::alloc::Global;
@@ -58,33 +59,15 @@ impl Part for Sample {
     }
 }
 
-fn event(
-    alloc: Global,
-    sequence: u64,
-    kind: Kind,
-    process: u32,
-    handle: u32,
-) -> Result<SharedEvent, NoMemory> {
-    let stack = SharedStack::of(alloc, Vec::new(alloc), 0)?;
-    Ok(Event {
-        sequence,
-        kind,
-        process,
-        thread: 12,
-        handle,
-        object: 0,
-        tag: [0; 4],
-        stack,
-    })
-}
-
-// A part of few events.
-fn part(alloc: Global, folded: Vec<SharedEvent>, held: Vec<SharedEvent>) -> Result<Sample, NoMemory>
+// A part of few events, which are given by lines: those that it folded, and those that it holds.
+fn part(alloc: Global, folded: &str, held: &str) -> Result<Sample, SampleFault>
     ensures folded { IfOk result (λ part. total_count part.tree ≤ 32) }
     ensures held { IfOk result (λ part. length (flat_map (λ run. run.items) part.held.items) ≤ 32) }
 {
+    let folded = shared_events(alloc, folded)?;
+    let held = shared_events(alloc, held)?;
     if folded.len() > 32 || held.len() > 32 {
-        return Err(NoMemory);
+        return Err(SampleFault::Line);
     }
     let folded = [folded];
     let mut runs = Vec::new(alloc);
@@ -111,19 +94,9 @@ fn sequences(alloc: Global, events: &[SharedEvent]) -> Result<Vec<u64>, NoMemory
 #[test]
 fn snapshot_and_difference(rt: HostRuntime) -> Result<(), Fail> {
     let alloc = rt.alloc();
-    let early = vec![in alloc;
-        event(alloc, 7, Kind::Opened, 4, 0x14)?,
-        event(alloc, 8, Kind::Opened, 4, 0x10)?,
-        event(alloc, 10, Kind::Snapshot, 4, 0)?,
-    ]?;
-    let late = vec![in alloc;
-        event(alloc, 11, Kind::Closed, 4, 0x14)?,
-        event(alloc, 12, Kind::Opened, 4, 0x18)?,
-        event(alloc, 13, Kind::Opened, 4, 0x14)?,
-    ]?;
     let parts = [
-        part(alloc, Vec::new(alloc), late)?,
-        part(alloc, early, Vec::new(alloc))?,
+        part(alloc, "", "C 11 0x14, O 12 0x18, O 13 0x14")?,
+        part(alloc, "O 7 0x14, O 8 0x10, S 10", "")?,
     ];
     assert_eq!(rt; (mark(&parts, 4), mark(&parts, 5)), (10, 0));
     let open = outstanding(alloc, &parts, 4)?;
@@ -139,15 +112,9 @@ fn snapshot_and_difference(rt: HostRuntime) -> Result<(), Fail> {
 #[test]
 fn process_exit(rt: HostRuntime) -> Result<(), Fail> {
     let alloc = rt.alloc();
-    let opens = vec![in alloc;
-        event(alloc, 3, Kind::Opened, 5, 0x44)?,
-        event(alloc, 4, Kind::Opened, 4, 0x44)?,
-        event(alloc, 6, Kind::Opened, 4, 0x48)?,
-    ]?;
-    let exit = vec![in alloc; event(alloc, 5, Kind::Exited, 4, 0)?]?;
     let parts = [
-        part(alloc, opens, Vec::new(alloc))?,
-        part(alloc, Vec::new(alloc), exit)?,
+        part(alloc, "O 3 0x44 process=5, O 4 0x44, O 6 0x48", "")?,
+        part(alloc, "", "exit 5")?,
     ];
     assert_eq!(rt; last_exit(&parts, 4), 5);
     let open = outstanding(alloc, &parts, 4)?;
@@ -163,54 +130,18 @@ fn process_exit(rt: HostRuntime) -> Result<(), Fail> {
 #[test]
 fn two_processors(rt: HostRuntime) -> Result<(), Fail> {
     let alloc = rt.alloc();
-    let open = vec![in alloc; event(alloc, 1, Kind::Opened, 4, 0x44)?]?;
-    let close = vec![in alloc; event(alloc, 2, Kind::Closed, 4, 0x46)?]?;
-    let parts = [
-        part(alloc, close, Vec::new(alloc))?,
-        part(alloc, Vec::new(alloc), open)?,
-    ];
+    let parts = [part(alloc, "C 2 0x46", "")?, part(alloc, "", "O 1 0x44")?];
     assert!(rt; outstanding(alloc, &parts, 4)?.is_empty());
     Ok(())
-}
-
-fn framed(
-    alloc: Global,
-    sequence: u64,
-    kind: Kind,
-    handle: u32,
-    frames: &[u64],
-) -> Result<SharedEvent, NoMemory>
-    requires { length frames.now ≤ 64 }
-{
-    let addresses = Vec::from_slice(alloc, frames)?;
-    let stack = SharedStack::of(alloc, addresses, 0)?;
-    Ok(Event {
-        sequence,
-        kind,
-        process: 4,
-        thread: 12,
-        handle,
-        object: 0,
-        tag: [0; 4],
-        stack,
-    })
 }
 
 // Two opens of one stack, one folded and one held, and two of other stacks.
 #[test]
 fn leaking_stacks(rt: HostRuntime) -> Result<(), Fail> {
     let alloc = rt.alloc();
-    let folded = vec![in alloc;
-        framed(alloc, 1, Kind::Opened, 0x44, &[0x50, 0x20])?,
-        framed(alloc, 3, Kind::Opened, 0x4c, &[0x60])?,
-    ]?;
-    let held = vec![in alloc;
-        framed(alloc, 2, Kind::Opened, 0x48, &[0x30, 0x40])?,
-        framed(alloc, 4, Kind::Opened, 0x50, &[0x60])?,
-    ]?;
     let parts = [
-        part(alloc, folded, Vec::new(alloc))?,
-        part(alloc, Vec::new(alloc), held)?,
+        part(alloc, "O 1 0x44 [0x50 0x20], O 3 0x4c [0x60]", "")?,
+        part(alloc, "", "O 2 0x48 [0x30 0x40], O 4 0x50 [0x60]")?,
     ];
     let rows = leaks(alloc, &parts, 4)?;
     assert_eq!(rt; rows.len(), 3);
@@ -226,22 +157,6 @@ fn leaking_stacks(rt: HostRuntime) -> Result<(), Fail> {
     Ok(())
 }
 
-fn referenced(
-    alloc: Global,
-    kind: Kind,
-    tag: [u8; 4],
-    frames: &[u64],
-) -> Result<SharedEvent, NoMemory>
-    requires { length frames.now ≤ 64 }
-{
-    let event = framed(alloc, 1, kind, 0x44, frames)?;
-    Ok(Event {
-        object: 0x1000,
-        tag,
-        ..event
-    })
-}
-
 fn count(plus: u64, minus: u64) -> Count {
     Count { plus, minus }
 }
@@ -251,20 +166,9 @@ fn count(plus: u64, minus: u64) -> Count {
 #[test]
 fn counted_events(rt: HostRuntime) -> Result<(), Fail> {
     let alloc = rt.alloc();
-    let folded = vec![in alloc;
-        referenced(alloc, Kind::Ref, *b"Lky8", &[0x50, 0x20])?,
-        referenced(alloc, Kind::Ref, *b"Io  ", &[0x20])?,
-        referenced(alloc, Kind::BadRef, [0; 4], &[0x60])?,
-    ]?;
-    let held = vec![in alloc;
-        referenced(alloc, Kind::Deref, *b"Lky8", &[0x50, 0x20])?,
-        referenced(alloc, Kind::Ref, *b"Lky8", &[0x30, 0x20])?,
-        referenced(alloc, Kind::BadRef, [0; 4], &[0x60])?,
-    ]?;
-    let parts = [
-        part(alloc, folded, Vec::new(alloc))?,
-        part(alloc, Vec::new(alloc), held)?,
-    ];
+    let folded = "R 1 0x1000 Lky8 [0x50 0x20], R 1 0x1000 0x496f2020 [0x20], B 1 0x44 [0x60]";
+    let held = "D 1 0x1000 Lky8 [0x50 0x20], R 1 0x1000 Lky8 [0x30 0x20], B 1 0x44 [0x60]";
+    let parts = [part(alloc, folded, "")?, part(alloc, "", held)?];
     let slot = Slot::Tagged {
         object: 0x1000,
         tag: *b"Lky8",

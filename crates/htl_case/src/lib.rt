@@ -25,14 +25,10 @@ mod fault;
 pub mod laws;
 mod listing;
 mod ordering;
-#[cfg(test)]
-mod play_tests;
 mod playing;
 mod rising;
 mod sequences;
 mod step;
-#[cfg(test)]
-mod tests;
 
 pub use case::Case;
 pub use fault::{CaseFault, PlayFault};

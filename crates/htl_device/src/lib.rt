@@ -13,8 +13,6 @@
 pub mod laws;
 mod sink;
 mod source;
-#[cfg(test)]
-mod tests;
 mod whole;
 
 /// A read or a write failed.

@@ -26,8 +26,6 @@ mod shared_stack;
 mod slot;
 mod stack;
 mod summary;
-#[cfg(test)]
-mod tests;
 
 ghost use Rattle.std.specs.Prelude.{◌≡◌};
 ghost use Rattle.htl_event.specs.Slots.{base_of};

@@ -28,13 +28,9 @@ mod gate;
 mod parcel;
 mod pass;
 mod rule;
-#[cfg(test)]
-mod schedules;
 mod start;
 mod surveying;
 mod taking;
-#[cfg(test)]
-mod tests;
 
 pub use desk::{Collected, Desk, Posted};
 pub use exchange::Exchange;

@@ -23,8 +23,6 @@ mod printing;
 mod sources;
 mod streaming;
 mod summarizing;
-#[cfg(test)]
-mod tests;
 
 pub use coverage::Coverage;
 pub use fault::RunFault;

@@ -22,6 +22,3 @@ mod tags;
 
 pub use answer::{Answer, text};
 pub use summary::Totals;
-
-#[cfg(test)]
-mod tests;

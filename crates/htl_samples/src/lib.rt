@@ -10,8 +10,6 @@ mod addresses;
 mod fault;
 mod line;
 mod random;
-#[cfg(test)]
-mod tests;
 mod trace;
 
 pub use addresses::{shared_stack, stack};

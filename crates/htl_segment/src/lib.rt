@@ -30,16 +30,12 @@ mod header;
 mod hexadecimal;
 mod kinds;
 pub mod laws;
-#[cfg(test)]
-mod memory_tests;
 mod record;
 mod records;
 mod segment;
 mod segment_bytes;
 mod splitter;
 mod stack_cache;
-#[cfg(test)]
-mod tests;
 mod version;
 
 pub use bundle::decode_bundle;

@@ -9,8 +9,6 @@
 
 mod merging;
 mod searching;
-#[cfg(test)]
-mod tests;
 
 pub use merging::{Joined, merge, merged_len};
 pub use searching::{Keyed, search};

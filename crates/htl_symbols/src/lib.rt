@@ -16,6 +16,3 @@ mod symbols;
 
 pub use fault::SymbolFault;
 pub use symbols::Symbols;
-
-#[cfg(test)]
-mod tests;

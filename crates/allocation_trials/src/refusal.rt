@@ -1,0 +1,188 @@
+//! Why a call gives no answer.
+
+ghost use Rattle.std.specs.Prelude.{◌≡◌, ◌↔◌, ◌⊎◌, IsTrue};
+ghost use Rattle.allocation_trials.specs.Refusals.{IsOutOfMemory};
+ghost use Rattle.htl_analyst.specs.declared.fault.AnalystFault.TheVariants as analysts;
+ghost use Rattle.htl_analyst.specs.declared.fault.MergeFault.TheVariants as merges;
+ghost use Rattle.htl_analyst.specs.declared.fault.TakeFault.TheVariants as takes;
+ghost use Rattle.htl_case.specs.declared.fault.CaseFault.TheVariants as cases;
+ghost use Rattle.htl_case.specs.declared.fault.PlayFault.TheVariants as plays;
+ghost use Rattle.htl_command.specs.declared.fault.ParseFault.TheVariants as words;
+ghost use Rattle.htl_exchange.specs.declared.fault.StartFault.TheVariants as starts;
+ghost use Rattle.htl_exchange.specs.declared.fault.SurveyFault.TheVariants as surveys;
+ghost use Rattle.htl_main.specs.declared.fault.RunFault.TheVariants as runs;
+ghost use Rattle.htl_samples.specs.declared.fault.SampleFault.TheVariants as samples;
+ghost use Rattle.htl_segment.specs.declared.fault.Fault.TheVariants as segments;
+ghost use Rattle.htl_segment.specs.declared.hexadecimal.HexFault.TheVariants as digits;
+ghost use Rattle.htl_symbols.specs.declared.fault.SymbolFault.TheVariants as tables;
+
+use htl_analyst::{AnalystFault, MergeFault, TakeFault};
+use htl_case::{CaseFault, PlayFault};
+use htl_command::ParseFault;
+use htl_event::NoMemory;
+use htl_exchange::{StartFault, SurveyFault};
+use htl_main::RunFault;
+use htl_samples::SampleFault;
+use htl_segment::{Fault, HexFault};
+use htl_symbols::SymbolFault;
+use std::alloc::{AllocError, AllocFailed};
+
+/// Why a call gives no answer.
+#[derive(Clone, Copy, Debug, PartialEq, Eq)]
+pub enum Refusal {
+    /// An allocation was refused, or a thread, which needs some.
+    Memory,
+    /// Anything else.
+    Other,
+}
+
+impl Refusal {
+    /// The refusal of a fault that reports out of memory, or something else.
+    pub fn of(out_of_memory: bool) -> Refusal
+        ensures { IsOutOfMemory result ↔ IsTrue out_of_memory }
+    {
+        if out_of_memory {
+            Refusal::Memory
+        } else {
+            Refusal::Other
+        }
+    }
+}
+
+impl From<AllocError> for Refusal {
+    ghost from_gives = { λ _. IsOutOfMemory };
+
+    fn from(_refused: AllocError) -> Refusal {
+        Refusal::Memory
+    }
+}
+
+impl<T: Drop> From<AllocFailed<T>> for Refusal {
+    ghost from_gives = { λ _. IsOutOfMemory };
+
+    fn from(_refused: AllocFailed<T>) -> Refusal {
+        Refusal::Memory
+    }
+}
+
+impl From<NoMemory> for Refusal {
+    ghost from_gives = { λ _. IsOutOfMemory };
+
+    fn from(_refused: NoMemory) -> Refusal {
+        Refusal::Memory
+    }
+}
+
+impl From<SampleFault> for Refusal {
+    ghost from_gives = { λ fault refusal. IsOutOfMemory refusal ↔ (fault ≡ samples.NoMemory) };
+
+    fn from(fault: SampleFault) -> Refusal {
+        Refusal::of(fault == SampleFault::NoMemory)
+    }
+}
+
+impl From<Fault> for Refusal {
+    ghost from_gives = { λ fault refusal. IsOutOfMemory refusal ↔ (fault ≡ segments.NoMemory) };
+
+    fn from(fault: Fault) -> Refusal {
+        Refusal::of(fault == Fault::NoMemory)
+    }
+}
+
+impl From<(u64, Fault)> for Refusal {
+    ghost from_gives = { λ fault refusal. IsOutOfMemory refusal ↔ (fault.1 ≡ segments.NoMemory) };
+
+    fn from((_, fault): (u64, Fault)) -> Refusal {
+        Refusal::from(fault)
+    }
+}
+
+impl From<HexFault> for Refusal {
+    ghost from_gives = { λ fault refusal. IsOutOfMemory refusal ↔ (fault ≡ digits.NoMemory) };
+
+    fn from(fault: HexFault) -> Refusal {
+        Refusal::of(fault == HexFault::NoMemory)
+    }
+}
+
+impl From<AnalystFault> for Refusal {
+    ghost from_gives = { λ fault refusal. IsOutOfMemory refusal ↔ (fault ≡ analysts.NoMemory) };
+
+    fn from(fault: AnalystFault) -> Refusal {
+        Refusal::of(fault == AnalystFault::NoMemory)
+    }
+}
+
+impl From<TakeFault> for Refusal {
+    ghost from_gives = { λ fault refusal. IsOutOfMemory refusal ↔ (fault ≡ takes.NoMemory) };
+
+    fn from(fault: TakeFault) -> Refusal {
+        Refusal::of(fault == TakeFault::NoMemory)
+    }
+}
+
+impl From<MergeFault> for Refusal {
+    ghost from_gives = { λ fault refusal. IsOutOfMemory refusal ↔ (fault ≡ merges.NoMemory) };
+
+    fn from(fault: MergeFault) -> Refusal {
+        Refusal::of(fault == MergeFault::NoMemory)
+    }
+}
+
+impl From<CaseFault> for Refusal {
+    ghost from_gives = { λ fault refusal. IsOutOfMemory refusal ↔ (fault ≡ cases.NoMemory) };
+
+    fn from(fault: CaseFault) -> Refusal {
+        Refusal::of(fault == CaseFault::NoMemory)
+    }
+}
+
+impl From<PlayFault> for Refusal {
+    ghost from_gives = { λ fault refusal. IsOutOfMemory refusal ↔ (fault ≡ plays.NoMemory) };
+
+    fn from(fault: PlayFault) -> Refusal {
+        Refusal::of(fault == PlayFault::NoMemory)
+    }
+}
+
+impl From<StartFault> for Refusal {
+    ghost from_gives = { λ fault refusal. IsOutOfMemory refusal ↔ (fault ≡ starts.NoMemory) };
+
+    fn from(fault: StartFault) -> Refusal {
+        Refusal::of(fault == StartFault::NoMemory)
+    }
+}
+
+impl From<SurveyFault> for Refusal {
+    ghost from_gives = { λ fault refusal.
+        IsOutOfMemory refusal ↔ ((fault ≡ surveys.NoMemory) ⊎ (fault ≡ surveys.NoThread)) };
+
+    fn from(fault: SurveyFault) -> Refusal {
+        Refusal::of(fault != SurveyFault::Workers)
+    }
+}
+
+impl From<SymbolFault> for Refusal {
+    ghost from_gives = { λ fault refusal. IsOutOfMemory refusal ↔ (fault ≡ tables.NoMemory) };
+
+    fn from(fault: SymbolFault) -> Refusal {
+        Refusal::of(fault == SymbolFault::NoMemory)
+    }
+}
+
+impl From<ParseFault> for Refusal {
+    ghost from_gives = { λ fault refusal. IsOutOfMemory refusal ↔ (fault ≡ words.Memory) };
+
+    fn from(fault: ParseFault) -> Refusal {
+        Refusal::of(fault == ParseFault::Memory)
+    }
+}
+
+impl From<RunFault> for Refusal {
+    ghost from_gives = { λ fault refusal.
+        IsOutOfMemory refusal ↔ ((fault ≡ runs.Memory) ⊎ (fault ≡ runs.NoThread)) };
+
+    fn from(fault: RunFault) -> Refusal {
+        Refusal::of(fault == RunFault::Memory || fault == RunFault::NoThread)
+    }
+}

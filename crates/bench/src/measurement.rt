@@ -1,0 +1,66 @@
+//! What can be measured.
+
+/// A measurement: one word of the command line, and one file.
+#[derive(Clone, Copy, Debug, PartialEq, Eq)]
+pub enum Measurement {
+    Segments,
+    Trees,
+    Tables,
+    Sets,
+    Analysts,
+    Summaries,
+    Cases,
+    Surveys,
+    Reports,
+}
+
+impl Measurement {
+    pub const ALL: [Measurement; 9] = [
+        Measurement::Segments,
+        Measurement::Trees,
+        Measurement::Tables,
+        Measurement::Sets,
+        Measurement::Analysts,
+        Measurement::Summaries,
+        Measurement::Cases,
+        Measurement::Surveys,
+        Measurement::Reports,
+    ];
+
+    /// The measurement that has this word.
+    pub fn of(word: &str) -> Option<Measurement> {
+        Measurement::ALL
+            .into_iter()
+            .find(|measurement| measurement.word() == word)
+    }
+
+    /// The word that asks for it.
+    pub fn word(self) -> &'static str {
+        match self {
+            Measurement::Segments => "segments",
+            Measurement::Trees => "trees",
+            Measurement::Tables => "tables",
+            Measurement::Sets => "sets",
+            Measurement::Analysts => "analysts",
+            Measurement::Summaries => "summaries",
+            Measurement::Cases => "cases",
+            Measurement::Surveys => "surveys",
+            Measurement::Reports => "reports",
+        }
+    }
+
+    /// A size at which it takes a moment.
+    pub fn small_size(self) -> u32 {
+        match self {
+            Measurement::Segments => 1,
+            Measurement::Trees => 1,
+            Measurement::Tables => 2,
+            Measurement::Sets => 2,
+            Measurement::Analysts => 16,
+            Measurement::Summaries => 4,
+            Measurement::Cases => 64,
+            Measurement::Surveys => 16,
+            Measurement::Reports => 1000,
+        }
+    }
+}

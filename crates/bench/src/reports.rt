@@ -1,0 +1,79 @@
+//! How long it takes to read a symbol table and to print an answer under it. The size is the number
+//! of the answer's rows, of 16 frames each, and the table has half as many ranges.
+
+use crate::stopwatch::Stopwatch;
+use anyhow::Result;
+use htl_event::{Kind, NoMemory, SharedEvent, SharedStack};
+use htl_report::{Answer, text};
+use htl_symbols::Symbols;
+use std::alloc::{AllocError, Global};
+
+/// How many addresses a range has; the next one starts at twice that distance.
+const LENGTH: u64 = 0x40;
+
+const FRAMES: usize = 16;
+
+pub fn measure(rt: &HostRuntime, size: u32) -> Result<()> {
+    let alloc = rt.alloc();
+    let table = table(alloc, size / 2)?;
+    let answer = Answer::Outstanding {
+        process: 4,
+        rows: rows(alloc, size)?,
+    };
+    let mut watch = Stopwatch::start(rt)?;
+    let symbols = Symbols::read(alloc, table.as_bytes())?;
+    watch.lap("bytes of a symbol table", table.len() as u64)?;
+    let printed = text(alloc, &answer, &symbols)?;
+    watch.lap("bytes of text", printed.len() as u64)?;
+    Ok(())
+}
+
+/// A table of so many ranges, in no order.
+fn table(alloc: Global, ranges: u32) -> Result<String, AllocError> {
+    let mut table = String::from_str(alloc, "start,end,module,name\n")?;
+    for range in 0..ranges {
+        let start = u64::from(range.reverse_bits()) * 2 * LENGTH;
+        let end = start + LENGTH;
+        writeln!(
+            &mut table,
+            "{start:x},{end:x},module{range},SomeFunction{range}"
+        )?;
+    }
+    Ok(table)
+}
+
+/// So many opens, each with a stack of its own.
+fn rows(alloc: Global, count: u32) -> Result<Vec<SharedEvent>, NoMemory> {
+    let mut rows = Vec::with_capacity(alloc, count as usize)?;
+    for row in 0..count {
+        rows.push(open(alloc, row, count / 2)?)?;
+    }
+    Ok(rows)
+}
+
+fn open(alloc: Global, row: u32, ranges: u32) -> Result<SharedEvent, NoMemory> {
+    let addresses = Vec::from_array(alloc, addresses(row, ranges))?;
+    Ok(SharedEvent {
+        sequence: u64::from(row) + 1,
+        kind: Kind::Opened,
+        process: 4,
+        thread: 12,
+        handle: row,
+        object: 0,
+        tag: [0; 4],
+        stack: SharedStack::of(alloc, addresses, u64::from(row))?,
+    })
+}
+
+/// The innermost address is the start of a range, twelve are inside one, and the three outermost in
+/// none.
+fn addresses(row: u32, ranges: u32) -> [u64; FRAMES] {
+    let mut addresses = [0; FRAMES];
+    for (place, address) in addresses.iter_mut().enumerate() {
+        let frame = place as u32;
+        let range = row.wrapping_mul(31).wrapping_add(frame) % ranges.max(1);
+        let start = u64::from(range.reverse_bits()) * 2 * LENGTH;
+        *address = start + u64::from(frame) * 5;
+    }
+    addresses
+}

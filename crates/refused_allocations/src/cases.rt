@@ -1,0 +1,82 @@
+//! Calls on a case.
+
+use allocation_trials::{Equal, Refusal, Spent, Trials};
+use anyhow::Result;
+use htl_analyst::Analyst;
+use htl_case::{Case, Step, play};
+use htl_event::SharedEvent;
+use htl_samples::SMALL;
+use htl_segment::Segment;
+use std::alloc::Global;
+
+/// Two analysts share the six segments, and the second takes over what the first has.
+const STEPS: [Step; 9] = [
+    Step::Take {
+        analyst: 0,
+        segment: 0,
+    },
+    Step::Take {
+        analyst: 0,
+        segment: 1,
+    },
+    Step::Take {
+        analyst: 0,
+        segment: 4,
+    },
+    Step::Compact { analyst: 0 },
+    Step::Take {
+        analyst: 1,
+        segment: 2,
+    },
+    Step::Take {
+        analyst: 1,
+        segment: 3,
+    },
+    Step::Take {
+        analyst: 1,
+        segment: 5,
+    },
+    Step::Merge {
+        target: 1,
+        source: 0,
+    },
+    Step::Compact { analyst: 1 },
+];
+
+pub fn try_all(trials: &mut Trials<'_, HostRuntime>) -> Result<()> {
+    trials.changes("Case::of", unordered, case_of)?;
+    trials.reads("trace", case, trace)?;
+    trials.reads("play", case, played)?;
+    Ok(())
+}
+
+/// The segments in reverse order, each twice, for each time that a case is made of them.
+fn unordered(alloc: Global) -> Result<Spent<Vec<Segment>>, Refusal> {
+    let mut lists = Vec::new(alloc);
+    for _ in 0..2 {
+        let mut segments = SMALL.segments(alloc)?;
+        for segment in SMALL.segments(alloc)? {
+            segments.push(segment)?;
+        }
+        segments.reverse();
+        lists.push(segments)?;
+    }
+    Ok(Spent(lists))
+}
+
+fn case_of(alloc: Global, lists: &mut Spent<Vec<Segment>>) -> Result<Case, Refusal> {
+    let segments = lists.0.pop().ok_or(Refusal::Other)?;
+    Ok(Case::of(alloc, segments)?)
+}
+
+pub fn case(alloc: Global) -> Result<Case, Refusal> {
+    Ok(Case::of(alloc, SMALL.segments(alloc)?)?)
+}
+
+fn trace(alloc: Global, case: &Case) -> Result<Equal<Vec<SharedEvent>>, Refusal> {
+    Ok(Equal(case.trace(alloc, 4, 8)?))
+}
+
+fn played(alloc: Global, case: &Case) -> Result<Vec<Analyst<Global>>, Refusal> {
+    Ok(play(alloc, case, 2, &STEPS)?)
+}

@@ -1,0 +1,147 @@
+//! Calls on the tables of latest events, snapshot marks and process exits.
+
+use allocation_trials::{Equal, Refusal, Trials};
+use anyhow::Result;
+use htl_event::SharedEvent;
+use htl_samples::{SMALL, shared_events};
+use htl_segment::Segment;
+use htl_tables::{EventKind, Exits, Greatest, Latest, Marks};
+use std::alloc::Global;
+
+type Handles = Latest<Global>;
+
+type Moments<K> = Greatest<K, Global>;
+
+/// A table, and events that aren't noted in it yet.
+type Noting<T> = (T, Equal<Vec<SharedEvent>>);
+
+pub fn try_all(trials: &mut Trials<'_, HostRuntime>) -> Result<()> {
+    try_latest(trials)?;
+    try_marks(trials)?;
+    try_exits(trials)
+}
+
+fn try_latest(trials: &mut Trials<'_, HostRuntime>) -> Result<()> {
+    trials.reads("Latest::of", segments, latest_of)?;
+    trials.changes("Latest::note", noting_handles, note_handle)?;
+    trials.reads("Latest::join", two_latest, join_handles)?;
+    trials.reads("Latest::copy", latest, copy_handles)
+}
+
+fn try_marks(trials: &mut Trials<'_, HostRuntime>) -> Result<()> {
+    trials.reads("Marks::of", segments, marks_of)?;
+    trials.changes("Marks::note", noting_marks, note_moment)?;
+    trials.reads("Marks::join", two_marks, join_moments)?;
+    trials.reads("Marks::copy", marks, copy_moments)
+}
+
+fn try_exits(trials: &mut Trials<'_, HostRuntime>) -> Result<()> {
+    trials.reads("Exits::of", segments, exits_of)?;
+    trials.changes("Exits::note", noting_exits, note_moment)?;
+    trials.reads("Exits::join", two_exits, join_moments)?;
+    trials.reads("Exits::copy", exits, copy_moments)
+}
+
+fn segments(alloc: Global) -> Result<Vec<Segment>, Refusal> {
+    Ok(SMALL.segments(alloc)?)
+}
+
+fn first_segments(alloc: Global) -> Result<Vec<Segment>, Refusal> {
+    let mut segments = segments(alloc)?;
+    segments.truncate(1);
+    Ok(segments)
+}
+
+/// An event that opens a handle, a snapshot and an exit, of a process with none of these.
+fn new_events(alloc: Global) -> Result<Equal<Vec<SharedEvent>>, Refusal> {
+    let lines = "O 997 0x44 process=400 [0x10 0x20], S 998 process=400, exit 999 process=400";
+    Ok(Equal(shared_events(alloc, lines)?))
+}
+
+fn latest_of(alloc: Global, segments: &Vec<Segment>) -> Result<Handles, Refusal> {
+    Ok(Latest::of(alloc, segments)?)
+}
+
+fn marks_of(alloc: Global, segments: &Vec<Segment>) -> Result<Marks<Global>, Refusal> {
+    Ok(Marks::of(alloc, segments)?)
+}
+
+fn exits_of(alloc: Global, segments: &Vec<Segment>) -> Result<Exits<Global>, Refusal> {
+    Ok(Exits::of(alloc, segments)?)
+}
+
+fn latest(alloc: Global) -> Result<Handles, Refusal> {
+    latest_of(alloc, &segments(alloc)?)
+}
+
+fn marks(alloc: Global) -> Result<Marks<Global>, Refusal> {
+    marks_of(alloc, &segments(alloc)?)
+}
+
+fn exits(alloc: Global) -> Result<Exits<Global>, Refusal> {
+    exits_of(alloc, &segments(alloc)?)
+}
+
+fn two_latest(alloc: Global) -> Result<(Handles, Handles), Refusal> {
+    Ok((latest_of(alloc, &first_segments(alloc)?)?, latest(alloc)?))
+}
+
+fn two_marks(alloc: Global) -> Result<(Marks<Global>, Marks<Global>), Refusal> {
+    Ok((marks_of(alloc, &first_segments(alloc)?)?, marks(alloc)?))
+}
+
+fn two_exits(alloc: Global) -> Result<(Exits<Global>, Exits<Global>), Refusal> {
+    Ok((exits_of(alloc, &first_segments(alloc)?)?, exits(alloc)?))
+}
+
+/// A table with no room for one more: a copy of another one.
+fn noting_handles(alloc: Global) -> Result<Noting<Handles>, Refusal> {
+    Ok((latest(alloc)?.copy()?, new_events(alloc)?))
+}
+
+fn noting_marks(alloc: Global) -> Result<Noting<Marks<Global>>, Refusal> {
+    Ok((marks(alloc)?.copy()?, new_events(alloc)?))
+}
+
+fn noting_exits(alloc: Global) -> Result<Noting<Exits<Global>>, Refusal> {
+    Ok((exits(alloc)?.copy()?, new_events(alloc)?))
+}
+
+fn note_handle(
+    _alloc: Global,
+    (table, events): &mut Noting<Handles>,
+) -> Result<Equal<()>, Refusal> {
+    for event in &events.0 {
+        table.note(event)?;
+    }
+    Ok(Equal(()))
+}
+
+fn note_moment<K: EventKind>(
+    _alloc: Global,
+    (table, events): &mut Noting<Moments<K>>,
+) -> Result<Equal<()>, Refusal> {
+    for event in &events.0 {
+        table.note(event)?;
+    }
+    Ok(Equal(()))
+}
+
+fn join_handles(_alloc: Global, (one, two): &(Handles, Handles)) -> Result<Handles, Refusal> {
+    Ok(one.join(two)?)
+}
+
+fn join_moments<K: EventKind>(
+    _alloc: Global,
+    (one, two): &(Moments<K>, Moments<K>),
+) -> Result<Moments<K>, Refusal> {
+    Ok(one.join(two)?)
+}
+
+fn copy_handles(_alloc: Global, table: &Handles) -> Result<Handles, Refusal> {
+    Ok(table.copy()?)
+}
+
+fn copy_moments<K: EventKind>(_alloc: Global, table: &Moments<K>) -> Result<Moments<K>, Refusal> {
+    Ok(table.copy()?)
+}

@@ -1,0 +1,238 @@
+//! Worked exchanges and surveys, with workers and callers in threads of their own.
+
+use htl_analyst::Analyst;
+use htl_case::Case;
+use htl_exchange::{
+    Collected, Exchange, Free, Gate, Posted, StartFault, SurveyFault, Why, survey, survey_owned,
+};
+use htl_samples::{SampleFault, TRACE, Trace};
+use std::alloc::Global;
+use std::process::Abort;
+use std::sync::atomic::{AtomicU64, Ordering};
+use std::test::Fail;
+use std::thread;
+
+pub const TWO_PROCESSORS: Trace = Trace {
+    processors: 2,
+    ..TRACE
+};
+
+const EIGHT_PROCESSORS: Trace = Trace {
+    processors: 8,
+    ..TRACE
+};
+
+/// How often a worker looks for the others before it gives up. A count of turns, so that no clock
+/// decides.
+const PATIENCE: u64 = 10_000_000;
+
+const ONE_RUN: [&str; 3] = [
+    "0/0: R 1 0x1000 Lky8",
+    "0/1: R 2 0x1000 Lky8",
+    "0/2: R 3 0x1000 Lky8",
+];
+
+pub const TWO_RUNS: [&str; 2] = ["0/0: O 1 0x44", "1/0: C 2 0x44"];
+
+pub fn case_of(
+    rt: &impl Abort,
+    alloc: Global,
+    trace: Trace,
+    lines: &[&str],
+) -> Result<Case, SampleFault> {
+    Ok(Case::of(alloc, trace.segments(alloc, lines)?).expect(rt, "the lines are a case"))
+}
+
+/// Eight processors with six segments each.
+fn eight_runs(rt: &impl Abort, alloc: Global) -> Result<Case, Fail> {
+    let mut segments = Vec::new(alloc);
+    for processor in 0..8 {
+        for number in 0..6 {
+            let sequence = 6u32
+                .wrapping_mul(processor)
+                .wrapping_add(number)
+                .wrapping_add(1);
+            let line = format!(in alloc; "{processor}/{number}: R {sequence} 0x1000 Lky8")?;
+            segments.push(EIGHT_PROCESSORS.segment(alloc, &line)?)?;
+        }
+    }
+    Ok(Case::of(alloc, segments).expect(rt, "the segments are a case"))
+}
+
+/// One analyst that took all of the case and was compacted.
+pub fn alone(rt: &impl Abort, alloc: Global, case: &Case) -> Result<Analyst<Global>, Fail> {
+    let mut analyst = Analyst::new(alloc, case.trace_id(), case.processors()).expect(
+        rt,
+        "there is memory",
+    );
+    for segment in case.segments() {
+        let taken = analyst.take(segment.copy()?);
+        assert!(rt; taken.is_ok());
+    }
+    analyst.compact()?;
+    Ok(analyst)
+}
+
+#[test]
+fn one_desk_posts_and_collects(rt: HostRuntime) -> Result<(), Fail> {
+    let alloc = rt.alloc();
+    let case = case_of(&rt, alloc, TRACE, &ONE_RUN)?;
+    let none = Exchange::start(&rt, alloc, &case, 0);
+    assert!(rt; matches!(&none, Err(StartFault::Desks)));
+    let nine = Exchange::start(&rt, alloc, &case, 9);
+    assert!(rt; matches!(&nine, Err(StartFault::Desks)));
+    let (exchange, mut desks) = Exchange::start(&rt, alloc, &case, 1).expect(
+        &rt,
+        "there is memory",
+    );
+    let mut desk = desks.pop().expect(&rt, "there is a desk");
+    assert_eq!(rt; desk.post(&rt, &exchange)?, Posted::Yes);
+    assert_eq!(rt; desk.post(&rt, &exchange)?, Posted::Yes);
+    assert_eq!(rt; desk.post(&rt, &exchange)?, Posted::Full);
+    assert_eq!(rt; desk.collect(&rt, &exchange)?, Collected::Run);
+    assert_eq!(rt; desk.collect(&rt, &exchange)?, Collected::State);
+    assert_eq!(rt; desk.collect(&rt, &exchange)?, Collected::State);
+    assert_eq!(rt; desk.collect(&rt, &exchange)?, Collected::Nothing);
+    assert!(rt; !desk.in_hand());
+    assert_eq!(rt; (desk.analyst().front(0), desk.analyst().held()), (3, 0));
+    let refused = exchange.close(&rt, desks);
+    let fault = refused.err().expect(&rt, "a desk is out");
+    assert_eq!(rt; fault.why, Why::DesksOut(0, 1));
+    let mut desks = fault.desks;
+    desks.push(desk)?;
+    let closed = fault.exchange.close(&rt, desks);
+    let closed = closed.ok().expect(&rt, "there is memory");
+    assert_eq!(rt; (closed.front(0), closed.held(), closed.taken()), (3, 0, 3));
+    Ok(())
+}
+
+/// Two workers, of which the first doesn't begin before the second is there, nor the second before
+/// the first, and the second goes on from its first turn to its second.
+#[derive(Drop)]
+struct TwoFlags {
+    first: AtomicU64,
+    second: AtomicU64,
+    gave_up: AtomicU64,
+    unexpected: AtomicU64,
+}
+
+impl TwoFlags {
+    fn wait_for(&self, flag: &AtomicU64) {
+        for _ in 0..PATIENCE {
+            if flag.load(Ordering::SeqCst) > 0 {
+                return;
+            }
+            thread::yield_now();
+        }
+        self.gave_up.fetch_add(1, Ordering::SeqCst);
+    }
+
+    fn expect(&self, is_so: bool) {
+        if !is_so {
+            self.unexpected.fetch_add(1, Ordering::SeqCst);
+        }
+    }
+}
+
+impl Gate for TwoFlags {
+    fn before(&self, worker: u32, turn: u32, analyst: &Analyst<Global>) {
+        match (worker, turn) {
+            (0, 1) => {
+                self.first.fetch_add(1, Ordering::SeqCst);
+                self.wait_for(&self.second);
+            }
+            (1, 1) => {
+                self.wait_for(&self.first);
+                self.expect(analyst.taken() == 0);
+            }
+            (1, 2) => {
+                self.expect(analyst.taken() == 1 && analyst.held() == 0);
+                self.second.fetch_add(1, Ordering::SeqCst);
+            }
+            _ => {}
+        }
+    }
+}
+
+#[test]
+fn two_workers_at_a_gate(rt: HostRuntime) -> Result<(), Fail> {
+    let alloc = rt.alloc();
+    let case = case_of(&rt, alloc, TWO_PROCESSORS, &TWO_RUNS)?;
+    let gate = TwoFlags {
+        first: AtomicU64::new(0),
+        second: AtomicU64::new(0),
+        gave_up: AtomicU64::new(0),
+        unexpected: AtomicU64::new(0),
+    };
+    let two = survey(&rt, alloc, &case, 2, &gate).expect(&rt, "there is memory");
+    assert_eq!(rt; gate.gave_up.load(Ordering::SeqCst), 0);
+    assert_eq!(rt; gate.unexpected.load(Ordering::SeqCst), 0);
+    let one = survey(&rt, alloc, &case, 1, &Free).expect(&rt, "there is memory");
+    assert!(rt; two.same(&one) && two.same(&alone(&rt, alloc, &case)?));
+    let none = survey(&rt, alloc, &case, 0, &Free);
+    assert!(rt; matches!(&none, Err(SurveyFault::Workers)));
+    let nine = survey(&rt, alloc, &case, 9, &Free);
+    assert!(rt; matches!(&nine, Err(SurveyFault::Workers)));
+    let owned = survey_owned(&rt, alloc, case, 2, &Free).expect(&rt, "there is memory");
+    assert!(rt; owned.same(&two));
+    Ok(())
+}
+
+/// Eight workers who wait for each other before their second turns. Each then has one whole run,
+/// which no other has: the processors of their runs are noted as digits.
+#[derive(Drop)]
+struct EightTogether {
+    there: AtomicU64,
+    gave_up: AtomicU64,
+    runs: AtomicU64,
+    unexpected: AtomicU64,
+}
+
+impl Gate for EightTogether {
+    fn before(&self, _worker: u32, turn: u32, analyst: &Analyst<Global>) {
+        if turn != 2 {
+            return;
+        }
+        let mut mine = 0;
+        for processor in 0..8u16 {
+            if analyst.front(processor) == 6 {
+                mine |= 1u64 << (8 * processor);
+            }
+        }
+        self.runs.fetch_add(mine, Ordering::SeqCst);
+        if analyst.taken() != 6 || analyst.held() != 0 {
+            self.unexpected.fetch_add(1, Ordering::SeqCst);
+        }
+        self.there.fetch_add(1, Ordering::SeqCst);
+        for _ in 0..PATIENCE {
+            if self.there.load(Ordering::SeqCst) >= 8 {
+                return;
+            }
+            thread::yield_now();
+        }
+        self.gave_up.fetch_add(1, Ordering::SeqCst);
+    }
+}
+
+#[test]
+fn eight_workers_share_the_runs(rt: HostRuntime) -> Result<(), Fail> {
+    let alloc = rt.alloc();
+    let case = eight_runs(&rt, alloc)?;
+    let gate = EightTogether {
+        there: AtomicU64::new(0),
+        gave_up: AtomicU64::new(0),
+        runs: AtomicU64::new(0),
+        unexpected: AtomicU64::new(0),
+    };
+    let eight = survey(&rt, alloc, &case, 8, &gate).expect(&rt, "there is memory");
+    assert_eq!(rt; gate.gave_up.load(Ordering::SeqCst), 0);
+    assert_eq!(rt; gate.unexpected.load(Ordering::SeqCst), 0);
+    assert_eq!(rt; gate.runs.load(Ordering::SeqCst), 0x0101_0101_0101_0101);
+    assert_eq!(rt; (eight.taken(), eight.held()), (48, 0));
+    for workers in [1, 2, 3] {
+        let other = survey(&rt, alloc, &case, workers, &Free).expect(&rt, "there is memory");
+        assert!(rt; eight.same(&other));
+    }
+    assert!(rt; eight.same(&alone(&rt, alloc, &case)?));
+    Ok(())
+}

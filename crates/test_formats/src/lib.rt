@@ -1,0 +1,20 @@
+//! Tests of the crates that read and write bytes and texts: segments, samples, symbol tables, texts
+//! of answers, devices and the command line.
+//!
+//! Each file tests the crate of its name by what that crate makes public: outside vectors, printed
+//! texts, faults and refused allocations. They stand here, over proved crates, so that no crate is
+//! proved a second time with its tests.
+#![tactic(auto)]
+
+#[cfg(test)]
+mod command;
+#[cfg(test)]
+mod devices;
+#[cfg(test)]
+mod reports;
+#[cfg(test)]
+mod samples;
+#[cfg(test)]
+mod segments;
+#[cfg(test)]
+mod symbols;

@@ -1,0 +1,271 @@
+//! The eight texts, and how addresses print.
+use htl_event::{Count, ObjectRow, ProcessRow};
+use htl_report::{Answer, Totals, text};
+use htl_samples::{shared_events, shared_stack};
+use htl_symbols::Symbols;
+use htl_taken::Gap;
+use std::alloc::Global;
+use std::test::Fail;
+
+fn count(plus: u64, minus: u64) -> Count {
+    Count { plus, minus }
+}
+
+fn outstanding(alloc: Global) -> Result<(Answer, &'static str), Fail> {
+    let rows = shared_events(alloc, "O 1 0x46, O 3 0x48 [0x1010 0x2000]")?;
+    Ok((
+        Answer::Outstanding { process: 4, rows },
+        "outstanding process=4 count=2
+OPEN handle=0x44 seq=1 thread=12
+OPEN handle=0x48 seq=3 thread=12
+  0x0000000000001010
+  0x0000000000002000
+",
+    ))
+}
+
+fn diff(alloc: Global) -> Result<(Answer, &'static str), Fail> {
+    let rows = shared_events(alloc, "O 13 0x14, O 12 0x18")?;
+    Ok((
+        Answer::Diff {
+            process: 4,
+            since: 10,
+            rows,
+        },
+        "diff process=4 since=10 count=2
+OPEN handle=0x14 seq=13 thread=12
+OPEN handle=0x18 seq=12 thread=12
+",
+    ))
+}
+
+fn tags(alloc: Global) -> Result<(Answer, &'static str), Fail> {
+    let mut rows = Vec::new(alloc);
+    rows.push(([1, 0x41, 0x42, 0x43], count(0, 1)))?;
+    rows.push((*b"Dflt", count(1, 1)))?;
+    rows.push((*b"Lky8", count(2, 1)))?;
+    Ok((
+        Answer::Tags {
+            object: 0xffff_a000_0000_1000,
+            rows,
+        },
+        "tags object=0xffffa00000001000 count=3
+TAG .ABC refs=0 derefs=1 under=1
+TAG Dflt refs=1 derefs=1 balanced
+TAG Lky8 refs=2 derefs=1 over=1
+",
+    ))
+}
+
+fn bad(alloc: Global) -> Result<(Answer, &'static str), Fail> {
+    let mut rows = Vec::new(alloc);
+    rows.push((0, shared_stack(alloc, &[])?, 1))?;
+    rows.push((7, shared_stack(alloc, &[0x10])?, 2))?;
+    Ok((
+        Answer::Bad { process: 4, rows },
+        "bad process=4 count=2
+BAD REF handle=0x0 times=1
+BAD REF handle=0x7 times=2
+  0x0000000000000010
+",
+    ))
+}
+
+fn leaks(alloc: Global) -> Result<(Answer, &'static str), Fail> {
+    let mut rows = Vec::new(alloc);
+    rows.push((shared_stack(alloc, &[0x60])?, 2))?;
+    rows.push((shared_stack(alloc, &[0x50, 0x20])?, 1))?;
+    rows.push((shared_stack(alloc, &[0x30, 0x40])?, 1))?;
+    Ok((
+        Answer::Leaks { process: 4, rows },
+        "leaks process=4 count=3
+LEAK handles=2
+  0x0000000000000060
+LEAK handles=1
+  0x0000000000000050
+  0x0000000000000020
+LEAK handles=1
+  0x0000000000000030
+  0x0000000000000040
+",
+    ))
+}
+
+fn stacks(alloc: Global) -> Result<(Answer, &'static str), Fail> {
+    let mut rows = Vec::new(alloc);
+    rows.push((shared_stack(alloc, &[])?, count(0, 1)))?;
+    rows.push((shared_stack(alloc, &[0x30, 0x20, 0x10])?, count(1, 0)))?;
+    rows.push((shared_stack(alloc, &[0x40, 0x20, 0x10])?, count(1, 0)))?;
+    Ok((
+        Answer::Stacks {
+            object: 0x1000,
+            tag: *b"Lky8",
+            rows,
+        },
+        "stacks object=0x0000000000001000 tag=Lky8 count=3
+STACK refs=0 derefs=1
+STACK refs=1 derefs=0
+  0x0000000000000030
+  0x0000000000000020
+  0x0000000000000010
+STACK refs=1 derefs=0
+  0x0000000000000040
+  0x0000000000000020
+  0x0000000000000010
+",
+    ))
+}
+
+/// A listing has events of the first three kinds alone; the others print by the kind's word.
+fn trace(alloc: Global) -> Result<(Answer, &'static str), Fail> {
+    let rows = shared_events(
+        alloc,
+        "C 3 0x46, B 2 0x45, O 1 0x44 [0x10], S 7, R 6 0x1000 Lky8, D 5 0x1000 Lky8, exit 4",
+    )?;
+    Ok((
+        Answer::Trace {
+            process: 4,
+            handle: 0x45,
+            rows,
+        },
+        "trace process=4 handle=0x44 count=7
+CLOSE handle=0x46 seq=3 thread=12
+BAD REF handle=0x45 seq=2 thread=12
+OPEN handle=0x44 seq=1 thread=12
+  0x0000000000000010
+SNAPSHOT handle=0x0 seq=7 thread=12
+REF handle=0x0 seq=6 thread=12
+DEREF handle=0x0 seq=5 thread=12
+EXIT handle=0x0 seq=4 thread=12
+",
+    ))
+}
+
+fn process(process: u32, outstanding: u64, exit: u64) -> ProcessRow {
+    ProcessRow {
+        process,
+        outstanding,
+        opens: 3,
+        closes: 1,
+        bad: 2,
+        mark: 7,
+        exit,
+    }
+}
+
+fn object(object: u64, unbalanced: u64) -> ObjectRow {
+    ObjectRow {
+        object,
+        tags: 3,
+        unbalanced,
+        refs: 6,
+        derefs: 5,
+    }
+}
+
+fn summary(alloc: Global) -> Result<(Answer, &'static str), Fail> {
+    let mut gaps = Vec::new(alloc);
+    gaps.push(Gap::Between {
+        processor: 0,
+        from: 0,
+        to: 4_294_967_292,
+    })?;
+    gaps.push(Gap::Absent { processor: 1 })?;
+    let mut processes = Vec::new(alloc);
+    processes.push(process(4, 2, 0))?;
+    processes.push(process(u32::MAX, 0, u64::MAX))?;
+    let mut objects = Vec::new(alloc);
+    objects.push(object(0xffff_a000_0000_1000, 2))?;
+    let totals = Totals {
+        processors: 2,
+        segments: 1,
+        events: 19,
+        complete_to: 0,
+        objects: 4,
+    };
+    Ok((
+        Answer::Summary {
+            totals,
+            gaps,
+            processes,
+            objects,
+        },
+        "summary processors=2 segments=1 events=19 complete_to=0 \
+gaps=2 processes=2 objects=4 unbalanced=1
+GAP processor=0 from=0 to=4294967292
+GAP processor=1 from=0
+PROCESS process=4 outstanding=2 opens=3 closes=1 bad=2 mark=7 exit=0
+PROCESS process=4294967295 outstanding=0 opens=3 closes=1 bad=2 mark=7 exit=18446744073709551615
+OBJECT object=0xffffa00000001000 tags=3 unbalanced=2 refs=6 derefs=5
+",
+    ))
+}
+
+#[test]
+fn texts_of_answers(rt: HostRuntime) -> Result<(), Fail> {
+    let symbols = Symbols::none(rt.alloc());
+    for (answer, wanted) in [
+        outstanding(rt.alloc())?,
+        diff(rt.alloc())?,
+        tags(rt.alloc())?,
+        bad(rt.alloc())?,
+        leaks(rt.alloc())?,
+        stacks(rt.alloc())?,
+        trace(rt.alloc())?,
+        summary(rt.alloc())?,
+    ] {
+        let bytes = text(rt.alloc(), &answer, &symbols)?;
+        assert_eq!(rt; bytes.as_slice(), wanted.as_bytes(), "instead of {wanted}");
+    }
+    Ok(())
+}
+
+/// What each address prints under these rows of a table.
+fn names_of(alloc: Global, rows: &[u8], addresses: &[u64]) -> Result<Vec<u8>, Fail> {
+    let mut table = Vec::from_slice(alloc, b"start,end,module,name\n")?;
+    table.extend_from_slice(rows)?;
+    let symbols = Symbols::read(alloc, &table)?;
+    let mut rows = Vec::new(alloc);
+    rows.push((shared_stack(alloc, addresses)?, 1))?;
+    Ok(text(alloc, &Answer::Leaks { process: 4, rows }, &symbols)?)
+}
+
+#[test]
+fn texts_of_addresses(rt: HostRuntime) -> Result<(), Fail> {
+    let table: [(&[u8], &[u64], &str); 3] = [
+        (
+            b"0x1000,0x1020,ntdll,NtCreateFile\n2000,2001,app,main\n",
+            &[0x1000, 0x1010, 0x101f, 0x1020, 0x2000, u64::MAX],
+            "leaks process=4 count=1
+LEAK handles=1
+  ntdll!NtCreateFile
+  ntdll!NtCreateFile+0x10
+  ntdll!NtCreateFile+0x1f
+  0x0000000000001020
+  app!main
+  0xffffffffffffffff
+",
+        ),
+        (
+            b"1,2,a,b\n2,3,c,d\n",
+            &[2],
+            "leaks process=4 count=1
+LEAK handles=1
+  c!d
+",
+        ),
+        (
+            b"0,1,,\n",
+            &[0],
+            "leaks process=4 count=1
+LEAK handles=1
+  !
+",
+        ),
+    ];
+    for (rows, addresses, wanted) in table {
+        let bytes = names_of(rt.alloc(), rows, addresses)?;
+        assert_eq!(rt; bytes.as_slice(), wanted.as_bytes(), "instead of {wanted}");
+    }
+    Ok(())
+}

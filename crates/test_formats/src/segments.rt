@@ -1,0 +1,420 @@
+//! Worked segments and bundles, and their faults.
+
+mod refused;
+
+use htl_event::{Event, Kind, MAX_FRAMES, SharedEvent, Stack};
+use htl_segment::{
+    Fault, HexFault, Segment, SegmentBytes, Splitter, decode, decode_bundle, decode_pieces, encode,
+    from_hex,
+};
+use std::alloc::Global;
+use std::process::Abort;
+
+/// The empty segment.
+const EMPTY: &str = "484c5331 0100 0100 0000 0000 00000000 0700000000000000 00000000 20000000";
+
+/// The stored run: records begin at 32, 68 and 104, the frames of the last at 140, and it ends at
+/// 156.
+const STORED: &str = "484c5331 0100 0100 0000 0000 00000000 0700000000000000 03000000 9c000000
+    0100000000000000 01 00 0000 04000000 0c000000 44000000 0000000000000000 00000000
+    0200000000000000 02 00 0000 04000000 0c000000 44000000 0000000000000000 00000000
+    0300000000000000 01 02 0000 04000000 0c000000 48000000 0000000000000000 00000000
+    1010000000000000 0020000000000000";
+
+/// An empty segment of processor 255 of 256, in version 2.
+const WIDE: &str = "484c5331 0200 0001 ff00 0000 00000000 0700000000000000 00000000 20000000";
+
+/// The bytes of the texts, with each change written over them at its place.
+fn changed(rt: &impl Abort, alloc: Global, texts: &[&str], changes: &[(usize, &str)]) -> Vec<u8> {
+    let mut bytes = Vec::new(alloc);
+    for text in texts {
+        let more = from_hex(alloc, text.as_bytes()).expect(rt, "the bytes");
+        bytes.extend_from_slice(&more).expect(rt, "the memory");
+    }
+    for (place, change) in changes {
+        let written = from_hex(alloc, change.as_bytes()).expect(rt, "the change");
+        for (cell, byte) in bytes.iter_mut().skip(*place).zip(&written) {
+            *cell = *byte;
+        }
+    }
+    bytes
+}
+
+fn code(rt: &impl Abort, alloc: Global, fault: Fault) -> String {
+    format!(in alloc; "{fault}").expect(rt, "the code")
+}
+
+/// An event of process 4 and thread 12 without frames.
+fn event(sequence: u64, kind: Kind, handle: u32) -> Event {
+    Event {
+        sequence,
+        kind,
+        process: 4,
+        thread: 12,
+        handle,
+        object: 0,
+        tag: [0; 4],
+        stack: Stack::new(),
+    }
+}
+
+/// The events of the stored run.
+fn stored_events(rt: &impl Abort, alloc: Global) -> Vec<Event> {
+    let mut last = event(3, Kind::Opened, 0x48);
+    last.stack.push(0x1010);
+    last.stack.push(0x2000);
+    let mut events = Vec::new(alloc);
+    events
+        .push(event(1, Kind::Opened, 0x44))
+        .expect(rt, "the memory");
+    events
+        .push(event(2, Kind::Closed, 0x44))
+        .expect(rt, "the memory");
+    events.push(last).expect(rt, "the memory");
+    events
+}
+
+/// Whether these are the same events, whichever stacks they share.
+fn same_events(shared: &[SharedEvent], events: &[Event]) -> bool {
+    shared.len() == events.len() && shared.iter().zip(events).all(|(a, b)| same_event(a, b))
+}
+
+fn same_event(shared: &SharedEvent, event: &Event) -> bool {
+    shared.sequence == event.sequence
+        && shared.kind == event.kind
+        && shared.process == event.process
+        && shared.thread == event.thread
+        && shared.handle == event.handle
+        && shared.object == event.object
+        && shared.tag == event.tag
+        && shared.stack.frames() == event.stack.frames()
+}
+
+#[test]
+fn faults_of_changed_bytes(rt: HostRuntime) {
+    let alloc = rt.alloc();
+    let table: [(&[&str], &[(usize, &str)], &str); 37] = [
+        (&[STORED], &[(0, "00")], "S2"),
+        (&[STORED], &[(0, "00"), (4, "03")], "S2"),
+        (&[STORED], &[(4, "03")], "S3"),
+        (&[STORED], &[(6, "00")], "S4"),
+        (&[STORED], &[(6, "41")], "S4"),
+        (&[STORED], &[(8, "01")], "S5"),
+        (&[STORED], &[(10, "01")], "S6"),
+        (&[STORED], &[(12, "ffffffff")], "S7"),
+        (&[STORED], &[(24, "01100000")], "S8"),
+        (&[STORED], &[(28, "1f000000")], "S9"),
+        (&[STORED], &[(28, "21401200")], "S9"),
+        (&[STORED], &[(28, "ffffffff")], "S9"),
+        (&[STORED], &[(28, "9d000000")], "S10"),
+        (&[STORED], &[(28, "43000000")], "S11(0)"),
+        (&[STORED], &[(28, "8b000000")], "S11(2)"),
+        (&[STORED], &[(32, "00")], "S12(0)"),
+        (&[STORED], &[(68, "01")], "S12(1)"),
+        (&[STORED], &[(40, "00")], "S13(0)"),
+        (&[STORED], &[(40, "07")], "S13(0)"),
+        (&[STORED], &[(40, "08")], "S13(0)"),
+        (&[STORED], &[(41, "21")], "S14(0)"),
+        (&[STORED], &[(113, "03")], "S14(2)"),
+        (&[STORED], &[(42, "01")], "S15(0)"),
+        (&[STORED], &[(52, "03")], "S15(0)"),
+        (&[STORED], &[(56, "01")], "S15(0)"),
+        (&[STORED, "00"], &[(28, "9d000000")], "S16"),
+        (&[STORED], &[(24, "02000000")], "S16"),
+        (&[EMPTY], &[(12, "ffffffff")], "S7"),
+        (&[EMPTY], &[(24, "00100000")], "S11(0)"),
+        (&[WIDE], &[(4, "0100")], "S4"),
+        (&[WIDE], &[(6, "0101")], "S4"),
+        (&[STORED], &[(4, "02"), (40, "07")], "S15(0)"),
+        (&[STORED], &[(4, "02"), (40, "08")], "S13(0)"),
+        (&[STORED], &[(4, "02"), (41, "41")], "S14(0)"),
+        (&[STORED], &[(4, "02"), (41, "21")], "S14(0)"),
+        (&[STORED], &[(4, "02"), (28, "21402200")], "S9"),
+        (&[STORED], &[(4, "02"), (28, "21401200")], "S10"),
+    ];
+    for (texts, changes, wanted) in table {
+        let bytes = changed(&rt, alloc, texts, changes);
+        let fault = decode(alloc, &bytes)
+            .err()
+            .map(|fault| code(&rt, alloc, fault));
+        assert_eq!(rt;
+            fault.as_ref().map(|text| text.as_str()),
+            Some(wanted),
+            "{changes:?}"
+        );
+    }
+}
+
+#[test]
+fn cut_bytes(rt: HostRuntime) {
+    let alloc = rt.alloc();
+    let bytes = changed(&rt, alloc, &[STORED], &[]);
+    for len in 0..bytes.len() {
+        let fault = if len < 32 { Fault::Short } else { Fault::Cut };
+        let cut = &bytes[..len];
+        assert_eq!(rt; decode(alloc, cut).err(), Some(fault), "{len}");
+        let mut splitter = Splitter::new(alloc);
+        let segments = splitter.feed(alloc, cut).expect(&rt, "no fault yet");
+        assert!(rt; segments.is_empty(), "{len}");
+        let ended = if len == 0 { Ok(()) } else { Err((0, fault)) };
+        assert_eq!(rt; splitter.finish(), ended, "{len}");
+    }
+}
+
+#[test]
+fn encoded_segments(rt: HostRuntime) {
+    let alloc = rt.alloc();
+    let stored = stored_events(&rt, alloc);
+    let table: [(&[&str], &[(usize, &str)], u16, u16, u32, usize); 5] = [
+        (&[EMPTY], &[(4, "01")], 1, 0, 0, 0),
+        (&[EMPTY], &[(12, "feffffff")], 1, 0, 0xffff_fffe, 0),
+        (&[STORED], &[(4, "01")], 1, 0, 0, 3),
+        (&[STORED], &[(4, "02")], 2, 0, 0, 3),
+        (&[WIDE], &[(4, "02")], 2, 255, 0, 0),
+    ];
+    for (texts, changes, version, processor, number, count) in table {
+        let bytes = changed(&rt, alloc, texts, changes);
+        let (segment, used) = decode(alloc, &bytes).expect(&rt, "a segment");
+        assert_eq!(rt; used, bytes.len(), "{texts:?}");
+        assert_eq!(rt; segment.version(), version, "{texts:?}");
+        assert_eq!(rt; segment.trace_id(), 7, "{texts:?}");
+        assert_eq!(rt; segment.processor(), processor, "{texts:?}");
+        assert_eq!(rt; segment.number(), number, "{texts:?}");
+        assert!(rt;
+            same_events(segment.events(), &stored[..count.min(stored.len())]),
+            "{texts:?}"
+        );
+        let written = encode(alloc, &segment).expect(&rt, "the memory");
+        assert!(rt; written == bytes, "{texts:?}");
+        let copy = segment.copy().expect(&rt, "the memory");
+        assert!(rt; copy.same(&segment), "{texts:?}");
+        let in_place = SegmentBytes::check(&bytes).expect(&rt, "a segment");
+        assert_eq!(rt; in_place.processors(), segment.processors(), "{texts:?}");
+        let kept = in_place.to_segment(alloc).expect(&rt, "the memory");
+        assert!(rt; kept.same(&segment), "{texts:?}");
+    }
+    let first = changed(&rt, alloc, &[STORED], &[]);
+    let second = changed(&rt, alloc, &[STORED], &[(4, "02")]);
+    let (first, _) = decode(alloc, &first).expect(&rt, "version 1");
+    let (second, _) = decode(alloc, &second).expect(&rt, "version 2");
+    assert!(rt; !first.same(&second));
+}
+
+#[test]
+fn hexadecimal(rt: HostRuntime) {
+    let alloc = rt.alloc();
+    let table: [(&str, Result<&[u8], HexFault>); 6] = [
+        ("4g", Err(HexFault::BadDigit(1))),
+        ("48 4", Err(HexFault::Odd)),
+        ("4\t8", Err(HexFault::BadDigit(1))),
+        ("4 8\r\n", Ok(&[0x48])),
+        ("aF 09", Ok(&[0xaf, 0x09])),
+        ("", Ok(&[])),
+    ];
+    for (text, wanted) in table {
+        let read = from_hex(alloc, text.as_bytes());
+        match (read, wanted) {
+            (Ok(bytes), Ok(wanted)) => assert!(rt; bytes.as_slice() == wanted, "{text}"),
+            (Err(fault), Err(wanted)) => assert_eq!(rt; fault, wanted, "{text}"),
+            _ => assert!(rt; false, "{text}"),
+        }
+    }
+    let fault = format!(in alloc; "{}", HexFault::BadDigit(1)).expect(&rt, "the code");
+    assert_eq!(rt; fault.as_str(), "H1(1)");
+}
+
+#[test]
+fn built_segments(rt: HostRuntime) {
+    let alloc = rt.alloc();
+    let bytes = changed(&rt, alloc, &[STORED], &[]);
+    let (stored, _) = decode(alloc, &bytes).expect(&rt, "a segment");
+    let built = Segment::build(alloc, 7, 1, 0, 0, stored_events(&rt, alloc));
+    assert!(rt; built.is_ok_and(|segment| segment.same(&stored)));
+
+    let twice = [event(1, Kind::Opened, 0x44), event(1, Kind::Closed, 0x44)];
+    let table: [(u16, u16, u32, Vec<Event>, Fault); 10] = [
+        (0, 0, 0, stored_events(&rt, alloc), Fault::Processors),
+        (65, 0, 0, stored_events(&rt, alloc), Fault::Processors),
+        (1, 1, 0, stored_events(&rt, alloc), Fault::Processor),
+        (1, 0, 0xffff_ffff, stored_events(&rt, alloc), Fault::Number),
+        (1, 0, 0, too_many(&rt, alloc), Fault::Count),
+        (
+            1,
+            0,
+            0,
+            list(&rt, alloc, event(0, Kind::Snapshot, 0)),
+            Fault::Sequence(0),
+        ),
+        (
+            1,
+            0,
+            0,
+            Vec::from_array(alloc, twice).expect(&rt, "the memory"),
+            Fault::Sequence(1),
+        ),
+        (
+            1,
+            0,
+            0,
+            list(&rt, alloc, event(1, Kind::Exited, 0)),
+            Fault::Kind(0),
+        ),
+        (1, 0, 0, list(&rt, alloc, deep_event()), Fault::Frames(0)),
+        (
+            1,
+            0,
+            0,
+            list(&rt, alloc, event(1, Kind::Opened, 3)),
+            Fault::Field(0),
+        ),
+    ];
+    for (processors, processor, number, events, wanted) in table {
+        let count = events.len();
+        let refused = Segment::build(alloc, 7, processors, processor, number, events).err();
+        assert_eq!(rt;
+            refused.map(|(fault, events)| (fault, events.len())),
+            Some((wanted, count))
+        );
+    }
+}
+
+#[test]
+fn deepest_stack(rt: HostRuntime) {
+    let alloc = rt.alloc();
+    let events = list(&rt, alloc, deep_event());
+    let segment = Segment::build2(alloc, 7, 1, 0, 0, events)
+        .ok()
+        .expect(&rt, "a segment");
+    let bytes = encode(alloc, &segment).expect(&rt, "the memory");
+    assert_eq!(rt; bytes.len(), 580);
+    assert!(rt; bytes[28..32] == [0x44, 2, 0, 0]);
+    let copy = segment.copy().expect(&rt, "the memory");
+    assert!(rt; copy.same(&segment));
+    let (read, used) = decode(alloc, &bytes).expect(&rt, "a segment");
+    assert!(rt; used == 580 && read.same(&segment));
+    assert!(rt; !deep_event().stack.push(64));
+}
+
+/// Opens of stacks that come again and again, so many of them.
+fn repeating(rt: &impl Abort, alloc: Global, stacks: u64) -> Vec<Event> {
+    let mut events = Vec::new(alloc);
+    for place in 0..2048u64 {
+        let number = place % stacks.max(1);
+        let mut next = event(place + 1, Kind::Opened, 0x44);
+        for frame in 0..number % 7 {
+            next.stack.push(number + frame);
+        }
+        events.push(next).expect(rt, "the memory");
+    }
+    events
+}
+
+/// A cache of stacks begins with a few cells, of which each stack may have two: many stacks push one
+/// another out, and the cache is made larger.
+#[test]
+fn stacks_through_two_cells(rt: HostRuntime) {
+    let alloc = rt.alloc();
+    for stacks in [7, 60, 1500] {
+        let events = repeating(&rt, alloc, stacks);
+        let segment = Segment::build(alloc, 7, 1, 0, 0, repeating(&rt, alloc, stacks))
+            .ok()
+            .expect(&rt, "a segment");
+        assert!(rt; same_events(segment.events(), &events), "{stacks}");
+        let bytes = encode(alloc, &segment).expect(&rt, "the memory");
+        let found = SegmentBytes::check(&bytes).expect(&rt, "a segment");
+        let read = found.to_segment(alloc).expect(&rt, "the memory");
+        assert!(rt; read.same(&segment), "{stacks}");
+        assert!(rt; same_events(read.events(), &events), "{stacks}");
+    }
+}
+
+#[test]
+fn bundles_in_pieces(rt: HostRuntime) {
+    let alloc = rt.alloc();
+    let bundle = changed(&rt, alloc, &[EMPTY, STORED], &[]);
+    let bytes = bundle.as_slice();
+    assert_eq!(rt; bytes.len(), 188);
+    let whole = decode_bundle(alloc, bytes).expect(&rt, "a bundle");
+    assert_eq!(rt; whole.len(), 2);
+    assert!(rt; decode_bundle(alloc, &[]).is_ok_and(|segments| segments.is_empty()));
+
+    // In three pieces, and byte by byte.
+    let (empty, stored) = bytes.split_at(32);
+    let (front, last) = empty.split_at(31);
+    let pieces = [front, last, stored];
+    let mut splitter = Splitter::new(alloc);
+    for (piece, count) in pieces.iter().zip([0, 1, 1]) {
+        let segments = fed(&rt, alloc, &mut splitter, piece);
+        assert_eq!(rt; segments.len(), count);
+    }
+    assert_eq!(rt; splitter.fed(), 188);
+    assert_eq!(rt; splitter.finish(), Ok(()));
+    let mut splitter = Splitter::new(alloc);
+    let mut found = 0;
+    for piece in bytes.chunks(1) {
+        for segment in fed(&rt, alloc, &mut splitter, piece) {
+            assert!(rt; whole.get(found).is_some_and(|other| other.same(&segment)));
+            found += 1;
+        }
+    }
+    assert_eq!(rt; (found, splitter.finish()), (2, Ok(())));
+    let joined = decode_pieces(alloc, &pieces).expect(&rt, "a bundle");
+    assert!(rt;
+        joined
+            .iter()
+            .zip(&whole)
+            .all(|(one, other)| one.same(other))
+            && joined.len() == 2
+    );
+
+    // A fault in the second segment is reported for good.
+    let bundle = changed(&rt, alloc, &[EMPTY, STORED], &[(100, "01")]);
+    let bytes = bundle.as_slice();
+    assert_eq!(rt; bytes.len(), 188);
+    let fault = (32, Fault::Sequence(1));
+    assert_eq!(rt; decode_bundle(alloc, bytes).err(), Some(fault));
+    let mut splitter = Splitter::new(alloc);
+    assert_eq!(rt; splitter.feed(alloc, bytes).err(), Some(fault));
+    assert_eq!(rt; splitter.feed(alloc, bytes).err(), Some(fault));
+    assert_eq!(rt; splitter.finish(), Err(fault));
+
+    // The bytes end inside the second segment.
+    for (len, fault) in [(40, Fault::Short), (70, Fault::Cut)] {
+        let mut splitter = Splitter::new(alloc);
+        let segments = splitter
+            .feed(alloc, &bytes[..len])
+            .expect(&rt, "no fault yet");
+        assert_eq!(rt; (segments.len(), splitter.finish()), (1, Err((32, fault))));
+    }
+}
+
+/// The segments that a piece without a fault completes.
+fn fed(rt: &impl Abort, alloc: Global, splitter: &mut Splitter, piece: &[u8]) -> Vec<Segment> {
+    assert!(rt; splitter.fed() < 1_000_000 && piece.len() < 1_000_000);
+    splitter.feed(alloc, piece).expect(rt, "no fault")
+}
+
+fn list(rt: &impl Abort, alloc: Global, event: Event) -> Vec<Event> {
+    let mut events = Vec::new(alloc);
+    events.push(event).expect(rt, "the memory");
+    events
+}
+
+/// One event more than a segment has room for.
+fn too_many(rt: &impl Abort, alloc: Global) -> Vec<Event> {
+    let mut events = Vec::new(alloc);
+    for place in 0..4097u64 {
+        let next = event(place + 1, Kind::Opened, 0x44);
+        events.push(next).expect(rt, "the memory");
+    }
+    events
+}
+
+/// An open with as many frames as a stack has room for.
+fn deep_event() -> Event {
+    let mut event = event(1, Kind::Opened, 0x44);
+    for address in 0..MAX_FRAMES {
+        event.stack.push(address as u64);
+    }
+    event
+}

@@ -1,0 +1,173 @@
+//! What a run prints, and why it is refused, for whole inputs.
+
+use crate::rows::{PRINTED, Printed, REFUSED, Refused, STORED, STORED_COVERAGE, STORED_TEXT};
+use htl_command::{Job, Question};
+use htl_main::{Coverage, RunFault, Writing, run};
+use htl_samples::TRACE;
+use htl_segment::encode;
+use std::alloc::Global;
+use std::sync::Wait;
+use std::test::Fail;
+use std::thread::Threads;
+
+/// The question of the stored run.
+pub const OUTSTANDING: Question = Question::Outstanding { process: 4 };
+
+/// A job over bytes, with one worker.
+pub fn over_bytes(question: Question) -> Job {
+    Job {
+        question,
+        hex: false,
+        workers: 1,
+    }
+}
+
+/// The bytes of segments that are given by lines, with semicolons between them.
+fn bundle(alloc: Global, lines: &str) -> Result<Vec<u8>, Fail> {
+    let mut bytes = Vec::new(alloc);
+    for line in lines.split(';') {
+        if !line.trim().is_empty() {
+            let segment = TRACE.segment(alloc, line)?;
+            bytes.extend_from_slice(&encode(alloc, &segment)?)?;
+        }
+    }
+    Ok(bytes)
+}
+
+pub fn bundles(alloc: Global, inputs: &[&str]) -> Result<Vec<Vec<u8>>, Fail> {
+    let mut all = Vec::new(alloc);
+    for lines in inputs {
+        all.push(bundle(alloc, lines)?)?;
+    }
+    Ok(all)
+}
+
+/// What was written, and how the run ended.
+pub fn printed(
+    rt: &(impl Threads + Wait + Sync),
+    alloc: Global,
+    job: &Job,
+    inputs: &[Vec<u8>],
+    symbols: Option<&str>,
+) -> (Vec<u8>, Result<Coverage, RunFault>) {
+    let mut written = Vec::new(alloc);
+    let symbols = symbols.map(|text| text.as_bytes());
+    let ended = run(
+        rt,
+        alloc,
+        job,
+        inputs,
+        symbols,
+        &mut Writing::new(&mut written),
+    );
+    (written, ended)
+}
+
+/// What is printed for a row by so many workers.
+fn printed_row(
+    rt: &(impl Threads + Wait + Sync),
+    alloc: Global,
+    row: &Printed,
+    workers: u32,
+) -> Result<Vec<u8>, Fail> {
+    let inputs = bundles(alloc, row.inputs)?;
+    let job = Job {
+        workers,
+        ..over_bytes(row.question)
+    };
+    let (written, ended) = printed(rt, alloc, &job, &inputs, row.symbols);
+    ended?;
+    Ok(written)
+}
+
+/// The fault of a run that writes nothing.
+pub fn refusal(written: &[u8], ended: Result<Coverage, RunFault>) -> Result<RunFault, Fail> {
+    if !written.is_empty() {
+        return Err("something was written".into());
+    }
+    Ok(ended.err().ok_or("it was printed")?)
+}
+
+#[test]
+fn prints_the_same_for_every_number_of_workers(rt: HostRuntime) -> Result<(), Fail> {
+    for row in &PRINTED {
+        for workers in [1, 2, 8] {
+            let written = printed_row(&rt, rt.alloc(), row, workers)?;
+            assert_eq!(rt; written.as_slice(), row.text.as_bytes(), "{}", row.name);
+        }
+    }
+    Ok(())
+}
+
+#[test]
+fn prints_the_stored_run(rt: HostRuntime) -> Result<(), Fail> {
+    let job = Job {
+        hex: true,
+        ..over_bytes(OUTSTANDING)
+    };
+    let inputs = vec![in rt.alloc(); Vec::from_slice(rt.alloc(), STORED.as_bytes())?]?;
+    let (written, ended) = printed(&rt, rt.alloc(), &job, &inputs, None);
+    assert_eq!(rt; ended, Ok(STORED_COVERAGE));
+    assert_eq!(rt; written.as_slice(), STORED_TEXT.as_bytes());
+    Ok(())
+}
+
+/// The fault of a run over a row's inputs.
+fn refused_row(
+    rt: &(impl Threads + Wait + Sync),
+    alloc: Global,
+    row: &Refused,
+) -> Result<RunFault, Fail> {
+    let mut inputs = Vec::new(alloc);
+    for input in row.inputs {
+        inputs.push(Vec::from_slice(alloc, input.as_bytes())?)?;
+    }
+    let job = Job {
+        question: OUTSTANDING,
+        hex: true,
+        workers: row.workers,
+    };
+    let (written, ended) = printed(rt, alloc, &job, &inputs, row.symbols);
+    refusal(&written, ended)
+}
+
+#[test]
+fn refuses_with_a_line_and_a_status(rt: HostRuntime) -> Result<(), Fail> {
+    for row in &REFUSED {
+        let fault = refused_row(&rt, rt.alloc(), row)?;
+        assert_eq!(rt; fault.to_string(rt.alloc())?.as_str(), row.line);
+        assert_eq!(rt; fault.status(), row.status);
+    }
+    Ok(())
+}
+
+/// The fault of a run over inputs that are given by lines. Its symbols have a fault too.
+fn refused_lines(
+    rt: &(impl Threads + Wait + Sync),
+    alloc: Global,
+    inputs: &[&str],
+) -> Result<RunFault, Fail> {
+    let inputs = bundles(alloc, inputs)?;
+    let (written, ended) = printed(rt, alloc, &over_bytes(OUTSTANDING), &inputs, Some(""));
+    refusal(&written, ended)
+}
+
+#[test]
+fn refuses_what_is_no_case(rt: HostRuntime) -> Result<(), Fail> {
+    let table: [(&[&str], &str); 5] = [
+        (&[], "hleak: case: C1"),
+        (&["0/3: O 1 0x44", "0/3: O 2 0x44"], "hleak: case: C4(0, 3)"),
+        (&["0/0: O 1 0x44; 0/1: O 1 0x48"], "hleak: case: C5(1)"),
+        (
+            &["0/0: O 5 0x44; 0/1:; 0/2: O 4 0x48"],
+            "hleak: case: C7(0, 2)",
+        ),
+        (&["", ""], "hleak: case: C1"),
+    ];
+    for (inputs, line) in table {
+        let fault = refused_lines(&rt, rt.alloc(), inputs)?;
+        assert_eq!(rt; fault.to_string(rt.alloc())?.as_str(), line);
+        assert_eq!(rt; fault.status(), 4);
+    }
+    Ok(())
+}

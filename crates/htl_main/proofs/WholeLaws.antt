@@ -58,12 +58,12 @@ complete T a n whole is =
 taken_there : (T : Trace) (a : State) → IsRight a T → (p n : ℕ) → p < a.processors → HasTaken a p n → HasKey T p n
 taken_there T a right p n lt (inl low) = (right.each p lt).complete n low
 taken_there T a right p n lt (inr loose) =
-    let of_part = right.state.each p lt in
+    let part = right.state.each p lt in
     let held = Contains-from_map (λ s. s.number) (held_at a.parts p) n
-    (subst (λ (ns : List ℕ). Contains ns n) (sym of_part.numbers) loose) in (
+    (subst (λ (ns : List ℕ). Contains ns n) (sym part.numbers) loose) in (
       held.0,
       at_member (Contains T.segments) (held_at a.parts p) held.0 (right.each p lt).held held.1,
-      (at_member (IsOwned a.trace_id a.processors p) (held_at a.parts p) held.0 of_part.owned held.1).processor,
+      (at_member (IsOwned a.trace_id a.processors p) (held_at a.parts p) held.0 part.owned held.1).processor,
       held.2,
     )
 

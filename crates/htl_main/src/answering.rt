@@ -36,6 +36,7 @@ pub(crate) fn answer<Rt: Threads + Wait + Sync>(
         → IsText case table job.now.question (text_of table answer)) }
     ensures err { IfErr result (λ fault. (fault ≡ RunFault.Memory) ⊎ (fault ≡ RunFault.NoThread)) }
 {
+    let _is_case = case.segments();
     match job.question {
         Question::Trace { process, handle } => Ok(Answer::Trace {
             process,
@@ -63,10 +64,8 @@ fn standing<Rt: Threads + Wait + Sync>(
 ) -> Result<Analyst<Global>, RunFault>
     requires { WorkersFit workers }
     ensures ok { IfOk result (IsWholeStanding case) }
-    ensures trace { IfOk result (λ _. IsTrace case) }
     ensures err { IfErr result (λ fault. (fault ≡ RunFault.Memory) ⊎ (fault ≡ RunFault.NoThread)) }
 {
-    let _is_case = case.segments();
     Ok(survey_owned(rt, alloc, case, workers, &Free)?)
 }
 
@@ -78,7 +77,8 @@ fn answer_of(
 ) -> Result<Answer, NoMemory>
     requires { IsOfAnalyst question }
     ensures { IfOk result (λ answer. (T : Trace) → IsTrace T → IsRight analyst.now T
-        → (table : List Range) → IsTextOver (taken_events T analyst.now) table question (text_of table answer)) }
+        → (table : List Range)
+        → IsTextOver (taken_events T analyst.now) table question (text_of table answer)) }
 {
     Ok(match question {
         Question::Outstanding { process } => Answer::Outstanding {

@@ -1,5 +1,6 @@
--- A case has 1 to 256 processors.
-use Rattle.std.proofs.Common.{refl, arith, inl, inr}
+-- A case has 1 to 256 processors, and one segment for each key.
+use Rattle.std.proofs.Common.{refl, sym, arith, inl, inr}
+use Rattle.htl_analyst.proofs.Held.{collection_of}
 use Rattle.htl_case.proofs.Played.{some_processors, few_processors}
 use Rattle.htl_exchange.proofs.start.new_analyst.Goals as goal
 
@@ -10,3 +11,8 @@ unreachable-requires c =
     let e = c.processors.ensures in
     let told = rw c.in-Err-Processors.field-0-is at c.in-Err-Processors.ensures.processors in
     elim (told.0 refl) [ inl none ↦ omega (arith, some, e, none) | inr many ↦ omega (arith, few, e, many) ]
+
+pub returns-in-Ok-clause-right : goal.returns-in-Ok-clause-right
+returns-in-Ok-clause-right c =
+    let T = c.args.case.now in
+    c.in-Ok.ensures.right T (collection_of T c.segments-is_case.ensures.is_case.trace) (sym c.trace_id.ensures) (sym c.processors.ensures)

@@ -33,3 +33,18 @@ unreachable-requires c =
     let is : c.args.parcel ≡ parcels.State c.in-State.state = search rules in
     let told = c.in-Err-absorb.ensures.lawful c.requires.0 c.requires.1 (subst (IsOf c.requires.0) is c.requires.2) in
     search (rules, told)
+
+pub returns-in-Ok-clause-right : goal.returns-in-Ok-clause-right
+returns-in-Ok-clause-right c = λ T right of.
+    let is : c.args.parcel ≡ parcels.Run c.in-Run.segments c.in-Run.case = search rules in
+    c.take_run.ensures.right T right (subst (IsOf T) is of)
+
+pub returns-in-Err-clause-right : goal.returns-in-Err-clause-right
+returns-in-Err-clause-right c = λ T right of.
+    let is : c.args.parcel ≡ parcels.Run c.in-Run.segments c.in-Run.case = search rules in
+    c.take_run.ensures.right T right (subst (IsOf T) is of)
+
+pub returns-in-Ok-absorb-clause-right : goal.returns-in-Ok-absorb-clause-right
+returns-in-Ok-absorb-clause-right c = λ T right of.
+    let is : c.args.parcel ≡ parcels.State c.in-State.state = search rules in
+    c.in-Ok-absorb.ensures.right T right (subst (IsOf T) is of)

@@ -4,6 +4,7 @@ use Rattle.std.specs.Prelude.{◌↔◌}
 use Rattle.htl_segment.specs.Content.{Content}
 use Rattle.htl_analyst.specs.States.{State}
 use Rattle.htl_analyst.specs.Keys.{HasTaken}
+use Rattle.htl_analyst.specs.Right.{IsRight}
 use Rattle.htl_exchange.specs.Parcels.{HasSegment}
 use Rattle.htl_exchange.proofs.Takings.{last_member, front_member, one_taken, through}
 use Rattle.htl_exchange.proofs.taking.take_run.Goals as goal
@@ -52,3 +53,7 @@ unreachable-requires c =
     let there = inv.0 segment (last_member was c.pop.new.self.items segment c.in-Some.ensures.items) in
     let told = c.in-Err.ensures.lawful c.requires.0 (inv.2 c.requires.0 c.requires.1 within) (within segment there) in
     search (rules, told)
+
+pub returns-in-Err-NoMemory-default-clause-right : goal.returns-in-Err-NoMemory-default-clause-right
+returns-in-Err-NoMemory-default-clause-right c = λ T right within.
+    subst (λ (a : State). IsRight a T) (sym c.in-Err-NoMemory-default.ensures.err.1) (c.loop-segment.invariant.2 T right within)

@@ -1,5 +1,6 @@
 -- Joining keeps the rule, and the desk follows it with what both had.
 use Rattle.std.proofs.Common.{◌≡◌, ◌+◌, None, ap, sym, ◌∙◌, subst, rules}
+use Rattle.htl_analyst.specs.Right.{IsRight}
 use Rattle.htl_exchange.specs.declared.pass.Known.{Known}
 use Rattle.htl_exchange.specs.Moves.{known_of, joined}
 use Rattle.htl_exchange.specs.Desks.{Follows}
@@ -28,3 +29,13 @@ invariant_of-self-in-Ok-3 c =
       parts,
       subst (λ h. Follows (known_of c.absorb-in-Ok.new.pass) c.absorb.new.self h) (sym none) (subst (λ w. Follows w c.absorb.new.self None) (sym is) now),
     )
+
+pub unreachable-requires : goal.unreachable-requires
+unreachable-requires c =
+    let u = known_of c.other.inside.pass in
+    let v = known_of c.self.inside.pass in
+    let same : u.trace ≡ v.trace = search rules in
+    let theirs : IsRight c.other.inside.analyst v.trace =
+    subst (λ t. IsRight c.other.inside.analyst t) same c.other.invariant.2.right in
+    let told = c.in-Err.ensures.lawful v.trace c.self.invariant.2.right theirs in
+    search (rules, told)

@@ -1,4 +1,5 @@
 -- Folding changes no key of the desk.
+use Rattle.htl_case.proofs.Played.{on_ok}
 use Rattle.htl_exchange.specs.Moves.{known_of}
 use Rattle.htl_exchange.proofs.Following.{compacts}
 use Rattle.htl_exchange.proofs.desk.Desk.compact.Goals as goal
@@ -17,3 +18,8 @@ returns-clause-follows c =
     let d = c.self.inside in
     let folded = c.compact in
     compacts (known_of d.pass) d.analyst folded.new.self d.hand c.self.invariant.2 folded.ensures.right folded.ensures.keys
+
+pub returns-clause-standing : goal.returns-clause-standing
+returns-clause-standing c =
+    on_ok c.compact.result _ _ c.compact.ensures.standing
+    (λ standing. standing (known_of c.self.inside.pass).trace c.self.invariant.2.right)

@@ -64,7 +64,8 @@ fn outstanding(
     analyst: &Analyst<Global>,
     process: u32,
 ) -> Result<Vec<SharedEvent>, NoMemory>
-    ensures { IfOk result (λ rows. AnalystAnswers analyst.now (question.outstanding process) rows.items) }
+    ensures { IfOk result (λ rows.
+        AnalystAnswers analyst.now (question.outstanding process) rows.items) }
 {
     analyst.outstanding(alloc, process)
 }
@@ -75,7 +76,8 @@ fn diff(
     process: u32,
     since: u64,
 ) -> Result<Vec<SharedEvent>, NoMemory>
-    ensures { IfOk result (λ rows. AnalystAnswers analyst.now (question.diff process since) rows.items) }
+    ensures { IfOk result (λ rows.
+        AnalystAnswers analyst.now (question.diff process since) rows.items) }
 {
     analyst.diff(alloc, process, since)
 }
@@ -116,7 +118,8 @@ fn stacks(
     object: u64,
     tag: [u8; 4],
 ) -> Result<Vec<(SharedStack, Count)>, NoMemory>
-    ensures { IfOk result (λ rows. AnalystAnswers analyst.now (question.stacks object tag) rows.items) }
+    ensures { IfOk result (λ rows.
+        AnalystAnswers analyst.now (question.stacks object tag) rows.items) }
 {
     analyst.stacks(alloc, object, tag)
 }

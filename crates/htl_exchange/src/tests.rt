@@ -108,7 +108,8 @@ fn one_desk_posts_and_collects(rt: HostRuntime) -> Result<(), Fail> {
     Ok(())
 }
 
-/// As where the first growth after the pop is refused: `fetch` is all that `collect` did by then.
+/// As where the first allocation after the pop is refused: `fetch` is all that `collect` did by
+/// then.
 #[test]
 fn refused_after_a_pop(rt: HostRuntime) -> Result<(), Fail> {
     let alloc = rt.alloc();
@@ -118,11 +119,11 @@ fn refused_after_a_pop(rt: HostRuntime) -> Result<(), Fail> {
         "there is memory",
     );
     let mut desk = desks.pop().expect(&rt, "there is a desk");
+    assert_eq!(rt; (desk.in_hand(), desk.analyst().taken()), (false, 0));
     assert_eq!(rt; desk.fetch(&rt, &exchange), Collected::Run);
-    assert!(rt; desk.in_hand());
-    assert_eq!(rt; desk.analyst().taken(), 0);
+    assert_eq!(rt; (desk.in_hand(), desk.analyst().taken()), (true, 0));
     assert_eq!(rt; desk.collect(&rt, &exchange)?, Collected::Run);
-    assert!(rt; !desk.in_hand());
+    assert_eq!(rt; (desk.in_hand(), desk.analyst().taken()), (false, 3));
     desks.push(desk)?;
     let closed = exchange.close(&rt, desks);
     assert_eq!(rt; closed.ok().expect(&rt, "there is memory").taken(), 3);

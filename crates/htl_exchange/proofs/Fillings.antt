@@ -1,11 +1,12 @@
 -- Filling the queue, one run after another.
 use Rattle.std.proofs.Common.{◌≡◌, ◌≢◌, ℕ, zero, suc, ◌+◌, ◌<◌, ◌≤◌, Bool, true, false, true≢false, not, ◌&&◌, ◌||◌, eqb, leb}
 use Rattle.std.proofs.Common.{List, [], ◌∷◌, IsPermutation, length, add-one, sym, refl, ap, ◌∙◌, subst, inl, inr, ⊎_elim, arith}
-use Rattle.std.specs.Prelude.{Contains, ◌↔◌, filter, if◌then◌else◌}
+use Rattle.std.specs.Prelude.{Contains, ◌↔◌, cond, filter, if◌then◌else◌}
 use Rattle.std.specs.List.{list_any}
 use Rattle.std.proofs.lemmas.Bool.{eqb-true, eq-eqb, cases_Bool}
 use Rattle.std.proofs.Math.Dec.{leb-zero}
 use Rattle.std.proofs.lemmas.Bool.Decides.{eqb_tells, nat_tests}
+use Rattle.std.proofs.lemmas.List.Sums.{sum_by-cons}
 use Rattle.std.proofs.lemmas.List.Sorted.{Contains-permutation, IsPermutation-sym}
 use Rattle.crossbeam_queue.specs.Fifo.{Pushes, Held}
 use Rattle.htl_event.proofs.Members.{at_member, Contains-here, Contains-filter, Contains-from_filter, Contains-nil}
@@ -14,9 +15,9 @@ use Rattle.htl_segment.specs.Traces.{Trace, HasKey}
 use Rattle.htl_case.specs.Cases.{IsCase}
 use Rattle.htl_exchange.specs.declared.pass.Known.{Known}
 use Rattle.htl_exchange.specs.declared.parcel.Parcel.{Parcel}
-use Rattle.htl_exchange.specs.Runs.{has, one, without, runs_of, is_of, IsRunOf}
+use Rattle.htl_exchange.specs.Runs.{has, size, one, without, runs_of, is_of, IsRunOf}
 use Rattle.htl_exchange.specs.Parcels.{trace_of, runs_in, HasSegment, IsParcelOf}
-use Rattle.htl_exchange.specs.Rule.{known, blank, MakesUp}
+use Rattle.htl_exchange.specs.Rule.{blank, MakesUp}
 use Rattle.htl_exchange.specs.Moves.{left_of, Filled, CountsPushes}
 use Rattle.htl_exchange.specs.Filling.{FillsTo, IsIdle, runs_below}
 use Rattle.htl_exchange.proofs.Sets.{has-union, has-one, has-without, one-same, one-only, one_run, run_of_member, member_of_run}
@@ -131,24 +132,47 @@ runs_below-none runs p is =
     let e : runs_below runs (p + 1) ≡ runs_below runs p + 0 = rw add-one (none_below runs p is) in
     omega (arith, e)
 
-next_below : (runs : List Bool) (p : ℕ) → runs_below runs p ≤ runs_below runs (suc p)
-next_below runs p = elim (cases_Bool (has runs p)) [
-  | inl is ↦ omega (arith, there_below runs p is)
-  | inr is ↦ omega (arith, none_below runs p is)
-]
+size-cons : (b : Bool) (runs : List Bool) → size (b ∷ runs) ≡ (if b then 1 else 0) + size runs
+size-cons b runs = sum_by-cons (λ there. cond there 1 0) b runs
 
-pub runs_below-rises : (runs : List Bool) (p n : ℕ) → p ≤ n → runs_below runs p ≤ runs_below runs n
-runs_below-rises runs p zero le =
-    let none : p ≡ 0 = omega (arith, le) in
-    let e : runs_below runs p ≡ runs_below runs 0 = ap (runs_below runs) none in
-    omega (arith, e)
-runs_below-rises runs p (suc n) le = ⊎_elim
-    (λ (x : (eqb p (suc n) ≡ true) × (p ≡ suc n)). let e : runs_below runs p ≡ runs_below runs (suc n) = ap (runs_below runs) x.1 in omega (arith, e))
-    (λ (x : (eqb p (suc n) ≡ false) × (p ≢ suc n)).
-    let other : p ≢ suc n = x.1 in
-    let less : runs_below runs p ≤ runs_below runs n = runs_below-rises runs p n (omega (arith, le, other)) in
-    omega (arith, less, next_below runs n))
-    (eqb_tells p (suc n))
+runs_below-nil : (p : ℕ) → runs_below [] p ≡ 0
+runs_below-nil zero = refl
+runs_below-nil (suc p) =
+    let e : runs_below [] (suc p) ≡ runs_below [] p + 0 = refl in
+    omega (arith, e, runs_below-nil p)
+
+runs_below-cons : (b : Bool) (runs : List Bool) (p : ℕ) → runs_below (b ∷ runs) (suc p) ≡ (if b then 1 else 0) + runs_below runs p
+runs_below-cons b runs zero =
+    let e : runs_below (b ∷ runs) (suc zero) ≡ 0 + (if b then 1 else 0) = refl in
+    let none : runs_below runs zero ≡ 0 = refl in
+    omega (arith, e, none)
+runs_below-cons b runs (suc p) =
+    let e : runs_below (b ∷ runs) (suc (suc p)) ≡ runs_below (b ∷ runs) (suc p) + (if has runs p then 1 else 0) = refl in
+    let f : runs_below runs (suc p) ≡ runs_below runs p + (if has runs p then 1 else 0) = refl in
+    omega (arith, e, f, runs_below-cons b runs p)
+
+pub runs_below-most : (runs : List Bool) (p : ℕ) → runs_below runs p ≤ size runs
+runs_below-most [] p = omega (arith, runs_below-nil p)
+runs_below-most (b ∷ runs) zero = let none : runs_below (b ∷ runs) zero ≡ 0 = refl in omega (arith, none)
+runs_below-most (b ∷ runs) (suc p) = omega (arith, size-cons b runs, runs_below-cons b runs p, runs_below-most runs p)
+
+size-none : (runs : List Bool) → ((p : ℕ) → has runs p ≡ true → ⊥) → size runs ≡ 0
+size-none [] none = refl
+size-none (true ∷ runs) none = absurd (none 0 refl)
+size-none (false ∷ runs) none =
+    let e : size (false ∷ runs) ≡ 0 + size runs = size-cons false runs in
+    omega (arith, e, size-none runs (λ p h. none (suc p) h))
+
+runs_below-all : (runs : List Bool) (n : ℕ) → ((p : ℕ) → has runs p ≡ true → p < n) → runs_below runs n ≡ size runs
+runs_below-all runs zero few = sym (size-none runs (λ p h. let lt = few p h in absurd (omega (arith, lt))))
+runs_below-all [] (suc n) few = runs_below-nil (suc n)
+runs_below-all (b ∷ runs) (suc n) few =
+    omega (
+      arith,
+      size-cons b runs,
+      runs_below-cons b runs n,
+      runs_below-all runs n (λ p h. let lt : suc p < suc n = few (suc p) h in omega (arith, lt)),
+    )
 
 -- ---- the steps of the filling
 
@@ -200,27 +224,26 @@ filled T p v w x some_segment of only there is f = subst (FillsTo T (p + 1)) (sy
   log = f.log;
   trace = inr refl;
   pushes = ap (λ n. n + 1) f.pushes ∙ sym (runs_below-there (runs_of T.segments) p there);
-  left = λ q. ap (λ l. has l q) (left_of-known T T.segments got some_segment) ∙ has-without left (one p) q
+  left = λ q. ap (λ l. has l q) (left_of-known T T.segments still some_segment) ∙ has-without left (one p) q
       ∙ ap (λ t. t && not (has (one p) q)) (f.left q) ∙ next (λ k. has (runs_of T.segments) k) p q;
 }) where
   left : List Bool
   left = left_of T v.trace.segments v.got
 
-  got : List Bool
-  got = without left (one p)
+  still : List Bool
+  still = without left (one p)
 
-  now : w ≡ known T v.parts got v.log (v.pushes + 1)
-  now = is ∙ (λ i. known (of i) v.parts (without (left_of (of i) v.trace.segments v.got) (only i)) v.log (v.pushes + 1))
+  now : w ≡ record v { trace = T; got = still; pushes = v.pushes + 1 }
+  now = is ∙ (λ i. record v { trace = of i; got = without (left_of (of i) v.trace.segments v.got) (only i); pushes = v.pushes + 1 })
 
 -- a queue with room for every run isn't full before the last run is in it
-pub never_full : (T : Trace) (p room : ℕ) (v : Known) → p < T.processors → runs_below (runs_of T.segments) T.processors < room
-    → FillsTo T p v → Held room (CountsPushes v) → ⊥
-never_full T p room v there enough f held =
+pub never_full : (T : Trace) (p room : ℕ) (v : Known) → size (runs_of T.segments) < room → FillsTo T p v → Held room (CountsPushes v) → ⊥
+never_full T p room v enough f held =
     let len = held.1 in
     let few = held.2 f.parts in
     let put = f.pushes in
-    let rises = runs_below-rises (runs_of T.segments) p T.processors (omega (arith, there)) in
-    omega (arith, len, few, put, rises, enough)
+    let most = runs_below-most (runs_of T.segments) p in
+    omega (arith, len, few, put, most, enough)
 
 below : (n q : ℕ) (b : Bool) → (b ≡ true → q < n) → (b && leb n q) ≡ false
 below n q true h = over (h refl)
@@ -239,6 +262,12 @@ within T is_case p h =
     let count = same.1 in
     let own = s.2 in
     omega (arith, lt, count, own)
+
+pub all_below : (T : Trace) (n : ℕ) → IsCase T → T.processors ≤ n → runs_below (runs_of T.segments) n ≡ size (runs_of T.segments)
+all_below T n is_case past = runs_below-all (runs_of T.segments) n (λ p h. let lt = within T is_case p h in omega (arith, lt, past))
+
+pub all_pushed : (T : Trace) (n : ℕ) (v : Known) → IsCase T → T.processors ≤ n → FillsTo T n v → v.pushes ≡ size (runs_of T.segments)
+all_pushed T n v is_case past f = f.pushes ∙ all_below T n is_case past
 
 pub all_put : (T : Trace) (n : ℕ) (v : Known) → IsCase T → T.processors ≤ n → FillsTo T n v → IsIdle T 8 v
 all_put T n v is_case past f = record {

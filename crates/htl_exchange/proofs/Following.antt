@@ -12,13 +12,13 @@ use Rattle.htl_exchange.specs.declared.pass.Known.{Known}
 use Rattle.htl_exchange.specs.declared.parcel.Parcel.{Parcel}
 use Rattle.htl_exchange.specs.declared.parcel.Parcel.TheVariants as parcels
 use Rattle.htl_exchange.specs.Runs.{has, union, one, runs_of, runs_taken}
-use Rattle.htl_exchange.specs.Parcels.{runs_in, Brings, IsOf, IsParcelOf}
+use Rattle.htl_exchange.specs.Parcels.{named, runs_in, Brings, IsOf, IsParcelOf}
 use Rattle.htl_exchange.specs.Rule.{MakesUp}
 use Rattle.htl_exchange.specs.Moves.{popped, Popped, pushed, Pushed, joined, KnowsRest}
 use Rattle.htl_exchange.specs.Desks.{HandIsOf, HasGot, Follows, KeepsGot, IsWholeStanding}
 use Rattle.htl_exchange.specs.declared.desk.Collected.{Collected}
 use Rattle.htl_exchange.specs.declared.desk.Collected.TheVariants as collected
-use Rattle.htl_exchange.specs.Collects.{named, CollectsAs, HasRest}
+use Rattle.htl_exchange.specs.Collects.{CollectsAs, HasRest}
 use Rattle.htl_exchange.proofs.Sets.{or_cases, or_left, or_right, same_truth, has-union, run_of_member, member_of_run, taken_of_run, run_of_taken}
 use Rattle.htl_exchange.proofs.Keeping.{pushes}
 
@@ -103,7 +103,7 @@ compacts v a b h was right same = moves v a b h h was (right v.trace was.right) 
     back p n (inr held) = inr held
 
 -- a parcel comes into the hand
-pub gets : (v : Known) (a : State) (x : Parcel) → Follows v a None → IsParcelOf v.trace x → Follows (popped v (runs_in x)) a (Some x)
+pub gets : (v : Known) (a : State) (x : Parcel) → Follows v a None → IsParcelOf v.trace x → Follows (popped v (named x) (runs_in x)) a (Some x)
 gets v a x was parcel = record {
   some = was.some;
   part = was.part;
@@ -203,31 +203,25 @@ has_whole v a T same every follows rest standing = record {
       taken_only a p n ((follows.keys p n).1 (rest every p ∙ run_of_key v.trace p n mine, mine));
 }
 
--- ---- what calls tell
+-- ---- what calls answer
 
-pop_keeps : (v w : Known) (runs : List Bool) (p : ℕ) → w ≡ popped v runs → has v.got p ≡ true → has w.got p ≡ true
-pop_keeps v w runs p is h = ap (λ (u : Known). has u.got p) is ∙ has-union v.got runs p ∙ or_left (has v.got p) (has runs p) h
+pop_keeps : (v w : Known) (name : Collected) (runs : List Bool) (p : ℕ) → w ≡ popped v name runs → has v.got p ≡ true → has w.got p ≡ true
+pop_keeps v w name runs p is h = ap (λ (u : Known). has u.got p) is ∙ has-union v.got runs p ∙ or_left (has v.got p) (has runs p) h
 
 -- what was got is got still
 pub collects_keeps : (hand : Option Parcel) (result : Result Collected NoMemory) (v w : Known) → CollectsAs hand result v w
     → KeepsGot v w
 collects_keeps (Some x) (Ok c) v w is p h = ap (λ (u : Known). has u.got p) is.1 ∙ h
 collects_keeps (Some x) (Err e) v w is p h = ap (λ (u : Known). has u.got p) is ∙ h
-collects_keeps None (Ok collected.Run) v w is p h = pop_keeps v w (one is.0) p is.1 h
-collects_keeps None (Ok collected.State) v w is p h = pop_keeps v w is.0 p is.1 h
+collects_keeps None (Ok collected.Run) v w is p h = pop_keeps v w collected.Run (one is.0) p is.1 h
+collects_keeps None (Ok collected.State) v w is p h = pop_keeps v w collected.State is.0 p is.1 h
 collects_keeps None (Ok collected.Nothing) v w is p h = ap (λ (u : Known). has u.got p) is ∙ h
-collects_keeps None (Err e) v w is p h = pop_keeps v w is.0 p is.1 h
+collects_keeps None (Err e) v w is p h = pop_keeps v w is.0 is.1 p is.3 h
 
--- a parcel that is popped, and the hand that it comes into
-pub pops_into : (v w : Known) (a : State) (hand : Option Parcel) → Follows v a None
-    → MatchOption hand ((w ≡ v) × Held 0 (KnowsRest v)) (λ x. Popped v x w) → Follows w a hand
-pops_into v w a None was told = subst (λ u. Follows u a None) (sym told.0) was
-pops_into v w a (Some x) was told = subst (λ u. Follows u a (Some x)) (sym told.1) (gets v a x was told.0)
-
--- the answer that tells of a pop
+-- the answer after a pop
 pub popped_as : (v w : Known) (x : Parcel) → Popped v x w → CollectsAs None (Ok (named x)) v w
-popped_as v w (parcels.Run segments of) told = (told.0.one_run.0, told.1 ∙ ap (popped v) told.0.one_run.1)
-popped_as v w (parcels.State a) told = (runs_taken a, told.1)
+popped_as v w (parcels.Run segments of) says = (says.0.one_run.0, says.1 ∙ ap (popped v collected.Run) says.0.one_run.1)
+popped_as v w (parcels.State a) says = (runs_taken a, says.1)
 
 -- an empty queue leaves every run with the one pass
 pub nothing_left : (v : Known) (items : List Parcel) → length items ≡ 0 → KnowsRest v items → HasRest v
@@ -238,8 +232,8 @@ nothing_left v (x ∷ items) none rest every p = absurd (omega (arith, none))
 pub refused_as : (hand : Option Parcel) (c : Collected) (e : NoMemory) (v w : Known) → c ≢ collected.Nothing
     → CollectsAs hand (Ok c) v w → CollectsAs hand (Err e) v w
 refused_as (Some x) c e v w some_parcel is = is.1
-refused_as None collected.Run e v w some_parcel is = (one is.0, is.1)
-refused_as None collected.State e v w some_parcel is = is
+refused_as None collected.Run e v w some_parcel is = (collected.Run, one is.0, some_parcel, is.1)
+refused_as None collected.State e v w some_parcel is = (collected.State, is.0, some_parcel, is.1)
 refused_as None collected.Nothing e v w some_parcel is = absurd (some_parcel refl)
 
 -- a push changes no key

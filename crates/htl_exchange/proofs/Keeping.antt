@@ -12,8 +12,8 @@ use Rattle.htl_segment.specs.Traces.{Trace}
 use Rattle.htl_exchange.specs.declared.pass.Known.{Known}
 use Rattle.htl_exchange.specs.declared.parcel.Parcel.{Parcel}
 use Rattle.htl_exchange.specs.Runs.{has, without, runs_of}
-use Rattle.htl_exchange.specs.Parcels.{no_trace, trace_of, runs_in, IsParcelOf}
-use Rattle.htl_exchange.specs.Rule.{known, blank, parts_of, pushes_of, any_got, any_in, IsPassAbout, MakesUp}
+use Rattle.htl_exchange.specs.Parcels.{named, no_trace, trace_of, runs_in, IsParcelOf}
+use Rattle.htl_exchange.specs.Rule.{blank, parts_of, pushes_of, any_got, any_in, IsPassAbout, MakesUp}
 use Rattle.htl_exchange.specs.Moves.{left_of, Filled, pushed, Pushed, popped, Popped, split, part, joined, spent, KnowsRest, CountsPushes}
 use Rattle.htl_exchange.proofs.Sets.{or_false, has-union, has-without}
 use Rattle.htl_exchange.proofs.Passes.{others, any_got-set, any_got-at, any_got-last, any_in-last, any_got-join, others-none}
@@ -84,7 +84,7 @@ pops i v has_one x items views h at =
     let T : Trace = h.trace in
     let same : v.trace ≡ T = (h.about i v at).trace has_one in
     let parcel : IsParcelOf T x = h.parcels 0 x refl in
-    let w : Known = popped v (runs_in x) in
+    let w : Known = popped v (named x) (runs_in x) in
     let sum : parts_of (set views i w) + v.parts ≡ parts_of views + w.parts = total-set (λ u. u.parts) views i v w at in
     let count : pushes_of (set views i w) + v.pushes ≡ pushes_of views + w.pushes = total-set (λ u. u.pushes) views i v w at in
     let all : parts_of views ≡ 8 = h.parts in
@@ -105,11 +105,11 @@ pops i v has_one x items views h at =
     filled : (x ∷ items) ≡ [] → ⊥
     filled e = cc
 
-    runs : (p : ℕ) → (any_in p items || any_got p (set views i (popped v (runs_in x)))) ≡ has (runs_of h.trace.segments) p
+    runs : (p : ℕ) → (any_in p items || any_got p (set views i (popped v (named x) (runs_in x)))) ≡ has (runs_of h.trace.segments) p
     runs p =
         let r : Bool = others p views i in
         let hx : Bool = has (runs_in x) p in
-        ap (λ b. any_in p items || b) (any_got-set p views i v (popped v (runs_in x)) at ∙ ap (λ b. b || r) (has-union v.got (runs_in x) p))
+        ap (λ b. any_in p items || b) (any_got-set p views i v (popped v (named x) (runs_in x)) at ∙ ap (λ b. b || r) (has-union v.got (runs_in x) p))
         ∙ pop_truth hx (any_in p items) (has v.got p) r ∙ ap (λ b. (hx || any_in p items) || b) (sym (any_got-at p views i v at)) ∙ h.runs p
 
 push_truth : (i v r : Bool) → ((i || v) || (v || r)) ≡ (i || (v || r))
@@ -272,7 +272,7 @@ fills n i v x every some_segment blank_or_known parcel inside items views _ h at
     left = left_of N v.trace.segments v.got
 
     w : Known
-    w = known N v.parts (without left (runs_in x)) v.log (v.pushes + 1)
+    w = record v { trace = N; got = without left (runs_in x); pushes = v.pushes + 1 }
 
     alone : (p : ℕ) → others p views i ≡ false
     alone p = others-none p views i v at (let all : parts_of views ≡ 8 = h.parts in omega (arith, all, every)) (λ k u e z. (h.about k u e).spent z p)

@@ -3,6 +3,7 @@ pub mod Passes
 pub mod Keeping
 pub mod Following
 pub mod Fillings
-pub mod Seats
+pub mod DeskLists
 pub mod Takings
+pub mod Wholes
 pub mod Sends

@@ -117,7 +117,3 @@ any_got-join p (x ∷ vs) (suc i) zero v u w z n e f b s =
     ∙ or_swap (has v.got p) (has u.got p) r ∙ (λ k. has ((sym (some-injective x u f)) k).got p || sym (any_got-at p vs i v e) k)
 any_got-join p (x ∷ vs) (suc i) (suc j) v u w z n e f b s =
     ap (λ c. has x.got p || c) (any_got-join p vs i j v u w z (λ q. n (ap suc q)) e f b s)
-
--- what a pass has got is among what all have got
-pub any_got-of : (p : ℕ) (vs : List Known) (i : ℕ) (v : Known) → get_elem? vs i ≡ some v → has v.got p ≡ true → any_got p vs ≡ true
-any_got-of p vs i v e h = any_got-at p vs i v e ∙ or_left (has v.got p) (others p vs i) h

@@ -112,9 +112,6 @@ one_run (t ∷ (u ∷ ss)) p some same =
 
 -- ---- the runs of states
 
-has_some : Numbers → Bool
-has_some q = nat_lt 0 q.front || some_number q.loose
-
 some_member : (ns : List ℕ) → some_number ns ≡ true → (n : ℕ) × Contains ns n
 some_member [] h = absurd (true≢false (sym h))
 some_member (n ∷ ns) h = (n, Contains-here n ns)
@@ -123,11 +120,11 @@ member_some : (ns : List ℕ) (n : ℕ) → Contains ns n → some_number ns ≡
 member_some [] n h = absurd (Contains-nil n h)
 member_some (m ∷ ns) n h = refl
 
-at_place : (qs : List Numbers) (p : ℕ) → has (map (λ q. nat_lt 0 q.front || some_number q.loose) qs) p
+at_processor : (qs : List Numbers) (p : ℕ) → has (map (λ q. nat_lt 0 q.front || some_number q.loose) qs) p
     ≡ (nat_lt 0 (numbers_at qs p).front || some_number (numbers_at qs p).loose)
-at_place [] p = refl
-at_place (q ∷ qs) zero = refl
-at_place (q ∷ qs) (suc p) = at_place qs p
+at_processor [] p = refl
+at_processor (q ∷ qs) zero = refl
+at_processor (q ∷ qs) (suc p) = at_processor qs p
 
 positive : (n : ℕ) → nat_lt 0 n ≡ true → 0 < n
 positive n h = grind (arith, nat_tests)
@@ -138,14 +135,14 @@ positive_back n m h = grind (arith, nat_tests)
 -- a run of a state has a key that was taken
 pub taken_of_run : (a : State) (p : ℕ) → has (runs_taken a) p ≡ true → (n : ℕ) × HasTaken a p n
 taken_of_run a p h =
-    elim (or_cases (nat_lt 0 (front_at a.taken p)) (some_number (loose_at a.taken p)) (sym (at_place a.taken p) ∙ h)) [
+    elim (or_cases (nat_lt 0 (front_at a.taken p)) (some_number (loose_at a.taken p)) (sym (at_processor a.taken p) ∙ h)) [
       | inl below ↦ (0, inl (positive (front_at a.taken p) below))
       | inr loose ↦ let r = some_member (loose_at a.taken p) loose in (r.0, inr r.1)
     ]
 
 pub run_of_taken : (a : State) (p n : ℕ) → HasTaken a p n → has (runs_taken a) p ≡ true
 run_of_taken a p n h =
-    at_place a.taken p
+    at_processor a.taken p
     ∙ elim h [
       | inl below ↦ or_left (nat_lt 0 (front_at a.taken p)) (some_number (loose_at a.taken p)) (positive_back (front_at a.taken p) n below)
       | inr loose ↦ or_right (nat_lt 0 (front_at a.taken p)) (some_number (loose_at a.taken p)) (member_some (loose_at a.taken p) n loose)

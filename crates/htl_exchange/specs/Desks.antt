@@ -10,24 +10,25 @@ use Rattle.htl_exchange.specs.declared.pass.Known.{Known}
 use Rattle.htl_exchange.specs.Runs.{has, runs_of}
 use Rattle.htl_exchange.specs.Parcels.{Brings, IsOf, AreWholeRuns}
 
--- an exchange: its name, its case's trace, and the number of desks that it gave out
-pub record Place : Type 0 where
+-- an exchange: its name, its case's trace, how many parcels its queue has room for, and how many desks are out
+pub record ExchangeValue : Type 0 where
   pub id : TableId
   pub trace : Trace
+  pub capacity : ℕ
   pub desks : ℕ
 
-abbrev pub place : TableId → Trace → ℕ → Place
-place id T desks = record { id = id; trace = T; desks = desks }
+abbrev pub exchange_value : TableId → Trace → ℕ → ℕ → ExchangeValue
+exchange_value id T capacity desks = record { id = id; trace = T; capacity = capacity; desks = desks }
 
 -- a desk: the name of its exchange, what its pass knows, its analyst's state, and what is in hand
-pub record Seated : Type 0 where
+pub record DeskValue : Type 0 where
   pub exchange : TableId
   pub known : Known
   pub analyst : State
   pub hand : Option Parcel
 
-abbrev pub seated : TableId → Known → State → Option Parcel → Seated
-seated exchange known analyst hand = record { exchange = exchange; known = known; analyst = analyst; hand = hand }
+abbrev pub desk_value : TableId → Known → State → Option Parcel → DeskValue
+desk_value exchange known analyst hand = record { exchange = exchange; known = known; analyst = analyst; hand = hand }
 
 abbrev pub HandBrings : Option Parcel → ℕ → ℕ → Type 0
 HandBrings None p n = ⊥
@@ -51,30 +52,35 @@ pub record Follows (v : Known) (a : State) (hand : Option Parcel) : Type 0 where
   pub runs : (p : ℕ) → has v.got p ≡ true → has (runs_of v.trace.segments) p ≡ true
   pub keys : AreWholeRuns v.trace (HasGot a hand) v.got
 
-abbrev pub FollowsRule : Seated → Type 0
+abbrev pub FollowsRule : DeskValue → Type 0
 FollowsRule d = Follows d.known d.analyst d.hand
 
-abbrev pub IsSeatedAt : TableId → Trace → Seated → Type 0
-IsSeatedAt id T d = (d.exchange ≡ id) × (d.known.trace ≡ T)
+abbrev pub IsAtExchange : TableId → Trace → DeskValue → Type 0
+IsAtExchange id T d = (d.exchange ≡ id) × (d.known.trace ≡ T)
 
 -- the desk is one of this exchange
-abbrev pub IsDeskOf : Place → Seated → Type 0
-IsDeskOf e d = IsSeatedAt e.id e.trace d
+abbrev pub IsDeskOf : ExchangeValue → DeskValue → Type 0
+IsDeskOf e d = IsAtExchange e.id e.trace d
 
-abbrev pub AreSeatedAt : TableId → Trace → List Seated → Type 0
-AreSeatedAt id T [] = Unit {0}
-AreSeatedAt id T (d ∷ ds) = IsSeatedAt id T d × AreSeatedAt id T ds
+abbrev pub AreAtExchange : TableId → Trace → List DeskValue → Type 0
+AreAtExchange id T [] = Unit {0}
+AreAtExchange id T (d ∷ ds) = IsAtExchange id T d × AreAtExchange id T ds
 
-abbrev pub AreDesksOf : Place → List Seated → Type 0
-AreDesksOf e ds = AreSeatedAt e.id e.trace ds
+abbrev pub AreDesksOf : ExchangeValue → List DeskValue → Type 0
+AreDesksOf e ds = AreAtExchange e.id e.trace ds
 
 -- the parts of all these desks
-abbrev pub parts_at : List Seated → ℕ
+abbrev pub parts_at : List DeskValue → ℕ
 parts_at [] = 0
 parts_at (d ∷ ds) = d.known.parts + parts_at ds
 
+-- how many parcels were pushed with the passes of these desks
+abbrev pub pushes_at : List DeskValue → ℕ
+pushes_at [] = 0
+pushes_at (d ∷ ds) = d.known.pushes + pushes_at ds
+
 -- some desk has got the run
-abbrev pub any_desk_got : ℕ → List Seated → Bool
+abbrev pub any_desk_got : ℕ → List DeskValue → Bool
 any_desk_got p [] = false
 any_desk_got p (d ∷ ds) = has d.known.got p || any_desk_got p ds
 
@@ -83,17 +89,17 @@ abbrev pub KeepsGot : Known → Known → Type 0
 KeepsGot v w = (p : ℕ) → has v.got p ≡ true → has w.got p ≡ true
 
 -- each run that those desks had got, these have
-abbrev pub KeepAll : List Seated → List Seated → Type 0
+abbrev pub KeepAll : List DeskValue → List DeskValue → Type 0
 KeepAll before after = (p : ℕ) → any_desk_got p before ≡ true → any_desk_got p after ≡ true
 
 -- the desk has got nothing yet and did nothing
-pub record IsFresh (d : Seated) : Type 0 where
+pub record IsFresh (d : DeskValue) : Type 0 where
   pub got : (p : ℕ) → has d.known.got p ≡ false
   pub log : d.known.log ≡ []
   pub hand : d.hand ≡ None
   pub taken : (p n : ℕ) → HasTaken d.analyst p n → ⊥
 
-abbrev pub AreFresh : List Seated → Type 0
+abbrev pub AreFresh : List DeskValue → Type 0
 AreFresh [] = Unit {0}
 AreFresh (d ∷ ds) = IsFresh d × AreFresh ds
 

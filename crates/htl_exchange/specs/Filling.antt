@@ -3,6 +3,7 @@ use Rattle.std.specs.Prelude.{◌≡◌, ◌⊎◌, ℕ, zero, suc, ◌+◌, Boo
 use Rattle.htl_segment.specs.Traces.{Trace}
 use Rattle.htl_exchange.specs.declared.pass.Known.{Known}
 use Rattle.htl_exchange.specs.Runs.{has, runs_of}
+use Rattle.htl_exchange.specs.Rule.{all_parts}
 use Rattle.htl_exchange.specs.Moves.{left_of}
 
 -- how many processors below this one have a run
@@ -12,7 +13,7 @@ runs_below runs (suc p) = runs_below runs p + (if has runs p then 1 else 0)
 
 -- the runs of the processors below this one are in the queue
 pub record FillsTo (T : Trace) (p : ℕ) (v : Known) : Type 0 where
-  pub parts : v.parts ≡ 8
+  pub parts : v.parts ≡ all_parts
   pub log : v.log ≡ []
   pub trace : (v.trace.segments ≡ []) ⊎ (v.trace ≡ T)
   pub pushes : v.pushes ≡ runs_below (runs_of T.segments) p

@@ -4,11 +4,12 @@ use Rattle.crossbeam_queue.specs.Passes.{Pass, view}
 use Rattle.htl_segment.specs.Content.{Content}
 use Rattle.htl_segment.specs.Traces.{Trace}
 use Rattle.htl_exchange.specs.declared.parcel.Parcel.{Parcel}
+use Rattle.htl_exchange.specs.declared.desk.Collected.{Collected}
 use Rattle.htl_exchange.specs.declared.pass.Known.{Known}
 use Rattle.htl_exchange.specs.declared.pass.Move.TheVariants.{Pop, Push}
 use Rattle.htl_exchange.specs.Runs.{has, union, without, runs_of}
-use Rattle.htl_exchange.specs.Parcels.{no_trace, trace_of, runs_in, IsParcelOf}
-use Rattle.htl_exchange.specs.Rule.{known, all_parts, any_in}
+use Rattle.htl_exchange.specs.Parcels.{named, no_trace, trace_of, runs_in, IsParcelOf}
+use Rattle.htl_exchange.specs.Rule.{all_parts, any_in}
 
 -- what the pass knows
 abbrev pub known_of : Pass Parcel Known → Known
@@ -22,35 +23,39 @@ left_of T (s ∷ ss) got = got
 -- 1. A filling push: the pass loses the parcel's run. The first one brings the trace.
 abbrev pub Filled : Known → Parcel → Known → Type 0
 Filled v x w =
-    w ≡ known (trace_of x) v.parts (without (left_of (trace_of x) v.trace.segments v.got) (runs_in x)) v.log (v.pushes + 1)
+    w ≡ record v {
+      trace = trace_of x;
+      got = without (left_of (trace_of x) v.trace.segments v.got) (runs_in x);
+      pushes = v.pushes + 1;
+    }
 
 -- 2. A push of a parcel with just the runs that the pass has got: the log gains it.
 abbrev pub pushed : Known → Known
-pushed v = known v.trace v.parts v.got (v.log ++ Push v.got ∷ []) (v.pushes + 1)
+pushed v = record v { log = v.log ++ Push v.got ∷ []; pushes = v.pushes + 1 }
 
 abbrev pub Pushed : Known → Parcel → Known → Type 0
 Pushed v x w = (w ≡ pushed v) × ((p : ℕ) → has (runs_in x) p ≡ has v.got p)
 
 -- 3. A pop: the pass gets the parcel's runs, and the log gains it.
-abbrev pub popped : Known → List Bool → Known
-popped v runs = known v.trace v.parts (union v.got runs) (v.log ++ Pop runs ∷ []) v.pushes
+abbrev pub popped : Known → Collected → List Bool → Known
+popped v name runs = record v { got = union v.got runs; log = v.log ++ Pop name runs ∷ [] }
 
 abbrev pub Popped : Known → Parcel → Known → Type 0
-Popped v x w = IsParcelOf v.trace x × (w ≡ popped v (runs_in x))
+Popped v x w = IsParcelOf v.trace x × (w ≡ popped v (named x) (runs_in x))
 
 -- 4. Splitting: the new pass has one part, and has got nothing. (The first pass is made blank.)
 abbrev pub split : Known → Known
-split v = known v.trace (v.parts - 1) v.got v.log v.pushes
+split v = record v { parts = v.parts - 1 }
 
 abbrev pub part : Known → Known
-part v = known v.trace 1 [] [] 0
+part v = record { trace = v.trace; parts = 1; got = []; log = []; pushes = 0 }
 
 -- 5. Joining: the pass gets the other's runs and parts, its pushes are counted here, and the other is spent.
 abbrev pub joined : Known → Known → Known
-joined v u = known v.trace (v.parts + u.parts) (union v.got u.got) v.log (v.pushes + u.pushes)
+joined v u = record v { parts = v.parts + u.parts; got = union v.got u.got; pushes = v.pushes + u.pushes }
 
 abbrev pub spent : Known
-spent = known no_trace 0 [] [] 0
+spent = record { trace = no_trace; parts = 0; got = []; log = []; pushes = 0 }
 
 -- Who has every part knows that what it has got and what the queue holds make up the trace.
 abbrev pub KnowsRest : Known → List Parcel → Type 0

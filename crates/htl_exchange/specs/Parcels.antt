@@ -6,7 +6,14 @@ use Rattle.htl_analyst.specs.Keys.{HasTaken}
 use Rattle.htl_analyst.specs.Right.{IsRight}
 use Rattle.htl_exchange.specs.declared.parcel.Parcel.{Parcel}
 use Rattle.htl_exchange.specs.declared.parcel.Parcel.TheVariants as parcels
+use Rattle.htl_exchange.specs.declared.desk.Collected.{Collected}
+use Rattle.htl_exchange.specs.declared.desk.Collected.TheVariants as collected
 use Rattle.htl_exchange.specs.Runs.{has, one, runs_of, runs_taken}
+
+-- what the answer calls a parcel
+abbrev pub named : Parcel → Collected
+named (parcels.Run segments of) = collected.Run
+named (parcels.State a) = collected.State
 
 -- what no case's trace is: a trace of no segments
 abbrev pub no_trace : Trace

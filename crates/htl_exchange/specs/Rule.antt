@@ -6,14 +6,8 @@ use lib.ListN.{get_elem?}
 use Rattle.htl_segment.specs.Traces.{Trace}
 use Rattle.htl_exchange.specs.declared.parcel.Parcel.{Parcel}
 use Rattle.htl_exchange.specs.declared.pass.Known.{Known}
-use Rattle.htl_exchange.specs.declared.pass.Move.{Move}
 use Rattle.htl_exchange.specs.Runs.{has, runs_of}
 use Rattle.htl_exchange.specs.Parcels.{no_trace, runs_in, IsParcelOf}
-
--- what a pass knows: the trace, its parts of the right to know the whole, the runs that it has got, what was done
--- with it, and how many parcels were pushed with it and the passes that it took in
-abbrev pub known : Trace → ℕ → List Bool → List Move → ℕ → Known
-known trace parts got log pushes = record { trace = trace; parts = parts; got = got; log = log; pushes = pushes }
 
 -- how many parts all passes have together
 abbrev pub all_parts : ℕ
@@ -21,7 +15,7 @@ all_parts = 8
 
 -- the first pass, before the first run is put into the queue
 abbrev pub blank : Known
-blank = known no_trace all_parts [] [] 0
+blank = record { trace = no_trace; parts = all_parts; got = []; log = []; pushes = 0 }
 
 -- a number of each pass, added up
 abbrev pub total : (Known → ℕ) → List Known → ℕ

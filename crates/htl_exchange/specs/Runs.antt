@@ -1,6 +1,7 @@
 -- Sets of runs (this project's own word). A run is all segments of one processor, so a set of them is one truth
 -- value for each processor.
-use Rattle.std.specs.Prelude.{◌≡◌, ℕ, zero, suc, Bool, true, false, not, ◌&&◌, ◌||◌, ◌==◌, nat_lt, List, [], ◌∷◌, map, Contains, ◌↔◌}
+use Rattle.std.specs.Prelude.{◌≡◌, ℕ, zero, suc, Bool, true, false, not, ◌&&◌, ◌||◌, ◌==◌, nat_lt, ◌↔◌}
+use Rattle.std.specs.Prelude.{List, [], ◌∷◌, map, count_by, Contains}
 use Rattle.htl_segment.specs.Content.{Content}
 use Rattle.htl_segment.specs.Traces.{Trace}
 use Rattle.htl_analyst.specs.States.{State}
@@ -24,6 +25,10 @@ without (x ∷ xs) (y ∷ ys) = (x && not y) ∷ without xs ys
 abbrev pub one : ℕ → List Bool
 one zero = true ∷ []
 one (suc p) = false ∷ one p
+
+-- how many runs the set has
+abbrev pub size : List Bool → ℕ
+size runs = count_by (λ there. there) runs
 
 -- the runs of which one of these segments is
 abbrev pub runs_of : List Content → List Bool

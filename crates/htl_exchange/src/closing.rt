@@ -1,6 +1,7 @@
 //! Closing an exchange.
 ghost use Rattle.std.specs.Prelude.{◌≡◌, ◌≢◌, ◌+◌, ◌≤◌, ◌<◌, ◌↔◌, ℕ, [], ◌∷◌, None, IsTrue};
 ghost use Rattle.std.specs.Prelude.{true, IfOk, IfErr, OnOk, length, vec_len, vec_capacity};
+ghost use Rattle.htl_exchange.specs.Rule.{all_parts};
 ghost use Rattle.htl_exchange.specs.Desks.{IsDeskOf, AreDesksOf, parts_at};
 ghost use Rattle.htl_exchange.specs.Desks.{KeepAll, KeepsGot, IsWholeStanding};
 ghost use Rattle.htl_exchange.specs.Collects.{HasRest};
@@ -22,16 +23,17 @@ impl Exchange {
         requires { AreDesksOf self desks.items }
         ensures whole { IfOk result (λ analyst. IsWholeStanding self.trace analyst) }
         ensures parts { IfErr result (λ fault. (fault.why ≢ Why.NoMemory)
-            ↔ (parts_at desks.items ≢ 8)) }
+            ↔ (parts_at desks.items ≢ all_parts)) }
         ensures out { IfErr result (λ fault. fault.why ≢ Why.NoMemory
             → (vec_len desks ≤ u32.MAX → fault.why ≡ Why.DesksOut (vec_len desks) self.desks)
             × (fault.exchange ≡ self) × (fault.desks.items ≡ desks.items)) }
-        ensures all { OnOk result (parts_at desks.items ≡ 8) }
+        ensures all { OnOk result (parts_at desks.items ≡ all_parts) }
         ensures memory { IfErr result (λ fault. fault.why ≡ Why.NoMemory
-            → AreDesksOf fault.exchange fault.desks.items × (parts_at fault.desks.items ≡ 8)
+            → AreDesksOf fault.exchange fault.desks.items × (parts_at fault.desks.items ≡ all_parts)
             × (fault.exchange.desks ≡ vec_len fault.desks)) }
         ensures same { IfErr result (λ fault. (fault.exchange.id ≡ self.id)
-            × (fault.exchange.trace ≡ self.trace)) }
+            × (fault.exchange.trace ≡ self.trace)
+            × (fault.exchange.capacity ≡ self.capacity)) }
         ensures kept { IfErr result (λ fault. KeepAll desks.items fault.desks.items) }
     {
         let mut exchange = self;
@@ -67,8 +69,8 @@ fn count(desks: &[Desk]) -> u32
 
 // Whether these desks have every part. As each has one at least, they are eight at most.
 fn have_all_parts(desks: &[Desk]) -> bool
-    ensures parts { IsTrue result ↔ (parts_at desks.now ≡ 8) }
-    ensures few { result ≡ true → length desks.now ≤ 8 }
+    ensures parts { IsTrue result ↔ (parts_at desks.now ≡ all_parts) }
+    ensures few { result ≡ true → length desks.now ≤ all_parts }
 {
     let mut left = MAX_DESKS;
     for desk in desks {
@@ -89,9 +91,9 @@ fn finish<R: Wait>(
 ) -> Result<(), NoMemory>
     requires first { IsDeskOf exchange.now first.old }
     requires others { AreDesksOf exchange.now desks.old.items }
-    requires parts { first.old.known.parts + parts_at desks.old.items ≡ 8 }
+    requires parts { first.old.known.parts + parts_at desks.old.items ≡ all_parts }
     ensures of { IsDeskOf exchange.now first.new × AreDesksOf exchange.now desks.new.items }
-    ensures parts { first.new.known.parts + parts_at desks.new.items ≡ 8 }
+    ensures parts { first.new.known.parts + parts_at desks.new.items ≡ all_parts }
     ensures kept { KeepAll (first.old ∷ desks.old.items) (first.new ∷ desks.new.items) }
     ensures ok { OnOk result (IsWholeStanding exchange.now.trace first.new.analyst) }
     ensures room { (vec_capacity desks.new ≡ vec_capacity desks.old)
@@ -106,9 +108,9 @@ fn finish<R: Wait>(
 fn gather(exchange: &Exchange, first: &mut Desk, desks: &mut Vec<Desk>) -> Result<(), NoMemory>
     requires first { IsDeskOf exchange.now first.old }
     requires others { AreDesksOf exchange.now desks.old.items }
-    requires parts { first.old.known.parts + parts_at desks.old.items ≡ 8 }
+    requires parts { first.old.known.parts + parts_at desks.old.items ≡ all_parts }
     ensures of { IsDeskOf exchange.now first.new × AreDesksOf exchange.now desks.new.items }
-    ensures parts { first.new.known.parts + parts_at desks.new.items ≡ 8 }
+    ensures parts { first.new.known.parts + parts_at desks.new.items ≡ all_parts }
     ensures kept { KeepAll (first.old ∷ desks.old.items) (first.new ∷ desks.new.items) }
     ensures ok { OnOk result (desks.new.items ≡ []) }
     ensures room { (vec_capacity desks.new ≡ vec_capacity desks.old)
@@ -126,9 +128,9 @@ fn gather(exchange: &Exchange, first: &mut Desk, desks: &mut Vec<Desk>) -> Resul
 // Collects with the only pass until the queue is empty.
 fn drain<R: Wait>(rt: &R, exchange: &Exchange, first: &mut Desk) -> Result<(), NoMemory>
     requires of { IsDeskOf exchange.now first.old }
-    requires parts { first.old.known.parts ≡ 8 }
+    requires parts { first.old.known.parts ≡ all_parts }
     ensures of { IsDeskOf exchange.now first.new }
-    ensures parts { first.new.known.parts ≡ 8 }
+    ensures parts { first.new.known.parts ≡ all_parts }
     ensures kept { KeepsGot first.old.known first.new.known }
     ensures ok { OnOk result ((first.new.hand ≡ None) × HasRest first.new.known) }
 {

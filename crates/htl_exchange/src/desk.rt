@@ -44,11 +44,11 @@ pub struct Desk {
 impl Model for Desk {
     ghost use Rattle.std.specs.Prelude.{◌≡◌, []};
     ghost use Rattle.htl_exchange.specs.Moves.{known_of};
-    ghost use Rattle.htl_exchange.specs.Desks.{Seated, seated, Follows};
+    ghost use Rattle.htl_exchange.specs.Desks.{DeskValue, desk_value, Follows};
 
-    ghost Value = { Seated };
+    ghost Value = { DeskValue };
 
-    ghost view = { λ d. seated d.pass.table_id (known_of d.pass) d.analyst d.hand };
+    ghost view = { λ d. desk_value d.pass.table_id (known_of d.pass) d.analyst d.hand };
 
     ghost invariant = { λ d. (d.pass.me.1 ≡ []) × (d.parts ≡ (known_of d.pass).parts)
         × Follows (known_of d.pass) d.analyst d.hand };
@@ -56,13 +56,14 @@ impl Model for Desk {
 
 impl Desk {
     ghost use Rattle.std.specs.Prelude.{◌≡◌, ◌≢◌, ◌↔◌, ◌+◌, ◌≤◌, ◌<◌, ℕ, [], Some};
-    ghost use Rattle.std.specs.Prelude.{None, IsSome, IsTrue, IfErr, OnOk, Ok};
-    ghost use Rattle.htl_analyst.specs.Right.{IsRight, IsStanding};
+    ghost use Rattle.std.specs.Prelude.{None, IsSome, IsTrue, IfErr, OnOk, OnErr, Ok};
+    ghost use Rattle.htl_analyst.specs.Right.{IsRight, IsStanding, IsWithin};
     ghost use Rattle.htl_analyst.specs.Keys.{HasTaken};
+    ghost use Rattle.htl_exchange.specs.Rule.{all_parts};
     ghost use Rattle.htl_exchange.specs.Moves.{known_of, pushed, joined};
     ghost use Rattle.htl_exchange.specs.Desks.{IsDeskOf, FollowsRule, IsFresh};
     ghost use Rattle.htl_exchange.specs.Filling.{IsIdle};
-    ghost use Rattle.htl_exchange.specs.Collects.{CollectsAs, HasRest};
+    ghost use Rattle.htl_exchange.specs.Collects.{CollectsAs, IsLeftInHand, HasRest};
 
     /// A desk that has got nothing, with the pass's parts.
     pub(crate) fn new(analyst: Analyst<Global>, pass: DeskPass, parts: u32) -> Desk
@@ -72,7 +73,7 @@ impl Desk {
         requires some { (known_of pass).trace.segments ≢ [] }
         requires idle { IsIdle (known_of pass).trace parts (known_of pass)
             × ((p n : ℕ) → HasTaken analyst p n → ⊥) }
-        ensures seat { (result.exchange ≡ pass.table_id) × (result.known ≡ known_of pass) }
+        ensures of { (result.exchange ≡ pass.table_id) × (result.known ≡ known_of pass) }
         ensures fresh { IsFresh result }
     {
         Desk {
@@ -100,15 +101,17 @@ impl Desk {
     }
 
     /// Takes in what is in hand, or pops one parcel and takes that in, and compacts the analyst.
-    /// What isn't taken in when memory is refused stays in hand. It may wait for other threads that
-    /// are at the queue.
+    /// What isn't taken in when memory is refused stays in hand; where only the compaction was
+    /// refused, nothing does. It may wait for other threads that are at the queue.
     pub fn collect<R: Wait>(&mut self, rt: &R, exchange: &Exchange) -> Result<Collected, NoMemory>
         requires { IsDeskOf exchange.now self.old }
         ensures of { IsDeskOf exchange.now self.new
             × (self.new.known.parts ≡ self.old.known.parts) }
         ensures follows { FollowsRule self.new }
         ensures got { CollectsAs self.old.hand result self.old.known self.new.known }
+        ensures grows { IsWithin self.old.analyst self.new.analyst }
         ensures hand { OnOk result (self.new.hand ≡ None) }
+        ensures left { OnErr result (IsLeftInHand self.old.analyst self.new.analyst self.new.hand) }
         ensures standing { result ≢ Ok Collected.Nothing
             → OnOk result (IsStanding self.new.analyst self.new.known.trace) }
         ensures nothing { result ≡ Ok Collected.Nothing → self.new ≡ self.old }
@@ -125,8 +128,9 @@ impl Desk {
         Ok(collected)
     }
 
-    /// Takes in what is in hand, without compacting, and pushes a copy of the analyst. It may wait
-    /// for other threads that are at the queue.
+    /// Takes in what is in hand, without compacting, and pushes a copy of the analyst. Where only
+    /// the copy was refused memory, nothing is in hand. It may wait for other threads that are at
+    /// the queue.
     pub fn post<R: Wait>(&mut self, rt: &R, exchange: &Exchange) -> Result<Posted, NoMemory>
         requires { IsDeskOf exchange.now self.old }
         ensures of { IsDeskOf exchange.now self.new
@@ -134,7 +138,9 @@ impl Desk {
         ensures follows { FollowsRule self.new }
         ensures yes { result ≡ Ok Posted.Yes → self.new.known ≡ pushed self.old.known }
         ensures no { result ≢ Ok Posted.Yes → self.new.known ≡ self.old.known }
+        ensures grows { IsWithin self.old.analyst self.new.analyst }
         ensures hand { OnOk result (self.new.hand ≡ None) }
+        ensures left { OnErr result (IsLeftInHand self.old.analyst self.new.analyst self.new.hand) }
     {
         self.take_in()?;
         let copy = self.analyst.copy()?;
@@ -176,6 +182,7 @@ impl Desk {
         ensures got { CollectsAs self.old.hand (Ok result) self.old.known self.new.known }
         ensures nothing { result ≡ Collected.Nothing → (self.new ≡ self.old)
             × (self.old.hand ≡ None) }
+        ensures analyst { self.new.analyst ≡ self.old.analyst }
         ensures last { result ≡ Collected.Nothing → HasRest self.new.known }
     {
         if let Some(parcel) = &self.hand {
@@ -193,9 +200,11 @@ impl Desk {
 
     // Takes in what is in hand.
     fn take_in(&mut self) -> Result<(), NoMemory>
+        ensures grows { IsWithin self.old.analyst self.new.analyst }
         ensures same { (self.new.exchange ≡ self.old.exchange) × (self.new.known ≡ self.old.known) }
         ensures follows { FollowsRule self.new }
         ensures hand { OnOk result (self.new.hand ≡ None) }
+        ensures left { OnErr result (IsLeftInHand self.old.analyst self.new.analyst self.new.hand) }
     {
         let Some(parcel) = self.hand.take() else {
             return Ok(());
@@ -211,6 +220,7 @@ impl Desk {
 
     // Folds what the analyst holds.
     pub(crate) fn compact(&mut self) -> Result<(), NoMemory>
+        ensures grows { IsWithin self.old.analyst self.new.analyst }
         ensures same { (self.new.exchange ≡ self.old.exchange) × (self.new.known ≡ self.old.known)
             × (self.new.hand ≡ self.old.hand) }
         ensures follows { FollowsRule self.new }
@@ -225,7 +235,7 @@ impl Desk {
     pub(crate) fn adopt(&mut self, exchange: &Exchange, other: Desk) -> Result<(), Desk>
         requires this { IsDeskOf exchange.now self.old }
         requires other { IsDeskOf exchange.now other }
-        requires parts { self.old.known.parts + other.known.parts ≤ 8 }
+        requires parts { self.old.known.parts + other.known.parts ≤ all_parts }
         ensures of { IsDeskOf exchange.now self.new }
         ensures ok { OnOk result (self.new.known ≡ joined self.old.known other.known) }
         ensures err { IfErr result (λ desk. (self.new.known ≡ self.old.known)

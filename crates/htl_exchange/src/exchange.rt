@@ -16,9 +16,11 @@ pub struct Exchange {
 }
 
 impl Model for Exchange {
-    ghost use Rattle.htl_exchange.specs.Desks.{Place, place};
+    ghost use Rattle.crossbeam_queue.specs.Passes.{ruled_capacity};
+    ghost use Rattle.htl_exchange.specs.Desks.{ExchangeValue, exchange_value};
 
-    ghost Value = { Place };
+    ghost Value = { ExchangeValue };
 
-    ghost view = { λ e. place e.queue.table.shared.table_id e.case.value e.desks };
+    ghost view = { λ e. exchange_value e.queue.table.shared.table_id e.case.value
+        (ruled_capacity e.queue) e.desks };
 }

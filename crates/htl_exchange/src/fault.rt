@@ -9,7 +9,7 @@ use htl_event::NoMemory;
 pub enum StartFault {
     /// The number of desks isn't 1 to 8.
     Desks,
-    /// Memory for a growth was refused.
+    /// Memory was refused.
     NoMemory,
 }
 
@@ -29,7 +29,7 @@ impl From<NoMemory> for StartFault {
 pub enum Why {
     /// Some desks weren't handed in: how many were, of how many that are out.
     DesksOut(u32, u32),
-    /// Memory for a growth was refused.
+    /// Memory was refused.
     NoMemory,
 }
 
@@ -46,7 +46,7 @@ pub struct CloseFault {
 pub enum SurveyFault {
     /// The number of workers isn't 1 to 8.
     Workers,
-    /// Memory for a growth was refused, other than in a worker's turn.
+    /// Memory was refused, other than in a worker's turn.
     NoMemory,
     /// The system refused to start a worker. Those that ran were joined first.
     NoThread,

@@ -14,10 +14,11 @@
 //!
 //! `specs/` is read in this order: `Runs` (sets of runs), `Parcels` (what the queue holds), `Rule`
 //! (what always stands), `Moves` (the five atomic steps), `Desks` (what a desk keeps), `Collects`
-//! (what a call reports); `Filling` serves private clauses alone. In `proofs/`, `Sets` and
-//! `Passes` compute with sets of runs, `Keeping` shows that each step keeps the rule, `Following`
-//! that a desk follows it, `Takings` that a run is taken in, `Fillings` that the queue is filled,
-//! `Seats` is on lists of desks, and `Sends` shows that a desk may move to another thread.
+//! (what `collect` and `post` answer), `Laws` (what follows of surveys); `Filling` serves private
+//! clauses alone. In `proofs/`, `Sets` and `Passes` compute with sets of runs, `Keeping` shows that
+//! each step keeps the rule, `Following` that a desk follows it, `Takings` that a run is taken in,
+//! `Fillings` that the queue is filled, `DeskLists` is on lists of desks, `Sends` shows that a desk
+//! may move to another thread, and `Wholes` that whole standing states are the same.
 #![tactic(auto)]
 
 mod closing;
@@ -25,6 +26,7 @@ mod desk;
 mod exchange;
 mod fault;
 mod gate;
+pub mod laws;
 mod parcel;
 mod pass;
 mod rule;

@@ -18,7 +18,7 @@ pub enum Parcel {
 
 impl Parcel {
     ghost use Rattle.std.specs.Prelude.{◌≡◌};
-    ghost use Rattle.htl_exchange.specs.Collects.{named};
+    ghost use Rattle.htl_exchange.specs.Parcels.{named};
 
     /// What `collect` answers where it took this in.
     pub(crate) fn name(&self) -> Collected

@@ -1,5 +1,6 @@
 //! Passes: what a desk knows under the rule of its exchange. It exists in contracts alone.
 
+use crate::desk::Collected;
 use crate::parcel::Parcel;
 use crossbeam_queue::Pass;
 use htl_case::Case;
@@ -7,7 +8,7 @@ use std::collections::LinkedList;
 
 /// A pop or a push, with the runs of its parcel. No value of it is made.
 pub enum Move {
-    Pop(LinkedList<bool>),
+    Pop(Collected, LinkedList<bool>),
     Push(LinkedList<bool>),
 }
 

@@ -1,4 +1,4 @@
-//! Starting an exchange: the queue is filled with the runs of a case, and the desks are seated.
+//! Starting an exchange: the queue is filled with the runs of a case, and its desks are made.
 ghost use Rattle.std.specs.Prelude.{◌≡◌, ◌≢◌, ◌+◌, ◌*◌, ◌≤◌, ◌<◌, ◌↔◌, ◌⊎◌, ◌++◌, ℕ, []};
 ghost use Rattle.std.specs.Prelude.{filter, OnOk, IfOk, IfErr, length, vec_len, Err};
 ghost use Rattle.std.specs.List.{list_any};
@@ -8,11 +8,12 @@ ghost use Rattle.htl_segment.specs.Traces.{Trace};
 ghost use Rattle.htl_analyst.specs.Keys.{HasTaken};
 ghost use Rattle.htl_analyst.specs.Right.{IsRight};
 ghost use Rattle.htl_case.specs.Cases.{IsCase};
-ghost use Rattle.htl_exchange.specs.Runs.{runs_of, is_of, IsRunOf};
-ghost use Rattle.htl_exchange.specs.Rule.{blank};
+ghost use Rattle.htl_exchange.specs.Runs.{runs_of, size, is_of, IsRunOf};
+ghost use Rattle.htl_exchange.specs.Rule.{all_parts, blank};
 ghost use Rattle.htl_exchange.specs.Moves.{known_of};
-ghost use Rattle.htl_exchange.specs.Filling.{FillsTo, IsIdle, runs_below};
-ghost use Rattle.htl_exchange.specs.Desks.{AreDesksOf, AreSeatedAt, AreFresh, parts_at};
+ghost use Rattle.htl_exchange.specs.Filling.{FillsTo, IsIdle};
+ghost use Rattle.htl_exchange.specs.Desks.{AreDesksOf, AreAtExchange, AreFresh};
+ghost use Rattle.htl_exchange.specs.Desks.{parts_at, pushes_at};
 
 use crate::MAX_DESKS;
 use crate::desk::Desk;
@@ -31,8 +32,9 @@ use std::sync::Wait;
 
 impl Exchange {
     /// An exchange whose queue holds each run of the case, by processor, and so many desks, which
-    /// have got nothing. The segments in the queue share their events with the case. Besides the
-    /// runs the queue has room for two posted states a desk.
+    /// have got nothing: one parcel for each processor that has a segment. The segments in the
+    /// queue share their events with the case. Besides the runs the queue has room for two posted
+    /// states a desk.
     pub fn start<R: Wait>(
         rt: &R,
         alloc: Global,
@@ -41,8 +43,15 @@ impl Exchange {
     ) -> Result<(Exchange, Vec<Desk>), StartFault>
         ensures of { IfOk result (λ r. (r.0.trace ≡ case.now) × (r.0.desks ≡ desks)
             × AreDesksOf r.0 r.1.items) }
-        ensures fresh { IfOk result (λ r. AreFresh r.1.items × (parts_at r.1.items ≡ 8)
+        ensures fresh { IfOk result (λ r. AreFresh r.1.items × (parts_at r.1.items ≡ all_parts)
             × (vec_len r.1 ≡ desks)) }
+
+        // One parcel for each run: by the rule each run is in a parcel, each parcel has one run
+        // while nothing is posted, and there are no more parcels than pushes.
+        ensures parcels { IfOk result (λ r. pushes_at r.1.items
+            ≡ size (runs_of case.now.segments)) }
+        ensures room { IfOk result (λ r. r.0.capacity
+            ≡ size (runs_of case.now.segments) + 2 * desks) }
         ensures desks { (result ≡ Err StartFault.Desks) ↔ ((desks ≡ 0) ⊎ (8 < desks)) }
     {
         if desks == 0 || desks > MAX_DESKS {
@@ -61,26 +70,30 @@ fn open<R: Wait>(
     case: &Case,
     desks: u32,
 ) -> Result<(Exchange, Vec<Desk>), NoMemory>
-    requires { (0 < desks) × (desks ≤ 8) }
+    requires { (0 < desks) × (desks ≤ all_parts) }
     ensures of { IfOk result (λ r. (r.0.trace ≡ case.now) × (r.0.desks ≡ desks)
         × AreDesksOf r.0 r.1.items) }
-    ensures fresh { IfOk result (λ r. AreFresh r.1.items × (parts_at r.1.items ≡ 8)
+    ensures fresh { IfOk result (λ r. AreFresh r.1.items × (parts_at r.1.items ≡ all_parts)
         × (vec_len r.1 ≡ desks)) }
+    ensures parcels { IfOk result (λ r. pushes_at r.1.items ≡ size (runs_of case.now.segments)) }
+    ensures room { IfOk result (λ r. r.0.capacity
+        ≡ size (runs_of case.now.segments) + 2 * desks) }
 {
     let capacity = run_count(case) + 2 * desks as usize;
     let (queue, mut pass) = ParcelQueue::ruled(alloc, capacity)?;
     fill(rt, alloc, case, &queue, &mut pass)?;
-    let seated = seat(alloc, case, &queue, pass, desks)?;
+    let made = make_desks(alloc, case, &queue, pass, desks)?;
     let case = Snapshot::of(case);
-    Ok((Exchange { queue, case, desks }, seated))
+    Ok((Exchange { queue, case, desks }, made))
 }
 
 // How many processors have a segment.
 #[tactic(auto, using(crate::proofs::Fillings::any_of_run))]
 fn run_count(case: &Case) -> usize
-    ensures runs { result ≡ runs_below (runs_of case.now.segments) case.now.processors }
+    ensures runs { result ≡ size (runs_of case.now.segments) }
     ensures few { result ≤ 65536 }
 {
+    let _is_case = case.segments();
     let mut runs = 0;
     for processor in 0..case.processors() {
         if has_run(case, processor) {
@@ -107,9 +120,10 @@ fn fill<R: Wait>(
     pass: &mut DeskPass,
 ) -> Result<(), NoMemory>
     requires pass { IsPassOf queue.now pass.old × (known_of pass.old ≡ blank) }
-    requires room { runs_below (runs_of case.now.segments) case.now.processors < ruled_capacity queue.now }
+    requires room { size (runs_of case.now.segments) < ruled_capacity queue.now }
     ensures pass { IsSamePass pass.old pass.new }
-    ensures ok { OnOk result (IsIdle case.now 8 (known_of pass.new)) }
+    ensures ok { OnOk result (IsIdle case.now all_parts (known_of pass.new)) }
+    ensures pushes { OnOk result ((known_of pass.new).pushes ≡ size (runs_of case.now.segments)) }
 {
     let _is_case = case.segments();
     for processor in 0..case.processors() {
@@ -129,8 +143,7 @@ fn put_run<R: Wait>(
 ) -> Result<(), NoMemory>
     requires pass { IsPassOf queue.now pass.old }
     requires fills { FillsTo case.now processor (known_of pass.old) }
-    requires there { processor < case.now.processors }
-    requires room { runs_below (runs_of case.now.segments) case.now.processors < ruled_capacity queue.now }
+    requires room { size (runs_of case.now.segments) < ruled_capacity queue.now }
     ensures pass { IsSamePass pass.old pass.new }
     ensures ok { OnOk result (FillsTo case.now (processor + 1) (known_of pass.new)) }
 {
@@ -171,7 +184,7 @@ fn push_run(run: &mut Vec<Segment>, segments: &[Segment], processor: u16) -> Res
 
 // A desk for each of so many parts of the pass. The last has the first pass, with what is left of
 // it.
-fn seat(
+fn make_desks(
     alloc: Global,
     case: &Case,
     queue: &ParcelQueue,
@@ -179,11 +192,13 @@ fn seat(
     count: u32,
 ) -> Result<Vec<Desk>, NoMemory>
     requires pass { IsPassOf queue.now pass }
-    requires idle { IsIdle case.now 8 (known_of pass) }
-    requires count { (0 < count) × (count ≤ 8) }
-    ensures of { IfOk result (λ desks. AreSeatedAt pass.table_id case.now desks.items) }
+    requires idle { IsIdle case.now all_parts (known_of pass) }
+    requires count { (0 < count) × (count ≤ all_parts) }
+    ensures of { IfOk result (λ desks. AreAtExchange pass.table_id case.now desks.items) }
     ensures fresh { IfOk result (λ desks. AreFresh desks.items) }
-    ensures parts { IfOk result (λ desks. (parts_at desks.items ≡ 8) × (vec_len desks ≡ count)) }
+    ensures parts { IfOk result (λ desks. (parts_at desks.items ≡ all_parts)
+        × (vec_len desks ≡ count)) }
+    ensures pushes { IfOk result (λ desks. pushes_at desks.items ≡ (known_of pass).pushes) }
 {
     let mut pass = pass;
     let mut desks = Vec::with_capacity(alloc, count as usize)?;

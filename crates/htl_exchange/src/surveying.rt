@@ -1,6 +1,7 @@
 //! Surveys: workers in threads of their own take in a whole case.
-ghost use Rattle.std.specs.Prelude.{◌≡◌, ◌≢◌, ◌<◌, ◌↔◌, ◌⊎◌, IfOk, IfSome, Err};
+ghost use Rattle.std.specs.Prelude.{◌≡◌, ◌≢◌, ◌<◌, ◌≤◌, ◌↔◌, ◌⊎◌, IfOk, IfSome, Err};
 ghost use Rattle.std.specs.Prelude.{vec_len, vec_capacity};
+ghost use Rattle.htl_exchange.specs.Rule.{all_parts};
 ghost use Rattle.htl_exchange.specs.Desks.{AreDesksOf, IsDeskOf, parts_at, IsWholeStanding};
 
 use crate::desk::{Collected, Desk};
@@ -60,7 +61,7 @@ fn start<R: Wait>(
     workers: u32,
 ) -> Result<(Exchange, Vec<Desk>), SurveyFault>
     ensures of { IfOk result (λ r. (r.0.trace ≡ case.now) × AreDesksOf r.0 r.1.items) }
-    ensures all { IfOk result (λ r. (parts_at r.1.items ≡ 8) × (vec_len r.1 < 9)) }
+    ensures all { IfOk result (λ r. (parts_at r.1.items ≡ all_parts) × (vec_len r.1 ≤ all_parts)) }
     ensures workers { (result ≡ Err SurveyFault.Workers) ↔ ((workers ≡ 0) ⊎ (8 < workers)) }
 {
     match Exchange::start(rt, alloc, case, workers) {
@@ -83,7 +84,8 @@ fn take_in<G: Gate + Sync, R: Threads + Wait + Sync>(
     turns: u32,
     desks: Vec<Desk>,
 ) -> Result<Analyst<Global>, SurveyFault>
-    requires { AreDesksOf exchange desks.items × (parts_at desks.items ≡ 8) × (vec_len desks < 9) }
+    requires { AreDesksOf exchange desks.items × (parts_at desks.items ≡ all_parts)
+        × (vec_len desks ≤ all_parts) }
     ensures whole { IfOk result (λ analyst. IsWholeStanding exchange.trace analyst) }
     ensures workers { result ≢ Err SurveyFault.Workers }
 {
@@ -108,7 +110,7 @@ fn work_together<G: Gate + Sync, R: Threads + Wait + Sync>(
     turns: u32,
     desks: Vec<Desk>,
 ) -> Option<Vec<Desk>>
-    requires { AreDesksOf exchange.now desks.items × (vec_len desks < 9) }
+    requires { AreDesksOf exchange.now desks.items × (vec_len desks ≤ all_parts) }
     ensures { IfSome result (λ v. AreDesksOf exchange.now v.items
         × (parts_at v.items ≡ parts_at desks.items)) }
 {
@@ -116,7 +118,7 @@ fn work_together<G: Gate + Sync, R: Threads + Wait + Sync>(
         thread::scope_env(),
         rt,
         |scope| -> Option<Vec<Desk>>
-            requires { AreDesksOf exchange.now desks.items × (vec_len desks < 9) }
+            requires { AreDesksOf exchange.now desks.items × (vec_len desks ≤ all_parts) }
             ensures { IfSome result (λ v. AreDesksOf exchange.entry.now v.items
                 × (parts_at v.items ≡ parts_at desks.items)) }
         { work_all(scope, rt, exchange, gate, turns, desks) },
@@ -132,7 +134,7 @@ fn work_all<'s, E, G: Gate + Sync, R: Threads + Wait + Sync>(
     turns: u32,
     desks: Vec<Desk>,
 ) -> Option<Vec<Desk>>
-    requires { AreDesksOf exchange.now desks.items × (vec_len desks < 9) }
+    requires { AreDesksOf exchange.now desks.items × (vec_len desks ≤ all_parts) }
     ensures of { IfSome result (λ v. AreDesksOf exchange.now v.items
         × (parts_at v.items ≡ parts_at desks.items)) }
     ensures room { IfSome result (λ v. (vec_len v ≡ vec_len desks)

@@ -103,7 +103,13 @@ fn play_eagerly<R: Wait + Abort>(rt: &R, exchange: &Exchange, desk: &mut Desk)
     panic!(rt; "each desk posts once a run");
 }
 
-fn play<R: Wait + Abort>(rt: &R, exchange: &Exchange, plan: Plan, place: usize, desk: Desk) -> Desk
+fn play<R: Wait + Abort>(
+    rt: &R,
+    exchange: &Exchange,
+    plan: Plan,
+    position: usize,
+    desk: Desk,
+) -> Desk
     requires { IsDeskOf exchange.now desk }
     ensures { IsDeskOf exchange.now result }
 {
@@ -111,7 +117,7 @@ fn play<R: Wait + Abort>(rt: &R, exchange: &Exchange, plan: Plan, place: usize, 
     match plan {
         Plan::Eager => play_eagerly(rt, exchange, &mut desk),
         Plan::Random(seed) => {
-            let mut dice = Dice(seed.wrapping_mul(8).wrapping_add(place as u64));
+            let mut dice = Dice(seed.wrapping_mul(8).wrapping_add(position as u64));
             play_random(rt, exchange, &mut dice, &mut desk);
         }
     }
@@ -144,13 +150,13 @@ fn play_all<'s, E, R: Threads + Wait + Abort + Sync>(
     let Some(desk) = desks.pop() else {
         return Some(desks);
     };
-    let place = desks.len();
+    let position = desks.len();
     let started = scope.spawn_with(
         ComesBack(exchange),
         move || -> Desk
             requires { IsDeskOf exchange.now desk }
             ensures { IsDeskOf exchange.entry.now result }
-        { play(rt, exchange, plan, place, desk) },
+        { play(rt, exchange, plan, position, desk) },
     );
     let Ok(thread) = started else {
         return None;

@@ -1,8 +1,8 @@
 -- Each desk that is adopted leaves the list with its parts and all that it got.
 use Rattle.std.proofs.Common.{◌≡◌, ◌+◌, List, [], ◌∷◌, ◌++◌, sym, ap, ◌∙◌, subst, arith, rules, refl}
 use Rattle.htl_exchange.specs.declared.pass.Known.{Known}
-use Rattle.htl_exchange.specs.Desks.{Seated, AreDesksOf, parts_at, KeepAll}
-use Rattle.htl_exchange.proofs.Seats.{parts_at-last, desks-add, desks-front, desks-last, keeps-through, keeps-adopted, keeps-refused}
+use Rattle.htl_exchange.specs.Desks.{DeskValue, AreDesksOf, parts_at, KeepAll}
+use Rattle.htl_exchange.proofs.DeskLists.{parts_at-last, desks-add, desks-front, desks-last, keeps-through, keeps-adopted, keeps-refused}
 use Rattle.htl_exchange.proofs.closing.gather.Goals as goal
 
 pub loop-other-init : goal.loop-other-init
@@ -41,12 +41,12 @@ returns-in-Err-clause-parts c =
 pub returns-in-Err-clause-kept : goal.returns-in-Err-clause-kept
 returns-in-Err-clause-kept c =
     let first = c.loop-other.first in
-    let others : List Seated = c.pop.new.self.items in
+    let others : List DeskValue = c.pop.new.self.items in
     let now = c.adopt.new.self in
     keeps-through (c.args.first.now ∷ c.args.desks.now.items) (first ∷ c.loop-other.desks.items)
     (now ∷ c.push_reserved.new.self.items) c.loop-other.invariant.5
-    (subst (λ (l : List Seated). KeepAll (first ∷ l) (now ∷ c.push_reserved.new.self.items)) (sym c.in-Some.ensures.items)
-    (subst (λ (l : List Seated). KeepAll (first ∷ others ++ c.in-Some.other ∷ []) (now ∷ l)) (sym c.push_reserved.ensures.items)
+    (subst (λ (l : List DeskValue). KeepAll (first ∷ l) (now ∷ c.push_reserved.new.self.items)) (sym c.in-Some.ensures.items)
+    (subst (λ (l : List DeskValue). KeepAll (first ∷ others ++ c.in-Some.other ∷ []) (now ∷ l)) (sym c.push_reserved.ensures.items)
     (keeps-refused c.loop-other.first c.adopt.new.self c.in-Some.other c.in-Err.other c.pop.new.self.items c.in-Err.ensures.err.0 c.in-Err.ensures.err.1)))
 
 pub loop-other-preserved : goal.loop-other-preserved
@@ -58,7 +58,7 @@ loop-other-preserved c =
     let a : c.adopt.new.self.known.parts ≡ c.loop-other.first.known.parts + c.in-Some.other.known.parts =
     ap (λ (v : Known). v.parts) c.in_default-adopt.ensures.ok in
     let kept : KeepAll (c.loop-other.first ∷ c.loop-other.desks.items) (c.adopt.new.self ∷ c.pop.new.self.items) =
-    subst (λ (l : List Seated). KeepAll (c.loop-other.first ∷ l) (c.adopt.new.self ∷ c.pop.new.self.items)) (sym c.in-Some.ensures.items)
+    subst (λ (l : List DeskValue). KeepAll (c.loop-other.first ∷ l) (c.adopt.new.self ∷ c.pop.new.self.items)) (sym c.in-Some.ensures.items)
     (keeps-adopted c.loop-other.first c.adopt.new.self c.in-Some.other c.pop.new.self.items c.in_default-adopt.ensures.ok) in (
       c.adopt.ensures.of,
       front,

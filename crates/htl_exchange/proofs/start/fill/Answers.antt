@@ -2,7 +2,7 @@
 use Rattle.std.proofs.Common.{◌≤◌, refl, arith}
 use Rattle.htl_exchange.specs.Moves.{known_of}
 use Rattle.htl_exchange.specs.Filling.{FillsTo}
-use Rattle.htl_exchange.proofs.Fillings.{nothing_put, all_put}
+use Rattle.htl_exchange.proofs.Fillings.{nothing_put, all_put, all_pushed}
 use Rattle.htl_exchange.proofs.start.fill.Goals as goal
 
 pub loop-processor-init : goal.loop-processor-init
@@ -14,3 +14,9 @@ pub returns-clause-ok : goal.returns-clause-ok
 returns-clause-ok g c =
     let over : c.args.case.now.processors ≤ c.loop-processor.processor = omega (arith, c.loop-processor-test.false, c.processors-processor-end.ensures) in
     all_put c.args.case.now c.loop-processor.processor (known_of c.loop-processor.pass) c.segments-is_case.ensures.is_case over c.loop-processor.invariant.1
+
+pub returns-clause-pushes : goal.returns-clause-pushes
+returns-clause-pushes g c =
+    let over : c.args.case.now.processors ≤ c.loop-processor.processor = omega (arith, c.loop-processor-test.false, c.processors-processor-end.ensures) in
+    all_pushed c.args.case.now c.loop-processor.processor (known_of c.loop-processor.pass) c.segments-is_case.ensures.is_case over
+    c.loop-processor.invariant.1

@@ -9,8 +9,8 @@ unreachable-requires c =
     let some = some_processors c.args.case.now c.segments-is_case.ensures.is_case in
     let few = few_processors c.args.case.now c.segments-is_case.ensures.is_case in
     let e = c.processors.ensures in
-    let told = rw c.in-Err-Processors.field-0-is at c.in-Err-Processors.ensures.processors in
-    elim (told.0 refl) [ inl none ↦ omega (arith, some, e, none) | inr many ↦ omega (arith, few, e, many) ]
+    let says = rw c.in-Err-Processors.field-0-is at c.in-Err-Processors.ensures.processors in
+    elim (says.0 refl) [ inl none ↦ omega (arith, some, e, none) | inr many ↦ omega (arith, few, e, many) ]
 
 pub returns-in-Ok-clause-right : goal.returns-in-Ok-clause-right
 returns-in-Ok-clause-right c =

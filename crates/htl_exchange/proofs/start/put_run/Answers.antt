@@ -49,4 +49,4 @@ returns-clause-ok g c =
 
 pub unreachable-requires : goal.unreachable-requires
 unreachable-requires g c =
-    never_full c.args.case.now c.args.processor _ (known_of c.args.pass.now) c.requires.there c.requires.room c.requires.fills c.in-Err.ensures.rule.2
+    never_full c.args.case.now c.args.processor _ (known_of c.args.pass.now) c.requires.room c.requires.fills c.in-Err.ensures.rule.2

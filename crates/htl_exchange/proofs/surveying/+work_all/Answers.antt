@@ -4,7 +4,7 @@ use denote.Param.Send.{sendable}
 use Rattle.std.proofs.Crossing.{crosses}
 use Rattle.htl_exchange.specs.Desks.{AreDesksOf, IsDeskOf, parts_at}
 use Rattle.htl_exchange.proofs.Sends.{desk_send, exchange_sync}
-use Rattle.htl_exchange.proofs.Seats.{parts_at-last, desks-add, desks-front, desks-last}
+use Rattle.htl_exchange.proofs.DeskLists.{parts_at-last, desks-add, desks-front, desks-last}
 use Rattle.htl_exchange.proofs.surveying.+work_all.Goals as goal
 
 pub spawn_with-started-requires-send-T : goal.spawn_with-started-requires-send-T

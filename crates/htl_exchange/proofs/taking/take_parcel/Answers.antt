@@ -1,5 +1,5 @@
 -- A run is taken in segment by segment, and a state at once.
-use Rattle.std.proofs.Common.{rules, ◌≡◌, ◌⊎◌, sym, subst}
+use Rattle.std.proofs.Common.{rules, ◌≡◌, ◌⊎◌, inl, sym, subst}
 use Rattle.std.specs.Prelude.{◌↔◌}
 use Rattle.htl_analyst.specs.Keys.{HasTaken}
 use Rattle.htl_exchange.specs.declared.parcel.Parcel.{Parcel}
@@ -31,8 +31,8 @@ take_run-requires c =
 pub unreachable-requires : goal.unreachable-requires
 unreachable-requires c =
     let is : c.args.parcel ≡ parcels.State c.in-State.state = search rules in
-    let told = c.in-Err-absorb.ensures.lawful c.requires.0 c.requires.1 (subst (IsOf c.requires.0) is c.requires.2) in
-    search (rules, told)
+    let says = c.in-Err-absorb.ensures.lawful c.requires.0 c.requires.1 (subst (IsOf c.requires.0) is c.requires.2) in
+    search (rules, says)
 
 pub returns-in-Ok-clause-right : goal.returns-in-Ok-clause-right
 returns-in-Ok-clause-right c = λ T right of.
@@ -48,3 +48,6 @@ pub returns-in-Ok-absorb-clause-right : goal.returns-in-Ok-absorb-clause-right
 returns-in-Ok-absorb-clause-right c = λ T right of.
     let is : c.args.parcel ≡ parcels.State c.in-State.state = search rules in
     c.in-Ok-absorb.ensures.right T right (subst (IsOf T) is of)
+
+pub returns-in-Ok-absorb-clause-grows : goal.returns-in-Ok-absorb-clause-grows
+returns-in-Ok-absorb-clause-grows c = λ p n h. (c.in-Ok-absorb.ensures.keys p n).1 (inl h)

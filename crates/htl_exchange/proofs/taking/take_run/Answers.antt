@@ -30,6 +30,7 @@ loop-segment-preserved c =
       (λ s h. inv.0 s (front_member was left c.in-Some.segment s is h)),
       (λ p n. through (one_taken c.loop-segment.analyst c.take.new.self was left c.in-Some.segment is c.in-Ok.ensures.keys p n) (inv.1 p n)),
       (λ T right within. c.in-Ok.ensures.right T (inv.2 T right within) (within c.in-Some.segment from)),
+      (λ p n had. (c.in-Ok.ensures.keys p n).1 (inl (inv.3 p n had))),
     )
 
 pub returns-clause-taken : goal.returns-clause-taken
@@ -51,9 +52,13 @@ unreachable-requires c =
     let segment = c.in-Some.segment in
     let within = c.requires.2 in
     let there = inv.0 segment (last_member was c.pop.new.self.items segment c.in-Some.ensures.items) in
-    let told = c.in-Err.ensures.lawful c.requires.0 (inv.2 c.requires.0 c.requires.1 within) (within segment there) in
-    search (rules, told)
+    let says = c.in-Err.ensures.lawful c.requires.0 (inv.2 c.requires.0 c.requires.1 within) (within segment there) in
+    search (rules, says)
 
 pub returns-in-Err-NoMemory-default-clause-right : goal.returns-in-Err-NoMemory-default-clause-right
 returns-in-Err-NoMemory-default-clause-right c = λ T right within.
     subst (λ (a : State). IsRight a T) (sym c.in-Err-NoMemory-default.ensures.err.1) (c.loop-segment.invariant.2 T right within)
+
+pub returns-in-Err-NoMemory-default-clause-grows : goal.returns-in-Err-NoMemory-default-clause-grows
+returns-in-Err-NoMemory-default-clause-grows c =
+    λ p n h. subst (λ (z : State). HasTaken z p n) (sym c.in-Err-NoMemory-default.ensures.err.1) (c.loop-segment.invariant.3 p n h)

@@ -13,6 +13,7 @@ invariant-loop-segment l =
     ((s : Content) → Contains l.rest.items s → Contains l.initial.rest.items s)
     × ((p n : ℕ) → (HasTaken l.analyst p n ⊎ HasSegment l.rest.items p n) ↔ (HasTaken l.initial.analyst p n ⊎ HasSegment l.initial.rest.items p n))
     × ((T : Trace) → IsRight l.initial.analyst T → ((s : Content) → Contains l.initial.rest.items s → Contains T.segments s) → IsRight l.analyst T)
+    × ((p n : ℕ) → HasTaken l.initial.analyst p n → HasTaken l.analyst p n)
 
 abbrev pub decreases-loop-segment : goal.decreases-loop-segment
 decreases-loop-segment l = vec_len l.rest

@@ -4,7 +4,7 @@ use denote.Param.Send.{sendable}
 use Rattle.std.proofs.Crossing.{crosses}
 use Rattle.htl_exchange.specs.Desks.{AreDesksOf, IsDeskOf}
 use Rattle.htl_exchange.proofs.Sends.{desk_send, exchange_sync}
-use Rattle.htl_exchange.proofs.Seats.{desks-add, desks-front, desks-last}
+use Rattle.htl_exchange.proofs.DeskLists.{desks-add, desks-front, desks-last}
 use Rattle.test_cases.proofs.schedules.+play_all.Goals as goal
 
 pub spawn_with-started-requires-send-T : goal.spawn_with-started-requires-send-T

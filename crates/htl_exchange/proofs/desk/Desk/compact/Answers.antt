@@ -1,7 +1,10 @@
 -- Folding changes no key of the desk.
 use Rattle.htl_case.proofs.Played.{on_ok}
+use Rattle.std.proofs.Common.{sym, subst}
 use Rattle.htl_exchange.specs.Moves.{known_of}
 use Rattle.htl_exchange.proofs.Following.{compacts}
+use Rattle.htl_analyst.specs.Keys.{HasTaken}
+use Rattle.htl_exchange.specs.Desks.{DeskValue}
 use Rattle.htl_exchange.proofs.desk.Desk.compact.Goals as goal
 
 pub invariant_of-self : goal.invariant_of-self
@@ -23,3 +26,7 @@ pub returns-clause-standing : goal.returns-clause-standing
 returns-clause-standing c =
     on_ok c.compact.result _ _ c.compact.ensures.standing
     (λ standing. standing (known_of c.self.inside.pass).trace c.self.invariant.2.right)
+
+pub returns-clause-grows : goal.returns-clause-grows
+returns-clause-grows c = λ p n h.
+    (c.compact.ensures.keys p n).1 (subst (λ (d : DeskValue). HasTaken d.analyst p n) (sym c.self.view_is) h)

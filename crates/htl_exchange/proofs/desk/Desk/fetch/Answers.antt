@@ -15,11 +15,11 @@ invariant_of-self-in-Some-pop_as g c =
     let v = known_of c.self.inside.pass in
     let a = c.self.inside.analyst in
     let free : c.self.inside.hand ≡ None = search rules in
-    let told = c.in-Some-pop_as.ensures.rule in
+    let says = c.in-Some-pop_as.ensures.rule in
     let x = c.in-Some-pop_as.parcel in (
       c.in-Some-pop_as.ensures.queue.2 ∙ c.self.invariant.0,
-      c.self.invariant.1 ∙ sym (ap (λ (u : Known). u.parts) told.1),
-      subst (λ u. Follows u a (Some x)) (sym told.1) (gets v a x (subst (λ h. Follows v a h) free c.self.invariant.2) told.0),
+      c.self.invariant.1 ∙ sym (ap (λ (u : Known). u.parts) says.1),
+      subst (λ u. Follows u a (Some x)) (sym says.1) (gets v a x (subst (λ h. Follows v a h) free c.self.invariant.2) says.0),
     )
 
 pub returns-in-Some-pop_as-clause-follows : goal.returns-in-Some-pop_as-clause-follows
@@ -27,6 +27,6 @@ returns-in-Some-pop_as-clause-follows g c =
     let v = known_of c.self.inside.pass in
     let a = c.self.inside.analyst in
     let free : c.self.inside.hand ≡ None = search rules in
-    let told = c.in-Some-pop_as.ensures.rule in
+    let says = c.in-Some-pop_as.ensures.rule in
     let x = c.in-Some-pop_as.parcel in
-    subst (λ u. Follows u a (Some x)) (sym told.1) (gets v a x (subst (λ h. Follows v a h) free c.self.invariant.2) told.0)
+    subst (λ u. Follows u a (Some x)) (sym says.1) (gets v a x (subst (λ h. Follows v a h) free c.self.invariant.2) says.0)

@@ -1,7 +1,9 @@
 -- What is taken in, and what is left in hand, are the desk's keys as before.
 use Rattle.std.proofs.Common.{rules, ◌≡◌, Some, None, sym, subst}
+use Rattle.htl_analyst.specs.Keys.{HasTaken}
 use Rattle.htl_exchange.specs.Moves.{known_of}
-use Rattle.htl_exchange.specs.Desks.{Follows}
+use Rattle.htl_exchange.specs.Desks.{Follows, DeskValue}
+use Rattle.htl_exchange.specs.Collects.{IsLeftInHand}
 use Rattle.htl_exchange.proofs.Following.{takes_all, takes_some}
 use Rattle.htl_exchange.proofs.desk.Desk.take_in.Goals as goal
 
@@ -53,3 +55,15 @@ take_parcel-requires c =
     let was : Follows v c.self.inside.analyst (Some c.in-Some.parcel) =
     subst (λ h. Follows v c.self.inside.analyst h) hand c.self.invariant.2 in
     (v.trace, was.right, was.in_hand)
+
+pub returns-in-Ok-clause-grows : goal.returns-in-Ok-clause-grows
+returns-in-Ok-clause-grows c = λ p n h.
+    c.take_parcel.ensures.grows p n (subst (λ (d : DeskValue). HasTaken d.analyst p n) (sym c.self.view_is) h)
+
+pub returns-in-Err-clause-grows : goal.returns-in-Err-clause-grows
+returns-in-Err-clause-grows c = λ p n h.
+    c.take_parcel.ensures.grows p n (subst (λ (d : DeskValue). HasTaken d.analyst p n) (sym c.self.view_is) h)
+
+pub returns-in-Err-clause-left : goal.returns-in-Err-clause-left
+returns-in-Err-clause-left c =
+    subst (λ (d : DeskValue). IsLeftInHand d.analyst c.take_parcel.new.analyst (Some c.in-Err.rest)) c.self.view_is c.in-Err.ensures.refused

@@ -1,7 +1,7 @@
 -- The desks that come back have all that those handed in had.
 use Rattle.std.proofs.Common.{◌≡◌, ◌+◌, List, [], ◌∷◌, ◌++◌, sym, ap, ◌∙◌, subst, arith, rules}
-use Rattle.htl_exchange.specs.Desks.{Place, Seated, AreDesksOf, parts_at, KeepAll}
-use Rattle.htl_exchange.proofs.Seats.{parts_at-last, desks-add, desks-front, desks-last, last_first, first_last, keeps-through}
+use Rattle.htl_exchange.specs.Desks.{ExchangeValue, DeskValue, AreDesksOf, parts_at, KeepAll}
+use Rattle.htl_exchange.proofs.DeskLists.{parts_at-last, desks-add, desks-front, desks-last, last_first, first_last, keeps-through}
 use Rattle.htl_exchange.proofs.exchange.Exchange.close.Goals as goal
 
 pub finish-requires-clause-first : goal.finish-requires-clause-first
@@ -27,13 +27,13 @@ returns-clause-memory g c _ =
     let p = f.parts in
     let all : AreDesksOf c.args.self c.push_reserved.new.self.items =
     subst (AreDesksOf c.args.self) (sym c.push_reserved.ensures.items) (desks-add c.args.self c.finish.new.desks.items c.finish.new.first f.of.1 f.of.0) in
-    (subst (λ (s : Place). AreDesksOf s c.push_reserved.new.self.items) (sym c.exchange-2.view_is) all, omega arith, c.len.ensures)
+    (subst (λ (s : ExchangeValue). AreDesksOf s c.push_reserved.new.self.items) (sym c.exchange-2.view_is) all, omega arith, c.len.ensures)
 
 pub returns-clause-kept : goal.returns-clause-kept
 returns-clause-kept g c =
     let first = c.in-Some.first in
-    let others : List Seated = c.pop.new.self.items in
-    let left : List Seated = c.finish.new.desks.items in
+    let others : List DeskValue = c.pop.new.self.items in
+    let left : List DeskValue = c.finish.new.desks.items in
     let a : KeepAll c.args.desks.items (first ∷ others) = subst (λ l. KeepAll l (first ∷ others)) (sym c.in-Some.ensures.items) (last_first others first) in
     let b : KeepAll c.args.desks.items (c.finish.new.first ∷ left) =
     keeps-through c.args.desks.items (first ∷ others) (c.finish.new.first ∷ left) a c.finish.ensures.kept in

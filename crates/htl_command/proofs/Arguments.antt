@@ -5,8 +5,8 @@ use Rattle.std.specs.List.{list_any}
 use Rattle.clap.specs.Words.{Kinds, Text}
 use Rattle.clap.specs.declared.error.ErrorKind.{ErrorKind}
 use Rattle.htl_command.specs.Entries.{entries, refusals}
-use Rattle.htl_command.specs.Refusals.{RefusesArguments, is_mistake, is_wish}
-use Rattle.htl_command.specs.Steps.{IsRefused, IsUsageWith}
+use Rattle.htl_command.specs.Refusals.{IsUsageWith, RefusesArguments, is_mistake, is_wish}
+use Rattle.htl_command.specs.Steps.{IsRefused}
 use Rattle.htl_command.specs.Requests.{is_nothing, request_met, requested, stored}
 use Rattle.htl_command.specs.declared.fault.ParseFault.{ParseFault}
 use Rattle.htl_command.specs.declared.fault.ParseFault.TheVariants.{Help, Usage, Memory}

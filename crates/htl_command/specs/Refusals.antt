@@ -26,6 +26,12 @@ HasReason is_such arguments = list_any is_such (refusals arguments) ≡ true
 abbrev pub IsUsageText : List ℕ → Type 0
 IsUsageText text = (why : List ℕ) × (text ≡ codes "error: " ++ (why ++ (10 ∷ [])))
 
+-- a usage fault, which comes only with P
+abbrev pub IsUsageWith : Type 0 → ParseFault → Type 0
+IsUsageWith P (Help text) = ⊥
+IsUsageWith P (Usage text) = P × IsUsageText (string_bytes text)
+IsUsageWith P Memory = ⊤
+
 -- The arguments ask for nothing. `clap` reports a wish for help; or it reports a mistake, or takes the arguments, of
 -- which a value then breaks its rule. Memory may be refused at any time.
 abbrev pub RefusesArguments : List Text → ParseFault → Type 0

@@ -38,9 +38,3 @@ abbrev pub IsRefused : List Text → ParseFault → Type 0
 IsRefused arguments (Help text) = HasReason is_wish arguments
 IsRefused arguments (Usage text) = HasReason is_mistake arguments × IsUsageText (string_bytes text)
 IsRefused arguments Memory = ⊤
-
--- a usage fault, which comes only with P
-abbrev pub IsUsageWith : Type 0 → ParseFault → Type 0
-IsUsageWith P (Help text) = ⊥
-IsUsageWith P (Usage text) = P × IsUsageText (string_bytes text)
-IsUsageWith P Memory = ⊤

@@ -2,9 +2,9 @@
 ghost use Rattle.std.specs.Prelude.{◌≡◌, ◌≢◌, [], IfErr, IfOk, IsOk, None, Some, map, string_bytes};
 ghost use Rattle.clap.specs.Words.{subcommand_rows_of};
 ghost use Rattle.htl_command.specs.Entries.{entries as entries_in, refusals};
-ghost use Rattle.htl_command.specs.Refusals.{RefusesArguments};
+ghost use Rattle.htl_command.specs.Refusals.{IsUsageWith, RefusesArguments};
 ghost use Rattle.htl_command.specs.Requests.{request, request_met, request_of, requested, stored as stored_request, with_files as with_files_in};
-ghost use Rattle.htl_command.specs.Steps.{IsRefused, IsUsageWith, entries_of};
+ghost use Rattle.htl_command.specs.Steps.{IsRefused, entries_of};
 
 use crate::builder::program;
 use crate::commands::CommandName;

@@ -1,7 +1,8 @@
 //! Why arguments give no job, and what a person reads of it.
 ghost use Rattle.std.specs.Prelude.{◌≡◌, ⊤};
 ghost use Rattle.clap.specs.Words.{kind_of};
-ghost use Rattle.htl_command.specs.Steps.{IsUsageWith, Reports};
+ghost use Rattle.htl_command.specs.Refusals.{IsUsageWith};
+ghost use Rattle.htl_command.specs.Steps.{Reports};
 
 use crate::commands::CommandName;
 use crate::reading::Refused;
@@ -25,8 +26,17 @@ pub enum ParseFault {
 }
 
 impl ParseFault {
-    ghost use Rattle.std.specs.Prelude.{◌≡◌};
+    ghost use Rattle.std.specs.Prelude.{◌≡◌, ⊤};
+    ghost use Rattle.htl_command.specs.Refusals.{IsUsageWith};
     ghost use Rattle.htl_command.specs.Statuses.{status_of};
+
+    /// The fault of an argument that is no text in UTF-8.
+    pub fn no_text(alloc: Global) -> ParseFault
+        ensures { IsUsageWith ⊤ result }
+    {
+        let why = "an argument is no text in UTF-8\n\nFor more information, try 'hleak --help'.";
+        usage(alloc, why, "")
+    }
 
     /// The exit status of the program: 0 for help, 2 for arguments that are no command line, 6 for memory.
     pub fn status(&self) -> u8

@@ -1,8 +1,8 @@
-//! Sources and sinks of bytes, which tell whether they have failed.
+//! Sources and sinks of bytes, which know whether they have failed.
 //!
 //! A contract can't say what a file or a pipe gives or takes. So the run is written over the traits
-//! `Source` and `Sink`, whose clauses speak of the bytes where the device tells them, as one over memory
-//! does, and else of failures alone. `Reading` and `Writing` make a source and a sink of std's.
+//! `Source` and `Sink`, whose clauses speak of the bytes where they are known, as those of one over memory
+//! are, and else of failures alone. `Reading` and `Writing` make a source and a sink of std's.
 #![tactic(auto)]
 
 pub mod laws;

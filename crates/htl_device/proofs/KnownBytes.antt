@@ -1,6 +1,6 @@
--- Known bytes over two reads or writes.
-use Rattle.std.proofs.Common.{◌≡◌, ◌+◌, ℕ, List, [], ◌++◌, take, drop, refl, sym, append_assoc, Option, Some, None, arith}
-use Rattle.std.specs.Io.KnownBytes.{Appends, Consumes}
+-- Known bytes over two writes.
+use Rattle.std.proofs.Common.{◌≡◌, ◌+◌, ℕ, List, [], ◌++◌, take, drop, sym, append_assoc, Option, Some, None, arith}
+use Rattle.std.specs.Io.KnownBytes.{Appends}
 use Rattle.std.proofs.lemmas.List.{append-nil, drop-take, take-append-drop}
 use Rattle.std.proofs.lemmas.Grind.{common_steps}
 
@@ -22,14 +22,3 @@ appends-more (Some xs) None new text i n a b = absurd a
 appends-more (Some xs) (Some ys) None text i n a b = absurd b
 appends-more (Some xs) (Some ys) (Some zs) text i n a b =
     rw (b, a, take-add i n text) (append_assoc xs (take i text) (take n (drop i text)))
-
-pub consumes-none : (old : Option (List ℕ)) → Consumes old old []
-consumes-none None = tt
-consumes-none (Some xs) = refl
-
-pub consumes-more : (old mid new : Option (List ℕ)) (xs ys : List ℕ) → Consumes old mid xs → Consumes mid new ys
-    → Consumes old new (xs ++ ys)
-consumes-more None mid new xs ys a b = tt
-consumes-more (Some x) None new xs ys a b = absurd a
-consumes-more (Some x) (Some y) None xs ys a b = absurd b
-consumes-more (Some x) (Some y) (Some z) xs ys a b = rw (a, b) (sym (append_assoc xs ys z))

@@ -1,4 +1,5 @@
-//! The run: from the bytes of inputs to the printed answer.
+//! The run: from the bytes of inputs to the printed answer. The command line and its job are handed
+//! on, so that a caller needs this crate alone.
 //!
 //! `specs/` is read in this order: `Inputs` (which segments the inputs encode, and which input is
 //! refused first), `Summaries` (what a summary says of a trace), `Coverages` (how much of its trace
@@ -25,6 +26,7 @@ mod tests;
 
 pub use coverage::Coverage;
 pub use fault::RunFault;
+pub use htl_command::{Asked, Job, ParseFault, Question, parse};
 pub use htl_device::{Failed, Reading, Sink, Source, Writing};
 pub use printing::run;
 pub use streaming::run_from;

@@ -3,10 +3,12 @@
 //! A table is ranges of addresses of which no two have an address in common (`specs/Ranges`). They
 //! are kept in a tree by start, so that one look-up finds the range that has an address, and tells
 //! whether a new range overlaps another. `Symbols::read` reads a table from its text: `specs/Rows`
-//! says what a record writes, `specs/Reading` what the whole text gives or why it is refused.
+//! says what a record writes, `specs/Reading` what the whole text gives or why it is refused, and
+//! `laws.rt` that it is read in one way.
 #![tactic(auto)]
 
 mod fault;
+pub mod laws;
 mod read;
 mod row;
 mod symbols;

@@ -14,7 +14,8 @@ use std::sync::Wait;
 use std::test::Fail;
 use std::thread::Threads;
 
-/// A reader over memory that gives a few bytes a read and fails at one of its calls.
+/// A reader over memory that gives a few bytes a read and fails at one of its calls. The next call
+/// would succeed, so that a read that is tried again silently shows.
 #[derive(Drop)]
 struct Pieces<'a> {
     bytes: &'a [u8],
@@ -35,7 +36,8 @@ impl<'a> Pieces<'a> {
 impl Read for Pieces<'_> {
     fn read(&mut self, buffer: &mut [u8]) -> io::Result<usize> {
         if self.calls_left == 0 {
-            return Err(io::Error::from(io::ErrorKind::Other));
+            self.calls_left = usize::MAX;
+            return Err(io::Error::from(io::ErrorKind::Interrupted));
         }
         self.calls_left -= 1;
         let count = self.piece.min(self.bytes.len()).min(buffer.len());
@@ -46,7 +48,8 @@ impl Read for Pieces<'_> {
     }
 }
 
-/// A writer that takes a few bytes a write into memory, and fails once it holds `most`.
+/// A writer that takes a few bytes a write into memory, and fails when it holds `most`. The next
+/// call would succeed, so that a write that is tried again silently shows.
 #[derive(Drop)]
 struct Narrow {
     held: Vec<u8>,
@@ -57,7 +60,8 @@ struct Narrow {
 impl Write for Narrow {
     fn write(&mut self, bytes: &[u8]) -> io::Result<usize> {
         if self.held.len() >= self.most {
-            return Err(io::Error::from(io::ErrorKind::Other));
+            self.most = usize::MAX;
+            return Err(io::Error::from(io::ErrorKind::Interrupted));
         }
         let count = self.piece.min(bytes.len());
         self.held.extend_from_slice(&bytes[..count])?;
@@ -163,7 +167,7 @@ fn refused_from(
 }
 
 #[test]
-fn tells_failed_reads(rt: HostRuntime) -> Result<(), Fail> {
+fn reports_failed_reads(rt: HostRuntime) -> Result<(), Fail> {
     let bytes = stored(rt.alloc())?;
     // the second read of the first source fails, or the first one of the second source
     for (first, second, input) in [(1, 99, 0), (99, 0, 1)] {
@@ -178,7 +182,7 @@ fn tells_failed_reads(rt: HostRuntime) -> Result<(), Fail> {
 }
 
 #[test]
-fn tells_failed_reads_of_digits(rt: HostRuntime) -> Result<(), Fail> {
+fn reports_failed_reads_of_digits(rt: HostRuntime) -> Result<(), Fail> {
     let first = Pieces::new(STORED.as_bytes(), 7, 1);
     let second = Pieces::new(STORED.as_bytes(), 7, 99);
     assert_eq!(rt;
@@ -208,7 +212,7 @@ fn a_fault_ends_the_reading(rt: HostRuntime) -> Result<(), Fail> {
 }
 
 #[test]
-fn tells_an_end_inside_a_segment(rt: HostRuntime) -> Result<(), Fail> {
+fn reports_an_end_inside_a_segment(rt: HostRuntime) -> Result<(), Fail> {
     let bytes = stored(rt.alloc())?;
     let part = bytes.get(..70).ok_or("it is short")?;
     let fault = refused_from(
@@ -253,7 +257,7 @@ fn printed_into(
 }
 
 #[test]
-fn tells_failed_writes(rt: HostRuntime) -> Result<(), Fail> {
+fn reports_failed_writes(rt: HostRuntime) -> Result<(), Fail> {
     for (piece, most, went) in [(10, 10, "outstandin"), (0, 10, ""), (1, 0, "")] {
         let (held, ended) = printed_into(&rt, rt.alloc(), piece, most)?;
         assert_eq!(rt; ended, Err(RunFault::Write));

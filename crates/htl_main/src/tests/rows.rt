@@ -223,7 +223,7 @@ pub struct Refused {
     pub status: u8,
 }
 
-/// Each row but the first has a later fault behind the one that is told.
+/// Each row but the first has a later fault after the one that is reported.
 pub const REFUSED: [Refused; 9] = [
     Refused {
         workers: 1,

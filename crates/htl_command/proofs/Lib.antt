@@ -1,2 +1,2 @@
-pub mod Told
-pub mod Words
+pub mod Described
+pub mod Arguments

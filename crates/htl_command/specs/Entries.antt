@@ -1,4 +1,4 @@
--- What `clap` is told of the table, and so what it finds in words and when it refuses them.
+-- What `clap` is given of the table, and so what it finds in arguments and when it refuses them.
 use Rattle.std.specs.Prelude.{true, List, [], ◌∷◌, Option, Some, codes, map}
 use Rattle.clap.specs.Lexer.{usize_max}
 use Rattle.clap.specs.Simple.{new_shape}
@@ -20,7 +20,7 @@ option_rule option = record (new_rule (option_name option)) {
 abbrev pub hex_rule : Rule
 hex_rule = record (new_rule (codes "hex")) { long = Some (codes "hex"); action = Some SetTrue }
 
--- all other words are files
+-- all other arguments are files
 abbrev pub files_rule : Rule
 files_rule = record (new_rule (codes "files")) {
   value_names = 1;
@@ -31,7 +31,7 @@ files_rule = record (new_rule (codes "files")) {
 abbrev pub common_rules : List Rule
 common_rules = option_rule Symbols ∷ option_rule Workers ∷ hex_rule ∷ files_rule ∷ []
 
--- with these arguments, in order
+-- with these rules, in order
 abbrev pub with_rules : App → List Rule → App
 with_rules a [] = a
 with_rules a (rule ∷ more) = with_rules (with_rule a rule) more
@@ -54,10 +54,10 @@ program_app = record {
 unfoldable pub hleak_app : App
 hleak_app = with_commands program_app commands
 
--- why `clap` refuses the words; where it takes them, nothing
+-- why `clap` refuses the arguments; where it takes them, nothing
 unfoldable pub refusals : List Text → Kinds
-refusals words = fault_of hleak_app words
+refusals arguments = fault_of hleak_app arguments
 
--- the name of the command in the words, and its entries
+-- the name of the command in the arguments, and its entries
 unfoldable pub entries : List Text → Option (Text × List Row)
-entries words = subcommand_of hleak_app words
+entries arguments = subcommand_of hleak_app arguments

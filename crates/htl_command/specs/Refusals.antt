@@ -1,5 +1,5 @@
--- Why words are refused.
-use Rattle.std.specs.Prelude.{◌≡◌, ◌⊎◌, ⊤, Bool, true, false, List, [], None, not}
+-- Why arguments are refused.
+use Rattle.std.specs.Prelude.{◌≡◌, ◌⊎◌, ◌++◌, ⊤, ℕ, Bool, true, false, List, [], ◌∷◌, None, codes, not, string_bytes}
 use Rattle.std.specs.List.{list_any}
 use Rattle.clap.specs.Words.{Text}
 use Rattle.clap.specs.declared.error.ErrorKind.{ErrorKind}
@@ -18,13 +18,24 @@ is_wish _ = false
 abbrev pub is_mistake : ErrorKind → Bool
 is_mistake kind = not (is_wish kind)
 
--- `clap` refuses the words for such a reason
+-- `clap` refuses the arguments for such a reason
 abbrev pub HasReason : (ErrorKind → Bool) → List Text → Type 0
-HasReason is_such words = list_any is_such (refusals words) ≡ true
+HasReason is_such arguments = list_any is_such (refusals arguments) ≡ true
 
--- The words ask for nothing. `clap` tells a wish for help; or it tells a mistake, or takes the words, of which
--- a value then breaks its rule. Memory may be refused at any time.
-abbrev pub Refuses : List Text → ParseFault → Type 0
-Refuses words (Help text) = (requested words ≡ None) × HasReason is_wish words
-Refuses words (Usage text) = (requested words ≡ None) × ((refusals words ≡ []) ⊎ HasReason is_mistake words)
-Refuses words Memory = ⊤
+-- the text of a usage fault: what is wrong, after `error: `, and a line feed
+abbrev pub IsUsageText : List ℕ → Type 0
+IsUsageText text = (why : List ℕ) × (text ≡ codes "error: " ++ (why ++ (10 ∷ [])))
+
+-- a usage fault, which comes only with P
+abbrev pub IsUsageWith : Type 0 → ParseFault → Type 0
+IsUsageWith P (Help text) = ⊥
+IsUsageWith P (Usage text) = P × IsUsageText (string_bytes text)
+IsUsageWith P Memory = ⊤
+
+-- The arguments ask for nothing. `clap` reports a wish for help; or it reports a mistake, or takes the arguments, of
+-- which a value then breaks its rule. Memory may be refused at any time.
+abbrev pub RefusesArguments : List Text → ParseFault → Type 0
+RefusesArguments arguments (Help text) = (requested arguments ≡ None) × HasReason is_wish arguments
+RefusesArguments arguments (Usage text) =
+    (requested arguments ≡ None) × (((refusals arguments ≡ []) ⊎ HasReason is_mistake arguments) × IsUsageText (string_bytes text))
+RefusesArguments arguments Memory = ⊤

@@ -1,4 +1,4 @@
--- What words ask for: of the entries that `clap` finds in them, each value is read by its rule.
+-- What arguments ask for: of the entries that `clap` finds in them, each value is read by its rule.
 use Rattle.std.specs.Prelude.{ℕ, Bool, true, false, List, [], ◌∷◌, Option, Some, None, codes, if◌then◌else◌, map, option_and_then, option_map, string_bytes, unwrap_or}
 use Rattle.std.specs.Option.{option_map_or}
 use Rattle.std.specs.Str.{bytes_eq}
@@ -74,7 +74,7 @@ request_of command rows = option_map (with_files rows) (job_of command rows)
 abbrev pub request_met : Option (Text × List Row) → Option Request
 request_met met = option_and_then (λ p. option_and_then (λ command. request_of command p.1) (command_named p.0)) met
 
--- what no words ask for
+-- what no arguments ask for
 abbrev pub stored : Request
 stored = record { job = record { question = Outstanding 4; hex = true; workers = 1 }; files = []; symbols = None }
 
@@ -82,10 +82,10 @@ abbrev pub is_nothing : Kinds → Bool
 is_nothing [] = true
 is_nothing (kind ∷ more) = false
 
--- what words ask for, where `clap` refuses nothing
+-- what arguments ask for, where `clap` refuses nothing
 unfoldable pub requested : List Text → Option Request
 requested [] = Some stored
-requested (word ∷ more) = if is_nothing (refusals (word ∷ more)) then request_met (entries (word ∷ more)) else None
+requested (argument ∷ more) = if is_nothing (refusals (argument ∷ more)) then request_met (entries (argument ∷ more)) else None
 
 -- the same of the program's own type
 abbrev pub request : Asked → Request

@@ -2,9 +2,9 @@
 ghost use Rattle.std.specs.Prelude.{◌≡◌, ◌≢◌, [], IfErr, IfOk, IsOk, None, Some, map, string_bytes};
 ghost use Rattle.clap.specs.Words.{subcommand_rows_of};
 ghost use Rattle.htl_command.specs.Entries.{entries as entries_in, refusals};
-ghost use Rattle.htl_command.specs.Refusals.{Refuses};
+ghost use Rattle.htl_command.specs.Refusals.{IsUsageWith, RefusesArguments};
 ghost use Rattle.htl_command.specs.Requests.{request, request_met, request_of, requested, stored as stored_request, with_files as with_files_in};
-ghost use Rattle.htl_command.specs.Steps.{IsRefused, IsUsageWith, entries_of};
+ghost use Rattle.htl_command.specs.Steps.{IsRefused, entries_of};
 
 use crate::builder::program;
 use crate::commands::CommandName;
@@ -24,25 +24,25 @@ pub struct Asked {
     pub symbols: Option<String>,
 }
 
-/// The job that the words after the program's name ask for. No words ask for the stored job: the outstanding
+/// The job that the arguments after the program's name ask for. No arguments ask for the stored job: the outstanding
 /// handles of process 4, from standard input in hexadecimal.
 ///
-/// A command, its options and its files are words as `clap` takes them: `--process 4` or `--process=4`, options
+/// A command, its options and its files are arguments as `clap` takes them: `--process 4` or `--process=4`, options
 /// and files in any order, and only files after `--`. No option may be given twice.
 ///
-/// Where several things are wrong, what `clap` refuses is told first, and then the first value that breaks
+/// Where several things are wrong, what `clap` refuses is reported first, and then the first value that breaks
 /// its rule.
-#[tactic(auto, using(crate::proofs::Words::no_words))]
-pub fn parse(alloc: Global, words: Vec<String>) -> Result<Asked, ParseFault>
+#[tactic(auto, using(crate::proofs::Arguments::no_arguments))]
+pub fn parse(alloc: Global, arguments: Vec<String>) -> Result<Asked, ParseFault>
     ensures ok { IfOk result (λ asked.
-        requested (map string_bytes words.items) ≡ Some (request asked)) }
-    ensures err { IfErr result (Refuses (map string_bytes words.items)) }
-    ensures none { words.items ≡ [] → IsOk result }
+        requested (map string_bytes arguments.items) ≡ Some (request asked)) }
+    ensures err { IfErr result (RefusesArguments (map string_bytes arguments.items)) }
+    ensures none { arguments.items ≡ [] → IsOk result }
 {
-    if words.is_empty() {
+    if arguments.is_empty() {
         Ok(stored(alloc))
     } else {
-        read_words(alloc, &words)
+        read_arguments(alloc, &arguments)
     }
 }
 
@@ -60,28 +60,48 @@ fn stored(alloc: Global) -> Asked
     }
 }
 
-fn read_words(alloc: Global, words: &[String]) -> Result<Asked, ParseFault>
-    requires some { words.now ≢ [] }
+fn read_arguments(alloc: Global, arguments: &[String]) -> Result<Asked, ParseFault>
+    requires some { arguments.now ≢ [] }
     ensures ok { IfOk result (λ asked.
-        requested (map string_bytes words.now) ≡ Some (request asked)) }
-    ensures err { IfErr result (Refuses (map string_bytes words.now)) }
+        requested (map string_bytes arguments.now) ≡ Some (request asked)) }
+    ensures err { IfErr result (RefusesArguments (map string_bytes arguments.now)) }
 {
-    match matches(alloc, words) {
+    match matches(alloc, arguments) {
         Ok(matches) => read_matches(alloc, &matches),
         Err(fault) => Err(fault),
     }
 }
 
-/// What `clap` finds in the words.
-fn matches<'a>(alloc: Global, words: &'a [String]) -> Result<ArgMatches<'a>, ParseFault>
-    ensures ok { IfOk result (λ matches. (refusals (map string_bytes words.entry.now) ≡ [])
-        × (subcommand_rows_of matches ≡ entries_in (map string_bytes words.entry.now))) }
-    ensures err { IfErr result (IsRefused (map string_bytes words.entry.now)) }
+/// What `clap` finds in the arguments.
+fn matches<'a>(alloc: Global, arguments: &'a [String]) -> Result<ArgMatches<'a>, ParseFault>
+    ensures ok { IfOk result (λ matches. (refusals (map string_bytes arguments.entry.now) ≡ [])
+        × (subcommand_rows_of matches ≡ entries_in (map string_bytes arguments.entry.now))) }
+    ensures err { IfErr result (IsRefused (map string_bytes arguments.entry.now)) }
 {
-    match program(alloc)?.try_get_matches_from(words) {
+    match program(alloc)?.try_get_matches_from(arguments) {
         Ok(matches) => Ok(matches),
-        Err(error) => Err(of_clap(alloc, &error)),
+        Err(error) => Err(of_clap(alloc, &error, tip(arguments))),
     }
+}
+
+/// What helps where a value that begins with `-` stands apart from its option, since `clap` takes it for another
+/// option.
+fn tip(arguments: &[String]) -> &'static str {
+    let next = arguments.iter().skip(1);
+    if arguments
+        .iter()
+        .zip(next)
+        .any(|(option, value)| is_parted(option, value))
+    {
+        "\n\n  tip: a value that begins with '-' follows '=', as in '--tag=-abc'"
+    } else {
+        ""
+    }
+}
+
+/// Whether a value that begins with `-`, of an option that may have such a value, stands apart from it.
+fn is_parted(option: &str, value: &str) -> bool {
+    matches!(option, "--tag" | "--symbols") && value.starts_with('-')
 }
 
 fn read_matches(alloc: Global, matches: &ArgMatches) -> Result<Asked, ParseFault>

@@ -1,8 +1,8 @@
-//! What `clap` is told of the commands.
+//! The commands, as `clap` is given them.
 ghost use Rattle.std.specs.Prelude.{◌≡◌, IfOk, false, map};
 ghost use Rattle.clap.specs.Words.{app_of, rule_of, with_subcommand};
 ghost use Rattle.clap.specs.declared.builder.Command.TheViews.{out-Command as fields_of};
-ghost use Rattle.htl_command.specs.Steps.{IsTold};
+ghost use Rattle.htl_command.specs.Steps.{Describes};
 ghost use Rattle.htl_command.specs.Entries.{common_rules, command_app, files_rule, hex_rule, hleak_app, option_rule, program_app, with_commands as with_commands_of, with_rules};
 
 use crate::commands::{COMMANDS, CommandName, CommandOption};
@@ -48,7 +48,7 @@ fn with_own_options<'a>(
 ) -> Result<Command<'a>, AllocError>
     requires { (fields_of command).has_globals ≡ false }
     ensures { IfOk result
-        (IsTold (with_rules (app_of command.entry) (map option_rule options.now))) }
+        (Describes (with_rules (app_of command.entry) (map option_rule options.now))) }
 {
     let mut command = command;
     for own in options {
@@ -59,7 +59,7 @@ fn with_own_options<'a>(
 
 fn with_common_options<'a>(alloc: Global, command: Command<'a>) -> Result<Command<'a>, AllocError>
     requires { (fields_of command).has_globals ≡ false }
-    ensures { IfOk result (IsTold (with_rules (app_of command.entry) common_rules)) }
+    ensures { IfOk result (Describes (with_rules (app_of command.entry) common_rules)) }
 {
     command
         .arg(option(alloc, CommandOption::Symbols))?
@@ -69,7 +69,7 @@ fn with_common_options<'a>(alloc: Global, command: Command<'a>) -> Result<Comman
 }
 
 fn command<'a>(alloc: Global, name: CommandName) -> Result<Command<'a>, AllocError>
-    ensures { IfOk result (IsTold (command_app name)) }
+    ensures { IfOk result (Describes (command_app name)) }
 {
     let bare = Command::new(alloc, name.as_str())
         .about(name.about())
@@ -79,7 +79,7 @@ fn command<'a>(alloc: Global, name: CommandName) -> Result<Command<'a>, AllocErr
 }
 
 fn bare_program<'a>(alloc: Global) -> Result<Command<'a>, AllocError>
-    ensures { IfOk result (IsTold program_app) }
+    ensures { IfOk result (Describes program_app) }
 {
     let program = Command::new(alloc, "hleak")
         .bin_name("hleak")?
@@ -91,14 +91,14 @@ fn bare_program<'a>(alloc: Global) -> Result<Command<'a>, AllocError>
     Ok(program)
 }
 
-#[tactic(auto, using(crate::proofs::Told::added))]
+#[tactic(auto, using(crate::proofs::Described::added))]
 fn with_command<'a>(
     alloc: Global,
     program: Command<'a>,
     name: CommandName,
 ) -> Result<Command<'a>, AllocError>
     requires { (fields_of program).has_globals ≡ false }
-    ensures { IfOk result (IsTold (with_subcommand (app_of program.entry) (command_app name).top)) }
+    ensures { IfOk result (Describes (with_subcommand (app_of program.entry) (command_app name).top)) }
 {
     program.subcommand(command(alloc, name)?)
 }
@@ -109,7 +109,7 @@ fn with_commands<'a>(
     names: &[CommandName],
 ) -> Result<Command<'a>, AllocError>
     requires { (fields_of program).has_globals ≡ false }
-    ensures { IfOk result (IsTold (with_commands_of (app_of program.entry) names.now)) }
+    ensures { IfOk result (Describes (with_commands_of (app_of program.entry) names.now)) }
 {
     let mut program = program;
     for name in names {
@@ -121,7 +121,7 @@ fn with_commands<'a>(
 /// The command line of the program.
 #[tactic(auto, unfolding(crate::specs::Entries::hleak_app))]
 pub(crate) fn program<'a>(alloc: Global) -> Result<Command<'a>, AllocError>
-    ensures { IfOk result (IsTold hleak_app) }
+    ensures { IfOk result (Describes hleak_app) }
 {
     with_commands(alloc, bare_program(alloc)?, &COMMANDS)
 }

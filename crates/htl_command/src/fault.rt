@@ -1,7 +1,8 @@
-//! Why words give no job, and what a person reads of it.
+//! Why arguments give no job, and what a person reads of it.
 ghost use Rattle.std.specs.Prelude.{◌≡◌, ⊤};
 ghost use Rattle.clap.specs.Words.{kind_of};
-ghost use Rattle.htl_command.specs.Steps.{IsUsageWith, Tells};
+ghost use Rattle.htl_command.specs.Refusals.{IsUsageWith};
+ghost use Rattle.htl_command.specs.Steps.{Reports};
 
 use crate::commands::CommandName;
 use crate::reading::Refused;
@@ -9,14 +10,14 @@ use clap::error::ErrorKind;
 use std::alloc::{AllocError, Global};
 use thiserror::Error;
 
-/// Why words give no job.
+/// Why arguments give no job.
 #[derive(Debug, PartialEq, Eq, Drop, Error)]
 pub enum ParseFault {
     /// Help or the version was asked for. The text, which ends with a line feed, goes to standard output.
     #[error("{0}")]
     Help(String),
-    /// The words are no command line of the program. The text says why; it ends with a line feed and goes to
-    /// standard error.
+    /// The arguments are no command line of the program. The text says why, after `error: `; it ends with a line
+    /// feed and goes to standard error.
     #[error("{0}")]
     Usage(String),
     /// Memory for a growth was refused.
@@ -25,10 +26,19 @@ pub enum ParseFault {
 }
 
 impl ParseFault {
-    ghost use Rattle.std.specs.Prelude.{◌≡◌};
+    ghost use Rattle.std.specs.Prelude.{◌≡◌, ⊤};
+    ghost use Rattle.htl_command.specs.Refusals.{IsUsageWith};
     ghost use Rattle.htl_command.specs.Statuses.{status_of};
 
-    /// The exit status of the program: 0 for help, 2 for words that are no command line, 6 for memory.
+    /// The fault of an argument that is no text in UTF-8.
+    pub fn no_text(alloc: Global) -> ParseFault
+        ensures { IsUsageWith ⊤ result }
+    {
+        let why = "an argument is no text in UTF-8\n\nFor more information, try 'hleak --help'.";
+        usage(alloc, why, "")
+    }
+
+    /// The exit status of the program: 0 for help, 2 for arguments that are no command line, 6 for memory.
     pub fn status(&self) -> u8
         ensures { result ≡ status_of self.now }
     {
@@ -51,16 +61,16 @@ impl From<AllocError> for ParseFault {
     }
 }
 
-/// The fault that `clap` tells, in its own words.
-pub(crate) fn of_clap(alloc: Global, error: &clap::Error) -> ParseFault
-    ensures { Tells (kind_of error.now) result }
+/// The fault that `clap` reports, in its own words. A tip may follow a mistake.
+pub(crate) fn of_clap(alloc: Global, error: &clap::Error, tip: &str) -> ParseFault
+    ensures { Reports (kind_of error.now) result }
 {
     if matches!(error.kind(), ErrorKind::OutOfMemory) {
         return ParseFault::Memory;
     }
     match error.to_string(alloc) {
         Err(_) => ParseFault::Memory,
-        Ok(text) if error.use_stderr() => ParseFault::Usage(text),
+        Ok(text) if error.use_stderr() => usage(alloc, why_of(&text), tip),
         Ok(text) => ParseFault::Help(text),
     }
 }
@@ -69,22 +79,34 @@ pub(crate) fn of_clap(alloc: Global, error: &clap::Error) -> ParseFault
 pub(crate) fn of_value(alloc: Global, command: CommandName, refused: Refused) -> ParseFault
     ensures { IsUsageWith ⊤ result }
 {
-    let text = format!(in alloc;
-        "error: {refused}\n\nFor more information, try 'hleak {} --help'.\n",
+    let why = format!(in alloc;
+        "{refused}\n\nFor more information, try 'hleak {} --help'.",
         command.as_str()
     );
-    match text {
-        Ok(text) => ParseFault::Usage(text),
+    match why {
+        Ok(why) => usage(alloc, &why, ""),
         Err(_) => ParseFault::Memory,
     }
 }
 
-/// The fault of words with no command. `clap` refuses these itself, so it is not told.
+/// The fault of arguments with no command. `clap` refuses these itself, so it is never reported.
 pub(crate) fn no_command(alloc: Global) -> ParseFault
     ensures { IsUsageWith ⊤ result }
 {
-    let text = "error: a command is missing\n\nFor more information, try 'hleak --help'.\n";
-    match String::from_str(alloc, text) {
+    let why = "a command is missing\n\nFor more information, try 'hleak --help'.";
+    usage(alloc, why, "")
+}
+
+/// What an error of `clap`'s says, without the frame that every usage fault has.
+fn why_of(text: &str) -> &str {
+    text.strip_prefix("error: ").unwrap_or(text).trim_end()
+}
+
+/// A usage fault, in the frame that every one has.
+fn usage(alloc: Global, why: &str, tip: &str) -> ParseFault
+    ensures { IsUsageWith ⊤ result }
+{
+    match format!(in alloc; "error: {why}{tip}\n") {
         Ok(text) => ParseFault::Usage(text),
         Err(_) => ParseFault::Memory,
     }

@@ -27,8 +27,8 @@ Examples:
   hleak outstanding --process 4 cpu0.hls cpu1.hls
   hleak tags --object 0xffffa00000001000 --symbols names.csv cpu0.hls cpu1.hls
 
-'hleak COMMAND --help' tells the options of a command. No word at all stands for
-'hleak outstanding --process 4 --hex'.";
+'hleak COMMAND --help' lists the options of a command. No argument at all stands
+for 'hleak outstanding --process 4 --hex'.";
 
 pub(crate) const HEX_HELP: &str = "The files hold hexadecimal digits, not bytes";
 
@@ -137,7 +137,7 @@ The handle: 1 to 16 hexadecimal digits, with or without
         }
     }
 
-    /// The rule of the value, as a refusal tells it.
+    /// The rule of the value, as a refusal reports it.
     pub(crate) fn expected<'a>(self) -> &'a str {
         match self {
             CommandOption::Process => "decimal digits, at most 4294967295",

@@ -1,8 +1,8 @@
 //! The job of a command, read from the entries that `clap` gives.
-ghost use Rattle.std.specs.Prelude.{◌≡◌, IfOk, map, option_map, string_bytes};
+ghost use Rattle.std.specs.Prelude.{◌≡◌, IfErr, IfOk, map, option_map, string_bytes};
 ghost use Rattle.std.specs.Result.{result_ok};
 ghost use Rattle.clap.specs.Words.{all_of, first_of};
-ghost use Rattle.htl_command.specs.Steps.{entries_of};
+ghost use Rattle.htl_command.specs.Steps.{Names, entries_of};
 ghost use Rattle.htl_command.specs.Requests.{file_names, given as given_in, is_hex as is_hex_in, job_of, optional, question_of, value, workers as workers_given};
 ghost use Rattle.htl_command.specs.Values.{handle_in, object_in, process_in, sequence_in, tag_in};
 ghost use Rattle.htl_command.specs.declared.commands.CommandOption.TheVariants as option;
@@ -55,14 +55,16 @@ fn given<'a>(entries: &ArgMatches<'a>, option: CommandOption) -> Option<&'a str>
 }
 
 fn required<'a>(entries: &ArgMatches<'a>, option: CommandOption) -> Result<&'a str, Refused<'a>>
-    ensures { option_map (λ text. text.now) (result_ok result)
+    ensures ok { option_map (λ text. text.now) (result_ok result)
         ≡ given_in option (entries_of entries.now) }
+    ensures err { IfErr result (Names option (entries_of entries.now)) }
 {
     given(entries, option).ok_or(Refused { option, given: "" })
 }
 
 fn process<'a>(entries: &ArgMatches<'a>) -> Result<u32, Refused<'a>>
-    ensures { result_ok result ≡ value process_in option.Process (entries_of entries.now) }
+    ensures ok { result_ok result ≡ value process_in option.Process (entries_of entries.now) }
+    ensures err { IfErr result (Names option.Process (entries_of entries.now)) }
 {
     let option = CommandOption::Process;
     let given = required(entries, option)?;
@@ -70,7 +72,8 @@ fn process<'a>(entries: &ArgMatches<'a>) -> Result<u32, Refused<'a>>
 }
 
 fn since<'a>(entries: &ArgMatches<'a>) -> Result<Option<u64>, Refused<'a>>
-    ensures { result_ok result ≡ optional sequence_in option.Since (entries_of entries.now) }
+    ensures ok { result_ok result ≡ optional sequence_in option.Since (entries_of entries.now) }
+    ensures err { IfErr result (Names option.Since (entries_of entries.now)) }
 {
     let option = CommandOption::Since;
     match given(entries, option) {
@@ -83,7 +86,8 @@ fn since<'a>(entries: &ArgMatches<'a>) -> Result<Option<u64>, Refused<'a>>
 }
 
 fn object<'a>(entries: &ArgMatches<'a>) -> Result<u64, Refused<'a>>
-    ensures { result_ok result ≡ value object_in option.Object (entries_of entries.now) }
+    ensures ok { result_ok result ≡ value object_in option.Object (entries_of entries.now) }
+    ensures err { IfErr result (Names option.Object (entries_of entries.now)) }
 {
     let option = CommandOption::Object;
     let given = required(entries, option)?;
@@ -91,7 +95,8 @@ fn object<'a>(entries: &ArgMatches<'a>) -> Result<u64, Refused<'a>>
 }
 
 fn tag<'a>(entries: &ArgMatches<'a>) -> Result<[u8; 4], Refused<'a>>
-    ensures { result_ok result ≡ value tag_in option.Tag (entries_of entries.now) }
+    ensures ok { result_ok result ≡ value tag_in option.Tag (entries_of entries.now) }
+    ensures err { IfErr result (Names option.Tag (entries_of entries.now)) }
 {
     let option = CommandOption::Tag;
     let given = required(entries, option)?;
@@ -99,7 +104,8 @@ fn tag<'a>(entries: &ArgMatches<'a>) -> Result<[u8; 4], Refused<'a>>
 }
 
 fn handle<'a>(entries: &ArgMatches<'a>) -> Result<u32, Refused<'a>>
-    ensures { result_ok result ≡ value handle_in option.Handle (entries_of entries.now) }
+    ensures ok { result_ok result ≡ value handle_in option.Handle (entries_of entries.now) }
+    ensures err { IfErr result (Names option.Handle (entries_of entries.now)) }
 {
     let option = CommandOption::Handle;
     let given = required(entries, option)?;
@@ -107,7 +113,8 @@ fn handle<'a>(entries: &ArgMatches<'a>) -> Result<u32, Refused<'a>>
 }
 
 fn workers<'a>(entries: &ArgMatches<'a>) -> Result<u32, Refused<'a>>
-    ensures { result_ok result ≡ workers_given (entries_of entries.now) }
+    ensures ok { result_ok result ≡ workers_given (entries_of entries.now) }
+    ensures err { IfErr result (Names option.Workers (entries_of entries.now)) }
 {
     let option = CommandOption::Workers;
     match given(entries, option) {
@@ -118,7 +125,8 @@ fn workers<'a>(entries: &ArgMatches<'a>) -> Result<u32, Refused<'a>>
 
 #[tactic(auto, unfolding(crate::specs::Requests::question_of))]
 fn question<'a>(command: CommandName, entries: &ArgMatches<'a>) -> Result<Question, Refused<'a>>
-    ensures { result_ok result ≡ question_of command (entries_of entries.now) }
+    ensures ok { result_ok result ≡ question_of command (entries_of entries.now) }
+    ensures err { IfErr result (λ refused. Names refused.option (entries_of entries.now) refused) }
 {
     Ok(match command {
         CommandName::Summary => Question::Summary,
@@ -162,7 +170,8 @@ fn is_hex(entries: &ArgMatches) -> bool
 /// The job of the command with these entries.
 #[tactic(auto, unfolding(crate::specs::Requests::job_of))]
 pub(crate) fn job<'a>(command: CommandName, entries: &ArgMatches<'a>) -> Result<Job, Refused<'a>>
-    ensures { result_ok result ≡ job_of command (entries_of entries.now) }
+    ensures ok { result_ok result ≡ job_of command (entries_of entries.now) }
+    ensures err { IfErr result (λ refused. Names refused.option (entries_of entries.now) refused) }
 {
     Ok(Job {
         question: question(command, entries)?,

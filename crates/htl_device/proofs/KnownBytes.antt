@@ -1,4 +1,4 @@
--- Known bytes over two reads or writes.
+-- Known bytes over two writes.
 use Rattle.std.proofs.Common.{◌≡◌, ◌+◌, ℕ, List, [], ◌++◌, take, drop, sym, append_assoc, Option, Some, None, arith}
 use Rattle.std.specs.Io.KnownBytes.{Appends}
 use Rattle.std.proofs.lemmas.List.{append-nil, drop-take, take-append-drop}

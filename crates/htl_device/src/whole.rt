@@ -50,16 +50,18 @@ impl From<AllocError> for ReadFault {
 pub const MAX_READS: u64 = 4_294_967_296;
 
 /// All bytes of a source, in reads of at most 65,536 bytes. The 2^32-nd read may still find the end, and a
-/// source that gives bytes at each of them has failed.
+/// source that gives bytes at each of them has failed. Memory is asked for once some bytes came.
 pub fn read_whole<R: Source>(alloc: Global, source: &mut R) -> Result<Vec<u8>, ReadFault>
     requires { R.has_failed source.old ≡ false }
     ensures ok { IfOk result (λ v. IfSome (R.remaining source.old) (λ xs. v.items ≡ xs)) }
     ensures fine { OnOk result (R.has_failed source.new ≡ false) }
-    ensures told { R.has_failed source.new ≡ true → result ≡ Err ReadFault.Failed }
+    ensures reported { R.has_failed source.new ≡ true → result ≡ Err ReadFault.Failed }
+    ensures memory { result ≡ Err NoMemory
+        → IfSome (R.remaining source.old) (λ xs. 0 < length xs) }
     ensures failed { IfErr result (λ e. (e ≡ NoMemory) ⊎ ((R.has_failed source.new ≡ true)
         ⊎ IfSome (R.remaining source.old) (λ xs. MAX_READS ≤ length xs))) }
 {
-    let mut buffer = vec![in alloc; 0u8; MAX_READ_LEN]?;
+    let mut buffer = [0u8; MAX_READ_LEN];
     let mut bytes = Vec::new(alloc);
     read_within(source, &mut buffer, &mut bytes, MAX_READS)?;
     Ok(bytes)
@@ -78,7 +80,9 @@ fn read_within<R: Source>(
     requires empty { bytes.old.items ≡ [] }
     ensures ok { OnOk result (IfSome (R.remaining source.old) (λ xs. bytes.new.items ≡ xs)) }
     ensures fine { OnOk result (R.has_failed source.new ≡ false) }
-    ensures told { R.has_failed source.new ≡ true → result ≡ Err ReadFault.Failed }
+    ensures reported { R.has_failed source.new ≡ true → result ≡ Err ReadFault.Failed }
+    ensures memory { result ≡ Err NoMemory
+        → IfSome (R.remaining source.old) (λ xs. 0 < length xs) }
     ensures failed { IfErr result (λ e. (e ≡ NoMemory) ⊎ ((R.has_failed source.new ≡ true)
         ⊎ IfSome (R.remaining source.old) (λ xs. most ≤ length xs))) }
 {

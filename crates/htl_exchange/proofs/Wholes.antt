@@ -27,12 +27,12 @@ none_past T a right p n past taken =
 taken_there : (T : Trace) (a : State) → IsRight a T → (p n : ℕ) → p < a.processors → HasTaken a p n → HasKey T p n
 taken_there T a right p n lt (inl below) = (right.each p lt).complete n below
 taken_there T a right p n lt (inr loose) =
-    let lane = right.state.each p lt in
-    let held = Contains-from_map (λ s. s.number) (held_at a.lanes p) n
-    (subst (λ (ns : List ℕ). Contains ns n) (sym lane.numbers) loose) in (
+    let of_part = right.state.each p lt in
+    let held = Contains-from_map (λ s. s.number) (held_at a.parts p) n
+    (subst (λ (ns : List ℕ). Contains ns n) (sym of_part.numbers) loose) in (
       held.0,
-      at_member (Contains T.segments) (held_at a.lanes p) held.0 (right.each p lt).held held.1,
-      (at_member (IsOwned a.trace_id a.processors p) (held_at a.lanes p) held.0 lane.owned held.1).processor,
+      at_member (Contains T.segments) (held_at a.parts p) held.0 (right.each p lt).held held.1,
+      (at_member (IsOwned a.trace_id a.processors p) (held_at a.parts p) held.0 of_part.owned held.1).processor,
       held.2,
     )
 
@@ -43,4 +43,4 @@ within T a b whole other p n taken = elim (cases_lt p a.processors) [
 ]
 
 pub same_wholes : AreSame
-same_wholes T a b one two = equal_once_compacted T a b one.standing two.standing (within T a b one two) (within T b a two one)
+same_wholes T a b trace one two = equal_once_compacted T a b trace one.standing two.standing (within T a b one two) (within T b a two one)

@@ -57,7 +57,7 @@ impl Model for Desk {
 impl Desk {
     ghost use Rattle.std.specs.Prelude.{◌≡◌, ◌≢◌, ◌↔◌, ◌+◌, ◌≤◌, ◌<◌, ℕ, [], Some};
     ghost use Rattle.std.specs.Prelude.{None, IsSome, IsTrue, IfErr, OnOk, OnErr, Ok};
-    ghost use Rattle.htl_analyst.specs.Right.{IsRight, IsStanding, IsWithin};
+    ghost use Rattle.htl_analyst.specs.Right.{IsRight, IsStanding, KeysAreIn};
     ghost use Rattle.htl_analyst.specs.Keys.{HasTaken};
     ghost use Rattle.htl_exchange.specs.Rule.{all_parts};
     ghost use Rattle.htl_exchange.specs.Moves.{known_of, pushed, joined};
@@ -109,7 +109,7 @@ impl Desk {
             × (self.new.known.parts ≡ self.old.known.parts) }
         ensures follows { FollowsRule self.new }
         ensures got { CollectsAs self.old.hand result self.old.known self.new.known }
-        ensures grows { IsWithin self.old.analyst self.new.analyst }
+        ensures grows { KeysAreIn self.old.analyst self.new.analyst }
         ensures hand { OnOk result (self.new.hand ≡ None) }
         ensures left { OnErr result (IsLeftInHand self.old.analyst self.new.analyst self.new.hand) }
         ensures standing { result ≢ Ok Collected.Nothing
@@ -138,7 +138,7 @@ impl Desk {
         ensures follows { FollowsRule self.new }
         ensures yes { result ≡ Ok Posted.Yes → self.new.known ≡ pushed self.old.known }
         ensures no { result ≢ Ok Posted.Yes → self.new.known ≡ self.old.known }
-        ensures grows { IsWithin self.old.analyst self.new.analyst }
+        ensures grows { KeysAreIn self.old.analyst self.new.analyst }
         ensures hand { OnOk result (self.new.hand ≡ None) }
         ensures left { OnErr result (IsLeftInHand self.old.analyst self.new.analyst self.new.hand) }
     {
@@ -200,7 +200,7 @@ impl Desk {
 
     // Takes in what is in hand.
     fn take_in(&mut self) -> Result<(), NoMemory>
-        ensures grows { IsWithin self.old.analyst self.new.analyst }
+        ensures grows { KeysAreIn self.old.analyst self.new.analyst }
         ensures same { (self.new.exchange ≡ self.old.exchange) × (self.new.known ≡ self.old.known) }
         ensures follows { FollowsRule self.new }
         ensures hand { OnOk result (self.new.hand ≡ None) }
@@ -220,7 +220,7 @@ impl Desk {
 
     // Folds what the analyst holds.
     pub(crate) fn compact(&mut self) -> Result<(), NoMemory>
-        ensures grows { IsWithin self.old.analyst self.new.analyst }
+        ensures grows { KeysAreIn self.old.analyst self.new.analyst }
         ensures same { (self.new.exchange ≡ self.old.exchange) × (self.new.known ≡ self.old.known)
             × (self.new.hand ≡ self.old.hand) }
         ensures follows { FollowsRule self.new }

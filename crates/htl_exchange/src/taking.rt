@@ -2,7 +2,7 @@
 ghost use Rattle.std.specs.Prelude.{◌↔◌, ◌⊎◌, ℕ, Some, OnOk, IfErr, Contains};
 ghost use Rattle.htl_segment.specs.Traces.{Trace};
 ghost use Rattle.htl_analyst.specs.Keys.{HasTaken};
-ghost use Rattle.htl_analyst.specs.Right.{IsRight, IsWithin};
+ghost use Rattle.htl_analyst.specs.Right.{IsRight, KeysAreIn};
 ghost use Rattle.htl_exchange.specs.Parcels.{Brings, IsOf, HasSegment};
 ghost use Rattle.htl_exchange.specs.Collects.{IsLeftInHand};
 ghost use Rattle.htl_segment.specs.Content.{Content};
@@ -16,7 +16,7 @@ use std::alloc::Global;
 /// memory is refused comes back.
 pub(crate) fn take_parcel(analyst: &mut Analyst<Global>, parcel: Parcel) -> Result<(), Parcel>
     requires { (T : Trace) × IsRight analyst.old T × IsOf T parcel }
-    ensures grows { IsWithin analyst.old analyst.new }
+    ensures grows { KeysAreIn analyst.old analyst.new }
     ensures right { (T : Trace) → IsRight analyst.old T → IsOf T parcel → IsRight analyst.new T }
     ensures taken { OnOk result ((p n : ℕ) → HasTaken analyst.new p n
         ↔ (HasTaken analyst.old p n ⊎ Brings parcel p n)) }
@@ -43,7 +43,7 @@ pub(crate) fn take_parcel(analyst: &mut Analyst<Global>, parcel: Parcel) -> Resu
 fn take_run(analyst: &mut Analyst<Global>, segments: Vec<Segment>) -> Result<(), Vec<Segment>>
     requires { (T : Trace) × IsRight analyst.old T
         × ((s : Content) → Contains segments.items s → Contains T.segments s) }
-    ensures grows { IsWithin analyst.old analyst.new }
+    ensures grows { KeysAreIn analyst.old analyst.new }
     ensures right { (T : Trace) → IsRight analyst.old T
         → ((s : Content) → Contains segments.items s → Contains T.segments s)
         → IsRight analyst.new T }

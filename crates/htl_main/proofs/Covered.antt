@@ -55,27 +55,27 @@ order_back : (ss ts : List Content) → AreInOrder (ss ++ ts) → AreInOrder ts
 order_back [] ts ordered = ordered
 order_back (s ∷ ss) ts ordered = order_back ss ts ordered.1
 
-module _ (T : Trace) (p : ℕ) (own behind : List Content) (rest : AreFrom T p (own ++ behind))
-    (are : All (λ s. s.processor ≡ p) own) (above : All (λ s. p < s.processor) behind) where
+module _ (T : Trace) (p : ℕ) (own after : List Content) (rest : AreFrom T p (own ++ after))
+    (are : All (λ s. s.processor ≡ p) own) (above : All (λ s. p < s.processor) after) where
   pub own_front : AreOwn T p own
   own_front = record {
-    in_order = order_front own behind rest.in_order;
+    in_order = order_front own after rest.in_order;
     members = λ s. (
-      (λ h. (((rest.members s).0 (Contains-append_left own behind s h)).0, All-contains (λ t. t.processor ≡ p) own s are h)),
-      (λ h. let e = h.1 in elim (Contains-append_cases own behind s ((rest.members s).1 (h.0, omega (arith, e)))) [
+      (λ h. (((rest.members s).0 (Contains-append_left own after s h)).0, All-contains (λ t. t.processor ≡ p) own s are h)),
+      (λ h. let e = h.1 in elim (Contains-append_cases own after s ((rest.members s).1 (h.0, omega (arith, e)))) [
         | inl front ↦ front
-        | inr back ↦ let lt = All-contains (λ t. p < t.processor) behind s above back in absurd (omega (arith, e, lt))
+        | inr back ↦ let lt = All-contains (λ t. p < t.processor) after s above back in absurd (omega (arith, e, lt))
       ]),
     );
   }
 
-  pub next_back : AreFrom T (p + 1) behind
+  pub next_back : AreFrom T (p + 1) after
   next_back = record {
-    in_order = order_back own behind rest.in_order;
+    in_order = order_back own after rest.in_order;
     members = λ s. (
-      (λ h. let lt = All-contains (λ t. p < t.processor) behind s above h in
-          (((rest.members s).0 (Contains-append_right own behind s h)).0, omega (arith, lt))),
-      (λ h. let le = h.1 in elim (Contains-append_cases own behind s ((rest.members s).1 (h.0, omega (arith, le)))) [
+      (λ h. let lt = All-contains (λ t. p < t.processor) after s above h in
+          (((rest.members s).0 (Contains-append_right own after s h)).0, omega (arith, lt))),
+      (λ h. let le = h.1 in elim (Contains-append_cases own after s ((rest.members s).1 (h.0, omega (arith, le)))) [
         | inl front ↦ let e = All-contains (λ t. t.processor ≡ p) own s are front in absurd (omega (arith, e, le))
         | inr back ↦ back
       ]),

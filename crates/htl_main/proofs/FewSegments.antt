@@ -60,7 +60,7 @@ few_events T is =
     let events = few_each T.segments is.fit in
     omega (arith, segments, events)
 
--- a first part of the segments, and the one behind it, have no more
+-- a first part of the segments, and the one after it, have no more
 pub with_next : (i : ℕ) (ss : List Content) (s : Content) → i < length ss → s ≡ get_or ss i s
     → length (all_events (take i ss)) + length s.events ≤ length (all_events ss)
 with_next i [] s lt is = absurd (omega (arith, lt))

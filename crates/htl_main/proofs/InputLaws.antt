@@ -1,4 +1,4 @@
--- Inputs one after another: what is decoded, and what is told of the first that is refused.
+-- Inputs one after another: what is decoded, and what is reported of the first that is refused.
 use Rattle.std.proofs.Common.{◌≡◌, ◌⊎◌, ◌+◌, ◌<◌, ℕ, Bool, true, false, List, [], ◌∷◌, ◌++◌, length, map, take, refl, ap, ◌∙◌, sym}
 use Rattle.std.proofs.Common.{append_assoc, inl, inr, Some, arith, Vec, Global}
 use Rattle.std.specs.Prelude.{slice_get}
@@ -16,22 +16,22 @@ use Rattle.htl_segment.specs.declared.fault.Fault.{Fault}
 use Rattle.htl_segment.specs.declared.fault.Fault.TheVariants as faults
 use Rattle.htl_main.specs.declared.fault.RunFault.TheVariants.{Segment}
 use Rattle.htl_main.specs.Faults.{of_segment}
-use Rattle.htl_main.specs.Inputs.{AsksMemory, Decodes, DecodeAll, IsTold}
+use Rattle.htl_main.specs.Inputs.{AsksMemory, Decodes, DecodeAll, IsReported}
 
--- out of memory is told as itself, and every other fault by its input and offset
+-- out of memory is reported as itself, and every other fault by its input and offset
 pub segment_fault : (input offset : ℕ) (fault : Fault) → is_memory fault ≡ false
     → of_segment input offset fault ≡ Segment input offset fault
 segment_fault input offset faults.NoMemory other = absurd cc
 segment_fault input offset fault other = refl
 
 -- the fault of an input that is given as bytes
-pub told_bytes : (place : ℕ) (bytes : List ℕ) (offset : ℕ) (fault : Fault)
+pub reported_bytes : (place : ℕ) (bytes : List ℕ) (offset : ℕ) (fault : Fault)
     → BundleFault bytes offset fault ⊎ ((fault ≡ faults.NoMemory) × SegmentAt bytes offset)
-    → IsTold false place bytes (of_segment place offset fault)
-told_bytes place bytes offset fault (inl found) =
+    → IsReported false place bytes (of_segment place offset fault)
+reported_bytes place bytes offset fault (inl found) =
     rw (segment_fault place offset fault (first_fault-no_memory found.rest fault found.fault_is))
     (refl, record { bytes = bytes; has = refl; is = found })
-told_bytes place bytes offset fault (inr asked) = rw (asked.0) (offset, asked.1)
+reported_bytes place bytes offset fault (inr asked) = rw (asked.0) (offset, asked.1)
 
 -- one input more
 pub decode_more : (hex : Bool) (inputs : List (List ℕ)) (input : List ℕ) (before after : List Content) → DecodeAll hex inputs before

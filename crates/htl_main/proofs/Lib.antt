@@ -5,7 +5,6 @@ pub mod FewSegments
 pub mod OfProcessor
 pub mod Covered
 pub mod WholeLaws
-pub mod OneTable
 pub mod OneSummary
 pub mod OneOutcome
 pub mod OneCoverage

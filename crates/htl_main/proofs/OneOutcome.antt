@@ -34,12 +34,12 @@ use Rattle.htl_report.specs.Listings.{trace_text}
 use Rattle.htl_command.specs.declared.question.Job.{Job}
 use Rattle.htl_command.specs.declared.question.Question.{Question}
 use Rattle.htl_command.specs.declared.question.Question.TheVariants as asked
-use Rattle.htl_main.specs.Inputs.{HasBytes, Decodes, DecodeAll, HasBundleFault, HasHexFault, IsTold, StopsAt}
-use Rattle.htl_main.specs.Printed.{IsText, IsTextOver, HasSymbols, HasSymbolFault, Answers, IsPrinted, WorkersFit, Printed}
+use Rattle.htl_main.specs.Inputs.{HasBytes, Decodes, DecodeAll, HasBundleFault, HasHexFault, IsReported, StopsAt}
+use Rattle.htl_main.specs.Printed.{IsText, IsTextOver, HasSymbols, HasSymbolFault, AreAnswerLines, IsPrinted, WorkersFit, Printed}
 use Rattle.htl_main.specs.declared.fault.RunFault.{RunFault}
 use Rattle.htl_main.specs.declared.fault.RunFault.TheVariants.{Workers, Segment, Hex, Case, Symbols, Memory}
 use Rattle.htl_main.proofs.OneSummary.{one_summary}
-use Rattle.htl_main.proofs.OneTable.{one_table, one_symbol_fault, table_has_no_fault}
+use Rattle.htl_symbols.proofs.OneTable.{one_table, one_symbol_fault, table_has_no_fault}
 
 -- ---- one input
 
@@ -77,34 +77,34 @@ no_hex_fault : (hex : Bool) (input bytes : List ℕ) (fault : HexFault) → HasH
 no_hex_fault false input bytes fault p has = let no = p.0 in cc
 no_hex_fault true input bytes fault p has = let none = has.0 in let some = p.1 in cc
 
--- what is told of an input, but for out of memory
-abbrev Told : Bool → ℕ → List ℕ → RunFault → Type 0
-Told hex place input fault =
+-- what is reported of an input, but for out of memory
+abbrev Reported : Bool → ℕ → List ℕ → RunFault → Type 0
+Reported hex place input fault =
     ((offset : ℕ) × (f : Fault) × HasBundleFault hex input offset f × (fault ≡ Segment place offset f))
     ⊎ ((f : HexFault) × HasHexFault hex input f × (fault ≡ Hex place f))
 
-cases_told : (hex : Bool) (place : ℕ) (input : List ℕ) (fault : RunFault) → fault ≢ Memory → IsTold hex place input fault
-    → Told hex place input fault
-cases_told hex place input (Segment at offset f) told is = inl (offset, f, is.1, ap (λ (p : ℕ). Segment p offset f) is.0)
-cases_told hex place input (Hex at f) told is = inr (f, is.1, ap (λ (p : ℕ). Hex p f) is.0)
-cases_told hex place input Memory told is = absurd (told refl)
-cases_told hex place input other told is = absurd is
+cases_reported : (hex : Bool) (place : ℕ) (input : List ℕ) (fault : RunFault) → fault ≢ Memory → IsReported hex place input fault
+    → Reported hex place input fault
+cases_reported hex place input (Segment at offset f) reported is = inl (offset, f, is.1, ap (λ (p : ℕ). Segment p offset f) is.0)
+cases_reported hex place input (Hex at f) reported is = inr (f, is.1, ap (λ (p : ℕ). Hex p f) is.0)
+cases_reported hex place input Memory reported is = absurd (reported refl)
+cases_reported hex place input other reported is = absurd is
 
-one_told : (hex : Bool) (place : ℕ) (input : List ℕ) (f g : RunFault) → Told hex place input f → Told hex place input g → f ≡ g
-one_told hex place input f g (inl p) (inl q) =
+one_reported : (hex : Bool) (place : ℕ) (input : List ℕ) (f g : RunFault) → Reported hex place input f → Reported hex place input g → f ≡ g
+one_reported hex place input f g (inl p) (inl q) =
     let both = one_bundle_fault hex input p.0 q.0 p.1 q.1 p.2 q.2 in
     p.3 ∙ ap (λ (n : ℕ). Segment place n p.1) both.0 ∙ ap (λ (x : Fault). Segment place q.0 x) both.1 ∙ sym q.3
-one_told hex place input f g (inl p) (inr q) = absurd (no_hex_fault hex input p.2.bytes q.0 q.1 p.2.has)
-one_told hex place input f g (inr p) (inl q) = absurd (no_hex_fault hex input q.2.bytes p.0 p.1 q.2.has)
-one_told hex place input f g (inr p) (inr q) =
+one_reported hex place input f g (inl p) (inr q) = absurd (no_hex_fault hex input p.2.bytes q.0 q.1 p.2.has)
+one_reported hex place input f g (inr p) (inl q) = absurd (no_hex_fault hex input q.2.bytes p.0 p.1 q.2.has)
+one_reported hex place input f g (inr p) (inr q) =
     let same = sym p.1.1 ∙ q.1.1 in
     let one : p.0 ≡ q.0 = cc in
     p.2 ∙ ap (λ (x : HexFault). Hex place x) one ∙ sym q.2
 
-decoded_not_told : (hex : Bool) (place : ℕ) (input : List ℕ) (ss : List Content) (fault : RunFault) → Decodes hex input ss
-    → Told hex place input fault → ⊥
-decoded_not_told hex place input ss fault is (inl p) = not_faulty hex input ss p.0 p.1 is p.2
-decoded_not_told hex place input ss fault is (inr p) = no_hex_fault hex input is.bytes p.0 p.1 is.has
+decoded_not_reported : (hex : Bool) (place : ℕ) (input : List ℕ) (ss : List Content) (fault : RunFault) → Decodes hex input ss
+    → Reported hex place input fault → ⊥
+decoded_not_reported hex place input ss fault is (inl p) = not_faulty hex input ss p.0 p.1 is p.2
+decoded_not_reported hex place input ss fault is (inr p) = no_hex_fault hex input is.bytes p.0 p.1 is.has
 
 -- ---- all inputs
 
@@ -129,39 +129,39 @@ taken_at (x ∷ inputs) (suc n) zero input lt here = here
 taken_at (x ∷ inputs) (suc n) (suc place) input lt here = taken_at inputs n place input (omega (arith, lt)) here
 
 abbrev Stops : Bool → List (List ℕ) → RunFault → Type 0
-Stops hex inputs fault = StopsAt hex (IsTold hex) inputs fault
+Stops hex inputs fault = StopsAt hex (IsReported hex) inputs fault
 
 -- of two inputs that are refused the first one would be decoded
 none_before : (hex : Bool) (inputs : List (List ℕ)) (f g : RunFault) (p : Stops hex inputs f) (q : Stops hex inputs g) → f ≢ Memory
     → p.place < q.place → ⊥
-none_before hex inputs f g p q told lt =
+none_before hex inputs f g p q reported lt =
     let at = decoded_at hex (take q.place inputs) p.place p.input q.segments q.before
     (taken_at inputs q.place p.place p.input lt p.here) in
-    decoded_not_told hex p.place p.input at.0 f at.1 (cases_told hex p.place p.input f told p.told)
+    decoded_not_reported hex p.place p.input at.0 f at.1 (cases_reported hex p.place p.input f reported p.reported)
 
 same_input : (hex : Bool) (inputs : List (List ℕ)) (f g : RunFault) (p : Stops hex inputs f) (q : Stops hex inputs g) → f ≢ Memory
     → g ≢ Memory → p.place ≡ q.place → f ≡ g
-same_input hex inputs f g p q told told_too same =
+same_input hex inputs f g p q reported reported_too same =
     let there = subst (λ (n : ℕ). slice_get inputs n ≡ Some q.input) (sym same) q.here in
     let input : q.input ≡ p.input = some_is q.input p.input (sym there ∙ p.here) in
-    one_told hex p.place p.input f g (cases_told hex p.place p.input f told p.told)
-    (cases_told hex p.place p.input g told_too
-    (subst (λ (i : List ℕ). IsTold hex p.place i g) input (subst (λ (n : ℕ). IsTold hex n q.input g) (sym same) q.told)))
+    one_reported hex p.place p.input f g (cases_reported hex p.place p.input f reported p.reported)
+    (cases_reported hex p.place p.input g reported_too
+    (subst (λ (i : List ℕ). IsReported hex p.place i g) input (subst (λ (n : ℕ). IsReported hex n q.input g) (sym same) q.reported)))
 
 one_stop : (hex : Bool) (inputs : List (List ℕ)) (f g : RunFault) → Stops hex inputs f → Stops hex inputs g → f ≢ Memory → g ≢ Memory
     → f ≡ g
-one_stop hex inputs f g p q told told_too =
+one_stop hex inputs f g p q reported reported_too =
     elim (cases_order p.place q.place) [
-      | inl same ↦ same_input hex inputs f g p q told told_too same
-      | inr (inl lt) ↦ absurd (none_before hex inputs f g p q told lt)
-      | inr (inr gt) ↦ absurd (none_before hex inputs g f q p told_too gt)
+      | inl same ↦ same_input hex inputs f g p q reported reported_too same
+      | inr (inl lt) ↦ absurd (none_before hex inputs f g p q reported lt)
+      | inr (inr gt) ↦ absurd (none_before hex inputs g f q p reported_too gt)
     ]
 
 not_decoded : (hex : Bool) (inputs : List (List ℕ)) (fault : RunFault) (ss : List Content) → Stops hex inputs fault → fault ≢ Memory
     → DecodeAll hex inputs ss → ⊥
-not_decoded hex inputs fault ss p told all =
+not_decoded hex inputs fault ss p reported all =
     let at = decoded_at hex inputs p.place p.input ss all p.here in
-    decoded_not_told hex p.place p.input at.0 fault at.1 (cases_told hex p.place p.input fault told p.told)
+    decoded_not_reported hex p.place p.input at.0 fault at.1 (cases_reported hex p.place p.input fault reported p.reported)
 
 -- ---- one answer
 
@@ -233,7 +233,7 @@ one_case_fault segments f g p q = elim (exact_fault segments f (Err g) p.1 q) [
     fault_is x y e = cc
 
 one_answer : (segments : List Content) (symbols : Option (List ℕ)) (question : Question) (a b : List ℕ)
-    → Answers segments symbols question a → Answers segments symbols question b → a ≡ b
+    → AreAnswerLines segments symbols question a → AreAnswerLines segments symbols question b → a ≡ b
 one_answer segments symbols question a b p q =
     let trace = one_case segments p.trace q.trace p.of_case q.of_case in
     let table = one_symbols symbols p.table q.table p.named q.named in

@@ -13,7 +13,7 @@ use Rattle.htl_segment.proofs.BundleLaws.{first_fault-rest, first_fault-no_memor
 use Rattle.htl_segment.proofs.PiecesLaws.{Brought, brought, splits_next}
 use Rattle.htl_main.specs.declared.fault.RunFault.{RunFault}
 use Rattle.htl_main.specs.Faults.{of_segment}
-use Rattle.htl_main.specs.Sources.{IsToldOfSource}
+use Rattle.htl_main.specs.Sources.{IsReportedOfSource}
 use Rattle.htl_main.proofs.InputLaws.{segment_fault}
 
 -- the bytes that were taken in: those of the segments, and the rest
@@ -22,10 +22,6 @@ taken segments rest = bundle segments ++ rest
 
 pub taken_splits : (segments : List Content) (rest : List ℕ) → All Fits segments → Splits (taken segments rest) segments rest
 taken_splits segments rest fits = record { parts = refl; fits = fits }
-
-pub if_each : (o : Option (List ℕ)) (P : List ℕ → Type 0) → ((x : List ℕ) → P x) → IfSome o P
-if_each None P each = tt
-if_each (Some x) P each = each x
 
 -- one more piece
 pub taken_next : (first mid last : Option (List ℕ)) (segments more : List Content) (rest new piece : List ℕ) → All Fits segments
@@ -44,9 +40,9 @@ ended_whole first mid last segments rest fits given none end empty =
     (Consumes-trans first mid last (taken segments rest) [] given none) end
     (rw empty record { parts = append-nil (bundle segments ++ []); fits = fits })
 
-fault_told : (place : ℕ) (bytes : List ℕ) (offset : ℕ) (fault : Fault) → BundleFault bytes offset fault
-    → IsToldOfSource false place bytes (of_segment place offset fault)
-fault_told place bytes offset fault found =
+fault_reported : (place : ℕ) (bytes : List ℕ) (offset : ℕ) (fault : Fault) → BundleFault bytes offset fault
+    → IsReportedOfSource false place bytes (of_segment place offset fault)
+fault_reported place bytes offset fault found =
     rw (segment_fault place offset fault (first_fault-no_memory found.rest fault found.fault_is))
     (refl, record { bytes = bytes; has = refl; is = found })
 
@@ -54,7 +50,7 @@ fault_told place bytes offset fault found =
 pub ended_inside : (first mid last : Option (List ℕ)) (place : ℕ) (s : SplitterState) (segments : List Content) → All Fits segments
     → s.fed ≡ length (taken segments s.rest) → Consumes first mid (taken segments s.rest) → Consumes mid last [] → IsAtEnd last
     → 0 < length s.rest → IsRest s.rest
-    → IfSome first (λ bytes. IsToldOfSource false place bytes (of_segment place (start_of s) (cut_off s.rest)))
+    → IfSome first (λ bytes. IsReportedOfSource false place bytes (of_segment place (start_of s) (cut_off s.rest)))
 ended_inside first mid last place s segments fits fed given none end some rest =
     let a = taken segments s.rest in
     let found : BundleFault a (start_of s) (cut_off s.rest) = record {
@@ -65,38 +61,41 @@ ended_inside first mid last place s segments fits fed given none end some rest =
       some = some;
       fault_is = first_fault-rest s.rest rest;
     } in
-    Consumes-whole first last (a ++ []) (λ bytes. IsToldOfSource false place bytes (of_segment place (start_of s) (cut_off s.rest)))
+    Consumes-whole first last (a ++ []) (λ bytes. IsReportedOfSource false place bytes (of_segment place (start_of s) (cut_off s.rest)))
     (Consumes-trans first mid last a [] given none) end
-    (rw (append-nil a) (fault_told place a (start_of s) (cut_off s.rest) found))
+    (rw (append-nil a) (fault_reported place a (start_of s) (cut_off s.rest) found))
 
-brought_told : (place : ℕ) (a more : List ℕ) (offset : ℕ) (fault : Fault) → Brought a more offset fault
-    → IsToldOfSource false place (a ++ more) (of_segment place offset fault)
-brought_told place a more offset fault found =
+brought_reported : (place : ℕ) (a more : List ℕ) (offset : ℕ) (fault : Fault) → 0 < length (a ++ more) → Brought a more offset fault
+    → IsReportedOfSource false place (a ++ more) (of_segment place offset fault)
+brought_reported place a more offset fault some found =
     elim (found.cause) [
-      | inl first ↦ fault_told place (a ++ more) offset fault first
-      | inr asked ↦ rw (asked.0) tt
+      | inl first ↦ fault_reported place (a ++ more) offset fault first
+      | inr asked ↦ rw (asked.0) (inl some)
     ]
 
 -- a piece was refused
 pub refused : (first mid last : Option (List ℕ)) (place : ℕ) (s : SplitterState) (segments : List Content) (piece : List ℕ)
     (refusal : ℕ × Fault) → All Fits segments → s.fed ≡ length (taken segments s.rest)
-    → Consumes first mid (taken segments s.rest) → Consumes mid last piece → RefusesPiece s piece refusal
-    → IfSome first (λ bytes. IsToldOfSource false place bytes (of_segment place refusal.0 refusal.1))
-refused None mid last place s segments piece refusal fits fed given read refuses = tt
-refused (Some xs) None last place s segments piece refusal fits fed given read refuses = absurd given
-refused (Some xs) (Some ys) None place s segments piece refusal fits fed given read refuses = absurd read
-refused (Some xs) (Some ys) (Some zs) place s segments piece refusal fits fed given read refuses =
+    → Consumes first mid (taken segments s.rest) → Consumes mid last piece → 0 < length piece → RefusesPiece s piece refusal
+    → IfSome first (λ bytes. IsReportedOfSource false place bytes (of_segment place refusal.0 refusal.1))
+refused None mid last place s segments piece refusal fits fed given read some refuses = tt
+refused (Some xs) None last place s segments piece refusal fits fed given read some refuses = absurd given
+refused (Some xs) (Some ys) None place s segments piece refusal fits fed given read some refuses = absurd read
+refused (Some xs) (Some ys) (Some zs) place s segments piece refusal fits fed given read some refuses =
     let a = taken segments s.rest in
     let found = brought s a piece zs segments refusal (taken_splits segments s.rest fits) fed refuses in
     let all : xs ≡ (a ++ piece) ++ zs = given ∙ ap (λ (l : List ℕ). a ++ l) read ∙ sym (append_assoc a piece zs) in
-    rw all (brought_told place (a ++ piece) zs refusal.0 refusal.1 found)
+    let more : 0 < length ((a ++ piece) ++ zs) = omega (arith, some, length-append (a ++ piece) zs, length-append a piece) in
+    rw all (brought_reported place (a ++ piece) zs refusal.0 refusal.1 more found)
 
--- so many bytes were given
-pub given_within : (first last : Option (List ℕ)) (bytes : List ℕ) (n : ℕ) → Consumes first last bytes → n ≤ length bytes
-    → IfSome first (λ all. n ≤ length all)
-given_within None last bytes n given few = tt
-given_within (Some xs) None bytes n given few = absurd given
-given_within (Some xs) (Some ys) bytes n given few = omega (arith, ap length given, length-append bytes ys, few)
+-- a source that gave some bytes has some
+pub some_given : (first mid last : Option (List ℕ)) (so_far piece : List ℕ) → Consumes first mid so_far → Consumes mid last piece
+    → 0 < length piece → IfSome first (λ bytes. 0 < length bytes)
+some_given None mid last so_far piece given read some = tt
+some_given (Some xs) None last so_far piece given read some = absurd given
+some_given (Some xs) (Some ys) None so_far piece given read some = absurd read
+some_given (Some xs) (Some ys) (Some zs) so_far piece given read some =
+    omega (arith, ap length given, ap length read, length-append so_far ys, length-append piece zs, some)
 
 -- one more read
 pub read_bounded : (i size fed n : ℕ) → fed ≤ i * size → n ≤ size → fed + n ≤ (i + 1) * size
@@ -117,7 +116,7 @@ pub finished_inside : (first mid last : Option (List ℕ)) (place : ℕ) (s : Sp
     (result : Result (Vec Content Global) RunFault) → All Fits segments
     → s.fed ≡ length (taken segments s.rest) → Consumes first mid (taken segments s.rest) → Consumes mid last [] → IsAtEnd last
     → IfErr result (λ fault. (0 < length s.rest) × IsRest s.rest × (fault ≡ of_segment place (start_of s) (cut_off s.rest)))
-    → IfErr result (λ fault. IfSome first (λ bytes. IsToldOfSource false place bytes fault))
+    → IfErr result (λ fault. IfSome first (λ bytes. IsReportedOfSource false place bytes fault))
 finished_inside first mid last place s segments (Ok given) fits fed so_far none end is = tt
 finished_inside first mid last place s segments (Err fault) fits fed so_far none end is =
     rw (is.2) (ended_inside first mid last place s segments fits fed so_far none end is.0 is.1)

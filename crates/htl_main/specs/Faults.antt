@@ -1,4 +1,4 @@
--- How the faults of the crates below are told as faults of a run (this project's own): out of memory is one
+-- How the faults of the crates below are reported as faults of a run (this project's own): out of memory is one
 -- fault wherever it comes, and every other one says of which input it is, or of what.
 use Rattle.std.specs.Prelude.{◌≡◌, ℕ}
 use Rattle.htl_device.specs.declared.whole.ReadFault.{ReadFault}
@@ -47,6 +47,6 @@ of_survey surveys.Workers = Workers
 of_survey surveys.NoMemory = Memory
 of_survey surveys.NoThread = NoThread
 
--- out of memory, whatever tells it
+-- out of memory, whatever reports it
 abbrev pub IsMemory : RunFault → Type 0
 IsMemory fault = fault ≡ Memory

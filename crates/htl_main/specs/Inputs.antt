@@ -40,18 +40,18 @@ abbrev pub AsksMemory : Bool → List ℕ → Type 0
 AsksMemory true input = hex_fault input ≡ None
 AsksMemory false input = (offset : ℕ) × SegmentAt input offset
 
--- what is told of the input at a place: its first fault, and out of memory only where it is asked for
-abbrev pub IsTold : Bool → ℕ → List ℕ → RunFault → Type 0
-IsTold hex place input (Segment at offset fault) = (at ≡ place) × HasBundleFault hex input offset fault
-IsTold hex place input (Hex at fault) = (at ≡ place) × HasHexFault hex input fault
-IsTold hex place input Memory = AsksMemory hex input
-IsTold hex place input other = ⊥
+-- what is reported of the input at a place: its first fault, and out of memory only where it is asked for
+abbrev pub IsReported : Bool → ℕ → List ℕ → RunFault → Type 0
+IsReported hex place input (Segment at offset fault) = (at ≡ place) × HasBundleFault hex input offset fault
+IsReported hex place input (Hex at fault) = (at ≡ place) × HasHexFault hex input fault
+IsReported hex place input Memory = AsksMemory hex input
+IsReported hex place input other = ⊥
 
--- the inputs before one are decoded, and this is told of that one
-pub record StopsAt (hex : Bool) (Told : ℕ → List ℕ → RunFault → Type 0) (inputs : List (List ℕ)) (fault : RunFault) : Type 0 where
+-- the inputs before one are decoded, and this is reported of that one
+pub record StopsAt (hex : Bool) (Reported : ℕ → List ℕ → RunFault → Type 0) (inputs : List (List ℕ)) (fault : RunFault) : Type 0 where
   pub place : ℕ
   pub input : List ℕ
   pub here : slice_get inputs place ≡ Some input
   pub segments : List Content
   pub before : DecodeAll hex (take place inputs) segments
-  pub told : Told place input fault
+  pub reported : Reported place input fault

@@ -21,7 +21,7 @@ use Rattle.htl_report.specs.Listings.{trace_text}
 use Rattle.htl_command.specs.declared.question.Job.{Job}
 use Rattle.htl_command.specs.declared.question.Question.{Question}
 use Rattle.htl_command.specs.declared.question.Question.TheVariants as asked
-use Rattle.htl_main.specs.Inputs.{DecodeAll, IsTold, StopsAt}
+use Rattle.htl_main.specs.Inputs.{DecodeAll, IsReported, StopsAt}
 use Rattle.htl_main.specs.Summaries.{IsSummaryText}
 use Rattle.htl_main.specs.declared.fault.RunFault.{RunFault}
 use Rattle.htl_main.specs.declared.fault.RunFault.TheVariants.{Workers, Segment, Hex, Case, Symbols}
@@ -63,7 +63,7 @@ HasSymbolFault None fault = ⊥
 HasSymbolFault (Some bytes) fault = (fault ≢ symbol_faults.NoMemory) × Reads (records_of bytes) (Err fault)
 
 -- the lines are those of the answer over the trace of the case of the segments
-pub record Answers (segments : List Content) (symbols : Option (List ℕ)) (question : Question) (lines : List ℕ) : Type 0 where
+pub record AreAnswerLines (segments : List Content) (symbols : Option (List ℕ)) (question : Question) (lines : List ℕ) : Type 0 where
   pub trace : Trace
   pub of_case : IsCaseOf segments trace
   pub table : List Range
@@ -73,7 +73,7 @@ pub record Answers (segments : List Content) (symbols : Option (List ℕ)) (ques
 -- What decoded segments come to: the lines of the answer, or the first rule that they break as a case, or else
 -- the first fault of the symbols.
 abbrev pub IsPrinted : List Content → Option (List ℕ) → Question → Result (List ℕ) RunFault → Type 0
-IsPrinted segments symbols question (Ok lines) = Answers segments symbols question lines
+IsPrinted segments symbols question (Ok lines) = AreAnswerLines segments symbols question lines
 IsPrinted segments symbols question (Err (Case fault)) = IsOutcome segments (Err fault)
 IsPrinted segments symbols question (Err (Symbols fault)) = (T : Trace) × IsCaseOf segments T × HasSymbolFault symbols fault
 IsPrinted segments symbols question (Err other) = ⊥
@@ -87,8 +87,8 @@ WorkersFit workers = (0 < workers) × (workers ≤ 8)
 abbrev pub Printed : Job → List (List ℕ) → Option (List ℕ) → Result (List ℕ) RunFault → Type 0
 Printed job inputs symbols (Err Workers) = WorkersFit job.workers → ⊥
 Printed job inputs symbols (Err (Segment at offset fault)) =
-    WorkersFit job.workers × StopsAt job.hex (IsTold job.hex) inputs (Segment at offset fault)
-Printed job inputs symbols (Err (Hex at fault)) = WorkersFit job.workers × StopsAt job.hex (IsTold job.hex) inputs (Hex at fault)
+    WorkersFit job.workers × StopsAt job.hex (IsReported job.hex) inputs (Segment at offset fault)
+Printed job inputs symbols (Err (Hex at fault)) = WorkersFit job.workers × StopsAt job.hex (IsReported job.hex) inputs (Hex at fault)
 Printed job inputs symbols outcome =
     WorkersFit job.workers
     × (segments : List Content) × DecodeAll job.hex inputs segments × IsPrinted segments symbols job.question outcome

@@ -3,19 +3,19 @@ use Rattle.std.specs.Prelude.{◌≡◌, ◌≢◌, ◌≤◌, ◌⊎◌, ℕ, B
 use Rattle.htl_main.specs.declared.fault.RunFault.{RunFault}
 use Rattle.htl_main.specs.declared.fault.RunFault.TheVariants.{Read, Write}
 
--- a read that failed is told
-abbrev pub TellsFailure : {S : Type 0} → ℕ → Bool → Result S RunFault → Type 0
-TellsFailure place failed result = failed ≡ true → result ≡ Err (Read place)
+-- a read that failed is reported
+abbrev pub ReportsFailure : {S : Type 0} → ℕ → Bool → Result S RunFault → Type 0
+ReportsFailure place failed result = failed ≡ true → result ≡ Err (Read place)
 
--- a failed read is told of this source, and only where one failed, or where the bytes, if they are known, may be too many reads
+-- a failed read is reported of this source, and only where one failed, or where the bytes, if they are known, may be too many reads
 abbrev pub FailsOnly : {S : Type 0} → ℕ → Bool → Option (List ℕ) → ℕ → Result S RunFault → Type 0
 FailsOnly place failed known most result =
     (at : ℕ) → result ≡ Err (Read at) → (at ≡ place) × ((failed ≡ true) ⊎ IfSome known (λ bytes. most ≤ length bytes))
 
--- no failed read is told
+-- no failed read is reported
 abbrev pub NeverRead : {S : Type 0} → Result S RunFault → Type 0
 NeverRead result = (at : ℕ) → result ≡ Err (Read at) → ⊥
 
--- no failed write is told
+-- no failed write is reported
 abbrev pub NeverWrite : {S : Type 0} → Result S RunFault → Type 0
 NeverWrite result = IfErr result (λ fault. fault ≢ Write)

@@ -8,6 +8,7 @@ ghost use Rattle.htl_report.specs.Texts.{text_of};
 ghost use Rattle.htl_analyst.specs.Right.{IsRight};
 ghost use Rattle.htl_analyst.specs.TakenEvents.{taken_events};
 ghost use Rattle.htl_exchange.specs.Desks.{IsWholeStanding};
+ghost use Rattle.htl_main.specs.Causes.{StartsWorkers};
 ghost use Rattle.htl_main.specs.Printed.{IsText, IsTextOver, WorkersFit};
 ghost use Rattle.htl_main.specs.Questions.{IsOfAnalyst};
 
@@ -34,7 +35,8 @@ pub(crate) fn answer<Rt: Threads + Wait + Sync>(
     requires { WorkersFit job.now.workers }
     ensures ok { IfOk result (λ answer. (table : List Range)
         → IsText case table job.now.question (text_of table answer)) }
-    ensures err { IfErr result (λ fault. (fault ≡ RunFault.Memory) ⊎ (fault ≡ RunFault.NoThread)) }
+    ensures err { IfErr result (λ fault. (fault ≡ RunFault.Memory)
+        ⊎ ((fault ≡ RunFault.NoThread) × StartsWorkers job.now.question)) }
 {
     let _is_case = case.segments();
     match job.question {

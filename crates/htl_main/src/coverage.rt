@@ -33,23 +33,23 @@ impl Coverage {
         let mut complete_to = u64::MAX;
         let mut rest = case.segments();
         for processor in 0..case.processors() {
-            let (own, behind) = split_at_processor(rest, processor);
+            let (own, after) = split_at_processor(rest, processor);
             gaps += gap_count(own);
             complete_to = greatest_sequence(unbroken(own)).min(complete_to);
-            rest = behind;
+            rest = after;
         }
         Coverage { gaps, complete_to }
     }
 }
 
-/// The segments of the processor, and those of the processors behind it, where there are none of
+/// The segments of the processor, and those of the processors after it, where there are none of
 /// the processors before it.
 fn split_at_processor(segments: &[Segment], processor: u16) -> (&[Segment], &[Segment])
     requires in_order { AreInOrder segments.now }
     requires none_before { All (λ s. processor ≤ s.processor) segments.now }
     ensures parts { result.0.now ++ result.1.now ≡ segments.now }
     ensures own { All (λ s. s.processor ≡ processor) result.0.now }
-    ensures behind { All (λ s. processor < s.processor) result.1.now }
+    ensures after { All (λ s. processor < s.processor) result.1.now }
 {
     segments.split_at(segments.partition_point(|segment| segment.processor() <= processor))
 }

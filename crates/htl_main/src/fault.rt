@@ -117,7 +117,7 @@ impl From<CaseFault> for RunFault {
     ghost use Rattle.std.specs.Prelude.{◌≡◌};
     ghost use Rattle.htl_main.specs.Faults.{of_case};
 
-    ghost from_gives = { λ fault told. told ≡ of_case fault };
+    ghost from_gives = { λ fault reported. reported ≡ of_case fault };
 
     fn from(fault: CaseFault) -> RunFault {
         match fault {
@@ -131,7 +131,7 @@ impl From<SymbolFault> for RunFault {
     ghost use Rattle.std.specs.Prelude.{◌≡◌};
     ghost use Rattle.htl_main.specs.Faults.{of_symbols};
 
-    ghost from_gives = { λ fault told. told ≡ of_symbols fault };
+    ghost from_gives = { λ fault reported. reported ≡ of_symbols fault };
 
     fn from(fault: SymbolFault) -> RunFault {
         match fault {
@@ -145,7 +145,7 @@ impl From<SurveyFault> for RunFault {
     ghost use Rattle.std.specs.Prelude.{◌≡◌};
     ghost use Rattle.htl_main.specs.Faults.{of_survey};
 
-    ghost from_gives = { λ fault told. told ≡ of_survey fault };
+    ghost from_gives = { λ fault reported. reported ≡ of_survey fault };
 
     fn from(fault: SurveyFault) -> RunFault {
         match fault {

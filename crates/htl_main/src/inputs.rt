@@ -2,13 +2,13 @@
 
 ghost use Rattle.std.specs.Prelude.{◌≡◌, false, true, IfOk, IfErr, map};
 ghost use Rattle.htl_segment.specs.Bundles.{Splits, BundleFault};
-ghost use Rattle.htl_main.specs.Inputs.{Decodes, DecodeAll, IsTold, StopsAt};
+ghost use Rattle.htl_main.specs.Inputs.{Decodes, DecodeAll, IsReported, StopsAt};
 
 use crate::fault::RunFault;
 use htl_segment::{Segment, decode_bundle, from_hex};
 use std::alloc::Global;
 
-/// The segments of all inputs, those of the first input first. The first fault is told.
+/// The segments of all inputs, those of the first input first. The first fault is reported.
 pub(crate) fn decode_all(
     alloc: Global,
     hex: bool,
@@ -16,7 +16,7 @@ pub(crate) fn decode_all(
 ) -> Result<Vec<Segment>, RunFault>
     ensures ok { IfOk result (λ segments.
         DecodeAll hex (map (λ input. input.items) inputs.now) segments.items) }
-    ensures err { IfErr result (StopsAt hex (IsTold hex) (map (λ input. input.items) inputs.now)) }
+    ensures err { IfErr result (StopsAt hex (IsReported hex) (map (λ input. input.items) inputs.now)) }
 {
     let mut segments = Vec::new(alloc);
     for (place, input) in inputs.iter().enumerate() {
@@ -34,7 +34,7 @@ pub(crate) fn decode_input(
     input: &[u8],
 ) -> Result<Vec<Segment>, RunFault>
     ensures ok { IfOk result (λ segments. Decodes hex input.now segments.items) }
-    ensures err { IfErr result (IsTold hex place input.now) }
+    ensures err { IfErr result (IsReported hex place input.now) }
 {
     if !hex {
         return decode_bytes(alloc, place, input);
@@ -46,10 +46,10 @@ pub(crate) fn decode_input(
 }
 
 /// The segments that the bytes of the input at a place encode.
-#[tactic(auto, using(crate::proofs::InputLaws::told_bytes))]
+#[tactic(auto, using(crate::proofs::InputLaws::reported_bytes))]
 fn decode_bytes(alloc: Global, place: u64, bytes: &[u8]) -> Result<Vec<Segment>, RunFault>
     ensures ok { IfOk result (λ segments. Decodes false bytes.now segments.items) }
-    ensures err { IfErr result (IsTold false place bytes.now) }
+    ensures err { IfErr result (IsReported false place bytes.now) }
 {
     match decode_bundle(alloc, bytes) {
         Ok(segments) => Ok(segments),

@@ -27,7 +27,7 @@ pub fn one_outcome()
         → Printed job inputs symbols a → Printed other inputs symbols b → a ≡ b }
 {}
 
-/// Inputs have one coverage, and a summary tells the same.
+/// Inputs have one coverage, and a summary reports the same.
 pub fn one_coverage()
     ensures one { (hex : Bool) (inputs : List (List ℕ)) (a b : Coverage)
         → Covers hex inputs a → Covers hex inputs b → a ≡ b }

@@ -1,4 +1,5 @@
-//! The run: from the bytes of inputs to the printed answer.
+//! The run: from the bytes of inputs to the printed answer. The command line and its job are handed
+//! on, so that a caller needs this crate alone.
 //!
 //! `run_from`, the call that the program makes, reads sources; `run` does the same over bytes in
 //! memory. Files, in reading order: `streaming.rt` and `printing.rt` (the steps of the two runs in
@@ -26,6 +27,7 @@ mod summarizing;
 
 pub use coverage::Coverage;
 pub use fault::RunFault;
+pub use htl_command::{Asked, Job, ParseFault, Question, parse};
 pub use htl_device::{Failed, Reading, Sink, Source, Writing};
 pub use printing::run;
 pub use streaming::run_from;

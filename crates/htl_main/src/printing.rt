@@ -5,8 +5,8 @@ ghost use Rattle.std.specs.Io.KnownBytes.{Appends};
 ghost use Rattle.std.specs.Option.{option_copied};
 ghost use Rattle.htl_device.specs.Devices.{AppendsPrefix};
 ghost use Rattle.htl_main.specs.Coverages.{Covers, CoversSegments};
-ghost use Rattle.htl_main.specs.Printed.{Answers, HasSymbols, HasSymbolFault, WorkersFit};
-ghost use Rattle.htl_main.specs.Causes.{Prints, PrintsPart, IsCause, IsCauseBehind};
+ghost use Rattle.htl_main.specs.Printed.{AreAnswerLines, HasSymbols, HasSymbolFault, WorkersFit};
+ghost use Rattle.htl_main.specs.Causes.{Prints, PrintsPart, IsCause, IsCauseAfter};
 
 use crate::answering::answer;
 use crate::coverage::Coverage;
@@ -28,7 +28,7 @@ use std::thread::Threads;
 /// The number of workers is tested first; then each input in order is decoded, the segments are
 /// made a case, the symbols are read, and the answer is made. The first fault ends the run. Nothing
 /// is written before the whole text is made; after a failed write some first part of it went out.
-/// What is printed is the same for every number of workers. A run that ends well tells how much of
+/// What is printed is the same for every number of workers. A run that ends well reports how much of
 /// its trace the case of all segments has.
 pub fn run<Rt: Threads + Wait + Sync, W: Sink>(
     rt: &Rt,
@@ -82,10 +82,10 @@ pub(crate) fn answered<Rt: Threads + Wait + Sync>(
 ) -> Result<(Vec<u8>, Coverage), RunFault>
     requires { WorkersFit job.now.workers }
     ensures ok { IfOk result (λ answered.
-        Answers segments.items (option_copied symbols.entry) job.now.question answered.0.items) }
+        AreAnswerLines segments.items (option_copied symbols.entry) job.now.question answered.0.items) }
     ensures coverage { IfOk result (λ answered. CoversSegments segments.items answered.1) }
     ensures err { IfErr result
-        (IsCauseBehind segments.items (option_copied symbols.entry) job.now.question) }
+        (IsCauseAfter segments.items (option_copied symbols.entry) job.now.question) }
 {
     let case = Case::of(alloc, segments)?;
     let symbols = read_symbols(alloc, symbols)?;

@@ -8,8 +8,8 @@ ghost use Rattle.htl_segment.specs.Pieces.{RefusesPiece, start_of};
 ghost use Rattle.htl_segment.specs.declared.fault.Fault.{Fault};
 ghost use Rattle.htl_main.specs.Faults.{of_segment};
 ghost use Rattle.htl_main.specs.Inputs.{Decodes, DecodeAll, StopsAt};
-ghost use Rattle.htl_main.specs.Reads.{FailsOnly, NeverRead, NeverWrite, TellsFailure};
-ghost use Rattle.htl_main.specs.Sources.{IsToldOfSource, IsTrueAt, MayBeEndless};
+ghost use Rattle.htl_main.specs.Reads.{FailsOnly, NeverRead, NeverWrite, ReportsFailure};
+ghost use Rattle.htl_main.specs.Sources.{IsReportedOfSource, IsTrueAt, MayBeEndless};
 
 use crate::fault::RunFault;
 use crate::inputs::decode_input;
@@ -17,8 +17,8 @@ use htl_device::{MAX_READ_LEN, MAX_READS, Source, read_whole};
 use htl_segment::{Segment, Splitter};
 use std::alloc::Global;
 
-/// The segments of all sources, those of the first source first. The first fault is told, and ends
-/// the reading.
+/// The segments of all sources, those of the first source first. The first fault is reported, and
+/// ends the reading.
 pub(crate) fn read_all<R: Source>(
     alloc: Global,
     hex: bool,
@@ -28,9 +28,8 @@ pub(crate) fn read_all<R: Source>(
     ensures ok { (inputs : List (List ℕ)) → map R.remaining sources.old ≡ map Some inputs
         → IfOk result (λ segments. DecodeAll hex inputs segments.items) }
     ensures err { (inputs : List (List ℕ)) → map R.remaining sources.old ≡ map Some inputs
-        → IfErr result (λ fault. (fault ≡ RunFault.Memory)
-        ⊎ StopsAt hex (IsToldOfSource hex) inputs fault) }
-    ensures told { (place : ℕ) → IsTrueAt (map R.has_failed sources.new) place
+        → IfErr result (StopsAt hex (IsReportedOfSource hex) inputs) }
+    ensures reported { (place : ℕ) → IsTrueAt (map R.has_failed sources.new) place
         → result ≡ Err (RunFault.Read place) }
     ensures read { (place : ℕ) → result ≡ Err (RunFault.Read place)
         → IsTrueAt (map R.has_failed sources.new) place
@@ -56,8 +55,8 @@ fn read_input<R: Source>(
     ensures ok { IfOk result (λ segments. IfSome (R.remaining source.old)
         (λ bytes. Decodes hex bytes segments.items)) }
     ensures err { IfErr result (λ fault. IfSome (R.remaining source.old)
-        (λ bytes. IsToldOfSource hex place bytes fault)) }
-    ensures told { TellsFailure place (R.has_failed source.new) result }
+        (λ bytes. IsReportedOfSource hex place bytes fault)) }
+    ensures reported { ReportsFailure place (R.has_failed source.new) result }
     ensures read { FailsOnly place (R.has_failed source.new) (R.remaining source.old)
         MAX_READS result }
     ensures no_write { NeverWrite result }
@@ -79,8 +78,8 @@ fn read_digits<R: Source>(
     ensures ok { IfOk result (λ segments. IfSome (R.remaining source.old)
         (λ text. Decodes true text segments.items)) }
     ensures err { IfErr result (λ fault. IfSome (R.remaining source.old)
-        (λ text. IsToldOfSource true place text fault)) }
-    ensures told { TellsFailure place (R.has_failed source.new) result }
+        (λ text. IsReportedOfSource true place text fault)) }
+    ensures reported { ReportsFailure place (R.has_failed source.new) result }
     ensures read { FailsOnly place (R.has_failed source.new) (R.remaining source.old)
         MAX_READS result }
     ensures no_write { NeverWrite result }
@@ -102,13 +101,13 @@ fn read_bundle<R: Source>(
     ensures ok { IfOk result (λ segments. IfSome (R.remaining source.old)
         (λ bytes. Splits bytes segments.items [])) }
     ensures err { IfErr result (λ fault. IfSome (R.remaining source.old)
-        (λ bytes. IsToldOfSource false place bytes fault)) }
-    ensures told { TellsFailure place (R.has_failed source.new) result }
+        (λ bytes. IsReportedOfSource false place bytes fault)) }
+    ensures reported { ReportsFailure place (R.has_failed source.new) result }
     ensures read { FailsOnly place (R.has_failed source.new) (R.remaining source.old)
         MAX_READS result }
     ensures no_write { NeverWrite result }
 {
-    let mut buffer = vec![in alloc; 0u8; MAX_READ_LEN]?;
+    let mut buffer = [0u8; MAX_READ_LEN];
     split_within(alloc, place, source, &mut buffer, MAX_READS)
 }
 
@@ -127,8 +126,8 @@ fn split_within<R: Source>(
     ensures ok { IfOk result (λ segments. IfSome (R.remaining source.old)
         (λ bytes. Splits bytes segments.items [])) }
     ensures err { IfErr result (λ fault. IfSome (R.remaining source.old)
-        (λ bytes. IsToldOfSource false place bytes fault)) }
-    ensures told { TellsFailure place (R.has_failed source.new) result }
+        (λ bytes. IsReportedOfSource false place bytes fault)) }
+    ensures reported { ReportsFailure place (R.has_failed source.new) result }
     ensures read { FailsOnly place (R.has_failed source.new) (R.remaining source.old)
         most result }
     ensures no_write { NeverWrite result }

@@ -32,7 +32,7 @@ pub fn run_from<Rt: Threads + Wait + Sync, R: Source, W: Sink>(
 ) -> Result<Coverage, RunFault>
     requires inputs { All (λ source. R.has_failed source ≡ false) inputs.old }
     requires out { W.has_failed out.old ≡ false }
-    // What the sources' bytes come to is printed, or told.
+    // What the sources' bytes come to is printed, or reported.
     ensures ok { (texts : List (List ℕ)) → map R.remaining inputs.old ≡ map Some texts
         → OnOk result (Prints job.now texts (option_copied symbols.entry)
         (W.contents out.old) (W.contents out.new)) }
@@ -46,8 +46,8 @@ pub fn run_from<Rt: Threads + Wait + Sync, R: Source, W: Sink>(
         → PrintsPart job.now texts (option_copied symbols.entry)
         (W.contents out.old) (W.contents out.new) }
     ensures failed { result ≡ Err RunFault.Write → W.has_failed out.new ≡ true }
-    // A read that failed is told, and told only then or after too many reads.
-    ensures told { (place : ℕ) → IsTrueAt (map R.has_failed inputs.new) place
+    // A read that failed is reported, and reported only then or after too many reads.
+    ensures reported { (place : ℕ) → IsTrueAt (map R.has_failed inputs.new) place
         → result ≡ Err (RunFault.Read place) }
     ensures read { (place : ℕ) → result ≡ Err (RunFault.Read place)
         → IsTrueAt (map R.has_failed inputs.new) place

@@ -9,3 +9,4 @@ pub mod Records
 pub mod Reader
 pub mod RowsAdded
 pub mod RowsRead
+pub mod OneTable

@@ -6,10 +6,11 @@
 //! says what a record writes, `specs/Reading` what the whole text gives or why it is refused.
 //!
 //! Files, in reading order: `symbols.rt` (the table), `read.rt` and `row.rt` (reading it from
-//! CSV), `fault.rt` (why it is refused).
+//! CSV), `fault.rt` (why it is refused), `laws.rt` (it is read in one way).
 #![tactic(auto)]
 
 mod fault;
+pub mod laws;
 mod read;
 mod row;
 mod symbols;

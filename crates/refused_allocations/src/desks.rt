@@ -97,9 +97,9 @@ struct Seats {
 
 impl Model for Seats {
     ghost use Rattle.std.specs.Prelude.{List};
-    ghost use Rattle.htl_exchange.specs.Desks.{AreDesksOf, Place, Seated};
+    ghost use Rattle.htl_exchange.specs.Desks.{AreDesksOf, ExchangeValue, DeskValue};
 
-    ghost Value = { Place × List Seated };
+    ghost Value = { ExchangeValue × List DeskValue };
 
     ghost view = { λ s. (s.exchange, s.desks.items) };
 

@@ -7,7 +7,8 @@ use std::io;
 use std::io::{Read, Write};
 use std::test::Fail;
 
-/// A reader over memory that gives a few bytes a read and fails at one of its calls.
+/// A reader over memory that gives a few bytes a read and fails at one of its calls. The next call
+/// would succeed, so that a read that is tried again silently shows.
 #[derive(Drop)]
 struct Pieces<'a> {
     bytes: &'a [u8],
@@ -18,7 +19,8 @@ struct Pieces<'a> {
 impl Read for Pieces<'_> {
     fn read(&mut self, buffer: &mut [u8]) -> io::Result<usize> {
         if self.calls_left == 0 {
-            return Err(io::Error::from(io::ErrorKind::Other));
+            self.calls_left = usize::MAX;
+            return Err(io::Error::from(io::ErrorKind::Interrupted));
         }
         self.calls_left -= 1;
         let count = self.piece.min(self.bytes.len()).min(buffer.len());
@@ -29,7 +31,8 @@ impl Read for Pieces<'_> {
     }
 }
 
-/// A writer that takes a few bytes a write into memory, and fails once it holds `most`.
+/// A writer that takes a few bytes a write into memory, and fails when it holds `most`. The next
+/// call would succeed, so that a write that is tried again silently shows.
 #[derive(Drop)]
 struct Narrow {
     held: Vec<u8>,
@@ -40,7 +43,8 @@ struct Narrow {
 impl Write for Narrow {
     fn write(&mut self, bytes: &[u8]) -> io::Result<usize> {
         if self.held.len() >= self.most {
-            return Err(io::Error::from(io::ErrorKind::Other));
+            self.most = usize::MAX;
+            return Err(io::Error::from(io::ErrorKind::Interrupted));
         }
         let count = self.piece.min(bytes.len());
         self.held.extend_from_slice(&bytes[..count])?;

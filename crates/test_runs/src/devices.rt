@@ -15,7 +15,8 @@ use std::sync::Wait;
 use std::test::Fail;
 use std::thread::Threads;
 
-/// A writer that takes a few bytes a write into memory, and fails once it holds `most`.
+/// A writer that takes a few bytes a write into memory, and fails when it holds `most`. The next
+/// call would succeed, so that a write that is tried again silently shows.
 #[derive(Drop)]
 struct Narrow {
     held: Vec<u8>,
@@ -26,7 +27,8 @@ struct Narrow {
 impl Write for Narrow {
     fn write(&mut self, bytes: &[u8]) -> io::Result<usize> {
         if self.held.len() >= self.most {
-            return Err(io::Error::from(io::ErrorKind::Other));
+            self.most = usize::MAX;
+            return Err(io::Error::from(io::ErrorKind::Interrupted));
         }
         let count = self.piece.min(bytes.len());
         self.held.extend_from_slice(&bytes[..count])?;

@@ -3,7 +3,8 @@
 use std::io;
 use std::io::Read;
 
-/// A reader over memory that gives a few bytes a read, and fails after so many reads.
+/// A reader over memory that gives a few bytes a read, and fails once after so many reads. The next
+/// read would succeed, so that a read that is silently tried again shows.
 #[derive(Drop)]
 pub struct Pieces<'a> {
     bytes: &'a [u8],
@@ -24,7 +25,8 @@ impl<'a> Pieces<'a> {
 impl Read for Pieces<'_> {
     fn read(&mut self, buffer: &mut [u8]) -> io::Result<usize> {
         if self.reads_left == 0 {
-            return Err(io::Error::from(io::ErrorKind::Other));
+            self.reads_left = usize::MAX;
+            return Err(io::Error::from(io::ErrorKind::Interrupted));
         }
         self.reads_left -= 1;
         let count = self.piece.min(self.bytes.len()).min(buffer.len());

@@ -4,7 +4,7 @@ use htl_command::{Job, ParseFault, Question, parse};
 use std::test::Fail;
 
 /// Lines and their questions.
-const QUESTIONS: [(&str, Question); 28] = [
+const QUESTIONS: [(&str, Question); 29] = [
     ("summary", Question::Summary),
     ("summary|a.hls", Question::Summary),
     (
@@ -132,6 +132,13 @@ const QUESTIONS: [(&str, Question); 28] = [
     // other ways to write a line
     ("bad|--process=4", Question::Bad { process: 4 }),
     ("bad|a.hls|--process|4|b.hls", Question::Bad { process: 4 }),
+    (
+        "stacks|--object|1|--tag=-abc",
+        Question::Stacks {
+            object: 1,
+            tag: *b"-abc",
+        },
+    ),
     (
         "trace|--handle|44|--process|4",
         Question::Trace {

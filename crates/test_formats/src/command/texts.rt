@@ -42,8 +42,8 @@ Examples:
   hleak outstanding --process 4 cpu0.hls cpu1.hls
   hleak tags --object 0xffffa00000001000 --symbols names.csv cpu0.hls cpu1.hls
 
-'hleak COMMAND --help' tells the options of a command. No word at all stands for
-'hleak outstanding --process 4 --hex'.
+'hleak COMMAND --help' lists the options of a command. No argument at all stands
+for 'hleak outstanding --process 4 --hex'.
 ";
 
 const VERSION: &str = "\
@@ -247,6 +247,18 @@ Usage: hleak diff --process <N> [FILES]...
 For more information, try '--help'.
 ";
 
+const PARTED_VALUE: &str = "\
+error: unexpected argument '-a' found
+
+  tip: to pass '-a' as a value, use '-- -a'
+
+Usage: hleak stacks [OPTIONS] --object <HEX> --tag <TAG> [FILES]...
+
+For more information, try '--help'.
+
+  tip: a value that begins with '-' follows '=', as in '--tag=-abc'
+";
+
 /// Lines that ask for help, and what they are answered.
 const HELP: [(&str, &str); 13] = [
     ("--help", PROGRAM),
@@ -265,11 +277,12 @@ const HELP: [(&str, &str); 13] = [
 ];
 
 /// Lines that are refused, and what they are answered.
-const USAGE: [(&str, &str); 4] = [
+const USAGE: [(&str, &str); 5] = [
     ("trace|--process|4|--handle|100000000", VALUE),
     ("outstandin", MISSPELT_COMMAND),
     ("bad|--proces|4", MISSPELT_OPTION),
     ("diff", MISSING_OPTION),
+    ("stacks|--object|1|--tag|-abc", PARTED_VALUE),
 ];
 
 /// Each line fits into 80 columns.

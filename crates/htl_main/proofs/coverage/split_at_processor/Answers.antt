@@ -13,8 +13,8 @@ returns-clause-own c =
     (parted p ss c.requires.in_order) (λ a r q k. search rules) in
     rw (c.split_at.ensures.front) (own_cut p len ss c.partition_point.ensures.bound point c.requires.none_before)
 
-pub returns-clause-behind : goal.returns-clause-behind
-returns-clause-behind c =
+pub returns-clause-after : goal.returns-clause-after
+returns-clause-after c =
     let ss = c.args.segments.now in
     let p = c.args.processor in
     let len = c.partition_point.result in

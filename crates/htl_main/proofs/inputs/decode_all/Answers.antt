@@ -1,4 +1,4 @@
--- One input more, and what is told of the first that is refused.
+-- One input more, and what is reported of the first that is refused.
 use Rattle.std.proofs.Common.{◌<◌, length, refl, arith}
 use Rattle.std.proofs.lemmas.Option.{slice_get_read}
 use Rattle.std.proofs.lemmas.Result.{err_from_is_err_and}
@@ -16,7 +16,7 @@ returns-in_err-more-clause-err c =
       here = input_at c.args.inputs.now c.loop-place.place c.index-inputs-place.result c.loop-place-test.true read;
       segments = c.loop-place.segments.items;
       before = c.loop-place.invariant.decoded;
-      told = rw (← c.deref.ensures.value) (c.in_err-more.ensures.err);
+      reported = rw (← c.deref.ensures.value) (c.in_err-more.ensures.err);
     })
 
 pub returns-in_err-append-clause-err : goal.returns-in_err-append-clause-err
@@ -31,7 +31,7 @@ returns-in_err-append-clause-err c =
       here = input_at c.args.inputs.now c.loop-place.place c.index-inputs-place.result c.loop-place-test.true read;
       segments = c.loop-place.segments.items;
       before = c.loop-place.invariant.decoded;
-      told = rw (← c.deref.ensures.value) (asked_for c.args.hex _ _ c.in_ok-more.ensures.ok some);
+      reported = rw (← c.deref.ensures.value) (asked_for c.args.hex _ _ c.in_ok-more.ensures.ok some);
     })
 
 pub loop-place-preserved : goal.loop-place-preserved

@@ -1,10 +1,11 @@
 -- One read more, and the end of the source.
-use Rattle.std.proofs.Common.{◌≡◌, ◌+◌, ◌<◌, ◌≤◌, ◌++◌, ℕ, [], length, take, arith, ap, subst, ◌∙◌, sym}
+use Rattle.std.proofs.Common.{◌≡◌, ◌+◌, ◌<◌, ◌≤◌, ◌++◌, ℕ, false, [], length, take, arith, ap, subst, ◌∙◌, sym}
 use Rattle.std.proofs.lemmas.Grind.{common_steps}
 use Rattle.std.proofs.lemmas.List.{length-append}
 use Rattle.std.proofs.lemmas.Result.{err_from_is_err_and}
 use Rattle.std.specs.Io.KnownBytes.{Consumes, IsAtEnd}
-use Rattle.htl_main.proofs.SplitLaws.{finished, finished_inside, read_bounded, refused, taken, taken_next}
+use Rattle.htl_main.proofs.SourceLaws.{asked_of}
+use Rattle.htl_main.proofs.SplitLaws.{finished, finished_inside, read_bounded, refused, some_given, taken, taken_next}
 use Rattle.htl_main.proofs.sources.split_within.Goals as goal
 
 pub returns-then-count-eq0-clause-ok : goal.returns-then-count-eq0-clause-ok
@@ -33,10 +34,25 @@ pub returns-in_err-more-clause-err : goal.returns-in_err-more-clause-err
 returns-in_err-more-clause-err g c =
     let p = err_from_is_err_and c.from_residual.result c.from_residual.ensures.1 in
     let inv = c.loop-read.invariant in
-    let told = c.in_err-more.ensures.err in
-    rw (p.1, p.2, told.2) (refused (g.R.Source.remaining c.args.source.now) (g.R.Source.remaining c.loop-read.source)
+    let reported = c.in_err-more.ensures.err in
+    let count : 0 < c.in-Ok.count = grind (arith, common_steps) in
+    let short : c.in-Ok.count ≤ length c.read.new.buffer = c.in-Ok.ensures.bound in
+    let some : 0 < length (take c.in-Ok.count c.read.new.buffer) = grind (arith, common_steps) in
+    rw (p.1, p.2, reported.2) (refused (g.R.Source.remaining c.args.source.now) (g.R.Source.remaining c.loop-read.source)
     (g.R.Source.remaining c.read.new.self) c.args.place c.loop-read.splitter c.loop-read.segments.items
-    (take c.in-Ok.count c.read.new.buffer) told.0 inv.fits inv.fed inv.given c.in-Ok.ensures.bytes.0 told.1)
+    (take c.in-Ok.count c.read.new.buffer) reported.0 inv.fits inv.fed inv.given c.in-Ok.ensures.bytes.0 some reported.1)
+
+pub returns-in_err-append-clause-err : goal.returns-in_err-append-clause-err
+returns-in_err-append-clause-err g c =
+    let p = err_from_is_err_and c.from_residual-in_err-append.result c.from_residual-in_err-append.ensures.1 in
+    let inv = c.loop-read.invariant in
+    let count : 0 < c.in-Ok.count = grind (arith, common_steps) in
+    let short : c.in-Ok.count ≤ length c.read.new.buffer = c.in-Ok.ensures.bound in
+    let some : 0 < length (take c.in-Ok.count c.read.new.buffer) = grind (arith, common_steps) in
+    rw (p.1, p.2) (asked_of false c.args.place (g.R.Source.remaining c.args.source.now)
+    (some_given (g.R.Source.remaining c.args.source.now) (g.R.Source.remaining c.loop-read.source) (g.R.Source.remaining c.read.new.self)
+    (taken c.loop-read.segments.items c.loop-read.splitter.rest) (take c.in-Ok.count c.read.new.buffer) inv.given c.in-Ok.ensures.bytes.0
+    some))
 
 pub loop-read-preserved : goal.loop-read-preserved
 loop-read-preserved g c =

@@ -3,15 +3,15 @@ use Rattle.std.proofs.lemmas.Result.{err_from_is_err_and}
 use Rattle.htl_main.proofs.SourceLaws.{true_nowhere}
 use Rattle.htl_main.proofs.streaming.run_from.Goals as goal
 
-pub returns-in_err-check_workers-clause-told : goal.returns-in_err-check_workers-clause-told
-returns-in_err-check_workers-clause-told g c =
+pub returns-in_err-check_workers-clause-reported : goal.returns-in_err-check_workers-clause-reported
+returns-in_err-check_workers-clause-reported g c =
     λ place failed. absurd (true_nowhere g.R.Source.has_failed c.args.inputs.now place c.requires.inputs failed)
 
 pub returns-in_err-write_lines-clause-cause : goal.returns-in_err-write_lines-clause-cause
 returns-in_err-write_lines-clause-cause g c =
     let p = err_from_is_err_and c.from_residual-in_err-write_lines.result c.from_residual-in_err-write_lines.ensures.1 in
-    let told = c.in_err-write_lines.ensures.err in
-    λ texts all. rw (p.1, p.2, told.0) (
+    let reported = c.in_err-write_lines.ensures.err in
+    λ texts all. rw (p.1, p.2, reported.0) (
       c.in_ok-lines.lines.items,
       (
         c.in_ok-check_workers.ensures.ok,

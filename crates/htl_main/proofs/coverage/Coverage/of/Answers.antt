@@ -38,18 +38,18 @@ loop-processor-preserved c =
     let is = c.segments-rest.ensures.is_case.trace in
     let p = c.loop-processor.processor in
     let own = c.split_at_processor.result.0.now in
-    let behind = c.split_at_processor.result.1.now in
+    let after = c.split_at_processor.result.1.now in
     let inv = c.loop-processor.invariant in
     let split = c.split_at_processor.ensures in
     let rest = rw (← split.parts) at inv.rest in
-    let mine = own_front T p own behind rest split.own split.behind in
+    let mine = own_front T p own after rest split.own split.after in
     let gaps = inv.counted.0 in
     let few = c.gap_count-gaps.ensures.few in
     let all = ap length split.parts in
-    let both = length-append own behind in
+    let both = length-append own after in
     let greatest = rw (c.unbroken.ensures) at c.greatest_sequence.ensures in
     record {
-      rest = next_back T p own behind rest split.own split.behind;
+      rest = next_back T p own after rest split.own split.after;
       counted = (
         gaps ++ gaps_of p 0 (numbers_of own),
         more_gaps T is p own mine gaps inv.counted.1,

@@ -190,16 +190,16 @@ at_fault table n fault IsFaulty stops is = record {
 
 cases_fault : (table : List Record) (fault : SymbolFault) → fault ≢ NoMemory → IsFirstFault table fault
     → HeadFault table fault ⊎ FaultAt table fault
-cases_fault table Header told (inl none) = inl (inl (none, refl))
-cases_fault table Header told (inr first) = inl (inr (inl (first, refl)))
-cases_fault table (Fields n) told stops = inr (at_fault table n (Fields n) _ stops (λ ranges row is. inl is))
-cases_fault table (Number n) told stops = inr (at_fault table n (Number n) _ stops (λ ranges row is. inl is))
-cases_fault table (EmptyRange n) told stops = inr (at_fault table n (EmptyRange n) _ stops (λ ranges row is. inl is))
-cases_fault table (Overlap n) told stops =
+cases_fault table Header reported (inl none) = inl (inl (none, refl))
+cases_fault table Header reported (inr first) = inl (inr (inl (first, refl)))
+cases_fault table (Fields n) reported stops = inr (at_fault table n (Fields n) _ stops (λ ranges row is. inl is))
+cases_fault table (Number n) reported stops = inr (at_fault table n (Number n) _ stops (λ ranges row is. inl is))
+cases_fault table (EmptyRange n) reported stops = inr (at_fault table n (EmptyRange n) _ stops (λ ranges row is. inl is))
+cases_fault table (Overlap n) reported stops =
     inr (at_fault table n (Overlap n) _ stops (λ ranges row is. inr (inl (is.0, is.1, is.2, is.3, refl))))
-cases_fault table (Csv n) told (inl first) = inl (inr (inr (first.1, ap Csv first.0)))
-cases_fault table (Csv n) told (inr stops) = inr (at_fault table n (Csv n) _ stops (λ ranges row is. inr (inr (is, refl))))
-cases_fault table NoMemory told any = absurd (told refl)
+cases_fault table (Csv n) reported (inl first) = inl (inr (inr (first.1, ap Csv first.0)))
+cases_fault table (Csv n) reported (inr stops) = inr (at_fault table n (Csv n) _ stops (λ ranges row is. inr (inr (is, refl))))
+cases_fault table NoMemory reported any = absurd (reported refl)
 
 header_is_text : AllText header
 unfolding AllText header lib.Utf8.encode
@@ -254,13 +254,13 @@ same_place table f g p q same =
 
 pub one_symbol_fault : (table : List Record) (f g : SymbolFault) → f ≢ NoMemory → g ≢ NoMemory → IsFirstFault table f
     → IsFirstFault table g → f ≡ g
-one_symbol_fault table f g told told_too p q =
-    elim (cases_fault table f told p) [
-      | inl a ↦ elim (cases_fault table g told_too q) [
+one_symbol_fault table f g reported reported_too p q =
+    elim (cases_fault table f reported p) [
+      | inl a ↦ elim (cases_fault table g reported_too q) [
         | inl b ↦ one_head_fault table f g a b
         | inr b ↦ let rows = headed_at table g b in absurd (no_head_fault table rows.0 f rows.1 a)
       ]
-      | inr a ↦ elim (cases_fault table g told_too q) [
+      | inr a ↦ elim (cases_fault table g reported_too q) [
         | inl b ↦ let rows = headed_at table f a in absurd (no_head_fault table rows.0 g rows.1 b)
         | inr b ↦ elim (cases_order a.number b.number) [
           | inl same ↦ same_place table f g a b same
@@ -272,8 +272,8 @@ one_symbol_fault table f g told told_too p q =
 
 pub table_has_no_fault : (table : List Record) (ranges : List Range) (fault : SymbolFault) → WriteRanges table ranges → fault ≢ NoMemory
     → IsFirstFault table fault → ⊥
-table_has_no_fault table ranges fault right told is =
-    elim (cases_fault table fault told is) [
+table_has_no_fault table ranges fault right reported is =
+    elim (cases_fault table fault reported is) [
       | inl head ↦ no_head_fault table right.rows fault right.headed head
       | inr at ↦
           let s = at.stops in
@@ -317,3 +317,15 @@ one_table records a b p q =
   where
     back : (xs ys : List Range) (x : Range) → IsPermutation xs ys → Contains ys x → Contains xs x
     back xs ys x moved h = Contains-permutation ys xs x (IsPermutation-sym xs ys moved) h
+
+-- ---- one reading
+
+pub one_reading : (records : List Record) (a b : Result (List Range) SymbolFault) → a ≢ Err NoMemory → b ≢ Err NoMemory → Reads records a
+    → Reads records b → a ≡ b
+one_reading records (Ok a) (Ok b) reported reported_too p q = ap Ok (one_table records a b p q)
+one_reading records (Ok a) (Err g) reported reported_too p q =
+    absurd (table_has_no_fault records p.0 g p.1 (λ e. reported_too (ap Err e)) q)
+one_reading records (Err f) (Ok b) reported reported_too p q =
+    absurd (table_has_no_fault records q.0 f q.1 (λ e. reported (ap Err e)) p)
+one_reading records (Err f) (Err g) reported reported_too p q =
+    ap Err (one_symbol_fault records f g (λ e. reported (ap Err e)) (λ e. reported_too (ap Err e)) p q)

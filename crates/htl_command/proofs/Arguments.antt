@@ -1,0 +1,51 @@
+-- What arguments ask for, from what `clap` says of them.
+use Rattle.std.proofs.Common.{◌≡◌, ◌∙◌, true, false, refl, List, [], ◌∷◌, ◌≢◌, inl, inr, map, length, arith}
+use Rattle.std.specs.Prelude.{None, Some, Bool, if◌then◌else◌}
+use Rattle.std.specs.List.{list_any}
+use Rattle.clap.specs.Words.{Kinds, Text}
+use Rattle.clap.specs.declared.error.ErrorKind.{ErrorKind}
+use Rattle.htl_command.specs.Entries.{entries, refusals}
+use Rattle.htl_command.specs.Refusals.{IsUsageWith, RefusesArguments, is_mistake, is_wish}
+use Rattle.htl_command.specs.Steps.{IsRefused}
+use Rattle.htl_command.specs.Requests.{is_nothing, request_met, requested, stored}
+use Rattle.htl_command.specs.declared.fault.ParseFault.{ParseFault}
+use Rattle.htl_command.specs.declared.fault.ParseFault.TheVariants.{Help, Usage, Memory}
+
+-- some arguments have some texts
+pub map-some : {X Y : Type 0} (f : X → Y) (xs : List X) → xs ≢ [] → map f xs ≢ []
+map-some f [] some none = some refl
+map-some f (x ∷ xs) some none = cc
+
+-- no arguments ask for the stored job
+pub no_arguments : {X : Type 0} (text_of : X → Text) (arguments : List X) → length arguments ≡ 0 → requested (map text_of arguments) ≡ Some stored
+unfolding requested
+no_arguments text_of [] none = refl
+no_arguments text_of (argument ∷ more) none = absurd (omega arith)
+
+-- arguments that `clap` takes ask for what their entries ask for
+pub taken : (arguments : List Text) → arguments ≢ [] → refusals arguments ≡ [] → requested arguments ≡ request_met (entries arguments)
+unfolding requested
+taken [] some none = absurd (some refl)
+taken (argument ∷ more) some none = rw none refl
+
+-- arguments that it refuses ask for nothing
+refused-none : (test : ErrorKind → Bool) (arguments : List Text) → arguments ≢ [] → list_any test (refusals arguments) ≡ true → requested arguments ≡ None
+unfolding requested
+refused-none test [] some why = absurd (some refl)
+refused-none test (argument ∷ more) some why = go (refusals (argument ∷ more)) why
+  where
+    go : (kinds : Kinds) → list_any test kinds ≡ true → (if is_nothing kinds then request_met (entries (argument ∷ more)) else None) ≡ None
+    go [] why = let bad : false ≡ true = why in cc
+    go (kind ∷ kinds) why = refl
+
+pub refused : (arguments : List Text) (fault : ParseFault) → arguments ≢ [] → IsRefused arguments fault → RefusesArguments arguments fault
+refused arguments (Help text) some why = (refused-none is_wish arguments some why, why)
+refused arguments (Usage text) some why = (refused-none is_mistake arguments some why.0, (inr why.0, why.1))
+refused arguments Memory some why = tt
+
+-- arguments that it takes ask for nothing where their entries do
+pub broken : (arguments : List Text) (fault : ParseFault) → arguments ≢ [] → refusals arguments ≡ []
+    → IsUsageWith (request_met (entries arguments) ≡ None) fault → RefusesArguments arguments fault
+broken arguments (Help text) some none why = absurd why
+broken arguments (Usage text) some none why = (taken arguments some none ∙ why.0, (inl none, why.1))
+broken arguments Memory some none why = tt

@@ -1,0 +1,23 @@
+-- What arguments ask for is what their entries ask for, where `clap` takes them.
+use Rattle.std.proofs.Common.{◌∙◌, map, string_bytes}
+use Rattle.std.proofs.lemmas.Result.{IfErr-weaker, IfOk-weaker}
+use Rattle.htl_command.proofs.Arguments.{broken, map-some, refused, taken}
+use Rattle.htl_command.proofs.asked.read_arguments.Goals as goal
+
+pub returns-in-Ok-clause-ok : goal.returns-in-Ok-clause-ok
+returns-in-Ok-clause-ok c =
+    let arguments = map string_bytes c.args.arguments.now in
+    let some = map-some string_bytes c.args.arguments.now c.requires.some in
+    let takes = c.in-Ok.ensures.ok in
+    IfOk-weaker c.read_matches.result _ _ (λ asked is. taken arguments some takes.0 ∙ (rw takes.1 at is)) c.read_matches.ensures.ok
+
+pub returns-in-Ok-clause-err : goal.returns-in-Ok-clause-err
+returns-in-Ok-clause-err c =
+    let arguments = map string_bytes c.args.arguments.now in
+    let some = map-some string_bytes c.args.arguments.now c.requires.some in
+    let takes = c.in-Ok.ensures.ok in
+    IfErr-weaker c.read_matches.result _ _ (λ fault why. broken arguments fault some takes.0 (rw takes.1 at why)) c.read_matches.ensures.err
+
+pub returns-in-Err-clause-err : goal.returns-in-Err-clause-err
+returns-in-Err-clause-err c =
+    refused (map string_bytes c.args.arguments.now) c.in-Err.fault (map-some string_bytes c.args.arguments.now c.requires.some) c.in-Err.ensures.err

@@ -18,9 +18,9 @@ use Rattle.htl_event.specs.Stacks.{stack_cmp}
 use Rattle.htl_event.specs.Tallies.{zero_count, plus_count, total_of}
 use Rattle.htl_tree.specs.declared.slots.Slots.{Slots}
 use Rattle.htl_tree.specs.Asked.{has_slot}
-use Rattle.htl_tree.specs.Trees.{Tree, IsTree, HasTally, BySlot, ByStackAndSlot, ListsSums, ListsRowsOf, place_cmp, count_at, count_under, total_count}
+use Rattle.htl_tree.specs.Trees.{Tree, IsTree, HasTally, BySlot, ByStackAndSlot, ListsSums, ListsRowsOf, key_cmp, count_at, count_under, total_count}
 use Rattle.htl_tree.proofs.Events.{under_events}
-use Rattle.htl_tree.proofs.TreesAsLists.{place_total}
+use Rattle.htl_tree.proofs.TreesAsLists.{key_total}
 use Rattle.htl_tree.proofs.Under.{same_slot_tied}
 use Rattle.htl_answers.specs.RowOrder.{row_cmp, row_same}
 use Rattle.htl_answers.specs.Rows.{count_of, total_in, rows_of}
@@ -73,7 +73,7 @@ sums_few tree slots sums listed =
 -- ---- rows of slots and stacks
 
 rows_apart : (a b : (Slot × List ℕ) × Count) → ByStackAndSlot a b → a.0 ≢ b.0
-rows_apart a b less same = less_differs place_total (a.0.1, a.0.0) (b.0.1, b.0.0) less (ap (λ (x : Slot × List ℕ). (x.1, x.0)) same)
+rows_apart a b less same = less_differs key_total (a.0.1, a.0.0) (b.0.1, b.0.0) less (ap (λ (x : Slot × List ℕ). (x.1, x.0)) same)
 
 pub rows_count : (tree : Tree) (slots : Slots) (rows : List ((Slot × List ℕ) × Count)) → ListsRowsOf tree slots rows → (events : List Event)
     → HasTally tree events → (k : Slot × List ℕ) → count_of row_cmp k rows ≡ count_of row_cmp k (rows_of (λ s stack. (s, stack)) slots events)
@@ -100,12 +100,12 @@ at_upto (row ∷ tree) k =
     let rest = at_upto tree k in
     let both = sum_by-cons (λ (t : At). cond (is_eq (row_cmp k (t.0.1, t.0.0))) (total_of t.1) 0) row tree in
     let turned = tied_turned (stack_cmp k.1 row.0.0) (slot_cmp k.0 row.0.1) in
-    let tied : cond (is_eq (row_cmp k (row.0.1, row.0.0))) (total_of row.1) 0 ≡ cond (is_eq (place_cmp (k.1, k.0) row.0)) (total_of row.1) 0 =
+    let tied : cond (is_eq (row_cmp k (row.0.1, row.0.0))) (total_of row.1) 0 ≡ cond (is_eq (key_cmp (k.1, k.0) row.0)) (total_of row.1) 0 =
     ap (λ b. cond b (total_of row.1) 0) (sym turned) in
-    let found = find place_cmp (k.1, k.0) tree in
-    let one : total_of (unwrap_or (cond (is_eq (place_cmp (k.1, k.0) row.0)) (Some row.1) found) zero_count)
-    ≤ cond (is_eq (place_cmp (k.1, k.0) row.0)) (total_of row.1) 0 + total_of (unwrap_or found zero_count) =
-    elim (is_eq (place_cmp (k.1, k.0) row.0)) as (λ b. total_of (unwrap_or (cond b (Some row.1) found) zero_count)
+    let found = find key_cmp (k.1, k.0) tree in
+    let one : total_of (unwrap_or (cond (is_eq (key_cmp (k.1, k.0) row.0)) (Some row.1) found) zero_count)
+    ≤ cond (is_eq (key_cmp (k.1, k.0) row.0)) (total_of row.1) 0 + total_of (unwrap_or found zero_count) =
+    elim (is_eq (key_cmp (k.1, k.0) row.0)) as (λ b. total_of (unwrap_or (cond b (Some row.1) found) zero_count)
     ≤ cond b (total_of row.1) 0 + total_of (unwrap_or found zero_count))
     [ true ↦ omega arith | false ↦ omega arith ] in
     omega (arith, rest, both, tied, one)

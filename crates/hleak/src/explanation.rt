@@ -1,4 +1,7 @@
-//! What a person at a terminal is told behind a fault's line.
+//! What a person at a terminal reads after a fault's line.
+
+ghost use Rattle.std.specs.Prelude.{◌≡◌};
+ghost use Rattle.hleak.specs.Subjects.{input_name, subject_of, symbols_name};
 
 use crate::meaning::{Meaning, NO_MEMORY};
 use htl_command::Asked;
@@ -18,35 +21,48 @@ pub struct Explanation<'a> {
 
 impl fmt::Display for Explanation<'_> {
     fn fmt<W: fmt::Write>(&self, f: &mut fmt::Formatter<W>) -> fmt::Result {
+        write!(f, "{}: ", self.subject())?;
         match self.fault {
-            RunFault::Workers => write!(f, "hleak: give 1 to 8 workers"),
-            RunFault::Segment { input, fault, .. } => {
-                write!(f, "{}: {}", self.input(input), Meaning(fault))
-            }
-            RunFault::Hex { input, fault } => {
-                write!(f, "{}: {}", self.input(input), Meaning(fault))
-            }
-            RunFault::Case(fault) => write!(f, "hleak: {}", Meaning(fault)),
-            RunFault::Symbols(fault) => write!(f, "{}: {}", self.symbols(), Meaning(fault)),
-            RunFault::Read { input } => write!(f, "{}: {UNREADABLE}", self.input(input)),
-            RunFault::SymbolsRead => write!(f, "{}: {UNREADABLE}", self.symbols()),
+            RunFault::Workers => write!(f, "give 1 to 8 workers"),
+            RunFault::Segment { fault, .. } => write!(f, "{}", Meaning(fault)),
+            RunFault::Hex { fault, .. } => write!(f, "{}", Meaning(fault)),
+            RunFault::Case(fault) => write!(f, "{}", Meaning(fault)),
+            RunFault::Symbols(fault) => write!(f, "{}", Meaning(fault)),
+            RunFault::Read { .. } | RunFault::SymbolsRead => write!(f, "{UNREADABLE}"),
             RunFault::Write => write!(
                 f,
-                "standard output: it didn't take the whole answer: is a disk full, or its reader \
-                 gone?"
+                "it didn't take the whole answer: is a disk full, or its reader gone?"
             ),
-            RunFault::Memory => write!(f, "hleak: {NO_MEMORY}"),
+            RunFault::Memory => write!(f, "{NO_MEMORY}"),
             RunFault::NoThread => write!(
                 f,
-                "hleak: the system started no thread: ask for fewer workers, or raise its limit"
+                "the system started no thread: ask for fewer workers, or raise its limit"
             ),
         }
     }
 }
 
 impl<'a> Explanation<'a> {
+    /// What the fault is about.
+    fn subject(&self) -> &'a str
+        ensures { result.now ≡ subject_of self.now.asked.now self.now.fault }
+    {
+        match self.fault {
+            RunFault::Segment { input, .. } => self.input(input),
+            RunFault::Hex { input, .. } => self.input(input),
+            RunFault::Read { input } => self.input(input),
+            RunFault::Symbols(_) | RunFault::SymbolsRead => self.symbols(),
+            RunFault::Write => "standard output",
+            RunFault::Workers | RunFault::Case(_) | RunFault::Memory | RunFault::NoThread => {
+                "hleak"
+            }
+        }
+    }
+
     /// What a person calls the input at a place.
-    fn input(&self, place: u64) -> &'a str {
+    fn input(&self, place: u64) -> &'a str
+        ensures { result.now ≡ input_name self.now.asked.now place }
+    {
         match self.asked.files.get(place as usize) {
             Some(name) => name.as_str(),
             None => "standard input",
@@ -54,7 +70,9 @@ impl<'a> Explanation<'a> {
     }
 
     /// What a person calls the table of symbols.
-    fn symbols(&self) -> &'a str {
+    fn symbols(&self) -> &'a str
+        ensures { result.now ≡ symbols_name self.now.asked.now }
+    {
         match &self.asked.symbols {
             Some(name) => name.as_str(),
             None => "the table of symbols",

@@ -7,30 +7,39 @@ use std::fs::{File, Metadata};
 use std::io::{IsTerminal, Read, Stdin};
 use std::{fs, io};
 
-/// An input of the program. What is read of it is counted where somebody watches.
+/// An input of the program: it gives what its device gives. What is read of it is counted where
+/// somebody watches.
 #[derive(Drop)]
-pub struct Input<'a> {
-    device: Device,
+pub struct Input<'a, D> {
+    device: D,
     progress: Option<&'a Progress>,
 }
 
-impl<'a> Input<'a> {
+impl<'a, D: Read> Input<'a, D> {
+    /// The device as an input.
+    pub fn new(device: D, progress: Option<&'a Progress>) -> Input<'a, D>
+        ensures bytes { ⟦<Input<'a, D> as Read>⟧.remaining result ≡ D.remaining device }
+        ensures device { result.device ≡ device }
+        ensures watched { result.progress ≡ progress.entry }
+    {
+        Input { device, progress }
+    }
+}
+
+impl<'a> Input<'a, Device> {
     /// A file, of which nothing was read.
-    pub fn file(file: File, progress: Option<&'a Progress>) -> Input<'a>
+    pub fn file(file: File, progress: Option<&'a Progress>) -> Input<'a, Device>
         ensures device { result.device ≡ Device.File file }
         ensures watched { result.progress ≡ progress.entry }
     {
         if let Some(progress) = progress {
             progress.open(known_len(file.metadata()));
         }
-        Input {
-            device: Device::File(file),
-            progress,
-        }
+        Input::new(Device::File(file), progress)
     }
 
     /// Standard input. What a person types is not counted.
-    pub fn standard(rt: &HostRuntime, progress: Option<&'a Progress>) -> Input<'a>
+    pub fn standard(rt: &HostRuntime, progress: Option<&'a Progress>) -> Input<'a, Device>
         ensures device { (standard : Stdin) × (result.device ≡ Device.Standard standard) }
         ensures watched { (result.progress ≡ None) ⊎ (result.progress ≡ progress.entry) }
     {
@@ -39,14 +48,13 @@ impl<'a> Input<'a> {
         if let Some(progress) = progress {
             progress.open(known_len(fs::metadata(rt, "/dev/stdin")));
         }
-        Input {
-            device: Device::Standard(standard),
-            progress,
-        }
+        Input::new(Device::Standard(standard), progress)
     }
 }
 
-impl Read for Input<'_> {
+impl<D: Read> Read for Input<'_, D> {
+    ghost remaining = { λ s. D.remaining s.device };
+
     fn read(&mut self, buffer: &mut [u8]) -> io::Result<usize> {
         let read = self.device.read(buffer);
         if let Some(progress) = self.progress {
@@ -61,7 +69,7 @@ impl Read for Input<'_> {
 
 /// A file, or standard input.
 #[derive(Drop)]
-enum Device {
+pub enum Device {
     File(File),
     Standard(Stdin),
 }
@@ -75,7 +83,7 @@ impl Read for Device {
     }
 }
 
-/// How many bytes a file has. A pipe, a terminal or the like doesn't tell.
+/// How many bytes a file has. A pipe, a terminal or the like doesn't say.
 fn known_len(metadata: io::Result<Metadata>) -> Option<u64> {
     match metadata {
         Ok(metadata) if metadata.is_file() => Some(metadata.len()),

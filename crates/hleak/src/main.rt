@@ -1,102 +1,122 @@
 //! The program: answers one question over trace segments in files, or from standard input.
 //!
-//! The arguments ask for a job (`htl_command`). The files are opened in order, the symbol table is
-//! read, and the job is run (`htl_main`). A fault's line goes to standard error, and the program
-//! ends with its status. `input.rt` is what it reads from.
+//! The arguments ask for a job (`htl_command`). The files are opened in order (`opening.rt`), the
+//! symbol table is read, and the job is run (`htl_main`). A fault's line goes to standard error, and
+//! the program ends with its status (`ending.rt`).
 //!
 //! Where standard error is a terminal, a person reads more: `progress.rt` shows how much was read,
 //! `note.rt` says that segments are missing, and `explanation.rt` and `meaning.rt` say a fault in
 //! words.
 #![tactic(auto)]
 
-ghost use Rattle.std.specs.Prelude.{◌≡◌, All, IfOk, false};
+ghost use Rattle.std.specs.Prelude.{◌≡◌, ⊤, IfErr};
+ghost use Rattle.std.specs.Process.{exit_status};
+ghost use Rattle.htl_command.specs.Refusals.{IsUsageWith};
+ghost use Rattle.hleak.specs.Endings.{EndsRefusal, end_status};
 
+mod ending;
 mod explanation;
 mod input;
 mod meaning;
 mod note;
+mod opening;
 mod progress;
 
+use ending::Ending;
 use explanation::Explanation;
 use htl_command::{Asked, ParseFault, parse};
-use htl_main::{Coverage, Reading, RunFault, Source, Writing, run_from};
-use input::Input;
+use htl_main::{Coverage, RunFault, Writing, run_from};
 use note::Note;
+use opening::{opened, symbols};
 use progress::Progress;
-use std::alloc::Global;
-use std::fs::File;
 use std::io::IsTerminal;
 use std::process::ExitCode;
 use std::sync::Wait;
 use std::thread::Threads;
-use std::{env, fs, io};
+use std::{env, io};
 
 fn main(rt: HostRuntime) -> ExitCode {
-    let words = match words(&rt) {
-        Ok(words) => words,
-        Err(fault) => return refused(&rt, &fault),
-    };
-    let asked = match parse(rt.alloc(), words) {
+    let asked = match asked(&rt) {
         Ok(asked) => asked,
         Err(fault) => return refused(&rt, &fault),
     };
     let is_watched = rt.stderr().is_terminal();
-    match answered(&rt, &rt, &asked, is_watched) {
-        Ok(coverage) => {
-            if is_watched {
-                tell_gaps(&rt, coverage);
-            }
-            ExitCode::SUCCESS
-        }
-        Err(fault) => {
-            let _ = eprintln!(rt; "{fault}");
-            if is_watched {
-                let asked = &asked;
-                let _ = eprintln!(rt; "{}", Explanation { fault, asked });
-            }
-            ExitCode::from(fault.status())
-        }
-    }
+    let ended = answered(&rt, &rt, &asked, is_watched);
+    end(&rt, &asked, is_watched, ended)
 }
 
-/// The words after the program's name.
-fn words(rt: &HostRuntime) -> Result<Vec<String>, ParseFault> {
+/// What the arguments after the program's name ask for.
+fn asked(rt: &HostRuntime) -> Result<Asked, ParseFault> {
+    parse(rt.alloc(), arguments(rt)?)
+}
+
+/// The arguments after the program's name.
+fn arguments(rt: &HostRuntime) -> Result<Vec<String>, ParseFault>
+    ensures { IfErr result (IsUsageWith ⊤) }
+{
     match env::args(rt) {
-        Ok(words) => Ok(words.skip(1).collect(rt.alloc())?),
-        Err(error) if error.kind() == io::ErrorKind::InvalidData => Err(no_text(rt.alloc())),
+        Ok(arguments) => Ok(arguments.skip(1).collect(rt.alloc())?),
+        Err(error) if error.kind() == io::ErrorKind::InvalidData => {
+            Err(ParseFault::no_text(rt.alloc()))
+        }
         Err(_) => Err(ParseFault::Memory),
     }
 }
 
-/// The fault of a word that is no text.
-fn no_text(alloc: Global) -> ParseFault {
-    let text = "error: a word is no text in UTF-8\n\nFor more information, try 'hleak --help'.\n";
-    match String::from_str(alloc, text) {
-        Ok(text) => ParseFault::Usage(text),
-        Err(_) => ParseFault::Memory,
-    }
-}
-
-/// Tells why the words give no job: help goes to standard output, and all else to standard error.
-fn refused(rt: &HostRuntime, fault: &ParseFault) -> ExitCode {
-    let told = match fault {
-        ParseFault::Help(text) => print!(rt; "{text}"),
-        ParseFault::Usage(text) => eprint!(rt; "{text}"),
-        ParseFault::Memory => eprintln!(rt; "{fault}"),
-    };
-    match told {
-        Ok(()) => ExitCode::from(fault.status()),
-        Err(_) => {
-            let _ = eprintln!(rt; "{}", RunFault::Write);
-            ExitCode::from(RunFault::Write.status())
+/// Ends the program where the arguments give no job: help goes to standard output, and all else to
+/// standard error. Help alone is an answer, so help that can't be written is a failed write; the
+/// status of every other fault stands whether its line can be written or not.
+fn refused(rt: &HostRuntime, fault: &ParseFault) -> ExitCode
+    ensures { EndsRefusal fault.now (exit_status result) }
+{
+    match fault {
+        ParseFault::Help(text) => {
+            if print!(rt; "{text}").is_err() {
+                let _ = eprintln!(rt; "{}", RunFault::Write);
+                return ExitCode::from(RunFault::Write.status());
+            }
+        }
+        ParseFault::Usage(text) => {
+            let _ = eprint!(rt; "{text}");
+        }
+        ParseFault::Memory => {
+            let _ = eprintln!(rt; "{fault}");
         }
     }
+    ExitCode::from(fault.status())
 }
 
-/// Tells a person where segments are missing.
-fn tell_gaps(rt: &HostRuntime, coverage: Coverage) {
-    if let Some(note) = Note::on(coverage) {
-        let _ = eprintln!(rt; "{note}");
+/// Ends the program after a run.
+fn end(
+    rt: &HostRuntime,
+    asked: &Asked,
+    is_watched: bool,
+    ended: Result<Coverage, RunFault>,
+) -> ExitCode
+    ensures { exit_status result ≡ end_status ended }
+{
+    let ending = Ending::of(ended);
+    if let Some(line) = ending.line {
+        let _ = eprintln!(rt; "{line}");
+    }
+    if is_watched {
+        explain(rt, asked, ended);
+    }
+    ExitCode::from(ending.status)
+}
+
+/// Writes what a person at a terminal reads after a run: what its fault means, or that segments
+/// are missing.
+fn explain(rt: &HostRuntime, asked: &Asked, ended: Result<Coverage, RunFault>) {
+    match ended {
+        Ok(coverage) => {
+            if let Some(note) = Note::on(coverage) {
+                let _ = eprintln!(rt; "{note}");
+            }
+        }
+        Err(fault) => {
+            let _ = eprintln!(rt; "{}", Explanation { fault, asked });
+        }
     }
 }
 
@@ -121,40 +141,4 @@ fn answered(
         progress.clear();
     }
     ended
-}
-
-/// The files in order, or standard input where there is none.
-fn opened<'a>(
-    rt: &HostRuntime,
-    files: &[String],
-    progress: Option<&'a Progress>,
-) -> Result<Vec<Reading<Input<'a>>>, RunFault>
-    ensures { IfOk result (λ inputs.
-        All (λ input. ⟦<Reading<Input<'a>> as Source>⟧.has_failed input ≡ false) inputs.items) }
-{
-    let mut inputs = Vec::new(rt.alloc());
-    if files.is_empty() {
-        inputs.push(Reading::new(Input::standard(rt, progress)))?;
-    }
-    for (place, name) in files.iter().enumerate() {
-        let Ok(file) = File::open(rt, name) else {
-            return Err(RunFault::Read {
-                input: place as u64,
-            });
-        };
-        inputs.push(Reading::new(Input::file(file, progress)))?;
-    }
-    Ok(inputs)
-}
-
-/// The bytes of the file with the symbol table.
-fn symbols(rt: &HostRuntime, name: Option<&String>) -> Result<Option<Vec<u8>>, RunFault> {
-    let Some(name) = name else {
-        return Ok(None);
-    };
-    match fs::read(rt, name) {
-        Ok(bytes) => Ok(Some(bytes)),
-        Err(error) if error.kind() == io::ErrorKind::OutOfMemory => Err(RunFault::Memory),
-        Err(_) => Err(RunFault::SymbolsRead),
-    }
 }

@@ -1,7 +1,7 @@
 //! What the code of a fault means, in words, and what to do about it.
 //!
-//! "The segment" is the one at the offset that the fault's line tells. Records, rows and segments
-//! count from 0.
+//! "The segment" is the one at the offset in the fault's line. Records, rows and segments count
+//! from 0.
 
 use htl_case::CaseFault;
 use htl_segment::{Fault, HexFault};
@@ -73,7 +73,7 @@ impl fmt::Display for Meaning<Fault> {
             ),
             Fault::Excess => write!(
                 f,
-                "bytes are left in the segment behind its last record: {DAMAGED}"
+                "bytes are left in the segment after its last record: {DAMAGED}"
             ),
             Fault::NoMemory => write!(f, "{NO_MEMORY}"),
         }
@@ -147,7 +147,7 @@ impl fmt::Display for Meaning<SymbolFault> {
             ),
             SymbolFault::EmptyRange(row) => write!(
                 f,
-                "row {row} ends at or below its start: an end is the first address behind the range"
+                "row {row} ends at or below its start: an end is the first address after the range"
             ),
             SymbolFault::Overlap(row) => write!(
                 f,

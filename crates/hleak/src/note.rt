@@ -1,6 +1,7 @@
-//! What a person at a terminal is told behind an answer over a case with gaps.
+//! What a person at a terminal reads after an answer over a case with gaps.
 
 ghost use Rattle.std.specs.Prelude.{◌≡◌, ◌<◌, IfSome, IfNone};
+ghost use Rattle.hleak.specs.Notes.{gap_word as word_of};
 
 use htl_main::Coverage;
 use std::fmt;
@@ -26,11 +27,24 @@ impl Note {
 }
 
 impl fmt::Display for Note {
+    ghost use Rattle.std.specs.Prelude.{Some};
+    ghost use Rattle.hleak.specs.Notes.{note_text};
+
+    ghost output = { λ note. Some (note_text note.coverage) };
+
     fn fmt<W: fmt::Write>(&self, f: &mut fmt::Formatter<W>) -> fmt::Result {
+        let Coverage { gaps, complete_to } = self.coverage;
+        let word = gap_word(gaps);
         write!(
             f,
-            "hleak: note: {} gaps: segments are missing; answers are complete to {}",
-            self.coverage.gaps, self.coverage.complete_to
+            "hleak: note: {gaps} {word}: segments are missing; answers are complete to {complete_to}"
         )
     }
+}
+
+/// What so many gaps are called.
+fn gap_word(gaps: u64) -> &'static str
+    ensures { result.now ≡ word_of gaps }
+{
+    if gaps == 1 { "gap" } else { "gaps" }
 }

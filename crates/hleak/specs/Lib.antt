@@ -1,0 +1,4 @@
+pub mod Endings
+pub mod Notes
+pub mod Openings
+pub mod Subjects

@@ -1,0 +1,23 @@
+-- Which file could not be opened.
+use Rattle.std.specs.Prelude.{◌≡◌, ◌⊎◌, ◌<◌, ⊤, ℕ, Bool, true, List, Result, Ok, Err, Some, map, slice_get, take}
+use Rattle.htl_main.specs.declared.fault.RunFault.{RunFault}
+use Rattle.htl_main.specs.declared.fault.RunFault.TheVariants.{Memory, Read, SymbolsRead}
+
+-- the attempt at the place was refused, and none before it
+pub record IsFirstRefused {D E : Type 0} (attempts : List (Result D E)) (place : ℕ) : Type 0 where
+  pub devices : List D
+  pub before : take place attempts ≡ map (λ d. Ok d) devices
+  pub error : E
+  pub here : slice_get attempts place ≡ Some (Err error)
+
+-- one of so many files could not be opened
+abbrev pub IsOpenFault : ℕ → RunFault → Type 0
+IsOpenFault files (Read place) = place < files
+IsOpenFault files Memory = ⊤
+IsOpenFault files other = ⊥
+
+-- a file of symbols, if there is one, could not be read
+abbrev pub IsSymbolsFault : Bool → RunFault → Type 0
+IsSymbolsFault there SymbolsRead = there ≡ true
+IsSymbolsFault there Memory = there ≡ true
+IsSymbolsFault there other = ⊥

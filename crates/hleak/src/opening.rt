@@ -1,0 +1,91 @@
+//! The files that are read, each opened before any is read.
+
+ghost use Rattle.std.specs.Prelude.{◌≡◌, ◌⊎◌, ℕ, All, IfErr, IfOk, Ok, false, is_some, length, map, max};
+ghost use Rattle.hleak.specs.Openings.{IsFirstRefused, IsOpenFault, IsSymbolsFault};
+
+use crate::input::{Device, Input};
+use crate::progress::Progress;
+use htl_main::{Reading, RunFault, Source};
+use std::alloc::{AllocError, Global};
+use std::fs::File;
+use std::{fs, io};
+
+/// The files in order, or standard input where there is none.
+pub fn opened<'a>(
+    rt: &HostRuntime,
+    files: &[String],
+    progress: Option<&'a Progress>,
+) -> Result<Vec<Reading<Input<'a, Device>>>, RunFault>
+    ensures fresh { IfOk result (λ inputs. All
+        (λ input. ⟦<Reading<Input<'a, Device>> as Source>⟧.has_failed input ≡ false) inputs.items) }
+    ensures count { IfOk result (λ inputs. length inputs.items ≡ max 1 (length files.now)) }
+    ensures place { IfErr result (IsOpenFault (length files.now)) }
+{
+    if files.is_empty() {
+        let standard = Reading::new(Input::standard(rt, progress));
+        return Ok(vec![in rt.alloc(); standard]?);
+    }
+    let files = all_opened(rt.alloc(), attempts(rt, files)?)?;
+    Ok(file_inputs(rt.alloc(), files, progress)?)
+}
+
+/// The files as inputs, in order.
+fn file_inputs<'a>(
+    alloc: Global,
+    files: Vec<File>,
+    progress: Option<&'a Progress>,
+) -> Result<Vec<Reading<Input<'a, Device>>>, AllocError>
+    ensures fresh { IfOk result (λ inputs. All
+        (λ input. ⟦<Reading<Input<'a, Device>> as Source>⟧.has_failed input ≡ false) inputs.items) }
+    ensures count { IfOk result (λ inputs. length inputs.items ≡ length files.items) }
+{
+    let mut inputs = Vec::new(alloc);
+    for file in files {
+        inputs.push(Reading::new(Input::file(file, progress)))?;
+    }
+    Ok(inputs)
+}
+
+/// What came of opening each file.
+fn attempts(rt: &HostRuntime, files: &[String]) -> Result<Vec<io::Result<File>>, AllocError>
+    ensures { IfOk result (λ attempts. length attempts.items ≡ length files.now) }
+{
+    let mut attempts = Vec::new(rt.alloc());
+    for name in files {
+        attempts.push(File::open(rt, name))?;
+    }
+    Ok(attempts)
+}
+
+/// What was opened, where each file could be, or else the place of the first that could not.
+fn all_opened<D: Drop>(alloc: Global, attempts: Vec<io::Result<D>>) -> Result<Vec<D>, RunFault>
+    ensures ok { IfOk result (λ opened. map (λ d. Ok d) opened.items ≡ attempts.items) }
+    ensures err { IfErr result (λ fault. (fault ≡ RunFault.Memory)
+        ⊎ ((place : ℕ) × (fault ≡ RunFault.Read place) × IsFirstRefused attempts.items place)) }
+{
+    let mut opened = Vec::new(alloc);
+    for attempt in attempts {
+        let Ok(device) = attempt else {
+            return Err(RunFault::Read {
+                input: opened.len() as u64,
+            });
+        };
+        opened.push(device)?;
+    }
+    Ok(opened)
+}
+
+/// The bytes of the file with the symbol table, where one is named.
+pub fn symbols(rt: &HostRuntime, name: Option<&String>) -> Result<Option<Vec<u8>>, RunFault>
+    ensures ok { IfOk result (λ bytes. is_some bytes ≡ is_some name.entry) }
+    ensures err { IfErr result (IsSymbolsFault (is_some name.entry)) }
+{
+    let Some(name) = name else {
+        return Ok(None);
+    };
+    match fs::read(rt, name) {
+        Ok(bytes) => Ok(Some(bytes)),
+        Err(error) if error.kind() == io::ErrorKind::OutOfMemory => Err(RunFault::Memory),
+        Err(_) => Err(RunFault::SymbolsRead),
+    }
+}

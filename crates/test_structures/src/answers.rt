@@ -175,10 +175,10 @@ fn counted_events(rt: HostRuntime) -> Result<(), Fail> {
     };
     assert_eq!(rt; under(&parts, &[0x20], slot), count(2, 1));
     assert_eq!(rt; whole_tree(&alloc, &parts)?.total(), 6);
-    let rows = tags(alloc, &alloc, &parts, 0x1000)?;
+    let rows = tags(alloc, &parts, 0x1000)?;
     let expected = [(*b"Io  ", count(1, 0)), (*b"Lky8", count(2, 1))];
     assert_eq!(rt; rows.as_slice(), expected.as_slice());
-    let rows = stacks(alloc, &alloc, &parts, 0x1000, *b"Lky8")?;
+    let rows = stacks(alloc, &parts, 0x1000, *b"Lky8")?;
     assert_eq!(rt; rows.len(), 2);
     assert_eq!(rt;
         (rows[0].0.frames(), rows[0].1),
@@ -188,7 +188,7 @@ fn counted_events(rt: HostRuntime) -> Result<(), Fail> {
         (rows[1].0.frames(), rows[1].1),
         ([0x50, 0x20].as_slice(), count(1, 1))
     );
-    let rows = bad(alloc, &alloc, &parts, 4)?;
+    let rows = bad(alloc, &parts, 4)?;
     assert_eq!(rt; rows.len(), 1);
     assert_eq!(rt;
         (rows[0].0, rows[0].1.frames(), rows[0].2),

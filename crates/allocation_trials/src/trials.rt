@@ -84,7 +84,8 @@ impl<'a, R: Env + Print + Alloc<A = Global>> Trials<'a, R> {
         )
     }
 
-    /// Tries a call that may change what it is made on, and prints how many allocations were refused.
+    /// Tries a call that may change what it is made on, and prints how many allocations were
+    /// refused.
     pub fn changes<G, A, M, C>(&mut self, name: &str, make: M, call: C) -> Result<()>
     where
         G: Same + Drop,
@@ -120,8 +121,8 @@ impl<'a, R: Env + Print + Alloc<A = Global>> Trials<'a, R> {
     }
 }
 
-/// Makes a call with its first allocation refused, then with its second, and on, each time on what is
-/// made anew, until none is refused. None: nobody refuses allocations.
+/// Makes a call with its first allocation refused, then with its second, and on, each time on what
+/// is made anew, until none is refused. None: nobody refuses allocations.
 fn tried<R, G, A, M, C>(
     hand: &Hand<'_, R>,
     mut make: M,

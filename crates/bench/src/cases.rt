@@ -1,5 +1,5 @@
-//! How fast a case is made and a handle is listed, of 4 and of 64 processors. The size is the number
-//! of events that each of 64 segments has.
+//! How fast a case is made and a handle is listed, of 4 and of 64 processors. The size is the
+//! number of events that each of 64 segments has.
 
 use crate::stopwatch::Stopwatch;
 use anyhow::Result;

@@ -1,5 +1,5 @@
-//! How long workers take to take in a whole case. The size is the number of events, at most 4,096, in
-//! each of 256 segments, of 8 processors. One analyst that takes all segments and compacts comes
+//! How long workers take to take in a whole case. The size is the number of events, at most 4,096,
+//! in each of 256 segments, of 8 processors. One analyst that takes all segments and compacts comes
 //! first, and then surveys by 1, 2 and 4 workers, each of which has to come to the same state.
 
 use crate::stopwatch::Stopwatch;

@@ -1,5 +1,5 @@
-//! How long a stack tree of many events takes, with few stacks and with many. The size is the number
-//! of segments of each of 4 processors.
+//! How long a stack tree of many events takes, with few stacks and with many. The size is the
+//! number of segments of each of 4 processors.
 
 use crate::stopwatch::Stopwatch;
 use anyhow::Result;

@@ -1,8 +1,8 @@
 //! The program: answers one question over trace segments in files, or from standard input.
 //!
 //! The arguments ask for a job (`htl_command`). The files are opened in order (`opening.rt`), the
-//! symbol table is read, and the job is run (`htl_main`). A fault's line goes to standard error, and
-//! the program ends with its status (`ending.rt`).
+//! symbol table is read, and the job is run (`htl_main`). A fault's line goes to standard error,
+//! and the program ends with its status (`ending.rt`).
 //!
 //! Where standard error is a terminal, a person reads more: `progress.rt` shows how much was read,
 //! `note.rt` says that segments are missing, and `explanation.rt` and `meaning.rt` say a fault in

@@ -1,6 +1,7 @@
 //! The files that are read, each opened before any is read.
 
-ghost use Rattle.std.specs.Prelude.{◌≡◌, ◌⊎◌, ℕ, All, IfErr, IfOk, Ok, false, is_some, length, map, max};
+ghost use Rattle.std.specs.Prelude.{◌≡◌, ◌⊎◌, ℕ, All, IfErr, IfOk, Ok, false, is_some, length, map};
+ghost use Rattle.std.specs.Prelude.{max};
 ghost use Rattle.hleak.specs.Openings.{IsFirstRefused, IsOpenFault, IsSymbolsFault};
 
 use crate::input::{Device, Input};

@@ -1,6 +1,7 @@
 -- One rule for each kind of value: which texts have one, and which it is (this project's own). A text is the
 -- list of its bytes. What digits write is `htl_numbers`' matter: no sign, no blank, no empty text.
-use Rattle.std.specs.Prelude.{◌-◌, ◌^◌, ◌==◌, ◌&&◌, ℕ, List, Option, Some, None, codes, if◌then◌else◌, length, nat_eq, option_and_then, option_map}
+use Rattle.std.specs.Prelude.{◌-◌, ◌^◌, ◌==◌, ◌&&◌, ℕ, List, Option, Some, None, codes, if◌then◌else◌, length, nat_eq, option_and_then}
+use Rattle.std.specs.Prelude.{option_map}
 use Rattle.std.specs.List.{starts_with}
 use Rattle.std.specs.Int.{to_be_bytes, w32}
 use Rattle.htl_numbers.specs.Numbers.{decimal_number, hexadecimal_number}

@@ -3,7 +3,8 @@ ghost use Rattle.std.specs.Prelude.{◌≡◌, ◌≢◌, [], IfErr, IfOk, IsOk,
 ghost use Rattle.clap.specs.Words.{subcommand_rows_of};
 ghost use Rattle.htl_command.specs.Entries.{entries as entries_in, refusals};
 ghost use Rattle.htl_command.specs.Refusals.{IsUsageWith, RefusesArguments};
-ghost use Rattle.htl_command.specs.Requests.{request, request_met, request_of, requested, stored as stored_request, with_files as with_files_in};
+ghost use Rattle.htl_command.specs.Requests.{request, request_met, request_of, requested};
+ghost use Rattle.htl_command.specs.Requests.{stored as stored_request, with_files as with_files_in};
 ghost use Rattle.htl_command.specs.Steps.{IsRefused, entries_of};
 
 use crate::builder::program;
@@ -24,14 +25,15 @@ pub struct Asked {
     pub symbols: Option<String>,
 }
 
-/// The job that the arguments after the program's name ask for. No arguments ask for the stored job: the outstanding
-/// handles of process 4, from standard input in hexadecimal.
+/// The job that the arguments after the program's name ask for. No arguments ask for the stored
+/// job: the outstanding handles of process 4, from standard input in hexadecimal.
 ///
-/// A command, its options and its files are arguments as `clap` takes them: `--process 4` or `--process=4`, options
-/// and files in any order, and only files after `--`. No option may be given twice.
+/// A command, its options and its files are arguments as `clap` takes them: `--process 4` or
+/// `--process=4`, options and files in any order, and only files after `--`. No option may be given
+/// twice.
 ///
-/// Where several things are wrong, what `clap` refuses is reported first, and then the first value that breaks
-/// its rule.
+/// Where several things are wrong, what `clap` refuses is reported first, and then the first value
+/// that breaks its rule.
 #[tactic(auto, using(crate::proofs::Arguments::no_arguments))]
 pub fn parse(alloc: Global, arguments: Vec<String>) -> Result<Asked, ParseFault>
     ensures ok { IfOk result (λ asked.
@@ -84,8 +86,8 @@ fn matches<'a>(alloc: Global, arguments: &'a [String]) -> Result<ArgMatches<'a>,
     }
 }
 
-/// What helps where a value that begins with `-` stands apart from its option, since `clap` takes it for another
-/// option.
+/// What helps where a value that begins with `-` stands apart from its option, since `clap` takes
+/// it for another option.
 fn tip(arguments: &[String]) -> &'static str {
     let next = arguments.iter().skip(1);
     if arguments
@@ -99,7 +101,8 @@ fn tip(arguments: &[String]) -> &'static str {
     }
 }
 
-/// Whether a value that begins with `-`, of an option that may have such a value, stands apart from it.
+/// Whether a value that begins with `-`, of an option that may have such a value, stands apart from
+/// it.
 fn is_parted(option: &str, value: &str) -> bool {
     matches!(option, "--tag" | "--symbols") && value.starts_with('-')
 }

@@ -3,7 +3,9 @@ ghost use Rattle.std.specs.Prelude.{◌≡◌, IfOk, false, map};
 ghost use Rattle.clap.specs.Words.{app_of, rule_of, with_subcommand};
 ghost use Rattle.clap.specs.declared.builder.Command.TheViews.{out-Command as fields_of};
 ghost use Rattle.htl_command.specs.Steps.{Describes};
-ghost use Rattle.htl_command.specs.Entries.{common_rules, command_app, files_rule, hex_rule, hleak_app, option_rule, program_app, with_commands as with_commands_of, with_rules};
+ghost use Rattle.htl_command.specs.Entries.{common_rules, command_app, files_rule, hex_rule};
+ghost use Rattle.htl_command.specs.Entries.{hleak_app, option_rule, program_app};
+ghost use Rattle.htl_command.specs.Entries.{with_commands as with_commands_of, with_rules};
 
 use crate::commands::{COMMANDS, CommandName, CommandOption};
 use crate::help::{ABOUT, AFTER_HELP, FILES_HELP, HEX_HELP, VERSION};

@@ -1,7 +1,8 @@
 //! The commands of the program and their options, by name.
 ghost use Rattle.std.specs.Prelude.{◌≡◌, find};
 ghost use Rattle.std.specs.Str.{bytes_eq};
-ghost use Rattle.htl_command.specs.Commands.{command_named, name_of, option_name, own_options, is_required};
+ghost use Rattle.htl_command.specs.Commands.{command_named, name_of, option_name, own_options};
+ghost use Rattle.htl_command.specs.Commands.{is_required};
 
 /// A command: the question that it asks.
 #[derive(Clone, Copy, Debug, PartialEq, Eq)]
@@ -40,7 +41,8 @@ pub(crate) const COMMANDS: [CommandName; 8] = [
     CommandName::Trace,
 ];
 
-// The names live as long as the caller wants, since `clap`'s builders take no text of a longer life.
+// The names live as long as the caller wants, since `clap`'s builders take no text of a longer
+// life.
 
 impl CommandName {
     pub(crate) fn as_str<'a>(self) -> &'a str

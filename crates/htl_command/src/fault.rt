@@ -13,11 +13,12 @@ use thiserror::Error;
 /// Why arguments give no job.
 #[derive(Debug, PartialEq, Eq, Drop, Error)]
 pub enum ParseFault {
-    /// Help or the version was asked for. The text, which ends with a line feed, goes to standard output.
+    /// Help or the version was asked for. The text, which ends with a line feed, goes to standard
+    /// output.
     #[error("{0}")]
     Help(String),
-    /// The arguments are no command line of the program. The text says why, after `error: `; it ends with a line
-    /// feed and goes to standard error.
+    /// The arguments are no command line of the program. The text says why, after `error: `; it
+    /// ends with a line feed and goes to standard error.
     #[error("{0}")]
     Usage(String),
     /// Memory for a growth was refused.
@@ -38,7 +39,8 @@ impl ParseFault {
         usage(alloc, why, "")
     }
 
-    /// The exit status of the program: 0 for help, 2 for arguments that are no command line, 6 for memory.
+    /// The exit status of the program: 0 for help, 2 for arguments that are no command line, 6 for
+    /// memory.
     pub fn status(&self) -> u8
         ensures { result ≡ status_of self.now }
     {

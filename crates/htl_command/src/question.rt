@@ -3,12 +3,13 @@
 /// A question about the events of a trace.
 #[derive(Clone, Copy, Debug, PartialEq, Eq)]
 pub enum Question {
-    /// What leaks at all: each process, the objects with an unbalanced tag, and the segments that are missing.
+    /// What leaks at all: each process, the objects with an unbalanced tag, and the segments that
+    /// are missing.
     Summary,
     /// The handles of a process that are open.
     Outstanding { process: u32 },
-    /// The handles of a process that were opened after a sequence and are open. `None` stands for the sequence
-    /// of the process's last snapshot.
+    /// The handles of a process that were opened after a sequence and are open. `None` stands for
+    /// the sequence of the process's last snapshot.
     Diff { process: u32, since: Option<u64> },
     /// The references and dereferences of an object under each tag.
     Tags { object: u64 },
@@ -16,7 +17,8 @@ pub enum Question {
     Bad { process: u32 },
     /// The stacks that opened handles of a process which are still open.
     Leaks { process: u32 },
-    /// The stacks behind a tag of an object. The tag's bytes are in the order in which they are shown.
+    /// The stacks behind a tag of an object. The tag's bytes are in the order in which they are
+    /// shown.
     Stacks { object: u64, tag: [u8; 4] },
     /// Each event of a handle of a process.
     Trace { process: u32, handle: u32 },

@@ -3,7 +3,9 @@ ghost use Rattle.std.specs.Prelude.{◌≡◌, IfErr, IfOk, map, option_map, str
 ghost use Rattle.std.specs.Result.{result_ok};
 ghost use Rattle.clap.specs.Words.{all_of, first_of};
 ghost use Rattle.htl_command.specs.Steps.{Names, entries_of};
-ghost use Rattle.htl_command.specs.Requests.{file_names, given as given_in, is_hex as is_hex_in, job_of, optional, question_of, value, workers as workers_given};
+ghost use Rattle.htl_command.specs.Requests.{file_names, given as given_in, is_hex as is_hex_in};
+ghost use Rattle.htl_command.specs.Requests.{job_of, optional, question_of, value};
+ghost use Rattle.htl_command.specs.Requests.{workers as workers_given};
 ghost use Rattle.htl_command.specs.Values.{handle_in, object_in, process_in, sequence_in, tag_in};
 ghost use Rattle.htl_command.specs.declared.commands.CommandOption.TheVariants as option;
 

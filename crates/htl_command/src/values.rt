@@ -1,6 +1,7 @@
 //! The values of options, read from their texts. Each kind of value has one rule.
 ghost use Rattle.std.specs.Prelude.{◌≡◌};
-ghost use Rattle.htl_command.specs.Values.{handle_in, object_in, process_in, sequence_in, tag_in, workers_in};
+ghost use Rattle.htl_command.specs.Values.{handle_in, object_in, process_in, sequence_in, tag_in};
+ghost use Rattle.htl_command.specs.Values.{workers_in};
 
 use htl_numbers::{decimal, hexadecimal};
 

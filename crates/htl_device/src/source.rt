@@ -1,6 +1,7 @@
 //! Sources of bytes.
 
-ghost use Rattle.std.specs.Prelude.{◌≡◌, ◌≤◌, ◌||◌, ℕ, Bool, List, Option, None, false, length, is_err, IfOk};
+ghost use Rattle.std.specs.Prelude.{◌≡◌, ◌≤◌, ◌||◌, ℕ, Bool, List, Option, None, false, length};
+ghost use Rattle.std.specs.Prelude.{is_err, IfOk};
 ghost use Rattle.std.specs.Io.KnownBytes.{ReadConsumes};
 
 use crate::Failed;
@@ -21,8 +22,9 @@ pub trait Source {
     fn failed(&self) -> bool
         ensures { result ≡ has_failed self.now };
 
-    /// Reads some of the bytes that are left, at most as many as the buffer holds. None for a buffer that
-    /// isn't empty means that the source has ended. No buffer is longer than 65,536 bytes.
+    /// Reads some of the bytes that are left, at most as many as the buffer holds. None for a
+    /// buffer that isn't empty means that the source has ended. No buffer is longer than 65,536
+    /// bytes.
     fn read(&mut self, buffer: &mut [u8]) -> Result<usize, Failed>
         requires { length buffer.old ≤ MAX_READ_LEN }
         ensures bound { IfOk result (λ n. n ≤ length buffer.new) }
@@ -38,8 +40,8 @@ pub struct Reading<R> {
 }
 
 impl<R: Read> Reading<R> {
-    /// A source that has not failed and gives what the reader gives. Each error of the reader is a failure,
-    /// also one that a caller might try again after.
+    /// A source that has not failed and gives what the reader gives. Each error of the reader is a
+    /// failure, also one that a caller might try again after.
     pub fn new(reader: R) -> Reading<R>
         ensures fresh { ⟦<Reading<R> as Source>⟧.has_failed result ≡ false }
         ensures bytes { ⟦<Reading<R> as Source>⟧.remaining result ≡ R.remaining reader }

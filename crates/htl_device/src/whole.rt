@@ -1,5 +1,6 @@
 //! Whole texts, over as many reads or writes as they take.
-ghost use Rattle.std.specs.Prelude.{◌≡◌, ◌<◌, ◌≤◌, ◌⊎◌, [], false, true, length, is_err, IfOk, IfErr, IfSome, OnOk, OnErr};
+ghost use Rattle.std.specs.Prelude.{◌≡◌, ◌<◌, ◌≤◌, ◌⊎◌, [], false, true, length, is_err, IfOk};
+ghost use Rattle.std.specs.Prelude.{IfErr, IfSome, OnOk, OnErr};
 ghost use Rattle.std.specs.Io.KnownBytes.{Appends};
 ghost use Rattle.htl_device.specs.Devices.{AppendsPrefix};
 ghost use Rattle.htl_device.specs.declared.whole.ReadFault.TheVariants.{NoMemory};
@@ -49,8 +50,9 @@ impl From<AllocError> for ReadFault {
 /// How many reads of one source may give bytes: 2^32.
 pub const MAX_READS: u64 = 4_294_967_296;
 
-/// All bytes of a source, in reads of at most 65,536 bytes. The 2^32-nd read may still find the end, and a
-/// source that gives bytes at each of them has failed. Memory is asked for once some bytes came.
+/// All bytes of a source, in reads of at most 65,536 bytes. The 2^32-nd read may still find the
+/// end, and a source that gives bytes at each of them has failed. Memory is asked for once some
+/// bytes came.
 pub fn read_whole<R: Source>(alloc: Global, source: &mut R) -> Result<Vec<u8>, ReadFault>
     requires { R.has_failed source.old ≡ false }
     ensures ok { IfOk result (λ v. IfSome (R.remaining source.old) (λ xs. v.items ≡ xs)) }

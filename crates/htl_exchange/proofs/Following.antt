@@ -218,24 +218,6 @@ collects_keeps None (Ok collected.State) v w is p h = pop_keeps v w collected.St
 collects_keeps None (Ok collected.Nothing) v w is p h = ap (λ (u : Known). has u.got p) is ∙ h
 collects_keeps None (Err e) v w is p h = pop_keeps v w is.0 is.1 p is.3 h
 
--- the answer after a pop
-pub popped_as : (v w : Known) (x : Parcel) → Popped v x w → CollectsAs None (Ok (named x)) v w
-popped_as v w (parcels.Run segments of) says = (says.0.one_run.0, says.1 ∙ ap (popped v collected.Run) says.0.one_run.1)
-popped_as v w (parcels.State a) says = (runs_taken a, says.1)
-
--- an empty queue leaves every run with the one pass
-pub nothing_left : (v : Known) (items : List Parcel) → length items ≡ 0 → KnowsRest v items → HasRest v
-nothing_left v [] none rest every p = rest every p
-nothing_left v (x ∷ items) none rest every p = absurd (omega (arith, none))
-
--- out of memory after a pop, or with something in hand
-pub refused_as : (hand : Option Parcel) (c : Collected) (e : NoMemory) (v w : Known) → c ≢ collected.Nothing
-    → CollectsAs hand (Ok c) v w → CollectsAs hand (Err e) v w
-refused_as (Some x) c e v w some_parcel is = is.1
-refused_as None collected.Run e v w some_parcel is = (collected.Run, one is.0, some_parcel, is.1)
-refused_as None collected.State e v w some_parcel is = (collected.State, is.0, some_parcel, is.1)
-refused_as None collected.Nothing e v w some_parcel is = absurd (some_parcel refl)
-
 -- a push changes no key
 pub posts_still : (v w : Known) (a : State) (hand : Option Parcel) → Follows v a hand → (w ≡ pushed v) ⊎ (w ≡ v) → Follows w a hand
 posts_still v w a hand was (inl is) = subst (λ u. Follows u a hand) (sym is) (record {

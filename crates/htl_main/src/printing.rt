@@ -28,8 +28,8 @@ use std::thread::Threads;
 /// The number of workers is tested first; then each input in order is decoded, the segments are
 /// made a case, the symbols are read, and the answer is made. The first fault ends the run. Nothing
 /// is written before the whole text is made; after a failed write some first part of it went out.
-/// What is printed is the same for every number of workers. A run that ends well reports how much of
-/// its trace the case of all segments has.
+/// What is printed is the same for every number of workers. A run that ends well reports how much
+/// of its trace the case of all segments has.
 pub fn run<Rt: Threads + Wait + Sync, W: Sink>(
     rt: &Rt,
     alloc: Global,

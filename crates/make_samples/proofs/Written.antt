@@ -44,9 +44,6 @@ count-one-more trace n s old mid new a b = (
   length-append a.0 (s ∷ []) ∙ ap (λ (m : ℕ). m + 1) a.2,
 )
 
-pub keys-none : (trace : Trace) (old : Option (List ℕ)) → WritesKeys trace [] old old
-keys-none trace old = ([], writes-none trace old, refl)
-
 pub keys-both : (trace : Trace) (ks js : List (ℕ × ℕ)) (old mid new : Option (List ℕ)) → WritesKeys trace ks old mid
     → WritesKeys trace js mid new → WritesKeys trace (ks ++ js) old new
 keys-both trace ks js old mid new a b = (

@@ -7,11 +7,12 @@ use htl_samples::{RandomTrace, SMALL};
 /// How many events a generated segment has: as many as a segment may have.
 const EVENTS: u32 = 4096;
 
-/// How many bytes a generated segment has, on the average: its header, and each event with 20 frames.
+/// How many bytes a generated segment has, on the average: its header, and each event with 20
+/// frames.
 const SEGMENT_LEN: u64 = 32 + EVENTS as u64 * (36 + 20 * 8);
 
-/// A generated trace of about so many megabytes, with so many stacks and handles. Each processor has
-/// at least one segment.
+/// A generated trace of about so many megabytes, with so many stacks and handles. Each processor
+/// has at least one segment.
 pub fn made_up(megabytes: u32, stacks: u32, handles: u32, processors: u16) -> RandomTrace
     ensures processors { result.processors ≡ processors }
     ensures stacks { result.stacks ≡ stacks }

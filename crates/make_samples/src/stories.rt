@@ -109,9 +109,9 @@ const EXIT: [&str; 3] = [
 /// A trace of two processors that lacks a segment, so that a handle only seems to be leaked.
 ///
 /// Process 1200 opens its source and its target on processor 0 (1, 3). It closes both in segment 1
-/// of processor 0 (5, 6), which was overwritten before it was saved. It opens the next source, which
-/// gets the handle of the first one (9), finds it empty and closes it (11). Process 1300 does the
-/// same on processor 1, whose segments are all there (2, 4, 8, 10).
+/// of processor 0 (5, 6), which was overwritten before it was saved. It opens the next source,
+/// which gets the handle of the first one (9), finds it empty and closes it (11). Process 1300 does
+/// the same on processor 1, whose segments are all there (2, 4, 8, 10).
 const GAP: [&str; 4] = [
     "0/0:
         O 1 0x10 process=1200 [0x30014 0x31064 0x40130 0x40030],

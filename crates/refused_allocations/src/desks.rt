@@ -232,8 +232,8 @@ fn desk_with_state<R: Wait>(rt: &R, alloc: Global) -> Result<Seat, Refusal> {
     Ok(seat)
 }
 
-/// A desk that popped the run and was refused its first allocation: it has the run in hand, and took
-/// in nothing of it.
+/// A desk that popped the run and was refused its first allocation: it has the run in hand, and
+/// took in nothing of it.
 fn desk_with_run_in_hand<R: Wait>(
     rt: &R,
     hand: &Hand<'_, HostRuntime>,

@@ -1,8 +1,8 @@
 //! Refuses the allocations of each call that takes memory. `allocation_trials` says what is tried.
 //!
-//! First come the calls on what an analyst's state is made of: segments, trees, tables and sets; and
-//! then those that a run is made of: on analysts, cases, exchanges and texts, and whole runs. Each
-//! file of calls begins with their table.
+//! First come the calls on what an analyst's state is made of: segments, trees, tables and sets;
+//! and then those that a run is made of: on analysts, cases, exchanges and texts, and whole runs.
+//! Each file of calls begins with their table.
 #![tactic(auto)]
 
 mod analysts;

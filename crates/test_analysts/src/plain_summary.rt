@@ -134,7 +134,8 @@ pub fn gaps(
     Ok(gaps)
 }
 
-/// Whether none of these numbers is there, the one behind them is, and no longer run ends with them.
+/// Whether none of these numbers is there, the one behind them is, and no longer run ends with
+/// them.
 fn is_gap(keys: &[(u16, u32)], processor: u16, from: u32, to: u32) -> bool {
     let has = |number: u32| keys.contains(&(processor, number));
     let begins = from == 0 || has(from.wrapping_sub(1));

@@ -309,8 +309,8 @@ fn repeating(rt: &impl Abort, alloc: Global, stacks: u64) -> Vec<Event> {
     events
 }
 
-/// A cache of stacks begins with a few cells, of which each stack may have two: many stacks push one
-/// another out, and the cache is made larger.
+/// A cache of stacks begins with a few cells, of which each stack may have two: many stacks push
+/// one another out, and the cache is made larger.
 #[test]
 fn stacks_through_two_cells(rt: HostRuntime) {
     let alloc = rt.alloc();

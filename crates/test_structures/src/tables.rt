@@ -1,5 +1,5 @@
-//! Tests of what no clause says: worked rows, many runs, and refused allocations, each call under heaps
-//! of its own.
+//! Tests of what no clause says: worked rows, many runs, and refused allocations, each call under
+//! heaps of its own.
 
 use htl_event::{NoMemory, SharedEvent};
 use htl_samples::{SMALL, shared_events};

@@ -18,6 +18,6 @@ returns-in_ok-answer_of-in_default g c =
       ok = λ table. over_events T table question (text_of table answer) of
           (subst (λ (events : List Event). IsTextOver events table question (text_of table answer))
           (whole_events T c.in_ok-analyst-in_default.analyst whole)
-          (c.in_ok-answer_of-in_default.ensures T c.segments-_is_case.ensures.is_case.trace whole.standing.right table));
+          (c.in_ok-answer_of-in_default.ensures T c.segments-is_case.ensures.is_case.trace whole.standing.right table));
       err = tt;
     }

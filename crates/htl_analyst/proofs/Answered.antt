@@ -39,7 +39,7 @@ are_events_from T a right p (k ∷ ks) same len =
     let here : k ≡ part_at a.parts p = same 0 (omega arith) ∙ ap (λ (n : ℕ). part_at a.parts n) zero_is in
     let folded = (right.each p lt).folded.fold in
     let fold : IsFoldOf (contents_of (part_at a.parts p)) (run_events T p (front_at a.taken p)) =
-    record { tree = folded.tree; latest = folded.latest; mark = folded.mark; last_exit = folded.last_exit } in
+    record { tree = folded.tree; tables = folded.tables } in
     let others = are_events_from T a right (p + 1) ks
     (λ i in_ks. (let e : p + suc i ≡ (p + 1) + i = omega arith in same (suc i) (omega (arith, in_ks))
     ∙ ap (λ (n : ℕ). part_at a.parts n) e)) (omega (arith, len)) in (

@@ -25,13 +25,13 @@ folded_same es own f g x y = record {
   tree = λ slot stack. x.fold.tree slot stack ∙ sym (y.fold.tree slot stack);
   latest =
       λ process base. LatestIs-unique (Contains es) (one_event es own) process base (event_at f.latest process base)
-      (event_at g.latest process base) (x.fold.latest process base) (y.fold.latest process base);
+      (event_at g.latest process base) (x.fold.tables.latest_at process base) (y.fold.tables.latest_at process base);
   marks =
       λ process. IsGreatestSequence-unique (λ e. Contains es e × IsOf Snapshot process e) (sequence_at f.marks process)
-      (sequence_at g.marks process) (x.fold.mark process) (y.fold.mark process);
+      (sequence_at g.marks process) (x.fold.tables.mark_at process) (y.fold.tables.mark_at process);
   exits =
       λ process. IsGreatestSequence-unique (λ e. Contains es e × IsOf Exited process e) (sequence_at f.exits process)
-      (sequence_at g.exits process) (x.fold.last_exit process) (y.fold.last_exit process);
+      (sequence_at g.exits process) (x.fold.tables.exit_at process) (y.fold.tables.exit_at process);
 }
 
 part_same : (T : Trace) (a b : State) → IsTrace T → IsRight a T → IsRight b T → (p : ℕ) (q r : Numbers) (k l : Part) → q ≡ r

@@ -10,6 +10,7 @@ use Rattle.htl_segment.specs.Traces.{Trace, events_of}
 use Rattle.htl_segment.proofs.Traces.{events_of-skip}
 use Rattle.htl_taken.specs.NumberSets.{Has}
 use Rattle.htl_taken.specs.Numbers.{Numbers, numbers_at, no_numbers}
+use Rattle.htl_answers.proofs.JoinedTables.{tables_none}
 use Rattle.htl_analyst.specs.States.{no_part, no_folded}
 use Rattle.htl_analyst.specs.Keys.{HasTaken}
 use Rattle.htl_analyst.specs.Right.{IsCollection, IsFolded, IsPart, IsState, IsRight}
@@ -34,9 +35,7 @@ pub IsFolded-nothing : IsFolded no_folded []
 IsFolded-nothing = record {
   fold = record {
     tree = λ slot stack. refl;
-    latest = λ process base x h. absurd (Contains-nil x h);
-    mark = λ process. record { bound = λ x h. absurd (Contains-nil x h.0); reached = inl refl };
-    last_exit = λ process. record { bound = λ x h. absurd (Contains-nil x h.0); reached = inl refl };
+    tables = tables_none;
   };
   last = record { bound = λ x h. absurd (Contains-nil x h); reached = inl refl };
 }

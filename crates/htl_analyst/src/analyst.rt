@@ -1,4 +1,4 @@
-//! The analyst: its state, and what it tells of that.
+//! The analyst: its state, and what it answers of that.
 ghost use Rattle.std.specs.Prelude.{◌≡◌, IfOk, replicate};
 ghost use Rattle.htl_analyst.specs.States.{no_part};
 

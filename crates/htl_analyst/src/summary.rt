@@ -1,4 +1,4 @@
-//! What a summary tells of the taken segments: processes, objects and gaps.
+//! What a summary states of the taken segments: processes, objects and gaps.
 use crate::analyst::Analyst;
 use htl_event::{NoMemory, ProcessRow};
 use htl_summary::Objects;

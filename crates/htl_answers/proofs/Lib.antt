@@ -1,4 +1,5 @@
 pub mod Appended
+pub mod JoinedTables
 pub mod PartLemmas
 pub mod MomentLemmas
 pub mod Filters

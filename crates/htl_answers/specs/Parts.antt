@@ -15,13 +15,16 @@ pub record Contents : Type 0 where
   pub exits : List (ℕ × ℕ)
   pub held : List Event
 
--- The part's tree and tables are those of the events: their tally, the latest event of each handle, the
--- mark and the last exit of each process.
+-- The tables have the latest open or close of each handle, the mark and the last exit of each process.
+pub record AreTablesOf (events latest : List Event) (marks exits : List (ℕ × ℕ)) : Type 0 where
+  pub latest_at : (process base : ℕ) → LatestIs (Contains events) process base (event_at latest process base)
+  pub mark_at : (process : ℕ) → IsMark (Contains events) process (sequence_at marks process)
+  pub exit_at : (process : ℕ) → IsLastExit (Contains events) process (sequence_at exits process)
+
+-- The part's tree is the tally of the events, and its tables are theirs.
 pub record IsFoldOf (part : Contents) (events : List Event) : Type 0 where
   pub tree : HasTally part.tree events
-  pub latest : (process base : ℕ) → LatestIs (Contains events) process base (event_at part.latest process base)
-  pub mark : (process : ℕ) → IsMark (Contains events) process (sequence_at part.marks process)
-  pub last_exit : (process : ℕ) → IsLastExit (Contains events) process (sequence_at part.exits process)
+  pub tables : AreTablesOf events part.latest part.marks part.exits
 
 -- The events are those of the parts: part by part those that it folded, and then those that it holds.
 abbrev pub AreEventsOf : List Contents → List Event → Type 0

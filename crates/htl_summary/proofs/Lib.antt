@@ -1,6 +1,6 @@
 pub mod Totals
 pub mod InOrder
-pub mod JoinedTables
+pub mod TableHalves
 pub mod SlotSums
 pub mod Sorted
 pub mod ProcessRows

@@ -2,5 +2,4 @@
 pub mod Totals
 pub mod Usages
 pub mod ObjectTags
-pub mod Tables
 pub mod Rows

@@ -2,8 +2,7 @@
 
 ghost use Rattle.std.specs.Prelude.{List, [], ◌++◌, map, flat_map, IfOk};
 ghost use Rattle.htl_event.specs.Events.{Event};
-ghost use Rattle.htl_answers.specs.Parts.{AreEventsOf, IsFoldOf};
-ghost use Rattle.htl_summary.specs.Tables.{AreTablesOf};
+ghost use Rattle.htl_answers.specs.Parts.{AreEventsOf, AreTablesOf, IsFoldOf};
 
 use htl_answers::Part;
 use htl_event::{EventList, NoMemory};

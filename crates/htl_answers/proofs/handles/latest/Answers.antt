@@ -18,7 +18,7 @@ loop-part-preserved g c = λ events are.
     let process = c.args.process in
     let base = base_of c.args.handle in
     let nonzero : base ≢ 0 = (λ z. c.if-base-eq0.false (c.base-base.ensures ∙ z)) in
-    let folded = ends.fold.latest process base in
+    let folded = ends.fold.tables.latest_at process base in
     let later_held = rw (c.held.ensures, c.base-base.ensures) at c.latest_held-held.ensures in
     let kept = latest_append ends.folded held process base _ _ folded later_held in
     rw (ends.is, c.later_of-latest.ensures, c.later_of.ensures, c.get-folded.ensures.value nonzero, c.latest.ensures)

@@ -14,7 +14,7 @@ loop-part-preserved g c = λ events are.
     rw (c.max-mark.ensures, nat_max, c.max.ensures, c.get-folded.ensures, c.marks.ensures)
     (greatest_more (IsOf Snapshot process) g.P.Part.contents c.args.parts.now c.loop-part.part-index c.part-item.result
     c.loop-part-test.true c.part-item.is
-    _ _ _ c.loop-part.invariant (λ folded fold. fold.mark process) (rw c.held.ensures at c.greatest_held-held.ensures) events are)
+    _ _ _ c.loop-part.invariant (λ folded fold. fold.tables.mark_at process) (rw c.held.ensures at c.greatest_held-held.ensures) events are)
 
 pub loop-part-init : goal.loop-part-init
 loop-part-init g c = λ events none. rw none (record { bound = λ x h. absurd (Contains-nil x h.0); reached = inl refl })

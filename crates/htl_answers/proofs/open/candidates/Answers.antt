@@ -17,7 +17,7 @@ loop-part-preserved g c = λ events are.
     let own = c.rows_of.result.now in
     let held = (contents part).held in
     let ends = last_part _ (contents part) events (rw (one_part_more contents parts i part c.loop-part-test.true c.part-item.is) at are) in
-    let folded = candidates_folded (contents part).latest process own ends.folded ends.fold.latest
+    let folded = candidates_folded (contents part).latest process own ends.folded ends.fold.tables.latest_at
     (rw c.latest.ensures at c.rows_of.ensures.listed) in
     let kept = candidates_append ends.folded held process own _ folded (candidates_held held process) in
     let all = candidates_append ends.before (ends.folded ++ held) process rows _ (c.loop-part.invariant ends.before ends.are) kept in

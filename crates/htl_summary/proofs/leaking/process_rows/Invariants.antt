@@ -4,7 +4,7 @@ use Rattle.htl_event.specs.declared.summary.ProcessRow.{ProcessRow}
 use Rattle.htl_summary.specs.declared.usage.Usage.{Usage}
 use Rattle.htl_event.specs.Events.{Event}
 use Rattle.htl_event.specs.Handles.{HaveOwnSequences}
-use Rattle.htl_summary.specs.Tables.{AreTablesOf}
+use Rattle.htl_answers.specs.Parts.{AreTablesOf}
 use Rattle.htl_summary.specs.Rows.{AreRowsOf}
 use Rattle.htl_summary.proofs.leaking.process_rows.Given as goal
 

@@ -3,7 +3,7 @@ use Rattle.std.proofs.Common.{◌/◌, map, length, take, drop, sym, subst}
 use Rattle.std.proofs.lemmas.Result.{IfOk-weaker}
 use Rattle.htl_answers.specs.Parts.{AreEventsOf}
 use Rattle.htl_answers.proofs.WholeLemmas.{halves}
-use Rattle.htl_summary.proofs.JoinedTables.{tables_halves}
+use Rattle.htl_summary.proofs.TableHalves.{tables_halves}
 use Rattle.htl_summary.proofs.tables.+tables_of.Goals as goal
 
 pub returns : goal.returns

@@ -1,5 +1,5 @@
 -- The tables of both sides, joined.
-use Rattle.htl_summary.proofs.JoinedTables.{tables_joined}
+use Rattle.htl_answers.proofs.JoinedTables.{tables_joined}
 use Rattle.htl_summary.proofs.tables.joined.Goals as goal
 
 pub returns : goal.returns

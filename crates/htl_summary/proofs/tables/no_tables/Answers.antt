@@ -1,5 +1,5 @@
 -- Tables of nothing.
-use Rattle.htl_summary.proofs.JoinedTables.{tables_none}
+use Rattle.htl_answers.proofs.JoinedTables.{tables_none}
 use Rattle.htl_summary.proofs.tables.no_tables.Goals as goal
 
 pub returns : goal.returns

@@ -1,4 +1,4 @@
--- The one held segment of the key tells whether other content is held.
+-- The one held segment of the key shows whether other content is held.
 use Rattle.std.proofs.Common.{ℕ, not, ap, sym, ◌∙◌, subst, inl, inr}
 use Rattle.std.specs.Prelude.{Contains}
 use Rattle.std.proofs.lemmas.Bool.{false≢true, cases_Bool}

@@ -5,9 +5,11 @@ pub returns-clause-folded : goal.returns-clause-folded
 returns-clause-folded g c = record {
   fold = record {
     tree = c.in_ok-of.ensures.tally;
-    latest = c.in_ok-of-2.ensures.latest;
-    mark = c.in_ok-of-3.ensures;
-    last_exit = c.in_ok-of-4.ensures;
+    tables = record {
+      latest_at = c.in_ok-of-2.ensures.latest;
+      mark_at = c.in_ok-of-3.ensures;
+      exit_at = c.in_ok-of-4.ensures;
+    };
   };
   last = c.greatest_sequence.ensures;
 }

@@ -1,15 +1,13 @@
 -- Tables of events that are put together, and of no events.
-use Rattle.std.proofs.Common.{◌≡◌, ℕ, max, List, [], ◌++◌, refl, sym, subst, inl}
+use Rattle.std.proofs.Common.{◌≡◌, ℕ, max, List, [], ◌++◌, refl, inl}
 use Rattle.htl_event.specs.Events.{Event}
 use Rattle.htl_event.specs.declared.kind.Kind.TheVariants.{Snapshot, Exited}
 use Rattle.htl_event.specs.Handles.{later, IsOf}
 use Rattle.htl_event.proofs.Members.{Contains-nil}
 use Rattle.htl_tables.specs.Latest.{event_at}
 use Rattle.htl_tables.specs.Greatest.{sequence_at}
-use Rattle.htl_answers.specs.Parts.{Contents, IsFoldOf, AreEventsOf}
+use Rattle.htl_answers.specs.Parts.{AreTablesOf}
 use Rattle.htl_answers.proofs.Appended.{latest_append, greatest_append}
-use Rattle.htl_answers.proofs.PartLemmas.{split_parts}
-use Rattle.htl_summary.specs.Tables.{AreTablesOf}
 
 abbrev Sequences : Type 0
 Sequences = List (ℕ × ℕ)
@@ -32,16 +30,3 @@ tables_none = record {
   mark_at = λ process. record { bound = λ x h. absurd (Contains-nil x h.0); reached = inl refl };
   exit_at = λ process. record { bound = λ x h. absurd (Contains-nil x h.0); reached = inl refl };
 }
-
--- the tables of a part are those of what it folded
-pub tables_folded : (part : Contents) (folded : List Event) → IsFoldOf part folded → AreTablesOf folded part.latest part.marks part.exits
-tables_folded part folded fold = record { latest_at = fold.latest; mark_at = fold.mark; exit_at = fold.last_exit }
-
--- the parts of a list cut in two
-pub tables_halves : (latest : List Event) (marks exits : Sequences) (front back : List Contents) (events : List Event)
-    → ((xs ys : List Event) → AreEventsOf front xs → AreEventsOf back ys → AreTablesOf (xs ++ ys) latest marks exits)
-    → AreEventsOf (front ++ back) events → AreTablesOf events latest marks exits
-tables_halves latest marks exits front back events of_both are =
-    let joins = split_parts front back events are in
-    subst (λ (es : List Event). AreTablesOf es latest marks exits) (sym joins.is)
-    (of_both joins.first joins.second joins.of_front joins.of_back)

@@ -165,7 +165,7 @@ case_breaks_none given T (SequenceTwice sequence) is b = case_once given T is se
 case_breaks_none given T (Falling processor number) is b = case_rises given T is (processor, number) b
 case_breaks_none given T NoMemory is b = b
 
--- a rule that is tried before that of the fault that is told isn't broken
+-- a rule that is tried before that of the fault that is reported isn't broken
 some_later : (ss : List Content) (later : CaseFault) → 0 < turn later → later ≢ NoMemory → IsRefusal ss later → ss ≡ [] → ⊥
 some_later ss Empty lt told r none = omega (arith, lt)
 some_later ss (OtherTrace place) lt told r none = no_first _ ss place none r.holds

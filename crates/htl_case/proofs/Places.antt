@@ -1,4 +1,4 @@
--- The first place with another value than place 0, as a search tells it.
+-- The first place with another value than place 0, as a search finds it.
 use Rattle.std.proofs.Common.{◌≡◌, ℕ, ◌<◌, Bool, not, ltb, List, length, get_or, Some, None}
 use Rattle.std.proofs.Common.{sym, ap, ◌∙◌, inl, inr, arith}
 use Rattle.std.specs.Prelude.{Contains, position, slice_get, cond, ◌==◌}

@@ -1,4 +1,4 @@
--- What the steps of `Case::of` tell of the segments in order holds of the list as it was given.
+-- What the steps of `Case::of` report of the segments in order holds of the list as it was given.
 use Rattle.std.proofs.Common.{◌≡◌, ℕ, ◌<◌, List, [], ◌∷◌, refl, sym, ◌∙◌, subst, All}
 use Rattle.std.specs.Prelude.{Contains}
 use Rattle.std.proofs.lemmas.List.Elements.{recursion_from_All}

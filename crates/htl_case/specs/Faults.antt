@@ -87,8 +87,8 @@ pub record AreOfOneTrace (segments : List Content) : Type 0 where
   pub count : HaveOneCount segments
   pub content : HaveOneContent segments
 
--- The fault that is told: the first rule that is broken, with its least place, key or sequence. Want of
--- memory is told only where the rules that are tried without memory hold.
+-- The fault that is reported: the first rule that is broken, with its least place, key or sequence. Out of
+-- memory is reported only where the rules that are tried without memory hold.
 abbrev pub IsRefusal : List Content → CaseFault → Type 0
 IsRefusal segments Empty = segments ≡ []
 IsRefusal segments (OtherTrace place) = IsLeastSuch ◌<◌ (HasOtherTrace segments) place

@@ -31,8 +31,8 @@ pub record HasAt (P : Step → Type 0) (steps : List Step) (place : ℕ) : Type 
 abbrev pub NoneIsFaulty : ℕ → ℕ → List Step → Type 0
 NoneIsFaulty n m steps = (place : ℕ) → HasAt (IsFaulty n m) steps place → ⊥
 
--- The fault that is told for n analysts and m segments: that of the first faulty step, a missing analyst before
--- a missing segment. Out of memory is told only where no step is faulty.
+-- The fault that is reported for n analysts and m segments: that of the first faulty step, a missing analyst before
+-- a missing segment. Out of memory is reported only where no step is faulty.
 abbrev pub IsPlayRefusal : ℕ → ℕ → List Step → PlayFault → Type 0
 IsPlayRefusal n m steps (NoAnalyst place) =
     HasAt (NamesNoAnalyst n) steps place × IsLeastSuch ◌<◌ (HasAt (IsFaulty n m) steps) place

@@ -1,4 +1,4 @@
-//! A case, and what it tells of its trace.
+//! A case, and what it answers of its trace.
 
 use crate::fault::CaseFault;
 use crate::ordering::{check_one_trace, in_order};

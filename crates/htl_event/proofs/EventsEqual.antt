@@ -1,4 +1,4 @@
--- Events are equal where their fields are, and `==` tells so.
+-- Events are equal where their fields are, and `==` says so.
 use Rattle.std.proofs.Common.{◌≡◌, ℕ, List, true, ◌&&◌, eqb, nat_eq, refl, ap, ◌∙◌, rules, Decides}
 use Rattle.std.specs.Cmp.{unsigned_Decides}
 use Rattle.std.specs.Cmp.Lexicographic.{pointwise, pointwise_decides}
@@ -49,7 +49,7 @@ same_event a b sequence kind process thread handle object tag stack =
     ∙ ap (λ (x : List ℕ). event b.sequence b.kind b.process b.thread b.handle b.object x a.stack) tag
     ∙ ap (λ (x : List ℕ). event b.sequence b.kind b.process b.thread b.handle b.object b.tag x) stack
 
--- `==` of events tells whether they are equal
+-- `==` of events says whether they are equal
 pub events_decide : (a b : Event)
     → Decides (eqb a.sequence b.sequence
     && (sameb the_type a.kind b.kind

@@ -1,5 +1,5 @@
 -- What public contracts cite, in the order in which a reader wants it: events as values, what they are counted
--- under, the orders, the questions about handles and about counts, what a summary tells, and the laws.
+-- under, the orders, the questions about handles and about counts, what a summary states, and the laws.
 pub mod Events
 pub mod Slots
 pub mod SlotOrder

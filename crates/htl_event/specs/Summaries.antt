@@ -1,4 +1,4 @@
--- What a summary tells of processes and objects (this project's own), over a list of events.
+-- What a summary states of processes and objects (this project's own), over a list of events.
 use Rattle.std.specs.Prelude.{◌≡◌, ℕ, ◌+◌, ◌<◌, ◌⊎◌, Bool, true, false, not, ◌&&◌, ◌==◌, List, length, count_by, sum_by, Contains}
 use Rattle.std.specs.Ordering.{nat_cmp, ordering_then}
 use Rattle.std.specs.declared.cmp.Ordering.TheVariants.{Less}

@@ -229,7 +229,7 @@ memory_at b old new rest so_far none =
       },
     )
 
--- what `decode` tells of the bytes left
+-- what `decode` answers of the bytes left
 pub refused : (b : List ℕ) (old new : List Content) (rest : List ℕ) (fault : Fault) (first : Option Fault) → SplitsMore b old new rest
     → is_early_end fault ≡ false
     → first_fault rest ≡ first → MatchOption first (fault ≡ faults.NoMemory) (λ other. fault ≡ other)
@@ -257,7 +257,7 @@ refused_bundle b offset fault refused =
       | inr asked ↦ inr asked
     ]
 
--- ---- what `decode` tells
+-- ---- what `decode` answers
 
 pub told_early : (first : Option Fault) (fault : Fault) → MatchOption first (fault ≡ faults.NoMemory) (λ other. fault ≡ other)
     → is_early_end fault ≡ true → first ≡ Some fault
@@ -283,7 +283,7 @@ whole_late : (first : Option Fault) (fault : Fault) → IsLate first → first �
 whole_late None fault late is = absurd cc
 whole_late (Some other) fault late is = sym (ap is_early_end (some_is other fault is)) ∙ (neither _ _ late).0
 
--- a header and all that it tells have no fault that more bytes may mend
+-- a header and all that it states have no fault that more bytes may mend
 pub whole_fault : (b : List ℕ) (fault : Fault) → 32 ≤ length b → header_fault b ≡ None → length_in b ≤ length b
     → first_fault b ≡ Some fault → is_early_end fault ≡ false
 whole_fault b fault long none whole is =

@@ -162,7 +162,7 @@ late_refused b fault some is late =
       late,
     ))
 
--- what `decode` tells of a whole segment, whatever follows it
+-- what `decode` answers of a whole segment, whatever follows it
 pub whole_refused : (w left : List ℕ) (fault : Fault) (first : Option Fault) → 32 ≤ length w → header_fault w ≡ None
     → length_in w ≡ length w
     → first_fault w ≡ first → MatchOption first (fault ≡ faults.NoMemory) (λ other. fault ≡ other) → IsPieceRefused (w ++ left) 0 fault
@@ -202,7 +202,7 @@ parts_joined rest piece taken left head first second = rw (first, second) (appen
 
 -- ---- what is kept
 
--- a header that more bytes follow, and all the bytes that it tells aren't there
+-- a header that more bytes follow, and all the bytes that it states aren't there
 pub cut_is_rest : (old more : List ℕ) → 32 ≤ length old → header_fault old ≡ None → length old + length more < length_in old
     → IsRest (old ++ more)
 cut_is_rest old more long none fewer =
@@ -214,7 +214,7 @@ cut_has_room old more c long low room =
     let same : length_in (old ++ more) ≡ length_in old = number-append 28 4 old more (omega arith) in
     record { header = λ _. omega (arith, low, room); records = λ _. omega (arith, same, room) }
 
--- a header that more bytes follow tells the same length
+-- a header that more bytes follow states the same length
 pub length_in-append : (old more : List ℕ) → 32 ≤ length old → length_in (old ++ more) ≡ length_in old
 length_in-append old more long = number-append 28 4 old more (omega arith)
 
@@ -231,7 +231,7 @@ pub record IsPartOf (bytes : List ℕ) (len : ℕ) : Type 0 where
   pub is_rest : IsRest bytes
   pub room : (c : ℕ) → len ≤ c → HasRoom bytes c
 
--- a header, and fewer bytes behind it than it tells
+-- a header, and fewer bytes behind it than it states
 pub header_cut : (head left : List ℕ) (fault : Fault) → length head ≡ 32 → first_fault (head ++ left) ≡ Some fault
     → is_early_end fault ≡ true → IsPartOf (head ++ left) (length_in head)
 header_cut head left fault size is early =
@@ -302,7 +302,7 @@ rest_here s a piece ss offset inside split fed is asked =
     let start : offset ≡ length (bundle ss) + inside = omega (arith, is, fed, ap length split.parts, length-append (bundle ss) s.rest) in
     rw (regroup a s.rest piece ss split, start) (rest_after (bundle ss) (s.rest ++ piece) ss inside (front_split a s.rest ss split) asked)
 
--- What a refused piece tells of all bytes: their first fault, or where memory was refused in those fed.
+-- What a refused piece reports of all bytes: their first fault, or where memory was refused in those fed.
 pub record Brought (a more : List ℕ) (offset : ℕ) (fault : Fault) : Type 0 where
   pub boundary : IsBoundary (a ++ more) offset
   pub cause : BundleFault (a ++ more) offset fault ⊎ ((fault ≡ faults.NoMemory) × (SegmentAt a offset ⊎ RestAt a offset))
@@ -367,7 +367,7 @@ joined-around pieces i lt =
     ∙ flat_map-append (λ (piece : Bor (List ℕ)). piece.now) (take (i + 1) pieces) (drop (i + 1) pieces)
     ∙ ap (λ (x : List ℕ). x ++ joined (drop (i + 1) pieces)) (joined-more pieces i lt)
 
--- what a refused piece tells of all pieces
+-- what a refused piece reports of all pieces
 pub told_of_pieces : (pieces : List (Bor (List ℕ))) (i offset : ℕ) (fault : Fault) → i < length pieces
     → Brought (joined (take i pieces) ++ (get_or pieces i no_piece).now) (joined (drop (i + 1) pieces)) offset fault
     → BundleFault (joined pieces) offset fault ⊎ ((fault ≡ faults.NoMemory) × AsksMemory pieces offset)

@@ -45,7 +45,7 @@ pub record SegmentAt (bytes : List ℕ) (offset : ℕ) : Type 0 where
 abbrev pub cut_off : List ℕ → Fault
 cut_off rest = if nat_lt (length rest) 32 then faults.Short else faults.Cut
 
--- No header yet, or one without a fault that tells a greater length: more bytes may make a segment of it.
+-- No header yet, or one without a fault that states a greater length: more bytes may make a segment of it.
 pub record IsRest (rest : List ℕ) : Type 0 where
   pub cut_off : (length rest < 32) ⊎ ((header_fault rest ≡ None) × (length rest < length_in rest))
 

@@ -15,7 +15,7 @@ pub record Extends (old new : List ℕ) : Type 0 where
   pub more : List ℕ
   pub is : new ≡ old ++ more
 
--- a vector of this capacity that has a rest has room for the header, and for what the header tells
+-- a vector of this capacity that has a rest has room for the header, and for what the header states
 pub record HasRoom (rest : List ℕ) (capacity : ℕ) : Type 0 where
   pub header : 0 < length rest → 32 ≤ capacity
   pub records : 32 ≤ length rest → length_in rest ≤ capacity

@@ -18,7 +18,7 @@ pub record SplitterState : Type 0 where
 abbrev pub start_of : SplitterState → ℕ
 start_of s = s.fed - length s.rest
 
--- The refusal of a piece tells where the refused segment begins among all bytes fed.
+-- The refusal of a piece reports where the refused segment begins among all bytes fed.
 pub record RefusesPiece (s : SplitterState) (piece : List ℕ) (refusal : ℕ × Fault) : Type 0 where
   pub inside : ℕ
   pub offset_is : refusal.0 ≡ start_of s + inside

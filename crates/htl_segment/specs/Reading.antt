@@ -59,7 +59,7 @@ events_in (suc n) b = event_in b ∷ events_in n (after_record b)
 abbrev pub version_in : List ℕ → Version
 version_in b = unwrap_or (version_of (number 4 2 b)) V1
 
--- the length that the header tells
+-- the length that the header states
 abbrev pub length_in : List ℕ → ℕ
 length_in b = number 28 4 b
 

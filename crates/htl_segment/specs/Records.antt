@@ -4,7 +4,7 @@ use Rattle.htl_event.specs.Events.{Event}
 use Rattle.htl_segment.specs.declared.record.Record.{Record}
 use Rattle.htl_segment.specs.Numbers.{numbers}
 
--- the event that a record in place tells
+-- the event that a record in place describes
 abbrev pub event_of : Record → Event
 event_of r = record {
   sequence = r.sequence;

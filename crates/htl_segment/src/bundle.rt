@@ -11,12 +11,12 @@ use crate::segment::Segment;
 use crate::stack_cache::StackCache;
 use std::alloc::Global;
 
-/// The segments whose bytes, one after another, are `bytes`. A refusal tells the offset at which
+/// The segments whose bytes, one after another, are `bytes`. A refusal reports the offset at which
 /// the refused segment begins.
 pub fn decode_bundle(alloc: Global, bytes: &[u8]) -> Result<Vec<Segment>, (u64, Fault)>
     ensures found { IfOk result (λ segments. Splits bytes.now segments.items []) }
     ensures boundary { IfErr result (λ refused. IsBoundary bytes.now refused.0) }
-    // The first fault is told. Memory is asked for only where a segment begins.
+    // The first fault is reported. Memory is asked for only where a segment begins.
     ensures fault { IfErr result (λ refused.
         BundleFault bytes.now refused.0 refused.1
         ⊎ ((refused.1 ≡ Fault.NoMemory) × SegmentAt bytes.now refused.0)) }
@@ -42,7 +42,7 @@ pub fn cut_off(rest: &[u8]) -> Fault
 }
 
 /// Takes whole segments off the front of `bytes` and puts them behind `segments`, up to bytes that
-/// more bytes may make a segment of. Those are left. A refusal tells the offset of the refused
+/// more bytes may make a segment of. Those are left. A refusal reports the offset of the refused
 /// segment.
 pub fn split<'a>(
     alloc: Global,

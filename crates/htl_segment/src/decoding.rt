@@ -12,7 +12,7 @@ use std::alloc::Global;
 
 /// The segment that `bytes` begin with, and how many bytes it has.
 ///
-/// Of bytes that begin with none it tells the first rule that they break, before it asks for
+/// Of bytes that begin with none it reports the first rule that they break, before it asks for
 /// memory. Faults come in this order: those of the header from left to right, `Cut`, then those of
 /// one record after the other, each in the order of their codes, `Excess`, and last `NoMemory`.
 pub fn decode(alloc: Global, bytes: &[u8]) -> Result<(Segment, usize), Fault>
@@ -21,7 +21,7 @@ pub fn decode(alloc: Global, bytes: &[u8]) -> Result<(Segment, usize), Fault>
     // What the first bytes encode is read, unless memory runs out.
     ensures only { (s : Content) (n : ℕ) → BeginsWith bytes.now n s
         → MatchResult result (λ x. x ≡ (s, n)) (λ fault. fault ≡ Fault.NoMemory) }
-    // The first fault is told, and memory is asked for only where there is none.
+    // The first fault is reported, and memory is asked for only where there is none.
     ensures fault { MatchResult result
         (λ _. first_fault bytes.now ≡ None)
         (λ fault. MatchOption (first_fault bytes.now)

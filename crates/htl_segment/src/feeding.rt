@@ -21,7 +21,7 @@ use htl_event::NoMemory;
 use std::alloc::{AllocError, Global};
 
 /// Takes a piece in behind `rest`: gives the segments that it completes, and leaves the bytes after
-/// them in `rest`. A refusal tells the offset of the refused segment, and may leave bytes of the
+/// them in `rest`. A refusal reports the offset of the refused segment, and may leave bytes of the
 /// piece behind those that `rest` held.
 pub fn absorb(
     alloc: Global,

@@ -97,7 +97,7 @@ pub fn read_header(bytes: &[u8]) -> Result<Header, Fault>
     Ok(header)
 }
 
-/// The length that these bytes of a header tell.
+/// The length that these bytes of a header state.
 pub fn len_at(bytes: &[u8]) -> usize
     requires { HEADER_LEN ≤ length bytes.now }
     ensures { result ≡ length_in bytes.now }

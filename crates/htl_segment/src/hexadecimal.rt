@@ -40,7 +40,7 @@ impl<T: Drop> From<AllocFailed<T>> for HexFault {
 }
 
 /// The bytes that a text's hexadecimal digits write, two digits of either case for each. Spaces,
-/// carriage returns and line feeds are ignored wherever they stand. The first foreign byte is told
+/// carriage returns and line feeds are ignored wherever they stand. The first foreign byte is reported
 /// before an odd number of digits, and both before memory is asked for.
 pub fn from_hex(alloc: Global, text: &[u8]) -> Result<Vec<u8>, HexFault>
     ensures refused { (fault : HexFault) → hex_fault text.now ≡ Some fault → result ≡ Err fault }

@@ -42,7 +42,7 @@ pub fn faults_where_nothing_is_encoded()
         → (first_fault bytes ≡ None) ↔ ((n : ℕ) × (s : Content) × BeginsWith bytes n s) }
 {}
 
-/// Out of memory is no fault of bytes, so whoever is told it knows that no rule was broken.
+/// Out of memory is no fault of bytes, so whoever gets it knows that no rule was broken.
 pub fn want_of_memory_breaks_no_rule()
     ensures { (bytes : List ℕ) → first_fault bytes ≢ Some NoMemory }
 {}

@@ -64,7 +64,7 @@ impl<'a> Record<'a> {
         (record, &bytes[end..])
     }
 
-    /// The event that this record tells.
+    /// The event that this record describes.
     pub fn event(&self) -> Event
         ensures { result ≡ event_of self.now }
     {
@@ -88,7 +88,7 @@ impl Record<'_> {
     ghost use Rattle.std.specs.Prelude.{◌≡◌, IfOk};
     ghost use Rattle.htl_segment.specs.Records.{event_of};
 
-    /// The event that this record tells, with a stack of the cache.
+    /// The event that this record describes, with a stack of the cache.
     pub(crate) fn shared(
         &self,
         alloc: Global,

@@ -72,10 +72,10 @@ impl Splitter {
 
     /// The segments that this piece completes.
     ///
-    /// A fault of the header is told by the call that completes the header, and one of the records
+    /// A fault of the header is reported by the call that completes the header, and one of the records
     /// by the call that completes the segment; its offset is that at which the segment begins. It
-    /// is told again by each later call, and segments that the same piece completed before it are
-    /// not handed out. After out of memory the splitter is as before; that is told only where no
+    /// is reported again by each later call, and segments that the same piece completed before it are
+    /// not handed out. After out of memory the splitter is as before; that is reported only where no
     /// fault stands at its offset.
     pub fn feed(&mut self, alloc: Global, piece: &[u8]) -> Result<Vec<Segment>, (u64, Fault)>
         requires { self.old.fed + length piece.now < 2 ^ 64 }
@@ -110,7 +110,7 @@ impl Splitter {
         }
     }
 
-    /// Ends the bytes: a fault where one was told, or where they end inside a segment.
+    /// Ends the bytes: a fault where one was reported, or where they end inside a segment.
     pub fn finish(self) -> Result<(), (u64, Fault)>
         ensures value { result ≡ finish_of self }
         // What every splitter keeps, so that callers have it too.
@@ -133,7 +133,7 @@ pub fn decode_pieces(alloc: Global, pieces: &[&[u8]]) -> Result<Vec<Segment>, (u
     requires { length (joined pieces.now) < 2 ^ 64 }
     ensures found { IfOk result (λ segments. Splits (joined pieces.now) segments.items []) }
     ensures boundary { IfErr result (λ refused. IsBoundary (joined pieces.now) refused.0) }
-    // The first fault is told. Memory is asked for only where no fault stands in what was taken in.
+    // The first fault is reported. Memory is asked for only where no fault stands in what was taken in.
     ensures fault { IfErr result (λ refused.
         BundleFault (joined pieces.now) refused.0 refused.1
         ⊎ ((refused.1 ≡ Fault.NoMemory) × AsksMemory pieces.now refused.0)) }

@@ -29,7 +29,7 @@ struct Cell {
 /// Stacks that were met lately, so that equal ones share their memory.
 ///
 /// What it has only saves memory and time: a stack that it gives has the asked addresses, whichever
-/// it kept. Two cells side by side may have a stack, which its fingerprint tells; where more stacks
+/// it kept. Two cells side by side may have a stack, which its fingerprint shows; where more stacks
 /// meet, the one that was met first goes. It begins small and grows with the number of stacks that
 /// it met, and where it is refused memory it stays as small as it is.
 #[derive(Debug, Drop)]

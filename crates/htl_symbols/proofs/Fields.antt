@@ -47,7 +47,7 @@ pub header-wrong : (fields : Record) → length fields ≢ 4 → fields ≢ head
 unfolding header
 header-wrong fields n same = n (ap length same)
 
--- the test of the header's columns tells whether a record is the header
+-- the test of the header's columns says whether a record is the header
 pub columns-header : (fields : Record) (a b c d : List ℕ) → fields ≡ a ∷ b ∷ c ∷ d ∷ [] → Decides (columns_eq a b c d) (fields ≡ header)
 unfolding header
 columns-header fields a b c d is = (to, from)

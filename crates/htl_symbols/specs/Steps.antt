@@ -1,4 +1,4 @@
--- What the steps of reading a table tell.
+-- What the steps of reading a table report.
 use Rattle.std.specs.Prelude.{◌≡◌, ◌&&◌, ℕ, true, false, Bool, List, [], ◌∷◌, Result, Ok, Err, IsPermutation, codes, ⊤}
 use Rattle.std.specs.List.{list_any}
 use Rattle.std.specs.Str.{bytes_eq}

@@ -19,9 +19,9 @@ impl Symbols {
     /// an end, which is exclusive, in hexadecimal digits of either case with or without `0x`, and a
     /// module and a name, which are any texts. Rows stand in any order.
     ///
-    /// The first record with a fault ends the reading, and is told with its number: 0 for the
+    /// The first record with a fault ends the reading, and is reported with its number: 0 for the
     /// header, 1 for the first row; blank lines are no records. Of one record's faults the first of
-    /// these is told: it is no text, it hasn't four fields, its start or its end is no number, its
+    /// these is reported: it is no text, it hasn't four fields, its start or its end is no number, its
     /// range is empty, its range overlaps that of an earlier row. Out of memory can come at any
     /// row.
     pub fn read(alloc: Global, bytes: &[u8]) -> Result<Symbols, SymbolFault>

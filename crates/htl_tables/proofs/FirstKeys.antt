@@ -39,21 +39,21 @@ opens_by_key process base e r i opens of =
     (and_from (e.process == process) (base_of e.handle == base) (eq-eqb e.process process of.owner)
     (eq-eqb (base_of e.handle) base of.handle))
 
-module _ {X : Type 0} (events_of : X → List Event) (runs : List X) where
-  -- two events at one place of the runs are one
-  pub same_event : (r i : ℕ) (x y : Event) → StandsAt events_of runs r i x → StandsAt events_of runs r i y → x ≡ y
+module _ {X : Type 0} (events_of : X → List Event) (lists : List X) where
+  -- two events at one place of the lists are one
+  pub same_event : (r i : ℕ) (x y : Event) → StandsAt events_of lists r i x → StandsAt events_of lists r i y → x ≡ y
   same_event r i x y sx sy =
-      let run : sx.run ≡ sy.run = same_Some sx.run sy.run (sym sx.in_runs ∙ sy.in_runs) in
-      same_Some x y (sym sx.in_run ∙ ap (λ (z : X). slice_get (events_of z) i) run ∙ sy.in_run)
+      let list : sx.list ≡ sy.list = same_Some sx.list sy.list (sym sx.in_lists ∙ sy.in_lists) in
+      same_Some x y (sym sx.in_list ∙ ap (λ (z : X). slice_get (events_of z) i) list ∙ sy.in_list)
 
   -- the key of the event that stands at its place
-  pub key_is : (k : SortKey) (x : Event) → IsKeyIn events_of runs k → StandsAt events_of runs k.run k.index x
-      → record { key : k ≡ sort_key_of x k.run k.index; opens : opens_or_closes x.kind ≡ true }
-  key_is k x in_runs stands =
-      let event : in_runs.event ≡ x = same_event k.run k.index in_runs.event x in_runs.stands stands in
+  pub key_is : (k : SortKey) (x : Event) → IsKeyIn events_of lists k → StandsAt events_of lists k.list k.index x
+      → record { key : k ≡ sort_key_of x k.list k.index; opens : opens_or_closes x.kind ≡ true }
+  key_is k x in_lists stands =
+      let event : in_lists.event ≡ x = same_event k.list k.index in_lists.event x in_lists.stands stands in
       record {
-        key = in_runs.is ∙ ap (λ (e : Event). sort_key_of e k.run k.index) event;
-        opens = subst (λ (e : Event). opens_or_closes e.kind ≡ true) event in_runs.opens;
+        key = in_lists.is ∙ ap (λ (e : Event). sort_key_of e k.list k.index) event;
+        opens = subst (λ (e : Event). opens_or_closes e.kind ≡ true) event in_lists.opens;
       }
 
   module _ (keys : List SortKey) (process base : ℕ) where
@@ -64,25 +64,25 @@ module _ {X : Type 0} (events_of : X → List Event) (runs : List X) where
       pub key : SortKey
       pub at : slice_get keys place ≡ Some key
       pub of : HasHandle process base key
-      pub stands : StandsAt events_of runs key.run key.index e
+      pub stands : StandsAt events_of lists key.list key.index e
       pub first : (k : ℕ) (u : SortKey) → k < n → slice_get keys k ≡ Some u → HasHandle process base u → place ≤ k
 
     abbrev pub FirstKeyIs : ℕ → Option Event → Type 0
     FirstKeyIs n o = MatchOption o ((k : ℕ) (u : SortKey) → k < n → slice_get keys k ≡ Some u → HasHandle process base u → ⊥)
         (IsFirstKey n)
 
-    module _ (are : AreCandidates events_of runs keys) (sorted : IsSorted sort_key_cmp keys) where
-      here : (k : ℕ) (u : SortKey) → slice_get keys k ≡ Some u → IsKeyIn events_of runs u
+    module _ (are : AreCandidates events_of lists keys) (sorted : IsSorted sort_key_cmp keys) where
+      here : (k : ℕ) (u : SortKey) → slice_get keys k ≡ Some u → IsKeyIn events_of lists u
       here k u at = are.each u (k, slice_get_within keys k u at, get_or_from_slice_get keys k u u at)
 
       -- one more event was noted
-      pub key_noted : (n : ℕ) (t : SortKey) (x : Event) → slice_get keys n ≡ Some t → StandsAt events_of runs t.run t.index x
+      pub key_noted : (n : ℕ) (t : SortKey) (x : Event) → slice_get keys n ≡ Some t → StandsAt events_of lists t.list t.index x
           → (o : Option Event) → FirstKeyIs n o → FirstKeyIs (n + 1) (with_event process base o x)
       key_noted n t x at stands o h = elim (cases_Bool (opens_or_closes_base process base x)) [
         | inl c ↦ rw c (of_its_handle o h c)
         | inr f ↦ rw f (other o h f)
       ] where
-        is : record { key : t ≡ sort_key_of x t.run t.index; opens : opens_or_closes x.kind ≡ true }
+        is : record { key : t ≡ sort_key_of x t.list t.index; opens : opens_or_closes x.kind ≡ true }
         is = key_is t x (here n t at) stands
 
         -- the key at place n
@@ -93,7 +93,7 @@ module _ {X : Type 0} (events_of : X → List Event) (runs : List X) where
 
         not_of : opens_or_closes_base process base x ≡ false → HasHandle process base t → ⊥
         not_of f of = both_ways (opens_or_closes_base process base x) f
-            (opens_by_key process base x t.run t.index is.opens (subst (HasHandle process base) is.key of))
+            (opens_by_key process base x t.list t.index is.opens (subst (HasHandle process base) is.key of))
 
         other : (p : Option Event) → FirstKeyIs n p → opens_or_closes_base process base x ≡ false → FirstKeyIs (n + 1) p
         other None none f = λ k u lt at_k of. elim (cases_lt k n) [
@@ -120,7 +120,7 @@ module _ {X : Type 0} (events_of : X → List Event) (runs : List X) where
           within = omega arith;
           key = t;
           at = at;
-          of = subst (HasHandle process base) (sym is.key) (key_of_event process base x t.run t.index c);
+          of = subst (HasHandle process base) (sym is.key) (key_of_event process base x t.list t.index c);
           stands = stands;
           first = λ k u lt at_k of. elim (cases_lt k n) [
             | inl before ↦ absurd (none k u before at_k of)
@@ -130,14 +130,14 @@ module _ {X : Type 0} (events_of : X → List Event) (runs : List X) where
         of_its_handle (Some e) one c =
             let le : one.place ≤ n = (let w = one.within in omega (arith, w)) in
             let first = key_is one.key e (here one.place one.key one.at) one.stands in
-            let of = key_of_event process base x t.run t.index c in
-            let own : HasHandle process base (sort_key_of e one.key.run one.key.index) = subst (HasHandle process base) first.key one.of in
-            let order : is_lt (sort_key_cmp (sort_key_of x t.run t.index) (sort_key_of e one.key.run one.key.index)) ≡ false =
-            subst (λ (u : SortKey). is_lt (sort_key_cmp u (sort_key_of e one.key.run one.key.index)) ≡ false) is.key
+            let of = key_of_event process base x t.list t.index c in
+            let own : HasHandle process base (sort_key_of e one.key.list one.key.index) = subst (HasHandle process base) first.key one.of in
+            let order : is_lt (sort_key_cmp (sort_key_of x t.list t.index) (sort_key_of e one.key.list one.key.index)) ≡ false =
+            subst (λ (u : SortKey). is_lt (sort_key_cmp u (sort_key_of e one.key.list one.key.index)) ≡ false) is.key
             (subst (λ (u : SortKey). is_lt (sort_key_cmp t u) ≡ false) first.key
             (sorted_no_later keys sorted one.place n one.key t le one.at at)) in
             let older : x.sequence ≤ e.sequence =
-            elim (in_order e x one.key.run t.run one.key.index t.index order (own.owner ∙ sym of.owner) (own.handle ∙ sym of.handle)) [
+            elim (in_order e x one.key.list t.list one.key.index t.index order (own.owner ∙ sym of.owner) (own.handle ∙ sym of.handle)) [
               | inl lt ↦ omega (arith, lt)
               | inr same ↦ (let s = same.0 in omega (arith, s))
             ] in
@@ -155,17 +155,17 @@ module _ {X : Type 0} (events_of : X → List Event) (runs : List X) where
             })
 
       -- once all were noted, the event is the first of the latest
-      pub keys_noted : (o : Option Event) → FirstKeyIs (length keys) o → o ≡ noted (flat_map events_of runs) process base
+      pub keys_noted : (o : Option Event) → FirstKeyIs (length keys) o → o ≡ noted (flat_map events_of lists) process base
       keys_noted o h =
-          let events = flat_map events_of runs in
+          let events = flat_map events_of lists in
           FirstIs-unique events process base o (noted events process base) (first o h) (FirstIs-noted process base events) where
             -- the key that meets an event of the handle, and its place
-            meets : (p : ℕ) (x : Event) → slice_get (flat_map events_of runs) p ≡ Some x → opens_or_closes_base process base x ≡ true
+            meets : (p : ℕ) (x : Event) → slice_get (flat_map events_of lists) p ≡ Some x → opens_or_closes_base process base x ≡ true
                 → record {
                   r : ℕ;
                   i : ℕ;
-                  stands : StandsAt events_of runs r i x;
-                  is : p ≡ flat_place events_of runs r i;
+                  stands : StandsAt events_of lists r i x;
+                  is : p ≡ flat_place events_of lists r i;
                   place : ℕ;
                   key : SortKey;
                   at : slice_get keys place ≡ Some key;
@@ -173,7 +173,7 @@ module _ {X : Type 0} (events_of : X → List Event) (runs : List X) where
                   order : is_lt (sort_key_cmp (sort_key_of x r i) key) ≡ false;
                 }
             meets p x at c =
-                let from = flat_stands events_of runs p x at in
+                let from = flat_stands events_of lists p x at in
                 let met = are.all from.r from.i x from.stands (opens_of process base x c) in
                 let of = key_of_event process base x from.r from.i c in
                 let there = met.here in
@@ -189,18 +189,18 @@ module _ {X : Type 0} (events_of : X → List Event) (runs : List X) where
                   order = met.order;
                 }
 
-            first : (q : Option Event) → FirstKeyIs (length keys) q → FirstIs (flat_map events_of runs) process base q
+            first : (q : Option Event) → FirstKeyIs (length keys) q → FirstIs (flat_map events_of lists) process base q
             first None none = λ p x at c.
                 let m = meets p x at c in
                 none m.place m.key (slice_get_within keys m.place m.key m.at) m.at m.of
             first (Some e) one =
                 let is = key_is one.key e (here one.place one.key one.at) one.stands in
-                let own : HasHandle process base (sort_key_of e one.key.run one.key.index) =
+                let own : HasHandle process base (sort_key_of e one.key.list one.key.index) =
                 subst (HasHandle process base) is.key one.of in
                 record {
-                  index = flat_place events_of runs one.key.run one.key.index;
-                  at = stands_flat events_of runs one.key.run one.key.index e one.stands;
-                  of_handle = opens_by_key process base e one.key.run one.key.index is.opens own;
+                  index = flat_place events_of lists one.key.list one.key.index;
+                  at = stands_flat events_of lists one.key.list one.key.index e one.stands;
+                  of_handle = opens_by_key process base e one.key.list one.key.index is.opens own;
                   first = λ p x at c.
                       let m = meets p x at c in
                       let le = one.first m.place m.key (slice_get_within keys m.place m.key m.at) m.at m.of in
@@ -208,10 +208,10 @@ module _ {X : Type 0} (events_of : X → List Event) (runs : List X) where
                       let order = subst (λ (u : SortKey). is_lt (sort_key_cmp (sort_key_of x m.r m.i) u) ≡ false) is.key
                       (no_later-trans (sort_key_of x m.r m.i) m.key one.key m.order before) in
                       let of = key_of_event process base x m.r m.i c in
-                      elim (in_order e x one.key.run m.r one.key.index m.i order (own.owner ∙ sym of.owner) (own.handle ∙ sym of.handle)) [
+                      elim (in_order e x one.key.list m.r one.key.index m.i order (own.owner ∙ sym of.owner) (own.handle ∙ sym of.handle)) [
                         | inl lt ↦ inl lt
                         | inr same ↦
-                            let place = flat_place-le events_of runs one.key.run m.r one.key.index m.i e x one.stands m.stands same.1 in
+                            let place = flat_place-le events_of lists one.key.list m.r one.key.index m.i e x one.stands m.stands same.1 in
                             let end = m.is in
                             inr (same.0, omega (arith, place, end))
                       ];

@@ -1,4 +1,4 @@
--- Where an event of a run stands in the list of all runs' events.
+-- Where an event of a list stands in the list of all lists' events.
 use Rattle.std.proofs.Common.{◌≡◌, ℕ, zero, suc, ◌+◌, ◌-◌, ◌<◌, ◌≤◌, List, [], ◌∷◌, ◌++◌, length}
 use Rattle.std.proofs.Common.{take, get_or, append-nil, Some, refl, sym, ap, ◌∙◌, inl, inr, ◌⊎◌, arith, slice_get}
 use Rattle.std.specs.Prelude.{flat_map}
@@ -27,9 +27,9 @@ get_right (z ∷ zs) ys i =
     let next : length (z ∷ zs) + i ≡ suc (length zs + i) = omega arith in
     ap (slice_get (z ∷ (zs ++ ys))) next ∙ get_right zs ys i
 
--- ---- runs put together
+-- ---- lists put together
 
--- the events of one more run
+-- the events of one more list
 pub flat_map-take : {X A : Type 0} (f : X → List A) (xs : List X) (n : ℕ) (x : X) → n < length xs → x ≡ get_or xs n x
     → flat_map f (take (n + 1) xs) ≡ flat_map f (take n xs) ++ f x
 flat_map-take {X} f xs n x lt is =
@@ -44,31 +44,31 @@ module _ {X : Type 0} (events_of : X → List Event) where
   flat_place (x ∷ xs) (suc r) i = length (events_of x) + flat_place xs r i
 
   behind : (x : X) (xs : List X) (r i : ℕ) (e : Event) → StandsAt events_of xs r i e → StandsAt events_of (x ∷ xs) (suc r) i e
-  behind x xs r i e s = record { run = s.run; in_runs = s.in_runs; in_run = s.in_run }
+  behind x xs r i e s = record { list = s.list; in_lists = s.in_lists; in_list = s.in_list }
 
   before : (x : X) (xs : List X) (r i : ℕ) (e : Event) → StandsAt events_of (x ∷ xs) (suc r) i e → StandsAt events_of xs r i e
-  before x xs r i e s = record { run = s.run; in_runs = s.in_runs; in_run = s.in_run }
+  before x xs r i e s = record { list = s.list; in_lists = s.in_lists; in_list = s.in_list }
 
-  -- an event of a run stands at its flat place
+  -- an event of a list stands at its flat place
   pub stands_flat : (xs : List X) (r i : ℕ) (e : Event) → StandsAt events_of xs r i e
       → slice_get (flat_map events_of xs) (flat_place xs r i) ≡ Some e
   unfolding flat_place
-  stands_flat [] r i e s = absurd (none-some s.run s.in_runs)
+  stands_flat [] r i e s = absurd (none-some s.list s.in_lists)
   stands_flat (x ∷ xs) zero i e s =
-      let run : x ≡ s.run = same_Some x s.run s.in_runs in
-      get_left (events_of x) (flat_map events_of xs) i e (ap (λ (y : X). slice_get (events_of y) i) run ∙ s.in_run)
+      let list : x ≡ s.list = same_Some x s.list s.in_lists in
+      get_left (events_of x) (flat_map events_of xs) i e (ap (λ (y : X). slice_get (events_of y) i) list ∙ s.in_list)
   stands_flat (x ∷ xs) (suc r) i e s =
       get_right (events_of x) (flat_map events_of xs) (flat_place xs r i) ∙ stands_flat xs r i e (before x xs r i e s)
 
-  -- flat places keep the order of runs, and of events in a run
+  -- flat places keep the order of lists, and of events in a list
   pub flat_place-le : (xs : List X) (r s i j : ℕ) (a b : Event) → StandsAt events_of xs r i a → StandsAt events_of xs s j b
       → (r < s) ⊎ ((r ≡ s) × (i ≤ j)) → flat_place xs r i ≤ flat_place xs s j
   unfolding flat_place
-  flat_place-le [] r s i j a b sa sb le = absurd (none-some sa.run sa.in_runs)
+  flat_place-le [] r s i j a b sa sb le = absurd (none-some sa.list sa.in_lists)
   flat_place-le (x ∷ xs) zero zero i j a b sa sb le = elim le [ inl lt ↦ absurd (omega (arith, lt)) | inr same ↦ same.1 ]
   flat_place-le (x ∷ xs) zero (suc s) i j a b sa sb le =
-      let run : x ≡ sa.run = same_Some x sa.run sa.in_runs in
-      let lt : i < length (events_of x) = slice_get_within (events_of x) i a (ap (λ (y : X). slice_get (events_of y) i) run ∙ sa.in_run) in
+      let list : x ≡ sa.list = same_Some x sa.list sa.in_lists in
+      let lt : i < length (events_of x) = slice_get_within (events_of x) i a (ap (λ (y : X). slice_get (events_of y) i) list ∙ sa.in_list) in
       omega (arith, lt)
   flat_place-le (x ∷ xs) (suc r) zero i j a b sa sb le = absurd (elim le [
     | inl lt ↦ omega (arith, lt)
@@ -82,7 +82,7 @@ module _ {X : Type 0} (events_of : X → List Event) where
       let rest = flat_place-le xs r s i j a b (before x xs r i a sa) (before x xs s j b sb) le' in
       omega (arith, rest)
 
-  -- each event of the list is one of a run
+  -- each event of the list is one of a list
   pub record IsFrom (xs : List X) (p : ℕ) (e : Event) : Type 0 where
     pub r : ℕ
     pub i : ℕ
@@ -96,7 +96,7 @@ module _ {X : Type 0} (events_of : X → List Event) where
     | inl lt ↦ record {
       r = 0;
       i = p;
-      stands = record { run = x; in_runs = refl; in_run = get_left_back (events_of x) (flat_map events_of xs) p e lt at };
+      stands = record { list = x; in_lists = refl; in_list = get_left_back (events_of x) (flat_map events_of xs) p e lt at };
       is = refl;
     }
     | inr ge ↦

@@ -1,4 +1,4 @@
--- The sort keys that are gathered from runs, one run after the other.
+-- The sort keys that are gathered from lists, one list after the other.
 use Rattle.std.proofs.Common.{◌≡◌, ℕ, ◌+◌, true, false, ◌<◌, List, [], length, Some, refl}
 use Rattle.std.proofs.Common.{sym, ap, ◌∙◌, inl, inr, ◌⊎◌, arith, subst, slice_get, IsPermutation, Contains}
 use Rattle.std.proofs.lemmas.Bool.{cases_lt, both_ways}
@@ -18,7 +18,7 @@ met_moved keys sorted k moved m = record {
   order = m.order;
 }
 
--- ---- one run
+-- ---- one list
 
 module _ (r : ℕ) (events : List Event) (old : List SortKey) where
   -- gathered from the first n events
@@ -73,29 +73,29 @@ module _ (r : ℕ) (events : List Event) (old : List SortKey) where
     all = λ i e at. g.all i e (slice_get_within events i e at) at;
   }
 
--- ---- all runs
+-- ---- all lists
 
-module _ {X : Type 0} (events_of : X → List Event) (runs : List X) where
-  -- the candidates of the first n runs
+module _ {X : Type 0} (events_of : X → List Event) (lists : List X) where
+  -- the candidates of the first n lists
   pub record AreFromFirst (n : ℕ) (keys : List SortKey) : Type 0 where
-    pub each : (k : SortKey) → Contains keys k → IsKeyIn events_of runs k
-    pub all : (r i : ℕ) (e : Event) → r < n → StandsAt events_of runs r i e → opens_or_closes e.kind ≡ true
+    pub each : (k : SortKey) → Contains keys k → IsKeyIn events_of lists k
+    pub all : (r i : ℕ) (e : Event) → r < n → StandsAt events_of lists r i e → opens_or_closes e.kind ≡ true
         → IsMet keys (sort_key_of e r i)
 
   pub from_none : AreFromFirst 0 []
   from_none = record { each = λ k h. absurd (omega (arith, h.1)); all = λ r i e lt. absurd (omega (arith, lt)) }
 
-  key_in : (n : ℕ) (x : X) (k : SortKey) → slice_get runs n ≡ Some x → IsKeyAt n (events_of x) k → IsKeyIn events_of runs k
+  key_in : (n : ℕ) (x : X) (k : SortKey) → slice_get lists n ≡ Some x → IsKeyAt n (events_of x) k → IsKeyIn events_of lists k
   key_in n x k at key =
-      let run : k.run ≡ n = ap (λ (l : SortKey). l.run) key.is in
+      let list : k.list ≡ n = ap (λ (l : SortKey). l.list) key.is in
       record {
         event = key.event;
-        stands = record { run = x; in_runs = ap (slice_get runs) run ∙ at; in_run = key.at };
+        stands = record { list = x; in_lists = ap (slice_get lists) list ∙ at; in_list = key.at };
         opens = key.opens;
-        is = key.is ∙ ap (λ (r : ℕ). sort_key_of key.event r k.index) (sym run);
+        is = key.is ∙ ap (λ (r : ℕ). sort_key_of key.event r k.index) (sym list);
       }
 
-  pub from_more : (n : ℕ) (x : X) (old new : List SortKey) → slice_get runs n ≡ Some x → Gathers n (events_of x) old new
+  pub from_more : (n : ℕ) (x : X) (old new : List SortKey) → slice_get lists n ≡ Some x → Gathers n (events_of x) old new
       → AreFromFirst n old → AreFromFirst (n + 1) new
   from_more n x old new at g from = record {
     each = λ k h. elim (g.each k h) [ inl before ↦ from.each k before | inr key ↦ key_in n x k at key ];
@@ -103,17 +103,17 @@ module _ {X : Type 0} (events_of : X → List Event) (runs : List X) where
       | inl before ↦ g.met (sort_key_of e r i) (from.all r i e before s opens)
       | inr past ↦
           let same : r ≡ n = omega (arith, lt, past) in
-          let run : s.run ≡ x = same_Some s.run x (sym s.in_runs ∙ ap (slice_get runs) same ∙ at) in
-          let there : slice_get (events_of x) i ≡ Some e = ap (λ (y : X). slice_get (events_of y) i) (sym run) ∙ s.in_run in
+          let list : s.list ≡ x = same_Some s.list x (sym s.in_lists ∙ ap (slice_get lists) same ∙ at) in
+          let there : slice_get (events_of x) i ≡ Some e = ap (λ (y : X). slice_get (events_of y) i) (sym list) ∙ s.in_list in
           subst (λ (q : ℕ). IsMet new (sort_key_of e q i)) (sym same) (g.all i e there opens)
     ];
   }
 
   -- sorted, they are the candidates
-  pub candidates_sorted : (keys sorted : List SortKey) → AreFromFirst (length runs) keys → IsPermutation keys sorted
-      → AreCandidates events_of runs sorted
+  pub candidates_sorted : (keys sorted : List SortKey) → AreFromFirst (length lists) keys → IsPermutation keys sorted
+      → AreCandidates events_of lists sorted
   candidates_sorted keys sorted from moved = record {
     each = λ k h. from.each k (Contains-permutation sorted keys k (IsPermutation-sym keys sorted moved) h);
     all = λ r i e s opens. met_moved keys sorted (sort_key_of e r i) moved
-        (from.all r i e (slice_get_within runs r s.run s.in_runs) s opens);
+        (from.all r i e (slice_get_within lists r s.list s.in_lists) s opens);
   }

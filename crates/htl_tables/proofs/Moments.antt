@@ -79,10 +79,10 @@ moments_skip kind old events rows e are none row = (
   ]),
 )
 
--- one more run was read
-pub moments_run : (kind : Kind) (before events : List Event) (old new : List (ℕ × ℕ)) → AreMoments kind before old
+-- one more list was read
+pub moments_list : (kind : Kind) (before events : List Event) (old new : List (ℕ × ℕ)) → AreMoments kind before old
     → AreMoreMoments kind old events new → AreMoments kind (before ++ events) new
-moments_run kind before events old new are more row = (
+moments_list kind before events old new are more row = (
   (λ h. elim ((more row).0 h) [
     | inl there ↦ moment_among kind (Contains before) (Contains (before ++ events)) row (Contains-append_left before events)
         ((are row).0 there)

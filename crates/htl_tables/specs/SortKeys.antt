@@ -12,23 +12,23 @@ use Rattle.htl_event.specs.Handles.{opens_or_closes}
 abbrev pub sort_key_cmp : SortKey → SortKey → Ordering
 sort_key_cmp = cmp-value.it
 
--- the sort key of the event at a place of a run
+-- the sort key of the event at a place of a list
 abbrev pub sort_key_of : Event → ℕ → ℕ → SortKey
-sort_key_of e run i =
-    record { process = e.process; base = base_of e.handle; sequence = record { 0 = e.sequence }; run = run; index = i }
+sort_key_of e list i =
+    record { process = e.process; base = base_of e.handle; sequence = record { 0 = e.sequence }; list = list; index = i }
 
--- the event stands at place i of the r-th run
-pub record StandsAt {X : Type 0} (events_of : X → List Event) (runs : List X) (r i : ℕ) (e : Event) : Type 0 where
-  pub run : X
-  pub in_runs : slice_get runs r ≡ Some run
-  pub in_run : slice_get (events_of run) i ≡ Some e
+-- the event stands at place i of the r-th list
+pub record StandsAt {X : Type 0} (events_of : X → List Event) (lists : List X) (r i : ℕ) (e : Event) : Type 0 where
+  pub list : X
+  pub in_lists : slice_get lists r ≡ Some list
+  pub in_list : slice_get (events_of list) i ≡ Some e
 
--- the key is that of an open or close of the runs
-pub record IsKeyIn {X : Type 0} (events_of : X → List Event) (runs : List X) (k : SortKey) : Type 0 where
+-- the key is that of an open or close of the lists
+pub record IsKeyIn {X : Type 0} (events_of : X → List Event) (lists : List X) (k : SortKey) : Type 0 where
   pub event : Event
-  pub stands : StandsAt events_of runs k.run k.index event
+  pub stands : StandsAt events_of lists k.list k.index event
   pub opens : opens_or_closes event.kind ≡ true
-  pub is : k ≡ sort_key_of event k.run k.index
+  pub is : k ≡ sort_key_of event k.list k.index
 
 -- one of the keys is of the same handle and comes no later
 pub record IsMet (keys : List SortKey) (k : SortKey) : Type 0 where
@@ -38,20 +38,20 @@ pub record IsMet (keys : List SortKey) (k : SortKey) : Type 0 where
   pub base : key.base ≡ k.base
   pub order : is_lt (sort_key_cmp k key) ≡ false
 
--- the keys are of opens and closes of the runs, and meet each of these
-pub record AreCandidates {X : Type 0} (events_of : X → List Event) (runs : List X) (keys : List SortKey) : Type 0 where
-  pub each : (k : SortKey) → Contains keys k → IsKeyIn events_of runs k
-  pub all : (r i : ℕ) (e : Event) → StandsAt events_of runs r i e → opens_or_closes e.kind ≡ true
+-- the keys are of opens and closes of the lists, and meet each of these
+pub record AreCandidates {X : Type 0} (events_of : X → List Event) (lists : List X) (keys : List SortKey) : Type 0 where
+  pub each : (k : SortKey) → Contains keys k → IsKeyIn events_of lists k
+  pub all : (r i : ℕ) (e : Event) → StandsAt events_of lists r i e → opens_or_closes e.kind ≡ true
       → IsMet keys (sort_key_of e r i)
 
--- the key is that of an open or close of the r-th run
+-- the key is that of an open or close of the r-th list
 pub record IsKeyAt (r : ℕ) (events : List Event) (k : SortKey) : Type 0 where
   pub event : Event
   pub at : slice_get events k.index ≡ Some event
   pub opens : opens_or_closes event.kind ≡ true
   pub is : k ≡ sort_key_of event r k.index
 
--- the keys of one run's opens and closes came to the old ones, or in their places
+-- the keys of one list's opens and closes came to the old ones, or in their places
 pub record Gathers (r : ℕ) (events : List Event) (old new : List SortKey) : Type 0 where
   pub each : (k : SortKey) → Contains new k → Contains old k ⊎ IsKeyAt r events k
   pub met : (k : SortKey) → IsMet old k → IsMet new k

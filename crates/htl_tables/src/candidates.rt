@@ -1,4 +1,4 @@
-//! The events that may be the latest of their handles, gathered from runs in one pass.
+//! The events that may be the latest of their handles, gathered from lists in one pass.
 
 ghost use Rattle.std.specs.Prelude.{IfOk, IsSorted};
 ghost use Rattle.htl_tables.specs.SortKeys.{sort_key_cmp, AreCandidates};
@@ -15,29 +15,29 @@ struct Candidates<A: Allocator> {
     hints: Hints<A>,
 }
 
-/// Sort keys of the runs' opens and closes, in order. The latest event of each handle is among
+/// Sort keys of the lists' opens and closes, in order. The latest event of each handle is among
 /// them.
 pub(crate) fn candidates_in<R: EventList, A: Allocator + Clone>(
     alloc: A,
-    runs: &[R],
+    lists: &[R],
 ) -> Result<Vec<SortKey, A>, NoMemory>
-    ensures all { IfOk result (λ keys. AreCandidates R.events_of runs.now keys.items) }
+    ensures all { IfOk result (λ keys. AreCandidates R.events_of lists.now keys.items) }
     ensures sorted { IfOk result (λ keys. IsSorted sort_key_cmp keys.items) }
 {
-    let mut candidates = Candidates::new(alloc, events_in(runs))?;
-    for (run, events) in runs.iter().enumerate() {
-        candidates.gather(run, events.events())?;
+    let mut candidates = Candidates::new(alloc, events_in(lists))?;
+    for (list, events) in lists.iter().enumerate() {
+        candidates.gather(list, events.events())?;
     }
     let mut keys = candidates.keys;
     keys.sort_unstable();
     Ok(keys)
 }
 
-/// About how many events the runs have.
-fn events_in<R: EventList>(runs: &[R]) -> usize {
+/// About how many events the lists have.
+fn events_in<R: EventList>(lists: &[R]) -> usize {
     let mut events: usize = 0;
-    for run in runs {
-        events = events.saturating_add(run.events().len());
+    for list in lists {
+        events = events.saturating_add(list.events().len());
     }
     events
 }
@@ -60,13 +60,13 @@ impl<A: Allocator> Candidates<A> {
     ghost use Rattle.std.specs.Prelude.{IfOk, OnOk};
     ghost use Rattle.htl_tables.specs.SortKeys.{IsPlaceOf, Gathers, Offers};
 
-    /// Offers the key of each open and close of one run.
-    fn gather(&mut self, run: usize, events: &[SharedEvent]) -> Result<(), AllocError>
-        ensures { OnOk result (Gathers run events.now self.old.keys.items self.new.keys.items) }
+    /// Offers the key of each open and close of one list.
+    fn gather(&mut self, list: usize, events: &[SharedEvent]) -> Result<(), AllocError>
+        ensures { OnOk result (Gathers list events.now self.old.keys.items self.new.keys.items) }
     {
         for (index, event) in events.iter().enumerate() {
             if event.kind.opens_or_closes() {
-                self.offer(SortKey::of(event, run, index))?;
+                self.offer(SortKey::of(event, list, index))?;
             }
         }
         Ok(())
@@ -91,7 +91,7 @@ impl<A: Allocator> Candidates<A> {
         Ok(())
     }
 
-    /// The place of a key of the same handle, where a hint tells it, or else a cell for a hint.
+    /// The place of a key of the same handle, where a hint has it, or else a cell for a hint.
     fn find(&self, key: &SortKey) -> Result<usize, usize>
         ensures { IfOk result (IsPlaceOf self.now.keys.items key.now) }
     {

@@ -179,13 +179,13 @@ impl<K: EventKind, A: Allocator + Clone> Greatest<K, A> {
         })
     }
 
-    /// The greatest sequence of each process among the events of the runs, in any order.
-    pub fn of<R: EventList>(alloc: A, runs: &[R]) -> Result<Greatest<K, A>, NoMemory>
+    /// The greatest sequence of each process among the events of the lists, in any order.
+    pub fn of<R: EventList>(alloc: A, lists: &[R]) -> Result<Greatest<K, A>, NoMemory>
         ensures { IfOk result (λ t. (process : ℕ) → IsGreatestSequence
-            (λ e. Contains (flat_map R.events_of runs.now) e × IsOf K.kind process e)
+            (λ e. Contains (flat_map R.events_of lists.now) e × IsOf K.kind process e)
             (sequence_at t process)) }
     {
-        let moments = moments_in::<K, R, A>(alloc.clone()?, runs)?;
+        let moments = moments_in::<K, R, A>(alloc.clone()?, lists)?;
         let mut greatest = Greatest::new(alloc);
         for (process, sequence) in &moments {
             greatest.raise(*process, *sequence)?;
@@ -205,14 +205,14 @@ fn has_row<K: EventKind>(event: &SharedEvent) -> bool
 /// The process and the sequence of each event of the kind, by process and then by sequence.
 fn moments_in<K: EventKind, R: EventList, A: Allocator>(
     alloc: A,
-    runs: &[R],
+    lists: &[R],
 ) -> Result<Vec<(u32, u64), A>, NoMemory>
     ensures { IfOk result (λ moments. (row : ℕ × ℕ) → Contains moments.items row
-        ↔ IsMoment (Contains (flat_map R.events_of runs.now)) K.kind row) }
+        ↔ IsMoment (Contains (flat_map R.events_of lists.now)) K.kind row) }
 {
     let mut moments = Vec::new(alloc);
-    for run in runs {
-        gather::<K, A>(&mut moments, run.events())?;
+    for list in lists {
+        gather::<K, A>(&mut moments, list.events())?;
     }
     moments.sort_unstable();
     Ok(moments)

@@ -17,7 +17,7 @@ const PROCESS_FACTOR: u64 = 0x9e37_79b9_7f4a_7c15;
 
 const BASE_FACTOR: u64 = 0xc2b2_ae3d_27d4_eb4f;
 
-/// A fixed number of cells, each of which may tell the place of a key. Where two handles meet in
+/// A fixed number of cells, each of which may have the place of a key. Where two handles meet in
 /// all their cells, the later hint stays.
 #[derive(Drop)]
 pub(crate) struct Hints<A: Allocator> {
@@ -41,7 +41,7 @@ impl<A: Allocator> Hints<A> {
         ((mixed >> 32).wrapping_mul(self.cells.len() as u64) >> 32) as usize
     }
 
-    /// The place that the cell tells, or one past all keys.
+    /// The place that the cell has, or one past all keys.
     pub fn place(&self, cell: usize) -> usize {
         match self.cells.get(cell) {
             Some(place) => *place as usize,

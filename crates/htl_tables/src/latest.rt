@@ -143,21 +143,21 @@ impl<A: Allocator + Clone> Latest<A> {
         Ok(Latest { rows })
     }
 
-    /// The latest event of each handle among those of the runs, in any order. Of events with one
-    /// sequence the first stays, as if the events were noted one after the other, run by run.
-    pub fn of<R: EventList>(alloc: A, runs: &[R]) -> Result<Latest<A>, NoMemory>
+    /// The latest event of each handle among those of the lists, in any order. Of events with one
+    /// sequence the first stays, as if the events were noted one after the other, list by list.
+    pub fn of<R: EventList>(alloc: A, lists: &[R]) -> Result<Latest<A>, NoMemory>
         ensures noted { IfOk result (λ t. (process base : ℕ)
-            → event_at t process base ≡ noted (flat_map R.events_of runs.now) process base) }
+            → event_at t process base ≡ noted (flat_map R.events_of lists.now) process base) }
         ensures latest { IfOk result (λ t. (process base : ℕ)
-            → LatestIs (Contains (flat_map R.events_of runs.now)) process base
+            → LatestIs (Contains (flat_map R.events_of lists.now)) process base
             (event_at t process base)) }
     {
-        let keys = candidates_in(alloc.clone()?, runs)?;
+        let keys = candidates_in(alloc.clone()?, lists)?;
         let mut latest = Latest {
             rows: Vec::with_capacity(alloc, handles_in(&keys))?,
         };
         for key in &keys {
-            latest.note(key.event(runs))?;
+            latest.note(key.event(lists))?;
         }
         Ok(latest)
     }

@@ -22,25 +22,25 @@ pub fn noting_keeps_the_greatest()
     ensures { (events : List Event) (e : Event) → KeepsGreatest events e }
 {}
 
-/// What `Marks::of` gives are the snapshot marks of the runs' events.
+/// What `Marks::of` gives are the snapshot marks of the lists' events.
 pub fn marks_are_snapshot_marks<A: Allocator + Clone, R: EventList>(
     alloc: A,
-    runs: &[R],
+    lists: &[R],
 ) -> Result<Marks<A>, NoMemory>
     ensures { IfOk result (λ marks. (process : ℕ)
-        → IsMark (Contains (flat_map R.events_of runs.now)) process (sequence_at marks process)) }
+        → IsMark (Contains (flat_map R.events_of lists.now)) process (sequence_at marks process)) }
 {
-    Marks::of(alloc, runs)
+    Marks::of(alloc, lists)
 }
 
-/// What `Exits::of` gives are the last exits among the runs' events.
+/// What `Exits::of` gives are the last exits among the lists' events.
 pub fn exits_are_last_exits<A: Allocator + Clone, R: EventList>(
     alloc: A,
-    runs: &[R],
+    lists: &[R],
 ) -> Result<Exits<A>, NoMemory>
     ensures { IfOk result (λ exits. (process : ℕ)
-        → IsLastExit (Contains (flat_map R.events_of runs.now)) process
+        → IsLastExit (Contains (flat_map R.events_of lists.now)) process
         (sequence_at exits process)) }
 {
-    Exits::of(alloc, runs)
+    Exits::of(alloc, lists)
 }

@@ -13,9 +13,9 @@ pub(crate) struct SortKey {
     pub process: u32,
     pub base: u32,
     pub sequence: Reverse<u64>,
-    /// The place of the event's run.
-    pub run: usize,
-    /// The event's place in its run.
+    /// The place of the event's list.
+    pub list: usize,
+    /// The event's place in its list.
     pub index: usize,
 }
 
@@ -24,14 +24,14 @@ impl SortKey {
     ghost use Rattle.htl_event.specs.Events.{Event};
     ghost use Rattle.htl_tables.specs.SortKeys.{StandsAt, sort_key_of};
 
-    pub fn of(event: &SharedEvent, run: usize, index: usize) -> SortKey
-        ensures { result ≡ sort_key_of event.now run index }
+    pub fn of(event: &SharedEvent, list: usize, index: usize) -> SortKey
+        ensures { result ≡ sort_key_of event.now list index }
     {
         SortKey {
             process: event.process,
             base: base(event.handle),
             sequence: Reverse(event.sequence),
-            run,
+            list,
             index,
         }
     }
@@ -44,11 +44,11 @@ impl SortKey {
     }
 
     /// The event with this key.
-    pub fn event<'a, R: EventList>(&self, runs: &'a [R]) -> &'a SharedEvent
-        requires { (e : Event) × StandsAt R.events_of runs.now self.now.run self.now.index e }
-        ensures { StandsAt R.events_of runs.now self.now.run self.now.index result.now }
+    pub fn event<'a, R: EventList>(&self, lists: &'a [R]) -> &'a SharedEvent
+        requires { (e : Event) × StandsAt R.events_of lists.now self.now.list self.now.index e }
+        ensures { StandsAt R.events_of lists.now self.now.list self.now.index result.now }
     {
-        &runs[self.run].events()[self.index]
+        &lists[self.list].events()[self.index]
     }
 }
 

@@ -1,4 +1,4 @@
--- Whether each number of one rising list is in another, told by one walk over the other.
+-- Whether each number of one rising list is in another, found by one walk over the other.
 use Rattle.std.proofs.Common.{◌≡◌, ℕ, ◌+◌, List, [], ◌∷◌, sym, ◌∙◌, subst, arith, inl, inr}
 use Rattle.std.specs.Prelude.{Contains, ◌↔◌}
 use Rattle.std.proofs.lemmas.Bool.{cases_eq, eq-eqb, ne_eqb}

@@ -72,7 +72,7 @@ impl<A: Allocator> NumberSet<A> {
         reach_over(&self.loose, self.front)
     }
 
-    /// Takes a number, and tells whether it is new.
+    /// Takes a number, and says whether it is new.
     pub fn insert(&mut self, number: u32) -> Result<bool, NoMemory>
         requires { number < MAX_FRONT }
         ensures known { IfOk result (λ fresh. IsFalse fresh ↔ Has (numbers_of self.old) number) }

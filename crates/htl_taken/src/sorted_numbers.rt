@@ -10,7 +10,7 @@ use htl_event::NoMemory;
 use std::alloc::Allocator;
 
 /// Where a number stands in a rising list, or the gap where it would stand. One above all others
-/// is told without a search.
+/// is known without a search.
 pub(crate) fn position_of(numbers: &[u32], number: u32) -> Result<usize, usize>
     requires { Rises 0 MAX_FRONT numbers.now }
     ensures found { IfOk result (λ i. (i < length numbers.now)

@@ -167,7 +167,7 @@ impl<A: Allocator> Taken<A> {
         true
     }
 
-    /// Takes a segment, and tells whether it is new. The number of a new one becomes loose, also
+    /// Takes a segment, and says whether it is new. The number of a new one becomes loose, also
     /// where it is the front.
     pub fn insert(&mut self, processor: u16, number: u32) -> Result<bool, NoMemory>
         requires processor { processor < length self.old }

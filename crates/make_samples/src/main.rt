@@ -32,13 +32,13 @@ fn main(rt: HostRuntime) -> Result<()> {
             None => bail!("{USAGE}"),
         },
         [kind, megabytes, stacks, handles, processors] if kind.as_str() == "trace" => {
-            let made_up = sizes::made_up(
+            let generated = sizes::generated(
                 megabytes.parse()?,
                 stacks.parse()?,
                 handles.parse()?,
                 processors.parse()?,
             );
-            writing::write_made_up(alloc, &made_up, &mut out)?;
+            writing::write_generated(alloc, &generated, &mut out)?;
         }
         _ => bail!("{USAGE}"),
     }

@@ -13,7 +13,7 @@ const SEGMENT_LEN: u64 = 32 + EVENTS as u64 * (36 + 20 * 8);
 
 /// A generated trace of about so many megabytes, with so many stacks and handles. Each processor
 /// has at least one segment.
-pub fn made_up(megabytes: u32, stacks: u32, handles: u32, processors: u16) -> RandomTrace
+pub fn generated(megabytes: u32, stacks: u32, handles: u32, processors: u16) -> RandomTrace
     ensures processors { result.processors ≡ processors }
     ensures stacks { result.stacks ≡ stacks }
     ensures handles { result.handles ≡ handles }

@@ -21,7 +21,7 @@ pub fn write_lines<W: Sink>(
     ensures ok { OnOk result (WritesCount trace (length lines.now)
         (W.contents out.old) (W.contents out.new)) }
     ensures fine { OnOk result (W.has_failed out.new ≡ false) }
-    ensures told { W.has_failed out.new ≡ true → result ≡ Err MakeFault.Write }
+    ensures reported { W.has_failed out.new ≡ true → result ≡ Err MakeFault.Write }
 {
     for line in lines {
         let segment = trace.segment(alloc, line)?;
@@ -33,20 +33,20 @@ pub fn write_lines<W: Sink>(
 /// Writes a generated trace: number 0 of each processor, then number 1 of each, and so on. Only one
 /// segment is in memory at a time. After a fault the segments before it are written, and after a
 /// failed write a part of one more.
-pub fn write_made_up<W: Sink>(
+pub fn write_generated<W: Sink>(
     alloc: Global,
-    made_up: &RandomTrace,
+    generated: &RandomTrace,
     out: &mut W,
 ) -> Result<(), MakeFault>
     requires { W.has_failed out.old ≡ false }
-    ensures ok { OnOk result (WritesKeys (record TRACE { processors = made_up.now.processors })
-        (turns made_up.now.processors made_up.now.segments)
+    ensures ok { OnOk result (WritesKeys (record TRACE { processors = generated.now.processors })
+        (turns generated.now.processors generated.now.segments)
         (W.contents out.old) (W.contents out.new)) }
     ensures fine { OnOk result (W.has_failed out.new ≡ false) }
-    ensures told { W.has_failed out.new ≡ true → result ≡ Err MakeFault.Write }
+    ensures reported { W.has_failed out.new ≡ true → result ≡ Err MakeFault.Write }
 {
-    for number in 0..made_up.segments {
-        write_turn(alloc, made_up, number, out)?;
+    for number in 0..generated.segments {
+        write_turn(alloc, generated, number, out)?;
     }
     Ok(())
 }
@@ -54,23 +54,23 @@ pub fn write_made_up<W: Sink>(
 /// Writes the segment of this number of each processor.
 fn write_turn<W: Sink>(
     alloc: Global,
-    made_up: &RandomTrace,
+    generated: &RandomTrace,
     number: u32,
     out: &mut W,
 ) -> Result<(), MakeFault>
     requires { W.has_failed out.old ≡ false }
-    ensures ok { OnOk result (WritesKeys (record TRACE { processors = made_up.now.processors })
-        (turn made_up.now.processors number)
+    ensures ok { OnOk result (WritesKeys (record TRACE { processors = generated.now.processors })
+        (turn generated.now.processors number)
         (W.contents out.old) (W.contents out.new)) }
     ensures fine { OnOk result (W.has_failed out.new ≡ false) }
-    ensures told { W.has_failed out.new ≡ true → result ≡ Err MakeFault.Write }
+    ensures reported { W.has_failed out.new ≡ true → result ≡ Err MakeFault.Write }
 {
     let trace = Trace {
-        processors: made_up.processors,
+        processors: generated.processors,
         ..TRACE
     };
-    for processor in 0..made_up.processors {
-        let segment = made_up.segment(alloc, processor, number)?;
+    for processor in 0..generated.processors {
+        let segment = generated.segment(alloc, processor, number)?;
         write_segment(alloc, trace, &segment, out)?;
     }
     Ok(())
@@ -88,7 +88,7 @@ fn write_segment<W: Sink>(
     ensures ok { OnOk result (Writes trace (segment.now ∷ [])
         (W.contents out.old) (W.contents out.new)) }
     ensures fine { OnOk result (W.has_failed out.new ≡ false) }
-    ensures told { W.has_failed out.new ≡ true → result ≡ Err MakeFault.Write }
+    ensures reported { W.has_failed out.new ≡ true → result ≡ Err MakeFault.Write }
 {
     let bytes = encode(alloc, segment).map_err(SampleFault::from)?;
     match write_whole(out, &bytes) {

@@ -13,7 +13,7 @@ const PROCESSORS: u16 = 2;
 /// The bundle of a number: one to three segments in either version, with up to three events each.
 /// Every tenth one has deep stacks, and every ninth one the last numbers that segments may have.
 pub fn bundle(alloc: Global, number: u32) -> Result<Vec<u8>, SampleFault> {
-    let made_up = RandomTrace {
+    let generated = RandomTrace {
         seed: u64::from(number),
         most_frames: if number % 10 == 0 { 64 } else { 4 },
         ..SMALL
@@ -23,7 +23,7 @@ pub fn bundle(alloc: Global, number: u32) -> Result<Vec<u8>, SampleFault> {
     let mut bytes = Vec::new(alloc);
     for place in 0..=number % 3 {
         let count = number.wrapping_add(place) / 2 % 4;
-        let events = events_of(alloc, &made_up, version, place, count)?;
+        let events = events_of(alloc, &generated, version, place, count)?;
         let segment = segment_of(alloc, version, first.wrapping_add(place), events)?;
         bytes.extend_from_slice(&encode(alloc, &segment)?)?;
     }
@@ -33,14 +33,14 @@ pub fn bundle(alloc: Global, number: u32) -> Result<Vec<u8>, SampleFault> {
 /// Made-up events, without those that the version doesn't know.
 fn events_of(
     alloc: Global,
-    made_up: &RandomTrace,
+    generated: &RandomTrace,
     version: u32,
     place: u32,
     count: u32,
 ) -> Result<Vec<Event>, SampleFault> {
     let mut events = Vec::new(alloc);
     for number in 0..count {
-        let event = made_up.event(1, place, number);
+        let event = generated.event(1, place, number);
         if version == 2 || is_of_first_version(&event) {
             events.push(event)?;
         }

@@ -1,4 +1,4 @@
--- What is told of the sorted segments holds of those given, and without repeats each key comes once.
+-- What is reported of the sorted segments holds of those given, and without repeats each key comes once.
 use Rattle.std.proofs.Common.{refl}
 use Rattle.htl_case.proofs.Repeats.{least_moved, ordered_once}
 use Rattle.htl_case.proofs.ordering.in_order.Goals as goal

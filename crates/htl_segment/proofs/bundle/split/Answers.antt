@@ -1,4 +1,4 @@
--- Each turn takes one segment off the front, or the bytes left are told.
+-- Each turn takes one segment off the front, or the bytes left are reported.
 use Rattle.std.proofs.Common.{◌≡◌, ◌++◌, ◌∷◌, [], arith, refl, sym, ◌∙◌, ℕ}
 use Rattle.std.proofs.lemmas.List.{take_rest, length-drop, length-take}
 use Rattle.std.proofs.lemmas.Grind.{common_steps}

@@ -3,12 +3,12 @@ use Rattle.htl_samples.specs.declared.trace.Trace.{Trace}
 use Rattle.htl_samples.specs.declared.trace.TheConstants.{TRACE}
 use Rattle.make_samples.specs.Writing.{turn, turns}
 use Rattle.make_samples.proofs.Written.{keys-both, turns-more}
-use Rattle.make_samples.proofs.writing.write_made_up.Goals as goal
+use Rattle.make_samples.proofs.writing.write_generated.Goals as goal
 
 pub loop-number-preserved : goal.loop-number-preserved
 loop-number-preserved g c =
-    let trace : Trace = record TRACE { processors = c.args.made_up.now.processors } in
-    let p = c.args.made_up.now.processors in
+    let trace : Trace = record TRACE { processors = c.args.generated.now.processors } in
+    let p = c.args.generated.now.processors in
     let n = c.loop-number.number in
     record {
       written = rw (turns-more p n) (keys-both trace (turns p n) (turn p n) (g.W.Sink.contents c.args.out.now)

@@ -2,11 +2,11 @@
 use Rattle.std.proofs.Common.{◌≡◌, false}
 use Rattle.make_samples.specs.Writing.{WritesKeys, turns}
 use Rattle.htl_samples.specs.declared.trace.TheConstants.{TRACE}
-use Rattle.make_samples.proofs.writing.write_made_up.Given as goal
+use Rattle.make_samples.proofs.writing.write_generated.Given as goal
 
 abbrev pub invariant-loop-number : goal.invariant-loop-number
 invariant-loop-number g l = record {
-  written : WritesKeys (record TRACE { processors = l.made_up.processors }) (turns l.made_up.processors l.number)
+  written : WritesKeys (record TRACE { processors = l.generated.processors }) (turns l.generated.processors l.number)
       (g.W.Sink.contents l.initial.out) (g.W.Sink.contents l.out);
   fine : g.W.Sink.has_failed l.out ≡ false;
 }

@@ -8,7 +8,7 @@ use Rattle.make_samples.proofs.writing.write_turn.Goals as goal
 
 pub loop-processor-preserved : goal.loop-processor-preserved
 loop-processor-preserved g c =
-    let trace : Trace = record TRACE { processors = c.args.made_up.now.processors } in
+    let trace : Trace = record TRACE { processors = c.args.generated.now.processors } in
     let p = c.loop-processor.processor in
     let n = c.args.number in
     let mid = g.W.Sink.contents c.loop-processor.out in

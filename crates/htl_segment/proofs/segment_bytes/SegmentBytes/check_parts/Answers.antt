@@ -1,4 +1,4 @@
--- A header, and records that fill its length, begin with what they say; else the first fault is told.
+-- A header, and records that fill its length, begin with what they say; else the first fault is reported.
 use Rattle.std.proofs.Common.{◌++◌, ◌∙◌, arith}
 use Rattle.std.proofs.lemmas.Result.{err_from_is_err_and}
 use Rattle.htl_segment.specs.Numbers.{IsBytes}

@@ -16,14 +16,14 @@ loop-index-preserved g c =
     elim c.if-opens_or_closes.branch [
       | then-opens_or_closes+in_ok-offer w ↦
           let offers = rw w.of.ensures at w.in_ok-offer.ensures in
-          rw w.self-is (gathers_more c.args.run events old i keys w.offer.new.self.keys.items
+          rw w.self-is (gathers_more c.args.list events old i keys w.offer.new.self.keys.items
           e at (sym c.opens_or_closes.ensures ∙ w.if-opens_or_closes.true) offers c.loop-index.invariant)
       | else-opens_or_closes w ↦
-          rw w.self-is (gathers_skip c.args.run events old i keys e at (sym c.opens_or_closes.ensures ∙ w.if-opens_or_closes.false)
+          rw w.self-is (gathers_skip c.args.list events old i keys e at (sym c.opens_or_closes.ensures ∙ w.if-opens_or_closes.false)
           c.loop-index.invariant)
     ]
 
 pub returns : goal.returns
 returns g c =
     let all : c.loop-index.index ≡ length c.args.events.now = omega arith in
-    gathers_whole c.args.run c.args.events.now c.args.self.now.keys.items c.loop-index.self.keys.items (rw all at c.loop-index.invariant)
+    gathers_whole c.args.list c.args.events.now c.args.self.now.keys.items c.loop-index.self.keys.items (rw all at c.loop-index.invariant)

@@ -32,5 +32,5 @@ returns g c = λ process.
     let rows = c.deref-process-items.result.now in
     let are = rw (← c.deref-process-items.ensures.value) at c.in_ok-moments.ensures in
     let all = take_all c.loop-process.process-index rows (omega arith) in
-    greatest_of_events g.K.EventKind.kind (flat_map g.R.EventList.events_of c.args.runs.now) rows process
+    greatest_of_events g.K.EventKind.kind (flat_map g.R.EventList.events_of c.args.lists.now) rows process
     (sequence_at c.loop-process.greatest process) are (rw all at c.loop-process.invariant process)

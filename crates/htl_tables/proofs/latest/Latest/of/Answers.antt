@@ -10,7 +10,7 @@ use Rattle.htl_tables.proofs.FirstNoted.{LatestIs-noted}
 use Rattle.htl_tables.proofs.latest.Latest.of.Goals as goal
 
 abbrev no_key : SortKey
-no_key = record { process = 0; base = 0; sequence = record { 0 = 0 }; run = 0; index = 0 }
+no_key = record { process = 0; base = 0; sequence = record { 0 = 0 }; list = 0; index = 0 }
 
 pub event-requires : goal.event-requires
 event-requires g c =
@@ -29,7 +29,7 @@ loop-key-preserved g c = λ process base.
     let sorted = rw (← c.deref-key-items.ensures.value) at c.in_ok-keys.ensures.sorted in
     let at : slice_get keys n ≡ Some key = slice_get-get_or keys n no_key c.loop-key-test.true in
     rw (c.in_ok-note.ensures.ok process base)
-    (key_noted g.R.EventList.events_of c.args.runs.now keys process base are sorted n key c.event.result.now at c.event.ensures
+    (key_noted g.R.EventList.events_of c.args.lists.now keys process base are sorted n key c.event.result.now at c.event.ensures
     (event_at c.loop-key.latest process base) (c.loop-key.invariant process base))
 
 pub returns-clause-noted : goal.returns-clause-noted
@@ -38,9 +38,9 @@ returns-clause-noted g c = λ process base.
     let are = rw (← c.deref-key-items.ensures.value) at c.in_ok-keys.ensures.all in
     let sorted = rw (← c.deref-key-items.ensures.value) at c.in_ok-keys.ensures.sorted in
     let all : c.loop-key.key-index ≡ length keys = omega arith in
-    keys_noted g.R.EventList.events_of c.args.runs.now keys process base are sorted (event_at c.loop-key.latest process base)
+    keys_noted g.R.EventList.events_of c.args.lists.now keys process base are sorted (event_at c.loop-key.latest process base)
     (rw all at c.loop-key.invariant process base)
 
 pub returns-clause-latest : goal.returns-clause-latest
 returns-clause-latest g c = λ process base.
-    rw (returns-clause-noted g c process base) (LatestIs-noted process base (flat_map g.R.EventList.events_of c.args.runs.now))
+    rw (returns-clause-noted g c process base) (LatestIs-noted process base (flat_map g.R.EventList.events_of c.args.lists.now))

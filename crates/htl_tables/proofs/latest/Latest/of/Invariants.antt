@@ -6,4 +6,4 @@ use Rattle.htl_tables.proofs.latest.Latest.of.Given as goal
 
 abbrev pub invariant-loop-key : goal.invariant-loop-key
 invariant-loop-key g l = (process base : ℕ)
-    → FirstKeyIs g.R.EventList.events_of l.runs l.key-items process base l.key-index (event_at l.latest process base)
+    → FirstKeyIs g.R.EventList.events_of l.lists l.key-items process base l.key-index (event_at l.latest process base)

@@ -1,8 +1,7 @@
 -- An analyst that has taken a whole trace has the trace's events and keys, and is complete to where the trace is.
-use Rattle.std.proofs.Common.{◌≡◌, ◌<◌, ℕ, suc, Bool, true, List, [], ◌∷◌, ap, refl, sym, subst, arith, inl, inr}
+use Rattle.std.proofs.Common.{◌≡◌, ◌<◌, ℕ, suc, Bool, true, List, [], ◌∷◌, ap, refl, sym, subst, arith}
 use Rattle.std.specs.Prelude.{Contains, filter}
 use Rattle.htl_event.specs.Handles.{IsGreatestSequence}
-use Rattle.htl_event.proofs.Members.{Contains-from_map, at_member}
 use Rattle.htl_segment.specs.Traces.{Trace, HasKey, key_is_in, all_events}
 use Rattle.htl_taken.specs.Gaps.{IsGaps}
 use Rattle.htl_taken.specs.Numbers.{front_at}
@@ -11,12 +10,13 @@ use Rattle.htl_taken.proofs.Gaps.{gaps_agree}
 use Rattle.htl_symbols.specs.Ranges.{Range}
 use Rattle.htl_command.specs.declared.question.Question.{Question}
 use Rattle.htl_command.specs.declared.question.Question.TheVariants as asked
-use Rattle.htl_analyst.specs.States.{State, held_at}
+use Rattle.htl_analyst.specs.States.{State}
 use Rattle.htl_analyst.specs.Keys.{HasTaken, keys}
 use Rattle.htl_analyst.specs.Moments as moments
-use Rattle.htl_analyst.specs.Right.{IsOwned, IsRight, run_events}
+use Rattle.htl_analyst.specs.Right.{run_events}
 use Rattle.htl_analyst.specs.TakenEvents.{taken_events}
 use Rattle.htl_analyst.proofs.KeyEvents.{taken_keys}
+use Rattle.htl_case.proofs.Sizes.{key_of_trace}
 use Rattle.htl_exchange.specs.Desks.{IsWholeStanding}
 use Rattle.htl_main.specs.Printed.{IsText, IsTextOver}
 use Rattle.htl_main.specs.Questions.{IsOfAnalyst}
@@ -55,24 +55,12 @@ complete T a n whole is =
     }
 
 -- its taken keys are the trace's
-taken_there : (T : Trace) (a : State) → IsRight a T → (p n : ℕ) → p < a.processors → HasTaken a p n → HasKey T p n
-taken_there T a right p n lt (inl low) = (right.each p lt).complete n low
-taken_there T a right p n lt (inr loose) =
-    let part = right.state.each p lt in
-    let held = Contains-from_map (λ s. s.number) (held_at a.parts p) n
-    (subst (λ (ns : List ℕ). Contains ns n) (sym part.numbers) loose) in (
-      held.0,
-      at_member (Contains T.segments) (held_at a.parts p) held.0 (right.each p lt).held held.1,
-      (at_member (IsOwned a.trace_id a.processors p) (held_at a.parts p) held.0 part.owned held.1).processor,
-      held.2,
-    )
-
 pub whole_gaps : (T : Trace) (a : State) (gaps : List Gap) → IsWholeStanding T a → IsGaps (HasTaken a) a.processors gaps
     → IsGaps (HasKey T) T.processors gaps
 whole_gaps T a gaps whole is =
     let right = whole.standing.right in
     subst (λ (n : ℕ). IsGaps (HasKey T) n gaps) (sym right.processors) (gaps_agree (HasTaken a) (HasKey T) a.processors gaps
-    (λ p n lt. (taken_there T a right p n lt, whole.keys p n)) is)
+    (λ p n lt. (key_of_trace T a right p n, whole.keys p n)) is)
 
 -- the answer to a question about events is one over the trace
 pub over_events : (T : Trace) (table : List Range) (question : Question) (lines : List ℕ) → IsOfAnalyst question

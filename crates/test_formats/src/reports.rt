@@ -5,6 +5,7 @@ use htl_samples::{shared_events, shared_stack};
 use htl_symbols::Symbols;
 use htl_taken::Gap;
 use std::alloc::Global;
+use std::process::Abort;
 use std::test::Fail;
 
 fn count(plus: u64, minus: u64) -> Count {
@@ -40,10 +41,12 @@ OPEN handle=0x18 seq=12 thread=12
 }
 
 fn tags(alloc: Global) -> Result<(Answer, &'static str), Fail> {
-    let mut rows = Vec::new(alloc);
-    rows.push(([1, 0x41, 0x42, 0x43], count(0, 1)))?;
-    rows.push((*b"Dflt", count(1, 1)))?;
-    rows.push((*b"Lky8", count(2, 1)))?;
+    let rows = [
+        ([1, 0x41, 0x42, 0x43], count(0, 1)),
+        (*b"Dflt", count(1, 1)),
+        (*b"Lky8", count(2, 1)),
+    ];
+    let rows = Vec::from_slice(alloc, &rows)?;
     Ok((
         Answer::Tags {
             object: 0xffff_a000_0000_1000,
@@ -59,8 +62,10 @@ TAG Lky8 refs=2 derefs=1 over=1
 
 fn bad(alloc: Global) -> Result<(Answer, &'static str), Fail> {
     let mut rows = Vec::new(alloc);
-    rows.push((0, shared_stack(alloc, &[])?, 1))?;
-    rows.push((7, shared_stack(alloc, &[0x10])?, 2))?;
+    let stacks: [(u32, &[u64], u64); 2] = [(0, &[], 1), (7, &[0x10], 2)];
+    for (handle, frames, times) in stacks {
+        rows.push((handle, shared_stack(alloc, frames)?, times))?;
+    }
     Ok((
         Answer::Bad { process: 4, rows },
         "bad process=4 count=2
@@ -73,9 +78,10 @@ BAD REF handle=0x7 times=2
 
 fn leaks(alloc: Global) -> Result<(Answer, &'static str), Fail> {
     let mut rows = Vec::new(alloc);
-    rows.push((shared_stack(alloc, &[0x60])?, 2))?;
-    rows.push((shared_stack(alloc, &[0x50, 0x20])?, 1))?;
-    rows.push((shared_stack(alloc, &[0x30, 0x40])?, 1))?;
+    let stacks: [(&[u64], u64); 3] = [(&[0x60], 2), (&[0x50, 0x20], 1), (&[0x30, 0x40], 1)];
+    for (frames, handles) in stacks {
+        rows.push((shared_stack(alloc, frames)?, handles))?;
+    }
     Ok((
         Answer::Leaks { process: 4, rows },
         "leaks process=4 count=3
@@ -93,9 +99,14 @@ LEAK handles=1
 
 fn stacks(alloc: Global) -> Result<(Answer, &'static str), Fail> {
     let mut rows = Vec::new(alloc);
-    rows.push((shared_stack(alloc, &[])?, count(0, 1)))?;
-    rows.push((shared_stack(alloc, &[0x30, 0x20, 0x10])?, count(1, 0)))?;
-    rows.push((shared_stack(alloc, &[0x40, 0x20, 0x10])?, count(1, 0)))?;
+    let stacks: [(&[u64], Count); 3] = [
+        (&[], count(0, 1)),
+        (&[0x30, 0x20, 0x10], count(1, 0)),
+        (&[0x40, 0x20, 0x10], count(1, 0)),
+    ];
+    for (frames, count) in stacks {
+        rows.push((shared_stack(alloc, frames)?, count))?;
+    }
     Ok((
         Answer::Stacks {
             object: 0x1000,
@@ -164,18 +175,15 @@ fn object(object: u64, unbalanced: u64) -> ObjectRow {
 }
 
 fn summary(alloc: Global) -> Result<(Answer, &'static str), Fail> {
-    let mut gaps = Vec::new(alloc);
-    gaps.push(Gap::Between {
+    let between = Gap::Between {
         processor: 0,
         from: 0,
         to: 4_294_967_292,
-    })?;
-    gaps.push(Gap::Absent { processor: 1 })?;
-    let mut processes = Vec::new(alloc);
-    processes.push(process(4, 2, 0))?;
-    processes.push(process(u32::MAX, 0, u64::MAX))?;
-    let mut objects = Vec::new(alloc);
-    objects.push(object(0xffff_a000_0000_1000, 2))?;
+    };
+    let gaps = Vec::from_array(alloc, [between, Gap::Absent { processor: 1 }])?;
+    let rows = [process(4, 2, 0), process(u32::MAX, 0, u64::MAX)];
+    let processes = Vec::from_array(alloc, rows)?;
+    let objects = Vec::from_array(alloc, [object(0xffff_a000_0000_1000, 2)])?;
     let totals = Totals {
         processors: 2,
         segments: 1,
@@ -201,23 +209,32 @@ OBJECT object=0xffffa00000001000 tags=3 unbalanced=2 refs=6 derefs=5
     ))
 }
 
-#[test]
-fn texts_of_answers(rt: HostRuntime) -> Result<(), Fail> {
-    let symbols = Symbols::none(rt.alloc());
-    for (answer, wanted) in [
-        outstanding(rt.alloc())?,
-        diff(rt.alloc())?,
-        tags(rt.alloc())?,
-        bad(rt.alloc())?,
-        leaks(rt.alloc())?,
-        stacks(rt.alloc())?,
-        trace(rt.alloc())?,
-        summary(rt.alloc())?,
-    ] {
-        let bytes = text(rt.alloc(), &answer, &symbols)?;
-        assert_eq!(rt; bytes.as_slice(), wanted.as_bytes(), "instead of {wanted}");
-    }
+/// The answer's text, without symbols, is the one beside it.
+fn assert_text(rt: &impl Abort, alloc: Global, row: &(Answer, &'static str)) -> Result<(), Fail> {
+    let (answer, wanted) = row;
+    let bytes = text(alloc, answer, &Symbols::none(alloc))?;
+    assert_eq!(rt; bytes.as_slice(), wanted.as_bytes(), "instead of {wanted}");
     Ok(())
+}
+
+#[test]
+fn texts_of_handles(rt: HostRuntime) -> Result<(), Fail> {
+    assert_text(&rt, rt.alloc(), &outstanding(rt.alloc())?)?;
+    assert_text(&rt, rt.alloc(), &diff(rt.alloc())?)?;
+    assert_text(&rt, rt.alloc(), &leaks(rt.alloc())?)?;
+    assert_text(&rt, rt.alloc(), &bad(rt.alloc())?)
+}
+
+#[test]
+fn texts_of_references(rt: HostRuntime) -> Result<(), Fail> {
+    assert_text(&rt, rt.alloc(), &tags(rt.alloc())?)?;
+    assert_text(&rt, rt.alloc(), &stacks(rt.alloc())?)
+}
+
+#[test]
+fn texts_of_a_trace(rt: HostRuntime) -> Result<(), Fail> {
+    assert_text(&rt, rt.alloc(), &trace(rt.alloc())?)?;
+    assert_text(&rt, rt.alloc(), &summary(rt.alloc())?)
 }
 
 /// What each address prints under these rows of a table.

@@ -62,7 +62,7 @@ fn lines_of_segments(rt: HostRuntime) -> Result<(), Fail> {
 }
 
 #[test]
-fn made_up_traces(rt: HostRuntime) -> Result<(), Fail> {
+fn generated_traces(rt: HostRuntime) -> Result<(), Fail> {
     let segments = SMALL.segments(rt.alloc())?;
     assert_eq!(rt; segments.len(), 6);
     let bytes = SMALL.bundle(rt.alloc())?;

@@ -40,10 +40,6 @@ fn changed(rt: &impl Abort, alloc: Global, texts: &[&str], changes: &[(usize, &s
     bytes
 }
 
-fn code(rt: &impl Abort, alloc: Global, fault: Fault) -> String {
-    format!(in alloc; "{fault}").expect(rt, "the code")
-}
-
 /// An event of process 4 and thread 12 without frames.
 fn event(sequence: u64, kind: Kind, handle: u32) -> Event {
     Event {
@@ -133,16 +129,21 @@ fn faults_of_changed_bytes(rt: HostRuntime) {
         (&[STORED], &[(4, "02"), (28, "21401200")], "S10"),
     ];
     for (texts, changes, wanted) in table {
-        let bytes = changed(&rt, alloc, texts, changes);
-        let fault = decode(alloc, &bytes)
-            .err()
-            .map(|fault| code(&rt, alloc, fault));
-        assert_eq!(rt;
-            fault.as_ref().map(|text| text.as_str()),
-            Some(wanted),
-            "{changes:?}"
-        );
+        let fault = fault_of(&rt, alloc, texts, changes).expect(&rt, "a fault");
+        let code = format!(in alloc; "{fault}").expect(&rt, "the code");
+        assert_eq!(rt; code.as_str(), wanted, "{changes:?}");
     }
+}
+
+/// The fault of the changed bytes, if they have one.
+fn fault_of(
+    rt: &impl Abort,
+    alloc: Global,
+    texts: &[&str],
+    changes: &[(usize, &str)],
+) -> Option<Fault> {
+    let bytes = changed(rt, alloc, texts, changes);
+    decode(alloc, &bytes).err()
 }
 
 #[test]
@@ -180,23 +181,43 @@ fn encoded_segments(rt: HostRuntime) {
         assert_eq!(rt; segment.trace_id(), 7, "{texts:?}");
         assert_eq!(rt; segment.processor(), processor, "{texts:?}");
         assert_eq!(rt; segment.number(), number, "{texts:?}");
-        assert!(rt;
-            same_events(segment.events(), &stored[..count.min(stored.len())]),
-            "{texts:?}"
-        );
-        let written = encode(alloc, &segment).expect(&rt, "the memory");
-        assert!(rt; written == bytes, "{texts:?}");
-        let copy = segment.copy().expect(&rt, "the memory");
-        assert!(rt; copy.same(&segment), "{texts:?}");
-        let in_place = SegmentBytes::check(&bytes).expect(&rt, "a segment");
-        assert_eq!(rt; in_place.processors(), segment.processors(), "{texts:?}");
-        let kept = in_place.to_segment(alloc).expect(&rt, "the memory");
-        assert!(rt; kept.same(&segment), "{texts:?}");
+        let events = &stored[..count.min(stored.len())];
+        assert!(rt; same_events(segment.events(), events), "{texts:?}");
+        assert!(rt; is_encoded(&rt, alloc, &segment, &bytes), "{texts:?}");
+        assert!(rt; is_copied(&rt, &segment), "{texts:?}");
+        assert!(rt; is_checked(&rt, alloc, &segment, &bytes), "{texts:?}");
     }
-    let first = changed(&rt, alloc, &[STORED], &[]);
-    let second = changed(&rt, alloc, &[STORED], &[(4, "02")]);
-    let (first, _) = decode(alloc, &first).expect(&rt, "version 1");
-    let (second, _) = decode(alloc, &second).expect(&rt, "version 2");
+}
+
+/// Whether the segment is written as these bytes.
+fn is_encoded(rt: &impl Abort, alloc: Global, segment: &Segment, bytes: &[u8]) -> bool {
+    let written = encode(alloc, segment).expect(rt, "the memory");
+    written.as_slice() == bytes
+}
+
+/// Whether a copy of the segment is the same.
+fn is_copied(rt: &impl Abort, segment: &Segment) -> bool {
+    let copy = segment.copy().expect(rt, "the memory");
+    copy.same(segment)
+}
+
+/// Whether the bytes, checked where they lie, are this segment's.
+fn is_checked(rt: &impl Abort, alloc: Global, segment: &Segment, bytes: &[u8]) -> bool {
+    let in_place = SegmentBytes::check(bytes).expect(rt, "a segment");
+    let kept = in_place.to_segment(alloc).expect(rt, "the memory");
+    in_place.processors() == segment.processors() && kept.same(segment)
+}
+
+/// The segment of the stored run's bytes with these changes.
+fn decoded(rt: &impl Abort, alloc: Global, changes: &[(usize, &str)]) -> Segment {
+    let bytes = changed(rt, alloc, &[STORED], changes);
+    decode(alloc, &bytes).expect(rt, "a segment").0
+}
+
+#[test]
+fn two_versions_differ(rt: HostRuntime) {
+    let first = decoded(&rt, rt.alloc(), &[]);
+    let second = decoded(&rt, rt.alloc(), &[(4, "02")]);
     assert!(rt; !first.same(&second));
 }
 
@@ -230,52 +251,59 @@ fn built_segments(rt: HostRuntime) {
     let (stored, _) = decode(alloc, &bytes).expect(&rt, "a segment");
     let built = Segment::build(alloc, 7, 1, 0, 0, stored_events(&rt, alloc));
     assert!(rt; built.is_ok_and(|segment| segment.same(&stored)));
+}
 
-    let twice = [event(1, Kind::Opened, 0x44), event(1, Kind::Closed, 0x44)];
-    let table: [(u16, u16, u32, Vec<Event>, Fault); 10] = [
-        (0, 0, 0, stored_events(&rt, alloc), Fault::Processors),
-        (65, 0, 0, stored_events(&rt, alloc), Fault::Processors),
-        (1, 1, 0, stored_events(&rt, alloc), Fault::Processor),
-        (1, 0, 0xffff_ffff, stored_events(&rt, alloc), Fault::Number),
-        (1, 0, 0, too_many(&rt, alloc), Fault::Count),
-        (
-            1,
-            0,
-            0,
-            list(&rt, alloc, event(0, Kind::Snapshot, 0)),
-            Fault::Sequence(0),
-        ),
-        (
-            1,
-            0,
-            0,
-            Vec::from_array(alloc, twice).expect(&rt, "the memory"),
-            Fault::Sequence(1),
-        ),
-        (
-            1,
-            0,
-            0,
-            list(&rt, alloc, event(1, Kind::Exited, 0)),
-            Fault::Kind(0),
-        ),
-        (1, 0, 0, list(&rt, alloc, deep_event()), Fault::Frames(0)),
-        (
-            1,
-            0,
-            0,
-            list(&rt, alloc, event(1, Kind::Opened, 3)),
-            Fault::Field(0),
-        ),
-    ];
-    for (processors, processor, number, events, wanted) in table {
-        let count = events.len();
-        let refused = Segment::build(alloc, 7, processors, processor, number, events).err();
-        assert_eq!(rt;
-            refused.map(|(fault, events)| (fault, events.len())),
-            Some((wanted, count))
-        );
+/// The fault that building a segment at the place is refused with. All the events are handed back.
+fn build_fault(
+    rt: &impl Abort,
+    alloc: Global,
+    place: (u16, u16, u32),
+    events: Vec<Event>,
+) -> Option<Fault> {
+    let (processors, processor, number) = place;
+    let count = events.len();
+    let (fault, events) = Segment::build(alloc, 7, processors, processor, number, events).err()?;
+    assert_eq!(rt; events.len(), count);
+    Some(fault)
+}
+
+#[test]
+fn places_that_no_segment_has(rt: HostRuntime) {
+    for (processors, processor, number, wanted) in [
+        (0, 0, 0, Fault::Processors),
+        (65, 0, 0, Fault::Processors),
+        (1, 1, 0, Fault::Processor),
+        (1, 0, 0xffff_ffff, Fault::Number),
+    ] {
+        let events = stored_events(&rt, rt.alloc());
+        let fault = build_fault(&rt, rt.alloc(), (processors, processor, number), events);
+        assert_eq!(rt; fault, Some(wanted));
     }
+}
+
+#[test]
+fn events_that_no_segment_has(rt: HostRuntime) {
+    for (event, wanted) in [
+        (event(0, Kind::Snapshot, 0), Fault::Sequence(0)),
+        (event(1, Kind::Exited, 0), Fault::Kind(0)),
+        (deep_event(), Fault::Frames(0)),
+        (event(1, Kind::Opened, 3), Fault::Field(0)),
+    ] {
+        let events = list(&rt, rt.alloc(), event);
+        let fault = build_fault(&rt, rt.alloc(), (1, 0, 0), events);
+        assert_eq!(rt; fault, Some(wanted));
+    }
+}
+
+#[test]
+fn lists_that_no_segment_has(rt: HostRuntime) {
+    let many = too_many(&rt, rt.alloc());
+    let fault = build_fault(&rt, rt.alloc(), (1, 0, 0), many);
+    assert_eq!(rt; fault, Some(Fault::Count));
+    let twice = [event(1, Kind::Opened, 0x44), event(1, Kind::Closed, 0x44)];
+    let twice = Vec::from_array(rt.alloc(), twice).expect(&rt, "the memory");
+    let fault = build_fault(&rt, rt.alloc(), (1, 0, 0), twice);
+    assert_eq!(rt; fault, Some(Fault::Sequence(1)));
 }
 
 #[test]
@@ -328,57 +356,91 @@ fn stacks_through_two_cells(rt: HostRuntime) {
     }
 }
 
+/// The bytes of an empty segment, which ends at 32, and of the stored run after it.
+fn bundle(rt: &impl Abort, alloc: Global, changes: &[(usize, &str)]) -> Vec<u8> {
+    changed(rt, alloc, &[EMPTY, STORED], changes)
+}
+
+/// Whether these are the bundle's two segments.
+fn are_of_bundle(rt: &impl Abort, alloc: Global, segments: &[Segment]) -> bool {
+    let bytes = bundle(rt, alloc, &[]);
+    let whole = decode_bundle(alloc, &bytes).expect(rt, "a bundle");
+    whole.len() == 2
+        && segments.len() == 2
+        && segments
+            .iter()
+            .zip(&whole)
+            .all(|(one, other)| one.same(other))
+}
+
 #[test]
-fn bundles_in_pieces(rt: HostRuntime) {
+fn a_bundle_of_nothing(rt: HostRuntime) {
+    let segments = decode_bundle(rt.alloc(), &[]).expect(&rt, "no segments");
+    assert!(rt; segments.is_empty());
+}
+
+#[test]
+fn a_bundle_in_three_pieces(rt: HostRuntime) {
     let alloc = rt.alloc();
-    let bundle = changed(&rt, alloc, &[EMPTY, STORED], &[]);
+    let bundle = bundle(&rt, alloc, &[]);
     let bytes = bundle.as_slice();
     assert_eq!(rt; bytes.len(), 188);
-    let whole = decode_bundle(alloc, bytes).expect(&rt, "a bundle");
-    assert_eq!(rt; whole.len(), 2);
-    assert!(rt; decode_bundle(alloc, &[]).is_ok_and(|segments| segments.is_empty()));
-
-    // In three pieces, and byte by byte.
     let (empty, stored) = bytes.split_at(32);
     let (front, last) = empty.split_at(31);
-    let pieces = [front, last, stored];
     let mut splitter = Splitter::new(alloc);
-    for (piece, count) in pieces.iter().zip([0, 1, 1]) {
+    for (piece, count) in [front, last, stored].iter().zip([0, 1, 1]) {
         let segments = fed(&rt, alloc, &mut splitter, piece);
         assert_eq!(rt; segments.len(), count);
     }
     assert_eq!(rt; splitter.fed(), 188);
     assert_eq!(rt; splitter.finish(), Ok(()));
-    let mut splitter = Splitter::new(alloc);
-    let mut found = 0;
-    for piece in bytes.chunks(1) {
-        for segment in fed(&rt, alloc, &mut splitter, piece) {
-            assert!(rt; whole.get(found).is_some_and(|other| other.same(&segment)));
-            found += 1;
-        }
-    }
-    assert_eq!(rt; (found, splitter.finish()), (2, Ok(())));
-    let joined = decode_pieces(alloc, &pieces).expect(&rt, "a bundle");
-    assert!(rt;
-        joined
-            .iter()
-            .zip(&whole)
-            .all(|(one, other)| one.same(other))
-            && joined.len() == 2
-    );
+}
 
-    // A fault in the second segment is reported for good.
-    let bundle = changed(&rt, alloc, &[EMPTY, STORED], &[(100, "01")]);
+#[test]
+fn pieces_of_a_bundle(rt: HostRuntime) {
+    let alloc = rt.alloc();
+    let bundle = bundle(&rt, alloc, &[]);
     let bytes = bundle.as_slice();
     assert_eq!(rt; bytes.len(), 188);
-    let fault = (32, Fault::Sequence(1));
-    assert_eq!(rt; decode_bundle(alloc, bytes).err(), Some(fault));
-    let mut splitter = Splitter::new(alloc);
-    assert_eq!(rt; splitter.feed(alloc, bytes).err(), Some(fault));
-    assert_eq!(rt; splitter.feed(alloc, bytes).err(), Some(fault));
-    assert_eq!(rt; splitter.finish(), Err(fault));
+    let (empty, stored) = bytes.split_at(32);
+    let (front, last) = empty.split_at(31);
+    let joined = decode_pieces(alloc, &[front, last, stored]).expect(&rt, "a bundle");
+    assert!(rt; are_of_bundle(&rt, alloc, &joined));
+}
 
-    // The bytes end inside the second segment.
+#[test]
+fn a_bundle_byte_by_byte(rt: HostRuntime) {
+    let alloc = rt.alloc();
+    let bytes = bundle(&rt, alloc, &[]);
+    let mut splitter = Splitter::new(alloc);
+    let mut segments = Vec::new(alloc);
+    for piece in bytes.chunks(1) {
+        for segment in fed(&rt, alloc, &mut splitter, piece) {
+            segments.push(segment).expect(&rt, "the memory");
+        }
+    }
+    assert_eq!(rt; splitter.finish(), Ok(()));
+    assert!(rt; are_of_bundle(&rt, alloc, &segments));
+}
+
+#[test]
+fn a_fault_is_reported_for_good(rt: HostRuntime) {
+    let alloc = rt.alloc();
+    let bytes = bundle(&rt, alloc, &[(100, "01")]);
+    let fault = (32, Fault::Sequence(1));
+    assert_eq!(rt; decode_bundle(alloc, &bytes).err(), Some(fault));
+    let mut splitter = Splitter::new(alloc);
+    assert_eq!(rt; splitter.feed(alloc, &bytes).err(), Some(fault));
+    assert_eq!(rt; splitter.feed(alloc, &bytes).err(), Some(fault));
+    assert_eq!(rt; splitter.finish(), Err(fault));
+}
+
+#[test]
+fn bytes_that_end_inside_a_segment(rt: HostRuntime) {
+    let alloc = rt.alloc();
+    let bundle = bundle(&rt, alloc, &[]);
+    let bytes = bundle.as_slice();
+    assert_eq!(rt; bytes.len(), 188);
     for (len, fault) in [(40, Fault::Short), (70, Fault::Cut)] {
         let mut splitter = Splitter::new(alloc);
         let segments = splitter

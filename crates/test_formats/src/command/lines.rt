@@ -1,6 +1,7 @@
 // Which job a line asks for, and which lines are refused.
 use super::words;
-use htl_command::{Job, ParseFault, Question, parse};
+use htl_command::{Asked, Job, ParseFault, Question, parse};
+use std::alloc::Global;
 use std::test::Fail;
 
 /// Lines and their questions.
@@ -270,16 +271,37 @@ const REFUSED: [(&str, &str); 51] = [
     ("--process|4", "'--process'"),
 ];
 
+/// What a line asks for.
+fn asked(alloc: Global, line: &str) -> Result<Asked, Fail> {
+    Ok(parse(alloc, words(alloc, line)?)?)
+}
+
+/// The text of the usage fault that a line is refused with.
+fn usage_text(alloc: Global, line: &str) -> Result<String, Fail> {
+    let fault = parse(alloc, words(alloc, line)?)
+        .err()
+        .filter(|fault| matches!(fault, ParseFault::Usage(_)))
+        .ok_or("it isn't a usage fault")?;
+    Ok(fault.to_string(alloc)?)
+}
+
+/// Whether the names are those of the files.
+fn are_files(names: &[&str], files: &[String]) -> bool {
+    files
+        .iter()
+        .map(|file| file.as_str())
+        .eq(names.iter().copied())
+}
+
 #[test]
 fn lines_ask_questions(rt: HostRuntime) -> Result<(), Fail> {
     for (line, question) in QUESTIONS {
-        let asked = parse(rt.alloc(), words(rt.alloc(), line)?)?;
         let job = Job {
             question,
             hex: false,
             workers: 1,
         };
-        assert_eq!(rt; asked.job, job, "of {line}");
+        assert_eq!(rt; asked(rt.alloc(), line)?.job, job, "of {line}");
     }
     Ok(())
 }
@@ -287,15 +309,10 @@ fn lines_ask_questions(rt: HostRuntime) -> Result<(), Fail> {
 #[test]
 fn lines_have_options(rt: HostRuntime) -> Result<(), Fail> {
     for (line, hex, workers, files, symbols) in OPTIONS {
-        let asked = parse(rt.alloc(), words(rt.alloc(), line)?)?;
+        let asked = asked(rt.alloc(), line)?;
         assert_eq!(rt; asked.job.hex, hex, "of {line}");
         assert_eq!(rt; asked.job.workers, workers, "of {line}");
-        let same = asked
-            .files
-            .iter()
-            .map(|file| file.as_str())
-            .eq(files.iter().copied());
-        assert!(rt; same, "the files of {line}");
+        assert!(rt; are_files(files, &asked.files), "the files of {line}");
         assert_eq!(rt; asked.symbols.as_deref(), symbols, "of {line}");
     }
     Ok(())
@@ -304,10 +321,7 @@ fn lines_have_options(rt: HostRuntime) -> Result<(), Fail> {
 #[test]
 fn no_words_ask_for_the_stored_job(rt: HostRuntime) -> Result<(), Fail> {
     let stored = parse(rt.alloc(), Vec::new(rt.alloc()))?;
-    let written = parse(
-        rt.alloc(),
-        words(rt.alloc(), "outstanding|--process|4|--hex")?,
-    )?;
+    let written = asked(rt.alloc(), "outstanding|--process|4|--hex")?;
     assert_eq!(rt; stored, written);
     assert_eq!(rt; stored.job.workers, 1);
     assert!(rt; stored.files.is_empty());
@@ -317,10 +331,7 @@ fn no_words_ask_for_the_stored_job(rt: HostRuntime) -> Result<(), Fail> {
 #[test]
 fn refused_lines_name_what_is_wrong(rt: HostRuntime) -> Result<(), Fail> {
     for (line, named) in REFUSED {
-        let asked = parse(rt.alloc(), words(rt.alloc(), line)?);
-        let fault = asked.err().ok_or("it is a job")?;
-        assert!(rt; matches!(fault, ParseFault::Usage(_)), "of {line}");
-        let text = fault.to_string(rt.alloc())?;
+        let text = usage_text(rt.alloc(), line)?;
         assert!(rt; text.as_str().contains(named), "of {line}: {text}");
         assert!(rt; text.as_str().ends_with("--help'.\n"), "of {line}: {text}");
     }

@@ -13,7 +13,7 @@ use htl_tree::StackTree;
 use std::alloc::Global;
 use std::test::Fail;
 
-/// A part made of the events that it folded and of the runs that it holds.
+/// A part made of the events that it folded and of the lists that it holds.
 #[derive(Drop)]
 struct Sample {
     tree: StackTree<Global>,
@@ -35,7 +35,7 @@ impl Part for Sample {
       latest = s.latest;
       marks = s.marks;
       exits = s.exits;
-      held = flat_map (λ run. run.items) s.held.items;
+      held = flat_map (λ list. list.items) s.held.items;
     } };
 
     fn tree(&self) -> &StackTree<Global> {
@@ -62,7 +62,7 @@ impl Part for Sample {
 // A part of few events, which are given by lines: those that it folded, and those that it holds.
 fn part(alloc: Global, folded: &str, held: &str) -> Result<Sample, SampleFault>
     ensures folded { IfOk result (λ part. total_count part.tree ≤ 32) }
-    ensures held { IfOk result (λ part. length (flat_map (λ run. run.items) part.held.items) ≤ 32) }
+    ensures held { IfOk result (λ part. length (flat_map (λ list. list.items) part.held.items) ≤ 32) }
 {
     let folded = shared_events(alloc, folded)?;
     let held = shared_events(alloc, held)?;
@@ -70,14 +70,14 @@ fn part(alloc: Global, folded: &str, held: &str) -> Result<Sample, SampleFault>
         return Err(SampleFault::Line);
     }
     let folded = [folded];
-    let mut runs = Vec::new(alloc);
-    runs.push(held)?;
+    let mut lists = Vec::new(alloc);
+    lists.push(held)?;
     Ok(Sample {
         tree: StackTree::of(alloc, &folded)?,
         latest: Latest::of(alloc, &folded)?,
         marks: Marks::of(alloc, &folded)?,
         exits: Exits::of(alloc, &folded)?,
-        held: runs,
+        held: lists,
     })
 }
 
@@ -94,10 +94,9 @@ fn sequences(alloc: Global, events: &[SharedEvent]) -> Result<Vec<u64>, NoMemory
 #[test]
 fn snapshot_and_difference(rt: HostRuntime) -> Result<(), Fail> {
     let alloc = rt.alloc();
-    let parts = [
-        part(alloc, "", "C 11 0x14, O 12 0x18, O 13 0x14")?,
-        part(alloc, "O 7 0x14, O 8 0x10, S 10", "")?,
-    ];
+    let held = part(alloc, "", "C 11 0x14, O 12 0x18, O 13 0x14")?;
+    let folded = part(alloc, "O 7 0x14, O 8 0x10, S 10", "")?;
+    let parts = [held, folded];
     assert_eq!(rt; (mark(&parts, 4), mark(&parts, 5)), (10, 0));
     let open = outstanding(alloc, &parts, 4)?;
     assert_eq!(rt; sequences(alloc, &open)?.as_slice(), [8, 13, 12].as_slice());
@@ -112,10 +111,9 @@ fn snapshot_and_difference(rt: HostRuntime) -> Result<(), Fail> {
 #[test]
 fn process_exit(rt: HostRuntime) -> Result<(), Fail> {
     let alloc = rt.alloc();
-    let parts = [
-        part(alloc, "O 3 0x44 process=5, O 4 0x44, O 6 0x48", "")?,
-        part(alloc, "", "exit 5")?,
-    ];
+    let folded = part(alloc, "O 3 0x44 process=5, O 4 0x44, O 6 0x48", "")?;
+    let held = part(alloc, "", "exit 5")?;
+    let parts = [folded, held];
     assert_eq!(rt; last_exit(&parts, 4), 5);
     let open = outstanding(alloc, &parts, 4)?;
     assert_eq!(rt; sequences(alloc, &open)?.as_slice(), [6].as_slice());
@@ -130,7 +128,9 @@ fn process_exit(rt: HostRuntime) -> Result<(), Fail> {
 #[test]
 fn two_processors(rt: HostRuntime) -> Result<(), Fail> {
     let alloc = rt.alloc();
-    let parts = [part(alloc, "C 2 0x46", "")?, part(alloc, "", "O 1 0x44")?];
+    let folded = part(alloc, "C 2 0x46", "")?;
+    let held = part(alloc, "", "O 1 0x44")?;
+    let parts = [folded, held];
     assert!(rt; outstanding(alloc, &parts, 4)?.is_empty());
     Ok(())
 }
@@ -139,21 +139,14 @@ fn two_processors(rt: HostRuntime) -> Result<(), Fail> {
 #[test]
 fn leaking_stacks(rt: HostRuntime) -> Result<(), Fail> {
     let alloc = rt.alloc();
-    let parts = [
-        part(alloc, "O 1 0x44 [0x50 0x20], O 3 0x4c [0x60]", "")?,
-        part(alloc, "", "O 2 0x48 [0x30 0x40], O 4 0x50 [0x60]")?,
-    ];
-    let rows = leaks(alloc, &parts, 4)?;
+    let folded = part(alloc, "O 1 0x44 [0x50 0x20], O 3 0x4c [0x60]", "")?;
+    let held = part(alloc, "", "O 2 0x48 [0x30 0x40], O 4 0x50 [0x60]")?;
+    let rows = leaks(alloc, &[folded, held], 4)?;
     assert_eq!(rt; rows.len(), 3);
-    assert_eq!(rt; (rows[0].0.frames(), rows[0].1), ([0x60].as_slice(), 2));
-    assert_eq!(rt;
-        (rows[1].0.frames(), rows[1].1),
-        ([0x50, 0x20].as_slice(), 1)
-    );
-    assert_eq!(rt;
-        (rows[2].0.frames(), rows[2].1),
-        ([0x30, 0x40].as_slice(), 1)
-    );
+    let (first, second, third) = (&rows[0], &rows[1], &rows[2]);
+    assert_eq!(rt; (first.0.frames(), first.1), ([0x60].as_slice(), 2));
+    assert_eq!(rt; (second.0.frames(), second.1), ([0x50, 0x20].as_slice(), 1));
+    assert_eq!(rt; (third.0.frames(), third.1), ([0x30, 0x40].as_slice(), 1));
     Ok(())
 }
 
@@ -163,36 +156,63 @@ fn count(plus: u64, minus: u64) -> Count {
 
 // References under two tags and two bad references, of which one part folded some and another holds
 // the rest.
+const FOLDED: &str = "R 1 0x1000 Lky8 [0x50 0x20], R 1 0x1000 0x496f2020 [0x20], B 1 0x44 [0x60]";
+
+const HELD: &str = "D 1 0x1000 Lky8 [0x50 0x20], R 1 0x1000 Lky8 [0x30 0x20], B 1 0x44 [0x60]";
+
 #[test]
-fn counted_events(rt: HostRuntime) -> Result<(), Fail> {
+fn counts_of_a_slot(rt: HostRuntime) -> Result<(), Fail> {
     let alloc = rt.alloc();
-    let folded = "R 1 0x1000 Lky8 [0x50 0x20], R 1 0x1000 0x496f2020 [0x20], B 1 0x44 [0x60]";
-    let held = "D 1 0x1000 Lky8 [0x50 0x20], R 1 0x1000 Lky8 [0x30 0x20], B 1 0x44 [0x60]";
-    let parts = [part(alloc, folded, "")?, part(alloc, "", held)?];
+    let folded = part(alloc, FOLDED, "")?;
+    let held = part(alloc, "", HELD)?;
+    let parts = [folded, held];
     let slot = Slot::Tagged {
         object: 0x1000,
         tag: *b"Lky8",
     };
     assert_eq!(rt; under(&parts, &[0x20], slot), count(2, 1));
     assert_eq!(rt; whole_tree(&alloc, &parts)?.total(), 6);
-    let rows = tags(alloc, &parts, 0x1000)?;
+    Ok(())
+}
+
+#[test]
+fn tags_of_an_object(rt: HostRuntime) -> Result<(), Fail> {
+    let alloc = rt.alloc();
+    let folded = part(alloc, FOLDED, "")?;
+    let held = part(alloc, "", HELD)?;
+    let rows = tags(alloc, &[folded, held], 0x1000)?;
     let expected = [(*b"Io  ", count(1, 0)), (*b"Lky8", count(2, 1))];
     assert_eq!(rt; rows.as_slice(), expected.as_slice());
-    let rows = stacks(alloc, &parts, 0x1000, *b"Lky8")?;
+    Ok(())
+}
+
+#[test]
+fn stacks_of_a_tag(rt: HostRuntime) -> Result<(), Fail> {
+    let alloc = rt.alloc();
+    let folded = part(alloc, FOLDED, "")?;
+    let held = part(alloc, "", HELD)?;
+    let rows = stacks(alloc, &[folded, held], 0x1000, *b"Lky8")?;
     assert_eq!(rt; rows.len(), 2);
+    let (first, second) = (&rows[0], &rows[1]);
     assert_eq!(rt;
-        (rows[0].0.frames(), rows[0].1),
+        (first.0.frames(), first.1),
         ([0x30, 0x20].as_slice(), count(1, 0))
     );
     assert_eq!(rt;
-        (rows[1].0.frames(), rows[1].1),
+        (second.0.frames(), second.1),
         ([0x50, 0x20].as_slice(), count(1, 1))
     );
-    let rows = bad(alloc, &parts, 4)?;
+    Ok(())
+}
+
+#[test]
+fn bad_references_of_a_process(rt: HostRuntime) -> Result<(), Fail> {
+    let alloc = rt.alloc();
+    let folded = part(alloc, FOLDED, "")?;
+    let held = part(alloc, "", HELD)?;
+    let rows = bad(alloc, &[folded, held], 4)?;
     assert_eq!(rt; rows.len(), 1);
-    assert_eq!(rt;
-        (rows[0].0, rows[0].1.frames(), rows[0].2),
-        (0x44, [0x60].as_slice(), 2)
-    );
+    let (handle, stack, times) = (rows[0].0, rows[0].1.frames(), rows[0].2);
+    assert_eq!(rt; (handle, stack, times), (0x44, [0x60].as_slice(), 2));
     Ok(())
 }

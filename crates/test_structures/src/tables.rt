@@ -1,11 +1,11 @@
-//! Tests of what no clause says: worked rows, many runs, and refused allocations, each call under
-//! heaps of its own.
+//! Tests of what no clause says: worked rows, generated segments, and refused allocations, each call
+//! under heaps of its own.
 
-use htl_event::{NoMemory, SharedEvent};
-use htl_samples::{SMALL, shared_events};
+use htl_event::{EventList, NoMemory, SharedEvent};
+use htl_samples::{SMALL, SampleFault, shared_events};
 use htl_tables::{Exits, Latest, Marks};
 use linked_list_allocator::LocalHeap;
-use std::alloc::Allocator;
+use std::alloc::{Allocator, Global};
 use std::process::Abort;
 use std::slice;
 use std::test::Fail;
@@ -16,7 +16,7 @@ trait Table<A: Allocator>: Sized + Drop {
 
     fn note(&mut self, event: &SharedEvent) -> Result<(), NoMemory>;
 
-    fn of(alloc: A, runs: &[Vec<SharedEvent>]) -> Result<Self, NoMemory>;
+    fn of(alloc: A, lists: &[Vec<SharedEvent>]) -> Result<Self, NoMemory>;
 
     fn join(&self, other: &Self) -> Result<Self, NoMemory>;
 
@@ -34,8 +34,8 @@ impl<A: Allocator + Clone> Table<A> for Latest<A> {
         Latest::note(self, event)
     }
 
-    fn of(alloc: A, runs: &[Vec<SharedEvent>]) -> Result<Latest<A>, NoMemory> {
-        Latest::of(alloc, runs)
+    fn of(alloc: A, lists: &[Vec<SharedEvent>]) -> Result<Latest<A>, NoMemory> {
+        Latest::of(alloc, lists)
     }
 
     fn join(&self, other: &Latest<A>) -> Result<Latest<A>, NoMemory> {
@@ -60,8 +60,8 @@ impl<A: Allocator + Clone> Table<A> for Exits<A> {
         Exits::note(self, event)
     }
 
-    fn of(alloc: A, runs: &[Vec<SharedEvent>]) -> Result<Exits<A>, NoMemory> {
-        Exits::of(alloc, runs)
+    fn of(alloc: A, lists: &[Vec<SharedEvent>]) -> Result<Exits<A>, NoMemory> {
+        Exits::of(alloc, lists)
     }
 
     fn join(&self, other: &Exits<A>) -> Result<Exits<A>, NoMemory> {
@@ -90,25 +90,53 @@ fn sequence_of<A: Allocator>(latest: &Latest<A>, process: u32, handle: u32) -> O
     latest.get(process, handle).map(|event| event.sequence)
 }
 
+const CLOSE_FIRST: &str = "C 9 0x44, O 4 0x44, S 10";
+
+const OPEN_FIRST: &str = "O 4 0x44, S 10, C 9 0x44";
+
+/// The latest events of the lines, noted one by one.
+fn latest_of(alloc: Global, lines: &str) -> Result<Latest<Global>, SampleFault> {
+    let events = shared_events(alloc, lines)?;
+    Ok(noted(alloc, &events)?)
+}
+
+/// The close of sequence 9 is the one latest event.
+fn assert_closed(rt: &impl Abort, latest: &Latest<Global>) {
+    assert_eq!(rt; sequence_of(latest, 4, 0x44), Some(9));
+    assert_eq!(rt; sequence_of(latest, 4, 0x47), Some(9));
+    assert_eq!(rt; sequence_of(latest, 5, 0x44), None);
+    assert_eq!(rt; latest.rows().len(), 1);
+}
+
 #[test]
-fn a_close_before_its_open(rt: HostRuntime) -> Result<(), Fail> {
-    let close_first = shared_events(rt.alloc(), "C 9 0x44, O 4 0x44, S 10")?;
-    let open_first = shared_events(rt.alloc(), "O 4 0x44, S 10, C 9 0x44")?;
-    let close: Latest<_> = noted(rt.alloc(), &shared_events(rt.alloc(), "C 9 0x44")?)?;
-    let open: Latest<_> = noted(rt.alloc(), &shared_events(rt.alloc(), "O 4 0x44")?)?;
-    for latest in [
-        noted(rt.alloc(), &close_first)?,
-        noted(rt.alloc(), &open_first)?,
-        close.join(&open)?,
-        open.join(&close)?,
-        Latest::of(rt.alloc(), &[close_first])?,
-        Latest::of(rt.alloc(), &[open_first])?,
-    ] {
-        assert_eq!(rt; sequence_of(&latest, 4, 0x44), Some(9));
-        assert_eq!(rt; sequence_of(&latest, 4, 0x47), Some(9));
-        assert_eq!(rt; sequence_of(&latest, 5, 0x44), None);
-        assert_eq!(rt; latest.rows().len(), 1);
-        assert!(rt; latest.copy()?.same(&latest) && !latest.same(&open));
+fn a_close_noted_before_its_open(rt: HostRuntime) -> Result<(), Fail> {
+    for lines in [CLOSE_FIRST, OPEN_FIRST] {
+        let latest = latest_of(rt.alloc(), lines)?;
+        assert_closed(&rt, &latest);
+        assert!(rt; latest.copy()?.same(&latest));
+    }
+    Ok(())
+}
+
+#[test]
+fn a_close_gathered_before_its_open(rt: HostRuntime) -> Result<(), Fail> {
+    for lines in [CLOSE_FIRST, OPEN_FIRST] {
+        let events = shared_events(rt.alloc(), lines)?;
+        let latest = Latest::of(rt.alloc(), slice::from_ref(&events))?;
+        assert_closed(&rt, &latest);
+    }
+    Ok(())
+}
+
+#[test]
+fn a_close_joined_with_its_open(rt: HostRuntime) -> Result<(), Fail> {
+    let close = latest_of(rt.alloc(), "C 9 0x44")?;
+    let open = latest_of(rt.alloc(), "O 4 0x44")?;
+    assert!(rt; !close.same(&open));
+    for latest in [close.join(&open), open.join(&close)] {
+        let latest = latest?;
+        assert_closed(&rt, &latest);
+        assert!(rt; latest.same(&close));
     }
     Ok(())
 }
@@ -145,60 +173,100 @@ fn rows_of_a_process(rt: HostRuntime) -> Result<(), Fail> {
     Ok(())
 }
 
+/// The marks of the events, noted one by one.
+fn marks_noted(alloc: Global, events: &[SharedEvent]) -> Result<Marks<Global>, NoMemory> {
+    let mut marks = Marks::new(alloc);
+    for event in events {
+        marks.note(event)?;
+    }
+    Ok(marks)
+}
+
 #[test]
 fn a_snapshot_marks_its_process(rt: HostRuntime) -> Result<(), Fail> {
     let events = shared_events(rt.alloc(), "S 10, exit 12, S 0 process=5, S 7")?;
-    let mut marks = Marks::new(rt.alloc());
-    for event in &events {
-        marks.note(event)?;
-    }
-    for table in [
-        marks.copy()?,
-        marks.join(&Marks::new(rt.alloc()))?,
-        Marks::of(rt.alloc(), &[events])?,
-    ] {
-        assert_eq!(rt; (table.get(4), table.get(5)), (10, 0));
-        assert_eq!(rt; table.rows(), [(4, 10)].as_slice());
-        assert!(rt; table.same(&marks));
-    }
+    let marks = marks_noted(rt.alloc(), &events)?;
+    assert_eq!(rt; (marks.get(4), marks.get(5)), (10, 0));
+    assert_eq!(rt; marks.rows(), [(4, 10)].as_slice());
+    assert!(rt; marks.copy()?.same(&marks));
+    assert!(rt; marks.join(&Marks::new(rt.alloc()))?.same(&marks));
+    assert!(rt; Marks::of(rt.alloc(), slice::from_ref(&events))?.same(&marks));
     Ok(())
+}
+
+const LATE_FIRST: &str = "exit 10, exit 8";
+
+const EARLY_FIRST: &str = "exit 8, S 12, exit 10";
+
+/// The last exits of the lines, noted one by one.
+fn exits_of(alloc: Global, lines: &str) -> Result<Exits<Global>, SampleFault> {
+    let events = shared_events(alloc, lines)?;
+    Ok(noted(alloc, &events)?)
 }
 
 #[test]
 fn the_last_exit_of_a_process(rt: HostRuntime) -> Result<(), Fail> {
-    let late_first = shared_events(rt.alloc(), "exit 10, exit 8")?;
-    let early_first = shared_events(rt.alloc(), "exit 8, S 12, exit 10")?;
-    let exits: Exits<_> = noted(rt.alloc(), &late_first)?;
-    for table in [
-        noted(rt.alloc(), &early_first)?,
-        exits.join(&Exits::new(rt.alloc()))?,
-        Exits::new(rt.alloc()).join(&exits)?,
-        exits.copy()?,
-        Exits::of(rt.alloc(), &[late_first, early_first])?,
-    ] {
-        assert_eq!(rt; table.rows(), [(4, 10)].as_slice());
-        assert!(rt; table.same(&exits));
+    for lines in [LATE_FIRST, EARLY_FIRST] {
+        let exits = exits_of(rt.alloc(), lines)?;
+        assert_eq!(rt; exits.rows(), [(4, 10)].as_slice());
+        assert!(rt; exits.copy()?.same(&exits));
     }
     Ok(())
 }
 
+#[test]
+fn exits_joined_with_none(rt: HostRuntime) -> Result<(), Fail> {
+    let exits = exits_of(rt.alloc(), LATE_FIRST)?;
+    let none = Exits::new(rt.alloc());
+    assert!(rt; exits.join(&none)?.same(&exits));
+    assert!(rt; none.join(&exits)?.same(&exits));
+    Ok(())
+}
+
+#[test]
+fn the_last_exit_of_two_lists(rt: HostRuntime) -> Result<(), Fail> {
+    let late_first = shared_events(rt.alloc(), LATE_FIRST)?;
+    let early_first = shared_events(rt.alloc(), EARLY_FIRST)?;
+    let exits = Exits::of(rt.alloc(), &[late_first, early_first])?;
+    assert_eq!(rt; exits.rows(), [(4, 10)].as_slice());
+    Ok(())
+}
+
+/// The latest events of the lists, noted from the last list to the first.
+fn latest_noted<L: EventList>(alloc: Global, lists: &[L]) -> Result<Latest<Global>, NoMemory> {
+    let mut latest = Latest::new(alloc);
+    for list in lists.iter().rev() {
+        for event in list.events() {
+            latest.note(event)?;
+        }
+    }
+    Ok(latest)
+}
+
 // Segments in any order, under any allocator, as if each event were noted by itself.
 #[test]
-fn tables_of_made_up_segments(rt: HostRuntime) -> Result<(), Fail> {
+fn latest_events_of_generated_segments(rt: HostRuntime) -> Result<(), Fail> {
     let segments = SMALL.segments(rt.alloc())?;
+    let latest = latest_noted(rt.alloc(), &segments)?;
+    assert!(rt; latest.rows().len() > 10);
+    assert!(rt; Latest::of(rt.alloc(), &segments)?.same(&latest));
     let small = LocalHeap::new(rt.alloc(), 16384)?;
-    let mut latest = Latest::new(rt.alloc());
+    assert_eq!(rt; Latest::of(&small, &segments)?.rows(), latest.rows());
+    Ok(())
+}
+
+#[test]
+fn marks_of_generated_segments(rt: HostRuntime) -> Result<(), Fail> {
+    let segments = SMALL.segments(rt.alloc())?;
     let mut marks = Marks::new(rt.alloc());
     for segment in segments.iter().rev() {
         for event in segment.events() {
-            latest.note(event)?;
             marks.note(event)?;
         }
     }
-    assert!(rt; latest.rows().len() > 10 && marks.rows().len() > 1);
-    assert!(rt; Latest::of(rt.alloc(), &segments)?.same(&latest));
+    assert!(rt; marks.rows().len() > 1);
     assert!(rt; Marks::of(rt.alloc(), &segments)?.same(&marks));
-    assert_eq!(rt; Latest::of(&small, &segments)?.rows(), latest.rows());
+    let small = LocalHeap::new(rt.alloc(), 16384)?;
     assert_eq!(rt; Marks::of(&small, &segments)?.rows(), marks.rows());
     Ok(())
 }

@@ -4,7 +4,7 @@
 use htl_event::NoMemory;
 use htl_taken::{Gap, MAX_FRONT, Taken};
 use linked_list_allocator::LocalHeap;
-use std::alloc::Allocator;
+use std::alloc::{Allocator, Global};
 use std::process::Abort;
 use std::test::Fail;
 
@@ -22,7 +22,7 @@ fn filled<A: Allocator + Clone>(
 }
 
 #[test]
-fn fronts_and_loose_numbers(rt: HostRuntime) -> Result<(), Fail> {
+fn a_number_is_new_once(rt: HostRuntime) -> Result<(), Fail> {
     let mut taken = Taken::new(rt.alloc(), 2)?;
     assert_eq!(rt; taken.processors(), 2);
     assert!(rt; taken.insert(0, 0)?);
@@ -30,14 +30,31 @@ fn fronts_and_loose_numbers(rt: HostRuntime) -> Result<(), Fail> {
     assert!(rt; taken.insert(0, 3)?);
     assert!(rt; !taken.insert(0, 3)?);
     assert_eq!(rt; (taken.front(0), taken.reach(0), taken.len()), (0, 2, 3));
+    Ok(())
+}
+
+/// The numbers 0, 1 and 3 of processor 0, settled.
+fn settled(rt: &impl Abort, alloc: Global) -> Result<Taken<Global>, NoMemory> {
+    let mut taken = filled(rt, alloc, &[(0, 0), (0, 1), (0, 3)])?;
     taken.settle(0);
+    Ok(taken)
+}
+
+#[test]
+fn fronts_and_loose_numbers(rt: HostRuntime) -> Result<(), Fail> {
+    let taken = settled(&rt, rt.alloc())?;
     assert_eq!(rt; (taken.front(0), taken.len()), (2, 3));
     assert_eq!(rt; taken.loose(0), [3].as_slice());
     assert!(rt; taken.has(0, 1) && !taken.has(0, 2));
     assert_eq!(rt; taken.search(0, 3), Ok(0));
     assert_eq!(rt; taken.search(0, 4), Err(1));
     assert!(rt; taken.copy()?.same(&taken));
+    Ok(())
+}
 
+#[test]
+fn a_union_of_two(rt: HostRuntime) -> Result<(), Fail> {
+    let taken = settled(&rt, rt.alloc())?;
     let other = filled(&rt, rt.alloc(), &[(0, 1), (0, 2), (1, 0)])?;
     assert_eq!(rt; (taken.processors(), other.processors()), (2, 2));
     let both = taken.union(&other)?;

@@ -11,7 +11,6 @@ mod cases;
 mod measurement;
 mod reports;
 mod segments;
-mod sets;
 mod stopwatch;
 mod summaries;
 mod surveys;
@@ -35,7 +34,6 @@ fn measure<R: Threads + Wait + Sync>(
         Measurement::Segments => segments::measure(rt, size),
         Measurement::Trees => trees::measure(rt, size),
         Measurement::Tables => tables::measure(rt, size),
-        Measurement::Sets => sets::measure(rt, size),
         Measurement::Analysts => analysts::measure(rt, size),
         Measurement::Summaries => summaries::measure(rt, size),
         Measurement::Cases => cases::measure(rt, size),

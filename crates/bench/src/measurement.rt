@@ -6,7 +6,6 @@ pub enum Measurement {
     Segments,
     Trees,
     Tables,
-    Sets,
     Analysts,
     Summaries,
     Cases,
@@ -15,11 +14,10 @@ pub enum Measurement {
 }
 
 impl Measurement {
-    pub const ALL: [Measurement; 9] = [
+    pub const ALL: [Measurement; 8] = [
         Measurement::Segments,
         Measurement::Trees,
         Measurement::Tables,
-        Measurement::Sets,
         Measurement::Analysts,
         Measurement::Summaries,
         Measurement::Cases,
@@ -40,7 +38,6 @@ impl Measurement {
             Measurement::Segments => "segments",
             Measurement::Trees => "trees",
             Measurement::Tables => "tables",
-            Measurement::Sets => "sets",
             Measurement::Analysts => "analysts",
             Measurement::Summaries => "summaries",
             Measurement::Cases => "cases",
@@ -55,7 +52,6 @@ impl Measurement {
             Measurement::Segments => 1,
             Measurement::Trees => 1,
             Measurement::Tables => 2,
-            Measurement::Sets => 2,
             Measurement::Analysts => 16,
             Measurement::Summaries => 4,
             Measurement::Cases => 64,

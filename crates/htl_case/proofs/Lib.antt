@@ -11,7 +11,9 @@ pub mod Listings
 pub mod Refusals
 pub mod Outcomes
 pub mod FirstFaults
+pub mod Stepped
 pub mod Histories
-pub mod Headlines
 pub mod Played
 pub mod Sizes
+pub mod Determined
+pub mod Headlines

@@ -1,9 +1,11 @@
 -- One step as the code does it, and the steps that were done with one more.
-use Rattle.std.proofs.Common.{◌≡◌, ℕ, ◌<◌, ◌≤◌, List, length, get_or, take, Result, Ok, Err}
+use Rattle.std.proofs.Common.{◌≡◌, ℕ, ◌+◌, ◌<◌, ◌≤◌, Bool, false, List, ◌++◌, length, get_or, take, replicate, Result, Ok, Err}
 use Rattle.std.proofs.Common.{Some, refl, sym, ap, ◌∙◌, subst, inl, inr, arith}
-use Rattle.std.specs.Prelude.{reverse, slice_set, OnOk}
-use Rattle.std.proofs.lemmas.List.{take_all}
-use Rattle.std.proofs.lemmas.Option.{slice_get-get_or}
+use Rattle.std.specs.Prelude.{slice_get, slice_set, OnOk}
+use Rattle.std.proofs.lemmas.List.{take_all, length-set, length-replicate, get_or-replicate}
+use Rattle.std.proofs.lemmas.List.Sums.{fold_more}
+use Rattle.std.proofs.Math.Seq.{take-append_seam}
+use Rattle.std.proofs.lemmas.Option.{slice_get-get_or, slice_get_within, get_or_from_slice_get}
 use Rattle.htl_event.proofs.Members.{at_member}
 use Rattle.htl_segment.specs.Content.{Content, Fits}
 use Rattle.htl_segment.specs.Traces.{Trace}
@@ -17,7 +19,10 @@ use Rattle.htl_case.specs.declared.step.Step.{Step}
 use Rattle.htl_case.specs.declared.step.Step.TheVariants.{Take, Merge, Compact}
 use Rattle.htl_case.specs.Cases.{IsCase}
 use Rattle.htl_case.specs.Plays.{IsFaulty, NoneIsFaulty}
-use Rattle.htl_case.specs.Headline.{Changes, IsMergeFrom, LeadTo, AreRight}
+use Rattle.htl_case.specs.Reached.{after_step, reached}
+use Rattle.htl_case.specs.Histories.{History, begun, Leaves, history_after, history, AreRight, HaveReached, HaveHistories}
+use Rattle.htl_case.specs.Changes.{Changes, IsMergeFrom, IsStep, IsTriedStep}
+use Rattle.htl_case.proofs.Stepped.{step_histories, tried_keys}
 use Rattle.htl_case.proofs.Outcomes.{a_member}
 
 pub on_ok : {X E : Type 0} (r : Result X E) (P Q : Type 0) → OnOk r P → (P → Q) → OnOk r Q
@@ -74,6 +79,14 @@ module _ (n m : ℕ) where
   pub compacted_there : (analyst : ℕ) → (IsFaulty n m (Compact analyst) → ⊥) → analyst < n
   compacted_there analyst fine = let there : n ≤ analyst → ⊥ = λ le. fine (inl le) in omega arith
 
+-- ---- the analysts that begin
+
+pub item_replicated : {X : Type 0} (n i : ℕ) (x y : X) → slice_get (replicate n x) i ≡ Some y → y ≡ x
+item_replicated n i x y at =
+    let within = slice_get_within (replicate n x) i y at in
+    let lt : i < n = omega (arith, within, length-replicate n x) in
+    sym (get_or_from_slice_get (replicate n x) i y x at) ∙ get_or-replicate n i x x lt
+
 -- ---- the steps that were done
 
 pub step_there : (n m : ℕ) (steps : List Step) (i : ℕ) (d : Step) → NoneIsFaulty n m steps → i < length steps
@@ -81,6 +94,35 @@ pub step_there : (n m : ℕ) (steps : List Step) (i : ℕ) (d : Step) → NoneIs
 step_there n m steps i d none lt faulty =
     none i (record { step = get_or steps i d; here = slice_get-get_or steps i d lt; holds = faulty })
 
-pub lead_all : (T : Trace) (n : ℕ) (steps : List Step) (i : ℕ) (states : List State) → length steps ≤ i
-    → LeadTo T n (reverse (take i steps)) states → LeadTo T n (reverse steps) states
-lead_all T n steps i states all lead = subst (λ (done : List Step). LeadTo T n (reverse done) states) (take_all i steps all) lead
+-- what stands in a vector whose slice was written
+pub written : {X : Type 0} (n : ℕ) (xs ys : List X) → length xs ≡ n → take n (xs ++ ys) ≡ xs
+written n xs ys e = subst (λ (m : ℕ). take m (xs ++ ys) ≡ xs) e (take-append_seam xs ys)
+
+-- as many analysts as before
+pub step_length : (T : Trace) (step : Step) (before after : List State) → IsTriedStep T step before after → length after ≡ length before
+step_length T (Take analyst segment) before after is = ap length is.others ∙ length-set before analyst is.new
+step_length T (Merge target source) before after is = ap length is.others ∙ length-set before target is.new
+step_length T (Compact analyst) before after is = ap length is.others ∙ length-set before analyst is.new
+
+module _ (T : Trace) (steps : List Step) (i : ℕ) (d : Step) (lt : i < length steps) (before after : List State) where
+  pub more_histories : HaveHistories T (take i steps) before → IsStep T (get_or steps i d) before after
+      → HaveHistories T (take (i + 1) steps) after
+  more_histories have is k a at =
+      subst (λ (h : ℕ → History). Leaves T (h k) a) (sym (fold_more history_after (λ j. begun) steps i d lt))
+      (step_histories T (get_or steps i d) before after (history (take i steps)) is have k a at)
+
+  pub more_keys : AreRight T before → HaveReached T (take i steps) before → IsTriedStep T (get_or steps i d) before after
+      → HaveReached T (take (i + 1) steps) after
+  more_keys right have is k a at p n =
+      tried_keys T (reached T (take i steps)) before after right have (get_or steps i d) is k a at p n
+      ∙ ap (λ (sets : ℕ → ℕ → ℕ → Bool). sets k p n) (sym (fold_more (after_step T) (λ j q m. false) steps i d lt))
+
+-- at the end all steps were done
+pub all_histories : (T : Trace) (steps : List Step) (i : ℕ) (states : List State) → length steps ≤ i
+    → HaveHistories T (take i steps) states → HaveHistories T steps states
+all_histories T steps i states all have =
+    subst (λ (done : List Step). HaveHistories T done states) (take_all i steps all) have
+
+pub all_keys : (T : Trace) (steps : List Step) (i : ℕ) (states : List State) → length steps ≤ i
+    → HaveReached T (take i steps) states → HaveReached T steps states
+all_keys T steps i states all have = subst (λ (done : List Step). HaveReached T done states) (take_all i steps all) have

@@ -1,5 +1,5 @@
 -- Why a list of steps isn't played (this project's own rules): it names an analyst or a segment that isn't there.
-use Rattle.std.specs.Prelude.{◌≡◌, ℕ, ◌<◌, ◌≤◌, ◌⊎◌, List, Some, slice_get}
+use Rattle.std.specs.Prelude.{◌≡◌, ℕ, ◌<◌, ◌≤◌, ◌⊎◌, List, Some, length, slice_get}
 use Rattle.htl_case.specs.declared.step.Step.{Step}
 use Rattle.htl_case.specs.declared.step.Step.TheVariants.{Take, Merge, Compact}
 use Rattle.htl_case.specs.declared.fault.PlayFault.{PlayFault}
@@ -39,3 +39,11 @@ IsPlayRefusal n m steps (NoAnalyst place) =
 IsPlayRefusal n m steps (NoSegment place) =
     (HasAt (NamesNoAnalyst n) steps place → ⊥) × IsLeastSuch ◌<◌ (HasAt (IsFaulty n m) steps) place
 IsPlayRefusal n m steps NoMemory = NoneIsFaulty n m steps
+
+-- The fault that is reported where an analyst is asked after the steps: that of the steps, or else a missing analyst that is
+-- asked, at the place after the last step.
+abbrev pub IsAnswerRefusal : ℕ → ℕ → List Step → ℕ → PlayFault → Type 0
+IsAnswerRefusal n m steps asked (NoAnalyst place) =
+    IsPlayRefusal n m steps (NoAnalyst place) ⊎ (NoneIsFaulty n m steps × (n ≤ asked) × (place ≡ length steps))
+IsAnswerRefusal n m steps asked (NoSegment place) = IsPlayRefusal n m steps (NoSegment place)
+IsAnswerRefusal n m steps asked NoMemory = NoneIsFaulty n m steps × (asked < n)

@@ -1,12 +1,14 @@
 //! Playing a list of steps: the analysts that it leads to.
 
-ghost use Rattle.std.specs.Prelude.{◌≡◌, ◌≢◌, ◌<◌, ℕ, length, reverse};
-ghost use Rattle.std.specs.Prelude.{replicate, IfOk, IfErr, OnOk};
+ghost use Rattle.std.specs.Prelude.{◌≡◌, ◌≢◌, ◌<◌, ℕ, length, slice_get};
+ghost use Rattle.std.specs.Prelude.{IfOk, IfErr, OnOk};
+ghost use Rattle.htl_analyst.specs.States.{State};
 ghost use Rattle.htl_analyst.specs.Right.{IsRight};
 ghost use Rattle.htl_analyst.specs.Steps.{new_state, IsMerge};
 ghost use Rattle.htl_case.specs.Cases.{IsCase};
 ghost use Rattle.htl_case.specs.Plays.{IsFaulty, NoneIsFaulty, IsPlayRefusal};
-ghost use Rattle.htl_case.specs.Headline.{IsBegun, IsTake, IsStep, LeadTo, AreRight, HaveReached};
+ghost use Rattle.htl_case.specs.Histories.{IsNew, IsTake, AreRight, HaveReached, HaveHistories};
+ghost use Rattle.htl_case.specs.Changes.{IsStep, IsTriedStep};
 
 use crate::case::Case;
 use crate::fault::PlayFault;
@@ -23,11 +25,10 @@ pub fn play(
 ) -> Result<Vec<Analyst<Global>>, PlayFault>
     ensures count { IfOk result (λ played. length played.items ≡ analysts) }
     ensures right { IfOk result (λ played. AreRight case.now played.items) }
-    ensures keys { IfOk result (λ played. HaveReached case.now (reverse steps.now) played.items) }
+    ensures keys { IfOk result (λ played. HaveReached case.now steps.now played.items) }
 
-    // The steps lead to these analysts, so what the headline says holds of them.
-    ensures lead { IfOk result (λ played.
-        LeadTo case.now analysts (reverse steps.now) played.items) }
+    // So what the headline says holds of them.
+    ensures histories { IfOk result (λ played. HaveHistories case.now steps.now played.items) }
 
     ensures accepted { OnOk result (NoneIsFaulty analysts (length case.now.segments) steps.now) }
     ensures refused { IfErr result (IsPlayRefusal analysts (length case.now.segments) steps.now) }
@@ -42,8 +43,30 @@ pub fn play(
     Ok(played)
 }
 
+/// The same, where no step is faulty and a compaction that is refused is a step like any other: the
+/// analyst goes on as it was left.
+pub(crate) fn analysts_after(
+    alloc: Global,
+    case: &Case,
+    analysts: u32,
+    steps: &[Step],
+) -> Result<Vec<Analyst<Global>>, PlayFault>
+    requires case { IsCase case.now }
+    requires there { NoneIsFaulty analysts (length case.now.segments) steps.now }
+    ensures count { IfOk result (λ after. length after.items ≡ analysts) }
+    ensures right { IfOk result (λ after. AreRight case.now after.items) }
+    ensures keys { IfOk result (λ after. HaveReached case.now steps.now after.items) }
+    ensures err { IfErr result (λ fault. fault ≡ PlayFault.NoMemory) }
+{
+    let mut after = new_analysts(alloc, case, analysts)?;
+    for step in steps {
+        try_step(&mut after, case, *step)?;
+    }
+    Ok(after)
+}
+
 /// The first step that names an analyst or a segment that isn't there.
-fn check_steps(analysts: u32, segments: usize, steps: &[Step]) -> Result<(), PlayFault>
+pub(crate) fn check_steps(analysts: u32, segments: usize, steps: &[Step]) -> Result<(), PlayFault>
     ensures ok { OnOk result (NoneIsFaulty analysts segments steps.now) }
     ensures err { IfErr result (IsPlayRefusal analysts segments steps.now) }
     ensures cause { IfErr result (λ fault. fault ≢ PlayFault.NoMemory) }
@@ -66,7 +89,9 @@ fn new_analysts(
     analysts: u32,
 ) -> Result<Vec<Analyst<Global>>, PlayFault>
     requires { IsCase case.now }
-    ensures ok { IfOk result (λ new. IsBegun case.now analysts new.items) }
+    ensures count { IfOk result (λ new. length new.items ≡ analysts) }
+    ensures new { IfOk result (λ new. (i : ℕ) (a : State) → slice_get new.items i ≡ Some a
+        → IsNew case.now a) }
     ensures err { IfErr result (λ fault. fault ≡ PlayFault.NoMemory) }
 {
     let mut new = Vec::with_capacity(alloc, analysts as usize)?;
@@ -106,6 +131,22 @@ fn do_step(analysts: &mut [Analyst<Global>], case: &Case, step: Step) -> Result<
             absorb(&mut analysts[target as usize], copy, case)
         }
         Step::Compact { analyst } => Ok(analysts[analyst as usize].compact()?),
+    }
+}
+
+/// The same, but a compaction that is refused is done as far as it came.
+fn try_step(analysts: &mut [Analyst<Global>], case: &Case, step: Step) -> Result<(), PlayFault>
+    requires there { IsFaulty (length analysts.old) (length case.now.segments) step → ⊥ }
+    requires right { AreRight case.now analysts.old }
+    ensures ok { OnOk result (IsTriedStep case.now step analysts.old analysts.new) }
+    ensures err { IfErr result (λ fault. fault ≡ PlayFault.NoMemory) }
+{
+    match step {
+        Step::Compact { analyst } => {
+            let _refused = analysts[analyst as usize].compact();
+            Ok(())
+        }
+        Step::Take { .. } | Step::Merge { .. } => do_step(analysts, case, step),
     }
 }
 

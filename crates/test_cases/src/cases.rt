@@ -8,7 +8,6 @@ use htl_samples::{SampleFault, TRACE, Trace};
 use htl_segment::Segment;
 use std::alloc::Global;
 use std::process::Abort;
-use std::test::Fail;
 
 /// Another trace id and another processor count than the samples' trace.
 const OTHER: Trace = Trace {
@@ -21,24 +20,24 @@ const TWO_PROCESSORS: Trace = Trace {
     ..TRACE
 };
 
-fn segments(alloc: Global, lines: &[(Trace, &str)]) -> Result<Vec<Segment>, SampleFault> {
+fn segments(rt: &impl Abort, alloc: Global, lines: &[(Trace, &str)]) -> Vec<Segment> {
     let mut segments = Vec::new(alloc);
     for (trace, line) in lines {
-        segments.push(trace.segment(alloc, line)?)?;
+        let segment = trace
+            .segment(alloc, line)
+            .expect(rt, "the line is a segment");
+        segments.push(segment).expect(rt, "the memory");
     }
-    Ok(segments)
+    segments
 }
 
 /// How many segments the case of these lines has, or its fault.
-fn outcome(
-    alloc: Global,
-    lines: &[(Trace, &str)],
-) -> Result<Result<usize, CaseFault>, SampleFault> {
-    Ok(Case::of(alloc, segments(alloc, lines)?).map(|case| case.segments().len()))
+fn outcome(rt: &impl Abort, alloc: Global, lines: &[(Trace, &str)]) -> Result<usize, CaseFault> {
+    Case::of(alloc, segments(rt, alloc, lines)).map(|case| case.segments().len())
 }
 
 #[test]
-fn cases_and_conflicts(rt: HostRuntime) -> Result<(), Fail> {
+fn cases_and_conflicts(rt: HostRuntime) {
     let alloc = rt.alloc();
     let (one, two) = (TRACE, TWO_PROCESSORS);
     let table: [(&[(Trace, &str)], Result<usize, CaseFault>); 15] = [
@@ -108,13 +107,12 @@ fn cases_and_conflicts(rt: HostRuntime) -> Result<(), Fail> {
         ),
     ];
     for (lines, wanted) in table {
-        assert_eq!(rt; outcome(alloc, lines)?, wanted, "{lines:?}");
+        assert_eq!(rt; outcome(&rt, alloc, lines), wanted, "{lines:?}");
     }
-    Ok(())
 }
 
 #[test]
-fn codes(rt: HostRuntime) -> Result<(), Fail> {
+fn codes(rt: HostRuntime) {
     let alloc = rt.alloc();
     let table = [
         (CaseFault::Empty, "C1"),
@@ -126,41 +124,46 @@ fn codes(rt: HostRuntime) -> Result<(), Fail> {
         (CaseFault::Falling(0, 2), "C7(0, 2)"),
     ];
     for (fault, code) in table {
-        let text = format!(in alloc; "{fault}")?;
+        let text = format!(in alloc; "{fault}").expect(&rt, "the memory");
         assert_eq!(rt; text.as_str(), code);
     }
-    Ok(())
 }
 
-/// The sequences of a handle's listing.
-fn listed(alloc: Global, case: &Case, process: u32, handle: u32) -> Result<Vec<u64>, SampleFault> {
-    let mut sequences = Vec::new(alloc);
-    for event in &case.trace(alloc, process, handle)? {
-        sequences.push(event.sequence)?;
+/// A case of two processors.
+fn case_of(rt: &impl Abort, alloc: Global, lines: &[&str]) -> Case {
+    let segments = TWO_PROCESSORS
+        .segments(alloc, lines)
+        .expect(rt, "the lines are segments");
+    Case::of(alloc, segments).expect(rt, "the segments are a case")
+}
+
+/// The handle's listing has these sequences.
+fn is_listed(
+    rt: &impl Abort,
+    alloc: Global,
+    case: &Case,
+    process: u32,
+    handle: u32,
+    sequences: &[u64],
+) {
+    let rows = case.trace(alloc, process, handle).expect(rt, "the memory");
+    assert_eq!(rt; rows.len(), sequences.len());
+    for (row, sequence) in rows.iter().zip(sequences) {
+        assert_eq!(rt; row.sequence, *sequence);
     }
-    Ok(sequences)
 }
 
 #[test]
-fn a_handles_listing(rt: HostRuntime) -> Result<(), Fail> {
-    let alloc = rt.alloc();
+fn a_handles_listing(rt: HostRuntime) {
     let line = "0/0: O 1 0x44 [0x10], B 2 0x45, C 3 0x46";
-    let case = Case::of(alloc, TRACE.segments(alloc, &[line])?)?;
-    assert_eq!(rt;
-        listed(alloc, &case, 4, 0x44)?.as_slice(),
-        [3, 2, 1].as_slice()
-    );
-
+    let case = case_of(&rt, rt.alloc(), &[line]);
+    is_listed(&rt, rt.alloc(), &case, 4, 0x44, &[3, 2, 1]);
     let lines = ["1/0: O 5 0x44, O 6 0x44 process=8, S 7, B 8 0x40", line];
-    let case = Case::of(alloc, TWO_PROCESSORS.segments(alloc, &lines)?)?;
+    let case = case_of(&rt, rt.alloc(), &lines);
     assert_eq!(rt; (case.trace_id(), case.processors()), (7, 2));
-    assert_eq!(rt;
-        listed(alloc, &case, 4, 0x47)?.as_slice(),
-        [5, 3, 2, 1].as_slice()
-    );
-    assert_eq!(rt; listed(alloc, &case, 8, 0x44)?.as_slice(), [6].as_slice());
-    assert!(rt; listed(alloc, &case, 5, 0x44)?.is_empty());
-    Ok(())
+    is_listed(&rt, rt.alloc(), &case, 4, 0x47, &[5, 3, 2, 1]);
+    is_listed(&rt, rt.alloc(), &case, 8, 0x44, &[6]);
+    is_listed(&rt, rt.alloc(), &case, 5, 0x44, &[]);
 }
 
 /// Numbers that follow from a seed, by Sebastiano Vigna's SplitMix64.
@@ -278,37 +281,48 @@ fn copies(rt: &impl Abort, alloc: Global, segments: &[Segment]) -> Vec<Segment> 
 }
 
 #[test]
-fn random_lists(rt: HostRuntime) -> Result<(), Fail> {
+fn random_lists(rt: HostRuntime) {
     let alloc = rt.alloc();
     let mut dice = Dice(1);
     let mut seen = [0u32; 7];
     for turn in 0..100u32 {
-        let mut segments = Vec::new(alloc);
-        for _ in 0..dice.below(9) {
-            let segment = dice.segment(alloc)?;
-            if dice.below(3) == 0 {
-                segments.push(segment.copy()?)?;
-            }
-            segments.push(segment)?;
-        }
+        let segments = random_list(&rt, alloc, &mut dice);
         let made = Case::of(alloc, copies(&rt, alloc, &segments));
-        let kind = match &made {
-            Ok(_) => 0,
-            Err(CaseFault::Empty) => 1,
-            Err(CaseFault::OtherTrace(_)) => 2,
-            Err(CaseFault::OtherProcessors(_)) => 3,
-            Err(CaseFault::TwoContents(..)) => 4,
-            Err(CaseFault::SequenceTwice(_)) => 5,
-            Err(CaseFault::Falling(..)) => 6,
-            Err(CaseFault::NoMemory) => 0,
-        };
+        let kind = kind_of(&made);
         seen[kind] = seen[kind].saturating_add(1);
-        match &made {
-            Ok(case) => assert!(rt; has_each(case, &segments), "{turn}"),
-            Err(_) => {}
+        if let Ok(case) = &made {
+            assert!(rt; has_each(case, &segments), "{turn}");
         }
         assert_eq!(rt; made.map(|_| ()), plain(&segments), "{turn}");
     }
     assert!(rt; seen.iter().all(|count| *count > 0), "{seen:?}");
-    Ok(())
+}
+
+/// Up to eight random segments, some of them twice.
+fn random_list(rt: &impl Abort, alloc: Global, dice: &mut Dice) -> Vec<Segment> {
+    let mut segments = Vec::new(alloc);
+    for _ in 0..dice.below(9) {
+        let segment = dice.segment(alloc).expect(rt, "a segment");
+        if dice.below(3) == 0 {
+            let copy = segment.copy().expect(rt, "the memory");
+            segments.push(copy).expect(rt, "the memory");
+        }
+        segments.push(segment).expect(rt, "the memory");
+    }
+    segments
+}
+
+/// A number for each kind of outcome.
+fn kind_of(made: &Result<Case, CaseFault>) -> usize
+    ensures { result < 7 }
+{
+    match made {
+        Ok(_) | Err(CaseFault::NoMemory) => 0,
+        Err(CaseFault::Empty) => 1,
+        Err(CaseFault::OtherTrace(_)) => 2,
+        Err(CaseFault::OtherProcessors(_)) => 3,
+        Err(CaseFault::TwoContents(..)) => 4,
+        Err(CaseFault::SequenceTwice(_)) => 5,
+        Err(CaseFault::Falling(..)) => 6,
+    }
 }

@@ -1,15 +1,19 @@
 //! Worked exchanges and surveys, with workers and callers in threads of their own.
 
+ghost use Rattle.htl_exchange.specs.Desks.{IsDeskOf};
+
 use htl_analyst::Analyst;
 use htl_case::Case;
 use htl_exchange::{
-    Collected, Exchange, Free, Gate, Posted, StartFault, SurveyFault, Why, survey, survey_owned,
+    CloseFault, Collected, Desk, Exchange, Free, Gate, Posted, StartFault, SurveyFault, Why,
+    survey, survey_owned,
 };
-use htl_samples::{SampleFault, TRACE, Trace};
+use htl_samples::{TRACE, Trace};
+use htl_segment::Segment;
 use std::alloc::Global;
 use std::process::Abort;
+use std::sync::Wait;
 use std::sync::atomic::{AtomicU64, Ordering};
-use std::test::Fail;
 use std::thread;
 
 pub const TWO_PROCESSORS: Trace = Trace {
@@ -34,76 +38,128 @@ const ONE_RUN: [&str; 3] = [
 
 pub const TWO_RUNS: [&str; 2] = ["0/0: O 1 0x44", "1/0: C 2 0x44"];
 
-pub fn case_of(
-    rt: &impl Abort,
-    alloc: Global,
-    trace: Trace,
-    lines: &[&str],
-) -> Result<Case, SampleFault> {
-    Ok(Case::of(alloc, trace.segments(alloc, lines)?).expect(rt, "the lines are a case"))
+pub fn case_of(rt: &impl Abort, alloc: Global, trace: Trace, lines: &[&str]) -> Case {
+    let segments = trace
+        .segments(alloc, lines)
+        .expect(rt, "the lines are segments");
+    Case::of(alloc, segments).expect(rt, "the segments are a case")
 }
 
 /// Eight processors with six segments each.
-fn eight_runs(rt: &impl Abort, alloc: Global) -> Result<Case, Fail> {
+fn eight_runs(rt: &impl Abort, alloc: Global) -> Case {
     let mut segments = Vec::new(alloc);
     for processor in 0..8 {
         for number in 0..6 {
-            let sequence = 6u32
-                .wrapping_mul(processor)
-                .wrapping_add(number)
-                .wrapping_add(1);
-            let line = format!(in alloc; "{processor}/{number}: R {sequence} 0x1000 Lky8")?;
-            segments.push(EIGHT_PROCESSORS.segment(alloc, &line)?)?;
+            let segment = reference(rt, alloc, processor, number);
+            segments.push(segment).expect(rt, "there is memory");
         }
     }
-    Ok(Case::of(alloc, segments).expect(rt, "the segments are a case"))
+    Case::of(alloc, segments).expect(rt, "the segments are a case")
+}
+
+/// A segment of eight processors' six each, with a reference.
+fn reference(rt: &impl Abort, alloc: Global, processor: u32, number: u32) -> Segment {
+    let sequence = 6u32
+        .wrapping_mul(processor)
+        .wrapping_add(number)
+        .wrapping_add(1);
+    let line = format!(in alloc; "{processor}/{number}: R {sequence} 0x1000 Lky8").expect(
+        rt,
+        "there is memory",
+    );
+    EIGHT_PROCESSORS
+        .segment(alloc, &line)
+        .expect(rt, "the line is a segment")
 }
 
 /// One analyst that took all of the case and was compacted.
-pub fn alone(rt: &impl Abort, alloc: Global, case: &Case) -> Result<Analyst<Global>, Fail> {
+pub fn alone(rt: &impl Abort, alloc: Global, case: &Case) -> Analyst<Global> {
     let mut analyst = Analyst::new(alloc, case.trace_id(), case.processors()).expect(
         rt,
         "there is memory",
     );
     for segment in case.segments() {
-        let taken = analyst.take(segment.copy()?);
-        assert!(rt; taken.is_ok());
+        let copy = segment.copy().expect(rt, "there is memory");
+        assert!(rt; analyst.take(copy).is_ok());
     }
-    analyst.compact()?;
-    Ok(analyst)
+    analyst.compact().expect(rt, "there is memory");
+    analyst
+}
+
+/// Why no exchange is started with so many desks.
+fn start_refused<R: Wait>(rt: &R, alloc: Global, case: &Case, desks: u32) -> Option<StartFault> {
+    Exchange::start(rt, alloc, case, desks).err()
 }
 
 #[test]
-fn one_desk_posts_and_collects(rt: HostRuntime) -> Result<(), Fail> {
+fn no_desk_and_nine_are_refused(rt: HostRuntime) {
+    let case = case_of(&rt, rt.alloc(), TRACE, &ONE_RUN);
+    for desks in [0, 9] {
+        let fault = start_refused(&rt, rt.alloc(), &case, desks);
+        assert!(rt; matches!(fault, Some(StartFault::Desks)));
+    }
+}
+
+fn posts<R: Wait + Abort>(rt: &R, exchange: &Exchange, desk: &mut Desk, wanted: Posted)
+    requires { IsDeskOf exchange.now desk.old }
+    ensures { IsDeskOf exchange.now desk.new }
+{
+    assert_eq!(rt;
+        desk.post(rt, exchange).expect(rt, "there is memory"),
+        wanted
+    );
+}
+
+fn collects<R: Wait + Abort>(rt: &R, exchange: &Exchange, desk: &mut Desk, wanted: Collected)
+    requires { IsDeskOf exchange.now desk.old }
+    ensures { IsDeskOf exchange.now desk.new }
+{
+    assert_eq!(rt;
+        desk.collect(rt, exchange).expect(rt, "there is memory"),
+        wanted
+    );
+}
+
+/// Posts until the queue is full, and collects until there is nothing.
+fn post_and_collect<R: Wait + Abort>(rt: &R, exchange: &Exchange, desk: &mut Desk)
+    requires { IsDeskOf exchange.now desk.old }
+    ensures { IsDeskOf exchange.now desk.new }
+{
+    posts(rt, exchange, desk, Posted::Yes);
+    posts(rt, exchange, desk, Posted::Yes);
+    posts(rt, exchange, desk, Posted::Full);
+    collects(rt, exchange, desk, Collected::Run);
+    collects(rt, exchange, desk, Collected::State);
+    collects(rt, exchange, desk, Collected::State);
+    collects(rt, exchange, desk, Collected::Nothing);
+    assert!(rt; !desk.in_hand());
+    assert_eq!(rt; (desk.analyst().front(0), desk.analyst().held()), (3, 0));
+}
+
+#[test]
+fn one_desk_posts_and_collects(rt: HostRuntime) {
     let alloc = rt.alloc();
-    let case = case_of(&rt, alloc, TRACE, &ONE_RUN)?;
-    let none = Exchange::start(&rt, alloc, &case, 0);
-    assert!(rt; matches!(&none, Err(StartFault::Desks)));
-    let nine = Exchange::start(&rt, alloc, &case, 9);
-    assert!(rt; matches!(&nine, Err(StartFault::Desks)));
+    let case = case_of(&rt, alloc, TRACE, &ONE_RUN);
     let (exchange, mut desks) = Exchange::start(&rt, alloc, &case, 1).expect(
         &rt,
         "there is memory",
     );
     let mut desk = desks.pop().expect(&rt, "there is a desk");
-    assert_eq!(rt; desk.post(&rt, &exchange)?, Posted::Yes);
-    assert_eq!(rt; desk.post(&rt, &exchange)?, Posted::Yes);
-    assert_eq!(rt; desk.post(&rt, &exchange)?, Posted::Full);
-    assert_eq!(rt; desk.collect(&rt, &exchange)?, Collected::Run);
-    assert_eq!(rt; desk.collect(&rt, &exchange)?, Collected::State);
-    assert_eq!(rt; desk.collect(&rt, &exchange)?, Collected::State);
-    assert_eq!(rt; desk.collect(&rt, &exchange)?, Collected::Nothing);
-    assert!(rt; !desk.in_hand());
-    assert_eq!(rt; (desk.analyst().front(0), desk.analyst().held()), (3, 0));
-    let refused = exchange.close(&rt, desks);
-    let fault = refused.err().expect(&rt, "a desk is out");
+    post_and_collect(&rt, &exchange, &mut desk);
+    let fault = exchange
+        .close(&rt, desks)
+        .err()
+        .expect(&rt, "a desk is out");
     assert_eq!(rt; fault.why, Why::DesksOut(0, 1));
-    let mut desks = fault.desks;
-    desks.push(desk)?;
-    let closed = fault.exchange.close(&rt, desks);
+    let CloseFault {
+        exchange,
+        mut desks,
+        ..
+    } = fault;
+    desks.push(desk).expect(&rt, "there is memory");
+    let closed = exchange.close(&rt, desks);
     let closed = closed.ok().expect(&rt, "there is memory");
     assert_eq!(rt; (closed.front(0), closed.held(), closed.taken()), (3, 0, 3));
-    Ok(())
 }
 
 /// Two workers, of which the first doesn't begin before the second is there, nor the second before
@@ -155,9 +211,9 @@ impl Gate for TwoFlags {
 }
 
 #[test]
-fn two_workers_at_a_gate(rt: HostRuntime) -> Result<(), Fail> {
+fn two_workers_at_a_gate(rt: HostRuntime) {
     let alloc = rt.alloc();
-    let case = case_of(&rt, alloc, TWO_PROCESSORS, &TWO_RUNS)?;
+    let case = case_of(&rt, alloc, TWO_PROCESSORS, &TWO_RUNS);
     let gate = TwoFlags {
         first: AtomicU64::new(0),
         second: AtomicU64::new(0),
@@ -168,14 +224,18 @@ fn two_workers_at_a_gate(rt: HostRuntime) -> Result<(), Fail> {
     assert_eq!(rt; gate.gave_up.load(Ordering::SeqCst), 0);
     assert_eq!(rt; gate.unexpected.load(Ordering::SeqCst), 0);
     let one = survey(&rt, alloc, &case, 1, &Free).expect(&rt, "there is memory");
-    assert!(rt; two.same(&one) && two.same(&alone(&rt, alloc, &case)?));
-    let none = survey(&rt, alloc, &case, 0, &Free);
-    assert!(rt; matches!(&none, Err(SurveyFault::Workers)));
-    let nine = survey(&rt, alloc, &case, 9, &Free);
-    assert!(rt; matches!(&nine, Err(SurveyFault::Workers)));
+    assert!(rt; two.same(&one) && two.same(&alone(&rt, alloc, &case)));
     let owned = survey_owned(&rt, alloc, case, 2, &Free).expect(&rt, "there is memory");
     assert!(rt; owned.same(&two));
-    Ok(())
+}
+
+#[test]
+fn no_worker_and_nine_are_refused(rt: HostRuntime) {
+    let case = case_of(&rt, rt.alloc(), TWO_PROCESSORS, &TWO_RUNS);
+    for workers in [0, 9] {
+        let fault = survey(&rt, rt.alloc(), &case, workers, &Free).err();
+        assert!(rt; matches!(fault, Some(SurveyFault::Workers)));
+    }
 }
 
 /// Eight workers who wait for each other before their second turns. Each then has one whole run,
@@ -215,9 +275,9 @@ impl Gate for EightTogether {
 }
 
 #[test]
-fn eight_workers_share_the_runs(rt: HostRuntime) -> Result<(), Fail> {
+fn eight_workers_share_the_runs(rt: HostRuntime) {
     let alloc = rt.alloc();
-    let case = eight_runs(&rt, alloc)?;
+    let case = eight_runs(&rt, alloc);
     let gate = EightTogether {
         there: AtomicU64::new(0),
         gave_up: AtomicU64::new(0),
@@ -233,6 +293,5 @@ fn eight_workers_share_the_runs(rt: HostRuntime) -> Result<(), Fail> {
         let other = survey(&rt, alloc, &case, workers, &Free).expect(&rt, "there is memory");
         assert!(rt; eight.same(&other));
     }
-    assert!(rt; eight.same(&alone(&rt, alloc, &case)?));
-    Ok(())
+    assert!(rt; eight.same(&alone(&rt, alloc, &case)));
 }

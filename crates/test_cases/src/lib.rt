@@ -1,10 +1,13 @@
 //! Tests of cases and of exchanges.
 //!
 //! `cases` has worked cases, conflicts and listings, and random lists beside a plain program,
-//! `plays` lists of steps. `exchanges` has worked exchanges and surveys with threads that wait for
-//! one another, and in `schedules` desks take random turns in threads of their own.
+//! `plays` lists of steps, and `asking` the answers after them. `exchanges` has worked exchanges
+//! and surveys with threads that wait for one another, and in `schedules` desks take random turns
+//! in threads of their own.
 #![tactic(auto)]
 
+#[cfg(test)]
+mod asking;
 #[cfg(test)]
 mod cases;
 #[cfg(test)]

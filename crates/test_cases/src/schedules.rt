@@ -11,7 +11,6 @@ use htl_samples::{RandomTrace, SMALL};
 use std::alloc::Global;
 use std::process::Abort;
 use std::sync::Wait;
-use std::test::Fail;
 use std::thread;
 use std::thread::{Promise, Scope, Threads};
 
@@ -203,25 +202,24 @@ fn closed_after<R: Threads + Wait + Abort + Sync>(
 }
 
 #[test]
-fn two_callers_threads(rt: HostRuntime) -> Result<(), Fail> {
+fn two_callers_threads(rt: HostRuntime) {
     let alloc = rt.alloc();
-    let case = case_of(&rt, alloc, TWO_PROCESSORS, &TWO_RUNS)?;
+    let case = case_of(&rt, alloc, TWO_PROCESSORS, &TWO_RUNS);
     let closed = closed_after(&rt, alloc, &case, 2, Plan::Eager);
     assert_eq!(rt; (closed.front(0), closed.front(1)), (1, 1));
     assert_eq!(rt; (closed.held(), closed.taken()), (0, 2));
-    assert!(rt; closed.same(&alone(&rt, alloc, &case)?));
-    Ok(())
+    assert!(rt; closed.same(&alone(&rt, alloc, &case)));
 }
 
 #[test]
-fn random_schedules(rt: HostRuntime) -> Result<(), Fail> {
+fn random_schedules(rt: HostRuntime) {
     let alloc = rt.alloc();
-    let case = Case::of(alloc, TRACE.segments(alloc)?).expect(&rt, "the segments are a case");
-    let whole = alone(&rt, alloc, &case)?;
+    let segments = TRACE.segments(alloc).expect(&rt, "there are segments");
+    let case = Case::of(alloc, segments).expect(&rt, "the segments are a case");
+    let whole = alone(&rt, alloc, &case);
     for number in 0..SCHEDULES {
         let desks = 1 + number as u32 % 4;
         let closed = closed_after(&rt, alloc, &case, desks, Plan::Random(number));
         assert!(rt; closed.same(&whole));
     }
-    Ok(())
 }

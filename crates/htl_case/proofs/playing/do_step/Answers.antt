@@ -2,7 +2,8 @@
 use Rattle.std.proofs.Common.{◌<◌, length, sym, subst}
 use Rattle.htl_analyst.specs.States.{State}
 use Rattle.htl_analyst.specs.Right.{IsRight}
-use Rattle.htl_case.specs.Headline.{IsTake, IsMergeFrom, IsCompaction}
+use Rattle.htl_case.specs.Histories.{IsTake, IsCompaction}
+use Rattle.htl_case.specs.Changes.{IsMergeFrom}
 use Rattle.htl_case.proofs.Played.{on_ok, right_at, changes_at, taker_there, target_there, source_there, compacted_there, merged_from}
 use Rattle.htl_case.proofs.playing.do_step.Goals as goal
 

@@ -1,11 +1,13 @@
--- The steps that were done lead to the analysts, which are as the headline says.
-use Rattle.std.proofs.Common.{length, take, ap, Err}
-use Rattle.std.specs.Prelude.{reverse}
+-- Each analyst has the history of the steps that were done, and so it is right and has the keys that reached it.
+use Rattle.std.proofs.Common.{sym, ◌∙◌, length, get_or, take, drop, ap, Err}
 use Rattle.std.proofs.lemmas.Result.{err_from_is_err_and}
 use Rattle.htl_case.specs.declared.step.Step.TheVariants.{Take}
+use Rattle.htl_case.specs.Histories.{history}
+use Rattle.htl_case.specs.Changes.{IsStep}
 use Rattle.htl_case.proofs.FirstFaults.{one_fault, no_fault}
-use Rattle.htl_case.proofs.Histories.{lead_right, lead_keys, lead_length}
-use Rattle.htl_case.proofs.Played.{lead_all, step_there}
+use Rattle.htl_case.proofs.Stepped.{tried_step}
+use Rattle.htl_case.proofs.Histories.{leaves_right, leaves_keys, history_reached}
+use Rattle.htl_case.proofs.Played.{written, step_there, step_length, more_histories, all_histories}
 use Rattle.htl_case.proofs.playing.play.Goals as goal
 
 pub returns-in_err-check_steps-clause-exact : goal.returns-in_err-check_steps-clause-exact
@@ -24,15 +26,27 @@ returns-in_err-played-clause-refused c =
 pub do_step-requires-clause-there : goal.do_step-requires-clause-there
 do_step-requires-clause-there c =
     let fine = rw c.segments.ensures.value at c.in_ok-check_steps.ensures.ok in
-    let len = lead_length c.args.case.now c.segments.ensures.is_case.trace c.args.analysts
-    (reverse (take c.loop-step.step-index c.args.steps.now)) c.loop-step.played.items c.loop-step.invariant in
-    rw (c.deref_mut.ensures.value, len) (step_there c.args.analysts (length c.args.case.now.segments) c.args.steps.now
+    rw (c.deref_mut.ensures.value, c.loop-step.invariant.0) (step_there c.args.analysts (length c.args.case.now.segments) c.args.steps.now
     c.loop-step.step-index (Take 0 0) fine c.loop-step-test.true)
 
 pub do_step-requires-clause-right : goal.do_step-requires-clause-right
 do_step-requires-clause-right c =
-    rw c.deref_mut.ensures.value (lead_right c.args.case.now c.segments.ensures.is_case.trace c.args.analysts
-    (reverse (take c.loop-step.step-index c.args.steps.now)) c.loop-step.played.items c.loop-step.invariant)
+    rw c.deref_mut.ensures.value (λ i a at. leaves_right c.args.case.now c.segments.ensures.is_case.trace
+    (history (take c.loop-step.step-index c.args.steps.now) i) a (c.loop-step.invariant.1 i a at))
+
+pub loop-step-preserved : goal.loop-step-preserved
+loop-step-preserved c =
+    let step = get_or c.args.steps.now c.loop-step.step-index (Take 0 0) in
+    let is : IsStep c.args.case.now step c.loop-step.played.items c.do_step.new.analysts =
+    rw c.deref_mut.ensures.value at c.in_ok-do_step.ensures.ok in
+    let len = step_length c.args.case.now step c.loop-step.played.items c.do_step.new.analysts
+    (tried_step c.args.case.now step c.loop-step.played.items c.do_step.new.analysts is) in
+    rw (written c.loop-step.played.len c.do_step.new.analysts (drop (length c.do_step.new.analysts) c.loop-step.played.items)
+    (len ∙ sym c.loop-step.played.ok.0)) (
+      len ∙ c.loop-step.invariant.0,
+      more_histories c.args.case.now c.args.steps.now c.loop-step.step-index (Take 0 0) c.loop-step-test.true c.loop-step.played.items
+          c.do_step.new.analysts c.loop-step.invariant.1 is,
+    )
 
 pub returns-in_err-do_step-clause-refused : goal.returns-in_err-do_step-clause-refused
 returns-in_err-do_step-clause-refused c =
@@ -46,16 +60,17 @@ returns-in_err-do_step-clause-exact c fault ne refused =
     absurd (no_fault c.args.analysts (length c.args.case.now.segments) c.args.steps.now fine fault ne refused)
 
 pub returns-clause-right : goal.returns-clause-right
-returns-clause-right c =
-    lead_right c.args.case.now c.segments.ensures.is_case.trace c.args.analysts (reverse c.args.steps.now) c.loop-step.played.items
-    (lead_all c.args.case.now c.args.analysts c.args.steps.now c.loop-step.step-index c.loop-step.played.items c.loop-step-test.false
-    c.loop-step.invariant)
+returns-clause-right c i a at =
+    leaves_right c.args.case.now c.segments.ensures.is_case.trace (history c.args.steps.now i) a
+    (all_histories c.args.case.now c.args.steps.now c.loop-step.step-index c.loop-step.played.items c.loop-step-test.false
+    c.loop-step.invariant.1 i a at)
 
 pub returns-clause-keys : goal.returns-clause-keys
-returns-clause-keys c =
-    lead_keys c.args.case.now c.segments.ensures.is_case.trace c.args.analysts (reverse c.args.steps.now) c.loop-step.played.items
-    (lead_all c.args.case.now c.args.analysts c.args.steps.now c.loop-step.step-index c.loop-step.played.items c.loop-step-test.false
-    c.loop-step.invariant)
+returns-clause-keys c i a at p n =
+    leaves_keys c.args.case.now c.segments.ensures.is_case.trace (history c.args.steps.now i) a
+    (all_histories c.args.case.now c.args.steps.now c.loop-step.step-index c.loop-step.played.items c.loop-step-test.false
+    c.loop-step.invariant.1 i a at) p n
+    ∙ history_reached c.args.case.now c.args.steps.now i p n
 
 pub returns-clause-accepted : goal.returns-clause-accepted
 returns-clause-accepted c = rw c.segments.ensures.value at c.in_ok-check_steps.ensures.ok

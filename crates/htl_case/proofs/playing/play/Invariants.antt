@@ -1,8 +1,7 @@
--- So far the steps that were gone through lead to the analysts.
-use Rattle.std.proofs.Common.{take}
-use Rattle.std.specs.Prelude.{reverse}
-use Rattle.htl_case.specs.Headline.{LeadTo}
+-- So far each analyst has the history of the steps that were gone through.
+use Rattle.std.proofs.Common.{◌≡◌, length, take}
+use Rattle.htl_case.specs.Histories.{HaveHistories}
 use Rattle.htl_case.proofs.playing.play.Given as goal
 
 abbrev pub invariant-loop-step : goal.invariant-loop-step
-invariant-loop-step l = LeadTo l.case l.analysts (reverse (take l.step-index l.steps)) l.played.items
+invariant-loop-step l = (length l.played.items ≡ l.analysts) × HaveHistories l.case (take l.step-index l.steps) l.played.items

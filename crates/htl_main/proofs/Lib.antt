@@ -8,3 +8,4 @@ pub mod WholeLaws
 pub mod OneSummary
 pub mod OneOutcome
 pub mod OneCoverage
+pub mod UnfoldedLaws

@@ -1,10 +1,8 @@
--- An analyst that has taken a whole trace has the trace's events and keys, and is complete to where the trace is.
+-- An analyst that has taken a whole trace has the trace's events and keys.
 use Rattle.std.proofs.Common.{◌≡◌, ◌<◌, ℕ, suc, Bool, true, List, [], ◌∷◌, ap, refl, sym, subst, arith}
 use Rattle.std.specs.Prelude.{Contains, filter}
-use Rattle.htl_event.specs.Handles.{IsGreatestSequence}
 use Rattle.htl_segment.specs.Traces.{Trace, HasKey, key_is_in, all_events}
 use Rattle.htl_taken.specs.Gaps.{IsGaps}
-use Rattle.htl_taken.specs.Numbers.{front_at}
 use Rattle.htl_taken.specs.declared.gap.Gap.{Gap}
 use Rattle.htl_taken.proofs.Gaps.{gaps_agree}
 use Rattle.htl_symbols.specs.Ranges.{Range}
@@ -12,16 +10,12 @@ use Rattle.htl_command.specs.declared.question.Question.{Question}
 use Rattle.htl_command.specs.declared.question.Question.TheVariants as asked
 use Rattle.htl_analyst.specs.States.{State}
 use Rattle.htl_analyst.specs.Keys.{HasTaken, keys}
-use Rattle.htl_analyst.specs.Moments as moments
-use Rattle.htl_analyst.specs.Right.{run_events}
 use Rattle.htl_analyst.specs.TakenEvents.{taken_events}
 use Rattle.htl_analyst.proofs.KeyEvents.{taken_keys}
 use Rattle.htl_case.proofs.Sizes.{key_of_trace}
 use Rattle.htl_exchange.specs.Desks.{IsWholeStanding}
 use Rattle.htl_main.specs.Printed.{IsText, IsTextOver}
-use Rattle.htl_main.specs.Questions.{IsOfAnalyst}
-use Rattle.htl_main.specs.Summaries.{IsCompleteTo, IsFirstMissing}
-use Rattle.htl_main.proofs.Covered.{one_first}
+use Rattle.htl_main.specs.Questions.{IsOfParts}
 
 filter_whole : {X : Type 0} (p : X → Bool) (xs : List X) → ((x : X) → Contains xs x → p x ≡ true) → filter p xs ≡ xs
 filter_whole p [] all = refl
@@ -34,26 +28,6 @@ whole_events T a whole =
     ap all_events (filter_whole (key_is_in (keys a)) T.segments (λ s here. taken_keys a s.processor s.number
     (whole.keys s.processor s.number (s, here, refl, refl))))
 
--- its fronts are the numbers of the first segments that the trace doesn't have
-first_missing : (T : Trace) (a : State) → IsWholeStanding T a → (p : ℕ) → p < a.processors → IsFirstMissing T p (front_at a.taken p)
-first_missing T a whole p lt = record {
-  below = (whole.standing.right.each p lt).complete;
-  missing = λ key. whole.standing.least p (whole.keys p (front_at a.taken p) key);
-}
-
-pub complete : (T : Trace) (a : State) (n : ℕ) → IsWholeStanding T a → moments.IsLeastLastFolded T a n → IsCompleteTo T n
-complete T a n whole is =
-    let count = whole.standing.right.processors in
-    record {
-      bound = λ p m lt unbroken.
-          let within : p < a.processors = omega (arith, count, lt) in
-          let same = one_first T p unbroken.0 (front_at a.taken p) unbroken.1 (first_missing T a whole p within) in
-          is.bound p m within (subst (λ (front : ℕ). IsGreatestSequence (Contains (run_events T p front)) m) same unbroken.2);
-      processor = is.processor;
-      within = let within = is.within in omega (arith, count, within);
-      reached = (front_at a.taken is.processor, first_missing T a whole is.processor is.within, is.reached);
-    }
-
 -- its taken keys are the trace's
 pub whole_gaps : (T : Trace) (a : State) (gaps : List Gap) → IsWholeStanding T a → IsGaps (HasTaken a) a.processors gaps
     → IsGaps (HasKey T) T.processors gaps
@@ -63,7 +37,7 @@ whole_gaps T a gaps whole is =
     (λ p n lt. (key_of_trace T a right p n, whole.keys p n)) is)
 
 -- the answer to a question about events is one over the trace
-pub over_events : (T : Trace) (table : List Range) (question : Question) (lines : List ℕ) → IsOfAnalyst question
+pub over_events : (T : Trace) (table : List Range) (question : Question) (lines : List ℕ) → IsOfParts question
     → IsTextOver (all_events T.segments) table question lines → IsText T table question lines
 over_events T table (asked.Outstanding process) lines of is = is
 over_events T table (asked.Diff process since) lines of is = is

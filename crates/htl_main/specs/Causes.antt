@@ -25,10 +25,10 @@ abbrev pub PrintsPart : Job → List (List ℕ) → Option (List ℕ) → Option
 PrintsPart job inputs symbols old new =
     (lines : List ℕ) × Printed job inputs symbols (Ok lines) × AppendsPrefix old new lines
 
--- A listing is made from the case itself. The answer to any other question starts workers.
+-- Only a summary is made by workers. Every other answer is made from the case as it is.
 abbrev pub StartsWorkers : Question → Type 0
-StartsWorkers (asked.Trace process handle) = ⊥
-StartsWorkers question = ⊤
+StartsWorkers asked.Summary = ⊤
+StartsWorkers question = ⊥
 
 -- Why nothing is printed of decoded segments. Memory is asked for where the rules of a case that take none hold,
 -- and threads where there is a case, the symbols have no fault and the question starts workers.

@@ -11,4 +11,5 @@ pub mod Faults
 pub mod Sizes
 pub mod Questions
 pub mod Reads
+pub mod Unfolded
 pub mod Numbers

@@ -1,10 +1,10 @@
--- For the clauses of private functions: the questions that are about events, and that an analyst is asked.
+-- For the clauses of private functions: the questions that are answered over parts.
 use Rattle.std.specs.Prelude.{⊤}
 use Rattle.htl_command.specs.declared.question.Question.{Question}
 use Rattle.htl_command.specs.declared.question.Question.TheVariants.{Summary, Trace}
 
 -- the question is neither for a summary nor for a listing
-abbrev pub IsOfAnalyst : Question → Type 0
-IsOfAnalyst Summary = ⊥
-IsOfAnalyst (Trace process handle) = ⊥
-IsOfAnalyst other = ⊤
+abbrev pub IsOfParts : Question → Type 0
+IsOfParts Summary = ⊥
+IsOfParts (Trace process handle) = ⊥
+IsOfParts other = ⊤

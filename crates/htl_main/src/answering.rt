@@ -1,20 +1,26 @@
 //! The answer to a question over a case.
 
-ghost use Rattle.std.specs.Prelude.{◌≡◌, ◌≢◌, ◌⊎◌, ℕ, List, IfOk, IfErr, IfSome, IfNone, Contains};
-ghost use Rattle.htl_event.specs.Handles.{IsMark};
-ghost use Rattle.htl_segment.specs.Traces.{Trace, IsTrace, all_events};
+ghost use Rattle.std.specs.Prelude.{◌≡◌, ◌⊎◌, ◌<◌, ◌^◌, List, map};
+ghost use Rattle.std.specs.Prelude.{IfOk, IfErr, IfSome, IfNone, Contains};
+ghost use Rattle.htl_event.specs.Events.{Event};
+ghost use Rattle.htl_event.specs.Handles.{HaveOwnSequences, IsMark};
+ghost use Rattle.htl_segment.specs.Traces.{all_events};
+ghost use Rattle.htl_answers.specs.Parts.{AreEventsOf, size_of_all};
 ghost use Rattle.htl_symbols.specs.Ranges.{Range};
 ghost use Rattle.htl_report.specs.Texts.{text_of};
-ghost use Rattle.htl_analyst.specs.Right.{IsRight};
-ghost use Rattle.htl_analyst.specs.TakenEvents.{taken_events};
 ghost use Rattle.htl_exchange.specs.Desks.{IsWholeStanding};
 ghost use Rattle.htl_main.specs.Causes.{StartsWorkers};
+ghost use Rattle.htl_main.specs.Coverages.{IsCoverage};
 ghost use Rattle.htl_main.specs.Printed.{IsText, IsTextOver, WorkersFit};
-ghost use Rattle.htl_main.specs.Questions.{IsOfAnalyst};
+ghost use Rattle.htl_main.specs.Questions.{IsOfParts};
+ghost use Rattle.htl_main.specs.Unfolded.{contents_of};
 
+use crate::coverage::Coverage;
 use crate::fault::RunFault;
 use crate::summarizing::{Sizes, summary};
+use crate::unfolded::Unfolded;
 use htl_analyst::Analyst;
+use htl_answers::{bad, diff, leaks, mark, outstanding, stacks, tags};
 use htl_case::Case;
 use htl_command::{Job, Question};
 use htl_event::NoMemory;
@@ -24,21 +30,23 @@ use std::alloc::Global;
 use std::sync::Wait;
 use std::thread::Threads;
 
-/// The answer to the job's question. A listing is made from the case itself, and every other answer
-/// by an analyst that has taken the whole case. Of the case only its sizes are kept until then.
+/// The answer to the job's question, over a case of this coverage. A summary is made by an analyst
+/// that has taken the whole case, of which only the sizes are kept until then, and every other
+/// answer from the case itself.
 pub(crate) fn answer<Rt: Threads + Wait + Sync>(
     rt: &Rt,
     alloc: Global,
     job: &Job,
     case: Case,
+    coverage: Coverage,
 ) -> Result<Answer, RunFault>
-    requires { WorkersFit job.now.workers }
+    requires workers { WorkersFit job.now.workers }
+    requires coverage { IsCoverage case coverage }
     ensures ok { IfOk result (λ answer. (table : List Range)
         → IsText case table job.now.question (text_of table answer)) }
     ensures err { IfErr result (λ fault. (fault ≡ RunFault.Memory)
         ⊎ ((fault ≡ RunFault.NoThread) × StartsWorkers job.now.question)) }
 {
-    let _is_case = case.segments();
     match job.question {
         Question::Trace { process, handle } => Ok(Answer::Trace {
             process,
@@ -46,14 +54,12 @@ pub(crate) fn answer<Rt: Threads + Wait + Sync>(
             rows: case.trace(alloc, process, handle)?,
         }),
         Question::Summary => {
-            let sizes = Sizes::of(&case);
+            let _is_case = case.segments();
+            let sizes = Sizes::of(&case, coverage);
             let analyst = standing(rt, alloc, case, job.workers)?;
             Ok(summary(alloc, sizes, &analyst)?)
         }
-        question => {
-            let analyst = standing(rt, alloc, case, job.workers)?;
-            Ok(answer_of(alloc, &analyst, question)?)
-        }
+        question => Ok(answer_over(alloc, &case, question)?),
     }
 }
 
@@ -71,59 +77,68 @@ fn standing<Rt: Threads + Wait + Sync>(
     Ok(survey_owned(rt, alloc, case, workers, &Free)?)
 }
 
-/// The answer of an analyst to a question about events.
-fn answer_of(
-    alloc: Global,
-    analyst: &Analyst<Global>,
-    question: Question,
-) -> Result<Answer, NoMemory>
-    requires { IsOfAnalyst question }
-    ensures { IfOk result (λ answer. (T : Trace) → IsTrace T → IsRight analyst.now T
-        → (table : List Range)
-        → IsTextOver (taken_events T analyst.now) table question (text_of table answer)) }
+/// The answer to a question about events, by one part that holds all segments of the case.
+fn answer_over(alloc: Global, case: &Case, question: Question) -> Result<Answer, NoMemory>
+    requires { IsOfParts question }
+    ensures { IfOk result (λ answer. (table : List Range)
+        → IsTextOver (all_events case.now.segments) table question (text_of table answer)) }
+{
+    let part = Unfolded::new(alloc, case.segments());
+    let answer = answer_of(alloc, &[part], question)?;
+    Ok(answer)
+}
+
+/// The answer of parts to a question about events.
+fn answer_of(alloc: Global, parts: &[Unfolded<'_>], question: Question) -> Result<Answer, NoMemory>
+    requires about { IsOfParts question }
+    requires few { size_of_all (map contents_of parts.now) < 2 ^ 64 }
+    ensures { IfOk result (λ answer. (events : List Event)
+        → AreEventsOf (map contents_of parts.now) events → HaveOwnSequences events
+        → (table : List Range) → IsTextOver events table question (text_of table answer)) }
 {
     Ok(match question {
         Question::Outstanding { process } => Answer::Outstanding {
             process,
-            rows: analyst.outstanding(alloc, process)?,
+            rows: outstanding(alloc, parts, process)?,
         },
         Question::Diff { process, since } => {
-            let since = moment(analyst, process, since);
+            let since = moment(parts, process, since);
             Answer::Diff {
                 process,
                 since,
-                rows: analyst.diff(alloc, process, since)?,
+                rows: diff(alloc, parts, process, since)?,
             }
         }
         Question::Tags { object } => Answer::Tags {
             object,
-            rows: analyst.tags(alloc, object)?,
+            rows: tags(alloc, parts, object)?,
         },
         Question::Bad { process } => Answer::Bad {
             process,
-            rows: analyst.bad(alloc, process)?,
+            rows: bad(alloc, parts, process)?,
         },
         Question::Leaks { process } => Answer::Leaks {
             process,
-            rows: analyst.leaks(alloc, process)?,
+            rows: leaks(alloc, parts, process)?,
         },
         Question::Stacks { object, tag } => Answer::Stacks {
             object,
             tag,
-            rows: analyst.stacks(alloc, object, tag)?,
+            rows: stacks(alloc, parts, object, tag)?,
         },
         Question::Summary | Question::Trace { .. } => unreachable!(),
     })
 }
 
 /// The moment that is given, or else the mark of the process.
-fn moment(analyst: &Analyst<Global>, process: u32, given: Option<u64>) -> u64
+fn moment(parts: &[Unfolded<'_>], process: u32, given: Option<u64>) -> u64
     ensures given { IfSome given (λ since. result ≡ since) }
-    ensures mark { IfNone given ((T : Trace) → IsRight analyst.now T
-        → IsMark (Contains (taken_events T analyst.now)) process result) }
+    ensures mark { IfNone given ((events : List Event)
+        → AreEventsOf (map contents_of parts.now) events
+        → IsMark (Contains events) process result) }
 {
     match given {
         Some(since) => since,
-        None => analyst.mark(process),
+        None => mark(parts, process),
     }
 }

@@ -4,9 +4,10 @@
 //! `run_from`, the call that the program makes, reads sources; `run` does the same over bytes in
 //! memory. Files, in reading order: `streaming.rt` and `printing.rt` (the steps of the two runs in
 //! order), `sources.rt` and `inputs.rt` (the segments of what comes in reads and of what lies in
-//! memory), `answering.rt` (workers take in the case, and the answer), `summarizing.rt` (the sizes
-//! of a case, and its summary), `coverage.rt` (how much of its trace a case has), `fault.rt` (the
-//! faults, their lines and statuses), `laws.rt` (a run has one outcome, and inputs have one
+//! memory), `answering.rt` (the answer over a case), `unfolded.rt` (the segments of a case as they
+//! are, which every question but that for a summary is asked), `summarizing.rt` (the sizes of a
+//! case, and its summary by workers), `coverage.rt` (how much of its trace a case has), `fault.rt`
+//! (the faults, their lines and statuses), `laws.rt` (a run has one outcome, and inputs have one
 //! coverage).
 //!
 //! `specs/` is read in this order: `Inputs` (which segments the inputs encode, and which input is
@@ -24,6 +25,7 @@ mod printing;
 mod sources;
 mod streaming;
 mod summarizing;
+mod unfolded;
 
 pub use coverage::Coverage;
 pub use fault::RunFault;

@@ -90,7 +90,7 @@ pub(crate) fn answered<Rt: Threads + Wait + Sync>(
     let case = Case::of(alloc, segments)?;
     let symbols = read_symbols(alloc, symbols)?;
     let coverage = Coverage::of(&case);
-    let answer = answer(rt, alloc, job, case)?;
+    let answer = answer(rt, alloc, job, case, coverage)?;
     Ok((text(alloc, &answer, &symbols)?, coverage))
 }
 

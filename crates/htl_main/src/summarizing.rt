@@ -11,6 +11,7 @@ ghost use Rattle.htl_main.specs.Sizes.{AreSizes};
 ghost use Rattle.htl_main.specs.Summaries.{AreTotals};
 ghost use Rattle.htl_command.specs.declared.question.Question.TheVariants as asked;
 
+use crate::coverage::Coverage;
 use htl_analyst::Analyst;
 use htl_case::Case;
 use htl_event::NoMemory;
@@ -19,25 +20,30 @@ use htl_segment::Segment;
 use htl_summary::Objects;
 use std::alloc::Global;
 
-/// How many processors, segments and events a case has.
+/// How many processors, segments and events a case has, and the sequence up to which no segment is
+/// missing.
 #[derive(Clone, Copy, Debug, PartialEq, Eq)]
 pub(crate) struct Sizes {
     pub(crate) processors: u16,
     pub(crate) segments: u64,
     pub(crate) events: u64,
+    pub(crate) complete_to: u64,
 }
 
 impl Sizes {
+    ghost use Rattle.htl_main.specs.Coverages.{IsCoverage};
     ghost use Rattle.htl_main.specs.Sizes.{AreSizes};
 
-    /// Those of the case.
-    pub(crate) fn of(case: &Case) -> Sizes
+    /// Those of the case, which has this coverage.
+    pub(crate) fn of(case: &Case, coverage: Coverage) -> Sizes
+        requires { IsCoverage case.now coverage }
         ensures { AreSizes case.now result }
     {
         Sizes {
             processors: case.processors(),
             segments: case.segments().len() as u64,
             events: event_count(case.segments()),
+            complete_to: coverage.complete_to,
         }
     }
 }
@@ -56,22 +62,22 @@ pub(crate) fn summary(
     let gaps = analyst.gaps(alloc)?;
     let processes = analyst.processes(alloc)?;
     Ok(Answer::Summary {
-        totals: totals(sizes, analyst, number),
+        totals: totals(sizes, number),
         gaps,
         processes,
         objects: unbalanced,
     })
 }
 
-fn totals(sizes: Sizes, analyst: &Analyst<Global>, objects: u64) -> Totals
-    ensures { (T : Trace) → AreSizes T sizes → IsWholeStanding T analyst.now
+fn totals(sizes: Sizes, objects: u64) -> Totals
+    ensures { (T : Trace) → AreSizes T sizes
         → IsNumberOfObjects (all_events T.segments) objects → AreTotals T result }
 {
     Totals {
         processors: sizes.processors,
         segments: sizes.segments,
         events: sizes.events,
-        complete_to: analyst.complete_to(),
+        complete_to: sizes.complete_to,
         objects,
     }
 }

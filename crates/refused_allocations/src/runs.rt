@@ -24,10 +24,10 @@ pub fn try_all<R: Threads + Wait + Sync>(
     trials: &mut Trials<'_, HostRuntime>,
 ) -> Result<()> {
     for (name, question, workers) in [
-        ("run for leaks by one worker", LEAKS, 1),
-        ("run for leaks by two workers", LEAKS, 2),
+        ("run for leaks", LEAKS, 1),
         ("run for a trace", TRACE, 1),
-        ("run for a summary", Question::Summary, 1),
+        ("run for a summary by one worker", Question::Summary, 1),
+        ("run for a summary by two workers", Question::Summary, 2),
     ] {
         let job = Job {
             question,

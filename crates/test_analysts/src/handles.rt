@@ -1,6 +1,6 @@
 //! Answers on handles, before and after what was taken is folded.
 
-use crate::analysts::{TWO_PROCESSORS, taken};
+use crate::analysts::{TWO_PROCESSORS, sizes, taken};
 use htl_analyst::Analyst;
 use htl_event::{NoMemory, SharedEvent};
 use std::alloc::Global;
@@ -63,6 +63,13 @@ fn outstanding_handles(rt: HostRuntime) -> Result<(), Fail> {
         analyst.compact()?;
         are_outstanding(&rt, alloc, &analyst, process, opens)?;
     }
+    Ok(())
+}
+
+#[test]
+fn a_close_before_its_open_is_held(rt: HostRuntime) -> Result<(), Fail> {
+    let analyst = taken(&rt, rt.alloc(), TWO_PROCESSORS, CLOSE_BEFORE_OPEN)?;
+    assert_eq!(rt; sizes(&analyst), (0, 2, 2));
     Ok(())
 }
 

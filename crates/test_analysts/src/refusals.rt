@@ -4,27 +4,30 @@ use crate::analysts::{TWO_PROCESSORS, compacted, new, take, take_of, taken};
 use htl_analyst::{Analyst, AnalystFault, MergeFault, TakeFault, Took};
 use htl_event::NoMemory;
 use htl_samples::{SampleFault, TRACE, Trace};
-use htl_segment::{Fault, Segment};
+use htl_segment::{Fault, Segment, decode, from_hex};
 use linked_list_allocator::LocalHeap;
 use std::alloc::Global;
 use std::process::Abort;
 use std::test::Fail;
 
+const STORED: &[u8] = b"484c5331 0100 0100 0000 0000 00000000 0700000000000000 03000000 9c000000
+    0100000000000000 01 00 0000 04000000 0c000000 44000000 0000000000000000 00000000
+    0200000000000000 02 00 0000 04000000 0c000000 44000000 0000000000000000 00000000
+    0300000000000000 01 02 0000 04000000 0c000000 48000000 0000000000000000 00000000
+    1010000000000000 0020000000000000";
+
 const OTHER_TRACE: Trace = Trace { id: 8, ..TRACE };
 
 #[test]
 fn numbers_of_processors(rt: HostRuntime) -> Result<(), Fail> {
-    for (processors, fault) in [
-        (0, Some(AnalystFault::Processors)),
-        (1, None),
-        (256, None),
-        (257, Some(AnalystFault::Processors)),
+    for (processors, answer) in [
+        (0, Err(AnalystFault::Processors)),
+        (1, Ok(1)),
+        (256, Ok(256)),
+        (257, Err(AnalystFault::Processors)),
     ] {
-        assert_eq!(rt;
-            Analyst::new(rt.alloc(), 7, processors).err(),
-            fault,
-            "{processors}"
-        );
+        let made = Analyst::new(rt.alloc(), 7, processors);
+        assert_eq!(rt; made.map(|analyst| analyst.processors()), answer);
     }
     Ok(())
 }
@@ -48,6 +51,39 @@ fn segments_that_are_not_taken(rt: HostRuntime) -> Result<(), Fail> {
         assert_eq!(rt; take_of(alloc, &mut analyst, trace, line)?, answer);
         assert_eq!(rt; analyst.taken(), 1);
     }
+    Ok(())
+}
+
+#[test]
+fn a_conflicting_segment_is_handed_back(rt: HostRuntime) -> Result<(), Fail> {
+    let mut analyst = taken(&rt, rt.alloc(), TRACE, &["0/3: O 1 0x44"])?;
+    let segment = TRACE.segment(rt.alloc(), "0/3: O 2 0x44")?;
+    let copy = segment.copy()?;
+    let (fault, back) = analyst.take(segment).expect_err(&rt, "a conflict");
+    assert_eq!(rt; fault, TakeFault::Conflict(0, 3));
+    assert!(rt; back.same(&copy));
+    Ok(())
+}
+
+/// The stored run's bytes, in this version.
+fn stored(rt: &impl Abort, alloc: Global, version: u8) -> Segment {
+    let mut bytes = from_hex(alloc, STORED).expect(rt, "hexadecimal digits");
+    if let Some(byte) = bytes.get_mut(4) {
+        *byte = version;
+    }
+    let (segment, _len) = decode(alloc, &bytes).expect(rt, "a segment");
+    segment
+}
+
+#[test]
+fn one_content_in_two_versions(rt: HostRuntime) -> Result<(), Fail> {
+    let mut analyst = new(&rt, rt.alloc(), TRACE);
+    assert_eq!(rt; analyst.take(stored(&rt, rt.alloc(), 1))?, Took::New);
+    let other = analyst.take(stored(&rt, rt.alloc(), 2));
+    assert_eq!(rt;
+        other.err().map(|refused| refused.0),
+        Some(TakeFault::Conflict(0, 0))
+    );
     Ok(())
 }
 

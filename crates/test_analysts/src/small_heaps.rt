@@ -26,9 +26,13 @@ const LINES: [&str; 5] = [
 
 const MORE: [&str; 3] = ["0/4: O 21 0x58", "1/4: S 20", "1/3: O 15 0x5c"];
 
+const OBJECT: u64 = 0x1000;
+
+const TAG: [u8; 4] = *b"Lky8";
+
 const SLOT: Slot = Slot::Tagged {
-    object: 0x1000,
-    tag: *b"Lky8",
+    object: OBJECT,
+    tag: TAG,
 };
 
 /// The calls that take their memory from the analyst's own heap.
@@ -89,16 +93,63 @@ fn agree(
     one: &Analyst<&LocalHeap>,
     other: &Analyst<&LocalHeap>,
 ) -> Result<(), NoMemory> {
-    assert_eq!(rt; one.taken(), other.taken());
-    let opens = one.outstanding(alloc, 4)?;
-    assert_eq!(rt; opens.as_slice(), other.outstanding(alloc, 4)?.as_slice());
+    agree_on_opens(rt, alloc, one, other)?;
+    agree_on_stacks(rt, alloc, one, other)?;
+    agree_on_tags(rt, alloc, one, other)?;
+    agree_on_numbers(rt, one, other);
     Ok(())
 }
 
-fn agree_on_counts(rt: &impl Abort, one: &Analyst<&LocalHeap>, other: &Analyst<&LocalHeap>) {
-    let path = [0x30];
-    assert_eq!(rt; one.under(&path, SLOT), other.under(&path, SLOT));
+fn agree_on_opens(
+    rt: &impl Abort,
+    alloc: Global,
+    one: &Analyst<&LocalHeap>,
+    other: &Analyst<&LocalHeap>,
+) -> Result<(), NoMemory> {
+    let opens = one.outstanding(alloc, 4)?;
+    assert_eq!(rt; opens.as_slice(), other.outstanding(alloc, 4)?.as_slice());
+    let since = one.mark(4);
+    let opens = one.diff(alloc, 4, since)?;
+    assert_eq!(rt; opens.as_slice(), other.diff(alloc, 4, since)?.as_slice());
+    Ok(())
+}
+
+fn agree_on_stacks(
+    rt: &impl Abort,
+    alloc: Global,
+    one: &Analyst<&LocalHeap>,
+    other: &Analyst<&LocalHeap>,
+) -> Result<(), NoMemory> {
+    let leaks = one.leaks(alloc, 4)?;
+    assert!(rt; leaks.iter().eq(&other.leaks(alloc, 4)?));
+    let bad = one.bad(alloc, 4)?;
+    assert!(rt; bad.iter().eq(&other.bad(alloc, 4)?));
+    Ok(())
+}
+
+fn agree_on_tags(
+    rt: &impl Abort,
+    alloc: Global,
+    one: &Analyst<&LocalHeap>,
+    other: &Analyst<&LocalHeap>,
+) -> Result<(), NoMemory> {
+    let tags = one.tags(alloc, OBJECT)?;
+    assert_eq!(rt; tags.as_slice(), other.tags(alloc, OBJECT)?.as_slice());
+    let stacks = one.stacks(alloc, OBJECT, TAG)?;
+    assert!(rt; stacks.iter().eq(&other.stacks(alloc, OBJECT, TAG)?));
+    Ok(())
+}
+
+fn agree_on_numbers(rt: &impl Abort, one: &Analyst<&LocalHeap>, other: &Analyst<&LocalHeap>) {
+    assert_eq!(rt; one.taken(), other.taken());
     assert_eq!(rt; one.mark(4), other.mark(4));
+    assert_eq!(rt; one.under(&[0x30], SLOT), other.under(&[0x30], SLOT));
+    for handle in [0x44, 0x48, 0x50, 0x54, 0x58] {
+        assert_eq!(rt; one.latest(4, handle), other.latest(4, handle));
+    }
+    for number in 0..8 {
+        assert_eq!(rt; one.has(0, number), other.has(0, number));
+    }
 }
 
 /// What is to be found after the call: what was there before if it is refused, and else what it
@@ -133,7 +184,6 @@ fn tried<'a>(
     let twin = wanted(rt, alloc, call, roomy, refused)?;
     assert!(rt; analyst.same(&twin) || refused && call == Call::Compact);
     agree(rt, alloc, &analyst, &twin)?;
-    agree_on_counts(rt, &analyst, &twin);
     Ok(Some(refused))
 }
 

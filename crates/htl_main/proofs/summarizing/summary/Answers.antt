@@ -18,7 +18,7 @@ returns c T trace sizes whole table =
       gaps,
       processes,
       objects,
-      c.totals.ensures T sizes whole
+      c.totals.ensures T sizes
           (subst (λ (es : List Event). IsNumberOfObjects es number) events (c.in_ok-number.ensures.number T right)),
       whole_gaps T a gaps whole c.in_ok-gaps.ensures,
       subst (λ (es : List Event). IsProcesses es processes) events (c.in_ok-processes.ensures T trace right),

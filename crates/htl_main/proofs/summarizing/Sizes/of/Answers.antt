@@ -1,4 +1,4 @@
--- The sizes are those of the case's segments.
+-- The sizes are those of the case's segments, and of its coverage.
 use Rattle.std.proofs.Common.{◌∙◌, List, ap, length}
 use Rattle.htl_segment.specs.Content.{Content}
 use Rattle.htl_segment.specs.Traces.{all_events}
@@ -14,4 +14,5 @@ returns c = record {
   processors = c.processors.ensures;
   segments = ap length c.segments.ensures.value;
   events = c.event_count.ensures ∙ ap (λ (ss : List Content). length (all_events ss)) c.segments-2.ensures.value;
+  complete_to = c.requires.complete_to;
 }

@@ -9,7 +9,7 @@ pub fn reads_are_bounded()
     ensures { MAX_READS ≡ 2 ^ 32 }
 {}
 
-/// How many bytes one read may ask for.
+/// How many bytes each read asks for.
 pub fn a_read_is_bounded()
     ensures { MAX_READ_LEN ≡ 2 ^ 16 }
 {}

@@ -3,11 +3,12 @@
 ghost use Rattle.std.specs.Prelude.{◌≡◌, ◌≤◌, ◌||◌, ℕ, Bool, List, Option, None, false, length};
 ghost use Rattle.std.specs.Prelude.{is_err, IfOk};
 ghost use Rattle.std.specs.Io.KnownBytes.{ReadConsumes};
+ghost use Rattle.htl_device.specs.Devices.{finds_end, reads_after};
 
 use crate::Failed;
 use std::io::Read;
 
-/// How many bytes one read may ask for.
+/// How many bytes each read asks for.
 pub const MAX_READ_LEN: usize = 65_536;
 
 /// Bytes that are read from the front.
@@ -18,18 +19,33 @@ pub trait Source {
     // Whether a read has failed.
     ghost has_failed: { Self → Bool };
 
+    // How many reads gave bytes, as far as 64 bits count.
+    ghost good_reads: { Self → ℕ };
+
+    // Whether the last read found the end.
+    ghost has_ended: { Self → Bool };
+
     /// Whether a read has failed. It stays so.
     fn failed(&self) -> bool
         ensures { result ≡ has_failed self.now };
 
-    /// Reads some of the bytes that are left, at most as many as the buffer holds. None for a
-    /// buffer that isn't empty means that the source has ended. No buffer is longer than 65,536
-    /// bytes.
+    /// How many reads gave bytes, or `u64::MAX` where more did.
+    fn reads(&self) -> u64
+        ensures { result ≡ good_reads self.now };
+
+    /// Whether the last read found the end.
+    fn ended(&self) -> bool
+        ensures { result ≡ has_ended self.now };
+
+    /// Reads some of the bytes that are left into a buffer of 65,536 bytes, and says how many. None
+    /// means that the source has ended.
     fn read(&mut self, buffer: &mut [u8]) -> Result<usize, Failed>
-        requires { length buffer.old ≤ MAX_READ_LEN }
+        requires { length buffer.old ≡ MAX_READ_LEN }
         ensures bound { IfOk result (λ n. n ≤ length buffer.new) }
         ensures bytes { ReadConsumes (remaining self.old) (remaining self.new) result buffer.new }
-        ensures fails { has_failed self.new ≡ (has_failed self.old || is_err result) };
+        ensures fails { has_failed self.new ≡ (has_failed self.old || is_err result) }
+        ensures counts { good_reads self.new ≡ reads_after (good_reads self.old) result }
+        ensures ends { has_ended self.new ≡ finds_end result };
 }
 
 /// A reader of std as a source.
@@ -37,18 +53,24 @@ pub trait Source {
 pub struct Reading<R> {
     reader: R,
     failed: bool,
+    reads: u64,
+    ended: bool,
 }
 
 impl<R: Read> Reading<R> {
-    /// A source that has not failed and gives what the reader gives. Each error of the reader is a
+    /// A source that was not read yet and gives what the reader gives. Each error of the reader is a
     /// failure, also one that a caller might try again after.
     pub fn new(reader: R) -> Reading<R>
         ensures fresh { ⟦<Reading<R> as Source>⟧.has_failed result ≡ false }
+        ensures unread { ⟦<Reading<R> as Source>⟧.good_reads result ≡ 0 }
+        ensures inside { ⟦<Reading<R> as Source>⟧.has_ended result ≡ false }
         ensures bytes { ⟦<Reading<R> as Source>⟧.remaining result ≡ R.remaining reader }
     {
         Reading {
             reader,
             failed: false,
+            reads: 0,
+            ended: false,
         }
     }
 }
@@ -58,13 +80,33 @@ impl<R: Read> Source for Reading<R> {
 
     ghost has_failed = { λ s. s.failed };
 
+    ghost good_reads = { λ s. s.reads };
+
+    ghost has_ended = { λ s. s.ended };
+
     fn failed(&self) -> bool {
         self.failed
     }
 
+    fn reads(&self) -> u64 {
+        self.reads
+    }
+
+    fn ended(&self) -> bool {
+        self.ended
+    }
+
     fn read(&mut self, buffer: &mut [u8]) -> Result<usize, Failed> {
+        self.ended = false;
         match self.reader.read(buffer) {
-            Ok(count) => Ok(count),
+            Ok(0) => {
+                self.ended = true;
+                Ok(0)
+            }
+            Ok(count) => {
+                self.reads = self.reads.saturating_add(1);
+                Ok(count)
+            }
             Err(_) => {
                 self.failed = true;
                 Err(Failed)

@@ -1,7 +1,7 @@
 //! Whole texts, over as many reads or writes as they take.
-ghost use Rattle.std.specs.Prelude.{◌≡◌, ◌<◌, ◌≤◌, ◌⊎◌, [], false, true, length, is_err, IfOk};
-ghost use Rattle.std.specs.Prelude.{IfErr, IfSome, OnOk, OnErr};
-ghost use Rattle.std.specs.Io.KnownBytes.{Appends};
+ghost use Rattle.std.specs.Prelude.{◌≡◌, ◌<◌, ◌≤◌, ◌⊎◌, ℕ, List, [], false, true, length, is_err};
+ghost use Rattle.std.specs.Prelude.{IfOk, IfErr, IfSome, OnOk, OnErr};
+ghost use Rattle.std.specs.Io.KnownBytes.{Appends, Consumes};
 ghost use Rattle.htl_device.specs.Devices.{AppendsPrefix};
 ghost use Rattle.htl_device.specs.declared.whole.ReadFault.TheVariants.{NoMemory};
 
@@ -50,18 +50,20 @@ impl From<AllocError> for ReadFault {
 /// How many reads of one source may give bytes: 2^32.
 pub const MAX_READS: u64 = 4_294_967_296;
 
-/// All bytes of a source, in reads of at most 65,536 bytes. The 2^32-nd read may still find the
-/// end, and a source that gives bytes at each of them has failed. Memory is asked for once some
-/// bytes came.
+/// All bytes of a source, in reads of 65,536 bytes each. The 2^32-nd read may still find the end, and
+/// a source that gives bytes at each of them has failed. Memory is asked for once some bytes came,
+/// and no more once the end was found.
 pub fn read_whole<R: Source>(alloc: Global, source: &mut R) -> Result<Vec<u8>, ReadFault>
     requires { R.has_failed source.old ≡ false }
     ensures ok { IfOk result (λ v. IfSome (R.remaining source.old) (λ xs. v.items ≡ xs)) }
     ensures fine { OnOk result (R.has_failed source.new ≡ false) }
     ensures reported { R.has_failed source.new ≡ true → result ≡ Err ReadFault.Failed }
-    ensures memory { result ≡ Err NoMemory
-        → IfSome (R.remaining source.old) (λ xs. 0 < length xs) }
+    ensures memory { result ≡ Err NoMemory → (R.has_ended source.new ≡ false)
+        × (read : List ℕ) × (0 < length read)
+        × Consumes (R.remaining source.old) (R.remaining source.new) read }
     ensures failed { IfErr result (λ e. (e ≡ NoMemory) ⊎ ((R.has_failed source.new ≡ true)
-        ⊎ IfSome (R.remaining source.old) (λ xs. MAX_READS ≤ length xs))) }
+        ⊎ ((MAX_READS ≤ R.good_reads source.new)
+        × IfSome (R.remaining source.old) (λ xs. MAX_READS ≤ length xs)))) }
 {
     let mut buffer = [0u8; MAX_READ_LEN];
     let mut bytes = Vec::new(alloc);
@@ -77,16 +79,17 @@ fn read_within<R: Source>(
     most: u64,
 ) -> Result<(), ReadFault>
     requires fresh { R.has_failed source.old ≡ false }
-    requires room { 0 < length buffer.old }
-    requires short { length buffer.old ≤ MAX_READ_LEN }
+    requires whole { length buffer.old ≡ MAX_READ_LEN }
     requires empty { bytes.old.items ≡ [] }
     ensures ok { OnOk result (IfSome (R.remaining source.old) (λ xs. bytes.new.items ≡ xs)) }
     ensures fine { OnOk result (R.has_failed source.new ≡ false) }
     ensures reported { R.has_failed source.new ≡ true → result ≡ Err ReadFault.Failed }
-    ensures memory { result ≡ Err NoMemory
-        → IfSome (R.remaining source.old) (λ xs. 0 < length xs) }
+    ensures memory { result ≡ Err NoMemory → (R.has_ended source.new ≡ false)
+        × (read : List ℕ) × (0 < length read)
+        × Consumes (R.remaining source.old) (R.remaining source.new) read }
     ensures failed { IfErr result (λ e. (e ≡ NoMemory) ⊎ ((R.has_failed source.new ≡ true)
-        ⊎ IfSome (R.remaining source.old) (λ xs. most ≤ length xs))) }
+        ⊎ ((most ≤ R.good_reads source.new)
+        × IfSome (R.remaining source.old) (λ xs. most ≤ length xs)))) }
 {
     for _read in 0..most {
         let Ok(count) = source.read(buffer) else {

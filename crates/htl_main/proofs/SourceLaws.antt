@@ -1,20 +1,15 @@
 -- Sources one after another: which of them has failed, and what is reported of the one that was read last.
-use Rattle.std.proofs.Common.{◌≡◌, ◌<◌, ◌≤◌, ℕ, zero, suc, Bool, true, false, List, [], ◌∷◌, length, map, All, refl, sym, ap, ◌∙◌}
+use Rattle.std.proofs.Common.{◌≡◌, ◌⊎◌, ◌<◌, ◌≤◌, ℕ, zero, suc, Bool, true, false, List, [], ◌∷◌, length, map, All, refl, sym, ap, ◌∙◌}
 use Rattle.std.proofs.Common.{Option, Some, None, IfSome, arith, inl, inr}
 use Rattle.std.specs.Prelude.{slice_get, option_map}
 use Rattle.std.proofs.Math.ListN.{set}
-use Rattle.std.proofs.lemmas.List.Elements.{All-head, All-tail}
+use Rattle.std.proofs.KnownBytes.{Consumes-nil}
+use Rattle.std.proofs.lemmas.List.Elements.{All-head, All-nil, All-tail}
 use Rattle.std.proofs.lemmas.Option.{slice_get-map}
 use Rattle.htl_device.specs.declared.whole.TheConstants.{MAX_READS}
-use Rattle.htl_segment.specs.Content.{Content}
-use Rattle.htl_command.specs.declared.question.Job.{Job}
-use Rattle.htl_main.specs.Inputs.{DecodeAll, IsReported, StopsAt}
-use Rattle.htl_main.specs.Printed.{WorkersFit}
-use Rattle.htl_main.specs.Causes.{IsCauseAfter}
-use Rattle.htl_main.specs.Sources.{IsReportedOfSource, IsSourcesCause, IsTrueAt, MayBeEndless}
-use Rattle.htl_main.specs.declared.fault.RunFault.{RunFault}
-use Rattle.htl_main.specs.declared.fault.RunFault.TheVariants.{Workers, Segment, Hex, Case, Symbols, Read}
-use Rattle.htl_main.specs.declared.fault.RunFault.TheVariants.{SymbolsRead, Write, Memory, NoThread}
+use Rattle.htl_segment.specs.Content.{Fits}
+use Rattle.htl_main.specs.Sources.{AreReadToFault, IsEndless, IsReadToFault, IsTrueAt}
+use Rattle.htl_main.proofs.SplitLaws.{read_without_fault}
 
 pub slice_get-set_other : {X : Type 0} (xs : List X) (i k : ℕ) (y : X) → (k ≡ i → ⊥) → slice_get (set xs i y) k ≡ slice_get xs k
 slice_get-set_other [] i k y other = refl
@@ -70,15 +65,13 @@ knows_all (x ∷ inputs) zero known is = record { input = x; here = refl; is = c
 knows_all (x ∷ inputs) (suc place) known is =
     let there = knows_all inputs place known is in record { input = there.input; here = there.here; is = there.is }
 
--- the source that is read next gives what it gave at the start
+-- the source that is read next is as it was at the start
 pub known_now : {X : Type 0} (f : X → Option (List ℕ)) (first now : List X) (place : ℕ) (x : X)
-    → slice_get (map f now) place ≡ slice_get (map f first) place → slice_get now place ≡ Some x
-    → slice_get (map f first) place ≡ Some (f x)
-known_now f first now place x left here =
-    sym left ∙ slice_get-map f now place ∙ ap (option_map f) here
+    → slice_get now place ≡ slice_get first place → slice_get now place ≡ Some x → slice_get (map f first) place ≡ Some (f x)
+known_now f first now place x left here = slice_get-map f first place ∙ ap (option_map f) (sym left ∙ here)
 
 pub knows_now : {X : Type 0} (f : X → Option (List ℕ)) (first now : List X) (inputs : List (List ℕ)) (place : ℕ) (x : X)
-    → slice_get (map f now) place ≡ slice_get (map f first) place → slice_get now place ≡ Some x
+    → slice_get now place ≡ slice_get first place → slice_get now place ≡ Some x
     → map f first ≡ map (λ (y : List ℕ). Some y) inputs → Knows inputs place (f x)
 knows_now f first now inputs place x left here all =
     knows_all inputs place (f x) (ap (λ (l : List (Option (List ℕ))). slice_get l place) (sym all)
@@ -90,12 +83,48 @@ pub at_known : (inputs : List (List ℕ)) (place : ℕ) (known : Option (List �
 at_known inputs place None P knows fact = absurd (let is = knows.is in cc)
 at_known inputs place (Some x) P knows fact = let is : x ≡ knows.input = let e = knows.is in cc in rw (← is) fact
 
-pub endless_at : {X : Type 0} (f : X → Option (List ℕ)) (first : List X) (place : ℕ) (x : X) → slice_get (map f first) place ≡ Some (f x)
-    → IfSome (f x) (λ bytes. MAX_READS ≤ length bytes) → MayBeEndless (map f first) place
-endless_at f first place x here many = (f x, here, many)
+-- what a new element at a place is mapped to
+pub value_there : {X Y : Type 0} (f : X → Y) (xs : List X) (i : ℕ) (y : X) → i < length xs → slice_get (map f (set xs i y)) i ≡ Some (f y)
+value_there f xs i y within = slice_get-map f (set xs i y) i ∙ ap (option_map f) (slice_get-set_same xs i y within)
 
--- memory is asked for where a source gives some bytes
-pub asked_of : (hex : Bool) (place : ℕ) (known : Option (List ℕ)) → IfSome known (λ bytes. 0 < length bytes)
-    → IfSome known (λ bytes. IsReportedOfSource hex place bytes Memory)
-asked_of hex place None some = tt
-asked_of hex place (Some bytes) some = inl some
+-- so many reads of the source at a place gave bytes
+pub endless_at : {X : Type 0} (f : X → Option (List ℕ)) (reads : X → ℕ) (first now : List X) (place : ℕ) (x y : X)
+    → place < length now → slice_get (map f first) place ≡ Some (f x)
+    → (MAX_READS ≤ reads y) × IfSome (f x) (λ bytes. MAX_READS ≤ length bytes)
+    → IsEndless (map reads (set now place y)) (map f first) place
+endless_at f reads first now place x y within here many =
+    (reads y, value_there reads now place y within, many.0, f x, here, many.1)
+
+-- ---- how far sources are read
+
+pub unread_to_fault : (known : Option (List ℕ)) → IsReadToFault known known
+unread_to_fault known = read_without_fault known known [] [] (All-nil Fits) (record { cut_off = inl (omega arith) }) (Consumes-nil known)
+
+-- no source was read
+pub none_read : (known : List (Option (List ℕ))) → AreReadToFault known known
+none_read known place given left here there =
+    let same : given ≡ left = cc (here, there) in rw same (unread_to_fault left)
+
+same_or_other : (a b : ℕ) → (a ≡ b) ⊎ (a ≡ b → ⊥)
+same_or_other zero zero = inl refl
+same_or_other zero (suc b) = inr (λ e. omega arith)
+same_or_other (suc a) zero = inr (λ e. omega arith)
+same_or_other (suc a) (suc b) =
+    elim (same_or_other a b) [
+      | inl same ↦ inl (ap suc same)
+      | inr other ↦ inr (λ e. other (omega arith))
+    ]
+
+-- one source more was read
+pub one_read : {X : Type 0} (f : X → Option (List ℕ)) (known : List (Option (List ℕ))) (now : List X) (i : ℕ) (x y : X) → i < length now
+    → AreReadToFault known (map f now) → slice_get known i ≡ Some (f x) → IsReadToFault (f x) (f y) → AreReadToFault known (map f (set now i y))
+one_read f known now i x y within before here one place given left is new =
+    elim (same_or_other place i) [
+      | inl same ↦
+          let there : slice_get (map f (set now i y)) place ≡ Some (f y) = rw same (value_there f now i y within) in
+          let was : slice_get known place ≡ Some (f x) = rw same here in
+          let given_is : given ≡ f x = cc (is, was) in
+          let left_is : left ≡ f y = cc (new, there) in
+          rw (given_is, left_is) one
+      | inr other ↦ before place given left is (sym (other_value f now i place y other) ∙ new)
+    ]

@@ -1,5 +1,6 @@
 -- For the clauses of private functions: how the reading of the source at a place may end.
-use Rattle.std.specs.Prelude.{◌≡◌, ◌≢◌, ◌≤◌, ◌⊎◌, ℕ, Bool, true, List, length, Option, IfSome, IfErr, Result, Err}
+use Rattle.std.specs.Prelude.{◌≡◌, ◌≢◌, ◌<◌, ◌≤◌, ◌⊎◌, ℕ, Bool, true, List, length, Option, IfSome, IfErr, Result, Err}
+use Rattle.htl_main.specs.Sources.{EndsBefore}
 use Rattle.htl_main.specs.declared.fault.RunFault.{RunFault}
 use Rattle.htl_main.specs.declared.fault.RunFault.TheVariants.{Read, Write}
 
@@ -7,10 +8,15 @@ use Rattle.htl_main.specs.declared.fault.RunFault.TheVariants.{Read, Write}
 abbrev pub ReportsFailure : {S : Type 0} → ℕ → Bool → Result S RunFault → Type 0
 ReportsFailure place failed result = failed ≡ true → result ≡ Err (Read place)
 
--- a failed read is reported of this source, and only where one failed, or where the bytes, if they are known, may be too many reads
-abbrev pub FailsOnly : {S : Type 0} → ℕ → Bool → Option (List ℕ) → ℕ → Result S RunFault → Type 0
-FailsOnly place failed known most result =
-    (at : ℕ) → result ≡ Err (Read at) → (at ≡ place) × ((failed ≡ true) ⊎ IfSome known (λ bytes. most ≤ length bytes))
+-- a failed read is reported of this source, and only where one failed, or so many reads gave bytes
+abbrev pub FailsOnly : {S : Type 0} → ℕ → Bool → ℕ → Option (List ℕ) → ℕ → Result S RunFault → Type 0
+FailsOnly place failed reads known most result =
+    (at : ℕ) → result ≡ Err (Read at)
+    → (at ≡ place) × ((failed ≡ true) ⊎ ((most ≤ reads) × IfSome known (λ bytes. most ≤ length bytes)))
+
+-- a fault that names an input names this one
+abbrev pub NamesOnly : {S : Type 0} → ℕ → Result S RunFault → Type 0
+NamesOnly place result = IfErr result (λ fault. (later : ℕ) → EndsBefore fault later → place < later)
 
 -- no failed read is reported
 abbrev pub NeverRead : {S : Type 0} → Result S RunFault → Type 0

@@ -1,36 +1,79 @@
--- Why a run over sources ends (this project's own). What a source gives is known where it reports its bytes.
-use Rattle.std.specs.Prelude.{◌≡◌, ◌<◌, ◌≤◌, ◌⊎◌, ℕ, Bool, true, List, length, slice_get, Option, Some, IfSome}
+-- Why a run over sources ends, and how far it reads them (this project's own). What a source gives is known where it reports its bytes.
+use Rattle.std.specs.Prelude.{◌≡◌, ◌<◌, ◌≤◌, ◌⊎◌, ⊤, ℕ, Bool, true, false, List, ◌++◌, length, slice_get, Option, Some, IfSome}
+use Rattle.std.specs.Io.KnownBytes.{Consumes}
+use Rattle.htl_device.specs.declared.source.TheConstants.{MAX_READ_LEN}
 use Rattle.htl_device.specs.declared.whole.TheConstants.{MAX_READS}
 use Rattle.htl_command.specs.declared.question.Job.{Job}
 use Rattle.htl_segment.specs.Content.{Content}
+use Rattle.htl_segment.specs.Bundles.{IsRest, RestAt, Splits}
 use Rattle.htl_main.specs.Inputs.{AsksMemory, DecodeAll, IsReported, StopsAt}
 use Rattle.htl_main.specs.Printed.{WorkersFit}
 use Rattle.htl_main.specs.Causes.{IsCause, IsCauseAfter}
 use Rattle.htl_main.specs.declared.fault.RunFault.{RunFault}
-use Rattle.htl_main.specs.declared.fault.RunFault.TheVariants.{Read, Memory}
+use Rattle.htl_main.specs.declared.fault.RunFault.TheVariants.{Workers, Segment, Hex, Read, Memory}
 
--- What is reported of the source at a place that gives these bytes. Memory is asked for once some of them came.
-abbrev pub IsReportedOfSource : Bool → ℕ → List ℕ → RunFault → Type 0
-IsReportedOfSource hex place input (Read at) = at ≡ place
-IsReportedOfSource hex place input Memory = (0 < length input) ⊎ AsksMemory hex input
-IsReportedOfSource hex place input fault = IsReported hex place input fault
+-- Memory is asked for to keep what was read: a text in hexadecimal, and of bytes the last, which more may make a segment of.
+abbrev pub KeepsSome : Bool → List ℕ → Type 0
+KeepsSome true read = 0 < length read
+KeepsSome false read = (offset : ℕ) × RestAt read offset
+
+-- What is reported of the source at a place that gave some of these bytes, has others left, and whose end was found or not.
+-- While its end isn't found, memory is asked for to keep what was read too.
+abbrev pub IsReportedOfSource : Bool → Option (List ℕ) → Bool → ℕ → List ℕ → RunFault → Type 0
+IsReportedOfSource hex left ended place input (Read at) = at ≡ place
+IsReportedOfSource hex left ended place input Memory =
+    AsksMemory hex input ⊎ ((ended ≡ false) × (read : List ℕ) × Consumes (Some input) left read × KeepsSome hex read)
+IsReportedOfSource hex left ended place input fault = IsReported hex place input fault
+
+-- the same where this is left of each source, and these ends were found
+abbrev pub IsReportedAt : Bool → List (Option (List ℕ)) → List Bool → ℕ → List ℕ → RunFault → Type 0
+IsReportedAt hex lefts ends place input fault =
+    (left : Option (List ℕ)) × (ended : Bool) × (slice_get lefts place ≡ Some left) × (slice_get ends place ≡ Some ended)
+    × IsReportedOfSource hex left ended place input fault
 
 -- Why a run over sources of these bytes ends: as one over the bytes does, or at a source that could not be read, or
 -- for which memory was refused.
-abbrev pub IsSourcesCause : Job → List (List ℕ) → Option (List ℕ) → RunFault → Type 0
-IsSourcesCause job inputs symbols (Read at) =
-    WorkersFit job.workers × StopsAt job.hex (IsReportedOfSource job.hex) inputs (Read at)
-IsSourcesCause job inputs symbols Memory =
+abbrev pub IsSourcesCause : Job → List (List ℕ) → List (Option (List ℕ)) → List Bool → Option (List ℕ) → RunFault → Type 0
+IsSourcesCause job inputs lefts ends symbols (Read at) =
+    WorkersFit job.workers × StopsAt job.hex (IsReportedAt job.hex lefts ends) inputs (Read at)
+IsSourcesCause job inputs lefts ends symbols Memory =
     WorkersFit job.workers
-    × (StopsAt job.hex (IsReportedOfSource job.hex) inputs Memory
+    × (StopsAt job.hex (IsReportedAt job.hex lefts ends) inputs Memory
     ⊎ ((segments : List Content) × DecodeAll job.hex inputs segments × IsCauseAfter segments symbols job.question Memory))
-IsSourcesCause job inputs symbols fault = IsCause job inputs symbols fault
+IsSourcesCause job inputs lefts ends symbols fault = IsCause job inputs symbols fault
 
 -- the test is true of the element at the place
 abbrev pub IsTrueAt : List Bool → ℕ → Type 0
 IsTrueAt tests place = slice_get tests place ≡ Some true
 
--- there is a source at the place, with so many bytes, if it reports them, that reads may have come to their bound
-abbrev pub MayBeEndless : List (Option (List ℕ)) → ℕ → Type 0
-MayBeEndless known place =
-    (given : Option (List ℕ)) × (slice_get known place ≡ Some given) × IfSome given (λ bytes. MAX_READS ≤ length bytes)
+-- So many reads of the source at the place gave bytes that it was read no further. It has as many bytes, if it reports them.
+abbrev pub IsEndless : List ℕ → List (Option (List ℕ)) → ℕ → Type 0
+IsEndless reads known place =
+    (n : ℕ) × (slice_get reads place ≡ Some n) × (MAX_READS ≤ n)
+    × (given : Option (List ℕ)) × (slice_get known place ≡ Some given) × IfSome given (λ bytes. MAX_READS ≤ length bytes)
+
+-- a run that ends with the fault doesn't read the input at the place
+abbrev pub EndsBefore : RunFault → ℕ → Type 0
+EndsBefore Workers place = ⊤
+EndsBefore (Segment input offset fault) place = input < place
+EndsBefore (Hex input fault) place = input < place
+EndsBefore (Read input) place = input < place
+EndsBefore fault place = ⊥
+
+-- What was read of a source of bytes: segments and the beginning of one more, and after these one read's bytes at most. So it
+-- is read no further once a fault was read.
+pub record IsReadToFault (given left : Option (List ℕ)) : Type 0 where
+  pub before : List ℕ
+  pub segments : List Content
+  pub rest : List ℕ
+  pub splits : Splits before segments rest
+  pub is_rest : IsRest rest
+  pub last : List ℕ
+  pub few : length last ≤ MAX_READ_LEN
+  pub read : Consumes given left (before ++ last)
+
+-- the same of each source
+abbrev pub AreReadToFault : List (Option (List ℕ)) → List (Option (List ℕ)) → Type 0
+AreReadToFault known lefts =
+    (place : ℕ) (given left : Option (List ℕ)) → slice_get known place ≡ Some given → slice_get lefts place ≡ Some left
+    → IsReadToFault given left

@@ -13,7 +13,8 @@
 //! `specs/` is read in this order: `Inputs` (which segments the inputs encode, and which input is
 //! refused first), `Summaries` (what a summary says of a trace), `Coverages` (how much of its
 //! trace a case has), `Printed` (the lines of the answer, or the first fault in the order of a
-//! run), `Causes` and `Sources` (how a run ends for out of memory or by a failing device).
+//! run), `Causes` and `Sources` (how a run ends for out of memory or by a failing device, and how
+//! far it reads).
 #![tactic(auto)]
 
 mod answering;

@@ -2,14 +2,16 @@
 
 ghost use Rattle.std.specs.Prelude.{◌≡◌, ◌⊎◌, ◌+◌, ◌*◌, ◌<◌, ◌≤◌, ◌^◌, ◌++◌};
 ghost use Rattle.std.specs.Prelude.{ℕ, List, [], All, None, Some, false, true};
-ghost use Rattle.std.specs.Prelude.{length, map, IfOk, IfErr, IfSome};
+ghost use Rattle.std.specs.Prelude.{length, map, slice_get, IfOk, IfErr, IfSome};
 ghost use Rattle.htl_segment.specs.Bundles.{IsRest, Splits, cut_off};
 ghost use Rattle.htl_segment.specs.Pieces.{RefusesPiece, start_of};
 ghost use Rattle.htl_segment.specs.declared.fault.Fault.{Fault};
 ghost use Rattle.htl_main.specs.Faults.{of_segment};
 ghost use Rattle.htl_main.specs.Inputs.{Decodes, DecodeAll, StopsAt};
-ghost use Rattle.htl_main.specs.Reads.{FailsOnly, NeverRead, NeverWrite, ReportsFailure};
-ghost use Rattle.htl_main.specs.Sources.{IsReportedOfSource, IsTrueAt, MayBeEndless};
+ghost use Rattle.htl_main.specs.Reads.{FailsOnly, NamesOnly, NeverRead, NeverWrite};
+ghost use Rattle.htl_main.specs.Reads.{ReportsFailure};
+ghost use Rattle.htl_main.specs.Sources.{AreReadToFault, EndsBefore, IsEndless, IsReadToFault};
+ghost use Rattle.htl_main.specs.Sources.{IsReportedAt, IsReportedOfSource, IsTrueAt};
 
 use crate::fault::RunFault;
 use crate::inputs::decode_input;
@@ -28,12 +30,17 @@ pub(crate) fn read_all<R: Source>(
     ensures ok { (inputs : List (List ℕ)) → map R.remaining sources.old ≡ map Some inputs
         → IfOk result (λ segments. DecodeAll hex inputs segments.items) }
     ensures err { (inputs : List (List ℕ)) → map R.remaining sources.old ≡ map Some inputs
-        → IfErr result (StopsAt hex (IsReportedOfSource hex) inputs) }
+        → IfErr result (StopsAt hex (IsReportedAt hex (map R.remaining sources.new)
+        (map R.has_ended sources.new)) inputs) }
     ensures reported { (place : ℕ) → IsTrueAt (map R.has_failed sources.new) place
         → result ≡ Err (RunFault.Read place) }
     ensures read { (place : ℕ) → result ≡ Err (RunFault.Read place)
         → IsTrueAt (map R.has_failed sources.new) place
-        ⊎ MayBeEndless (map R.remaining sources.old) place }
+        ⊎ IsEndless (map R.good_reads sources.new) (map R.remaining sources.old) place }
+    ensures unread { IfErr result (λ fault. (place : ℕ) → EndsBefore fault place
+        → slice_get sources.new place ≡ slice_get sources.old place) }
+    ensures to_fault { hex ≡ false
+        → AreReadToFault (map R.remaining sources.old) (map R.remaining sources.new) }
     ensures no_write { NeverWrite result }
 {
     let mut segments = Vec::new(alloc);
@@ -54,11 +61,14 @@ fn read_input<R: Source>(
     requires { R.has_failed source.old ≡ false }
     ensures ok { IfOk result (λ segments. IfSome (R.remaining source.old)
         (λ bytes. Decodes hex bytes segments.items)) }
-    ensures err { IfErr result (λ fault. IfSome (R.remaining source.old)
-        (λ bytes. IsReportedOfSource hex place bytes fault)) }
+    ensures err { IfErr result (λ fault. IfSome (R.remaining source.old) (λ bytes.
+        IsReportedOfSource hex (R.remaining source.new) (R.has_ended source.new) place bytes fault)) }
     ensures reported { ReportsFailure place (R.has_failed source.new) result }
-    ensures read { FailsOnly place (R.has_failed source.new) (R.remaining source.old)
-        MAX_READS result }
+    ensures read { FailsOnly place (R.has_failed source.new) (R.good_reads source.new)
+        (R.remaining source.old) MAX_READS result }
+    ensures named { NamesOnly place result }
+    ensures to_fault { hex ≡ false
+        → IsReadToFault (R.remaining source.old) (R.remaining source.new) }
     ensures no_write { NeverWrite result }
 {
     if hex {
@@ -77,11 +87,12 @@ fn read_digits<R: Source>(
     requires { R.has_failed source.old ≡ false }
     ensures ok { IfOk result (λ segments. IfSome (R.remaining source.old)
         (λ text. Decodes true text segments.items)) }
-    ensures err { IfErr result (λ fault. IfSome (R.remaining source.old)
-        (λ text. IsReportedOfSource true place text fault)) }
+    ensures err { IfErr result (λ fault. IfSome (R.remaining source.old) (λ text.
+        IsReportedOfSource true (R.remaining source.new) (R.has_ended source.new) place text fault)) }
     ensures reported { ReportsFailure place (R.has_failed source.new) result }
-    ensures read { FailsOnly place (R.has_failed source.new) (R.remaining source.old)
-        MAX_READS result }
+    ensures read { FailsOnly place (R.has_failed source.new) (R.good_reads source.new)
+        (R.remaining source.old) MAX_READS result }
+    ensures named { NamesOnly place result }
     ensures no_write { NeverWrite result }
 {
     match read_whole(alloc, source) {
@@ -91,7 +102,8 @@ fn read_digits<R: Source>(
 }
 
 /// The segments whose bytes the source at a place gives. Each read is split at once, so that no
-/// more of the bytes is kept than one segment that is not there whole yet.
+/// more of the bytes is kept than one segment that is not there whole yet, and a fault ends the
+/// reading.
 fn read_bundle<R: Source>(
     alloc: Global,
     place: u64,
@@ -100,11 +112,13 @@ fn read_bundle<R: Source>(
     requires { R.has_failed source.old ≡ false }
     ensures ok { IfOk result (λ segments. IfSome (R.remaining source.old)
         (λ bytes. Splits bytes segments.items [])) }
-    ensures err { IfErr result (λ fault. IfSome (R.remaining source.old)
-        (λ bytes. IsReportedOfSource false place bytes fault)) }
+    ensures err { IfErr result (λ fault. IfSome (R.remaining source.old) (λ bytes.
+        IsReportedOfSource false (R.remaining source.new) (R.has_ended source.new) place bytes fault)) }
     ensures reported { ReportsFailure place (R.has_failed source.new) result }
-    ensures read { FailsOnly place (R.has_failed source.new) (R.remaining source.old)
-        MAX_READS result }
+    ensures read { FailsOnly place (R.has_failed source.new) (R.good_reads source.new)
+        (R.remaining source.old) MAX_READS result }
+    ensures named { NamesOnly place result }
+    ensures to_fault { IsReadToFault (R.remaining source.old) (R.remaining source.new) }
     ensures no_write { NeverWrite result }
 {
     let mut buffer = [0u8; MAX_READ_LEN];
@@ -120,16 +134,17 @@ fn split_within<R: Source>(
     most: u64,
 ) -> Result<Vec<Segment>, RunFault>
     requires fresh { R.has_failed source.old ≡ false }
-    requires room { 0 < length buffer.old }
-    requires short { length buffer.old ≤ MAX_READ_LEN }
-    requires few { most * length buffer.old < 2 ^ 64 }
+    requires whole { length buffer.old ≡ MAX_READ_LEN }
+    requires few { most * MAX_READ_LEN < 2 ^ 64 }
     ensures ok { IfOk result (λ segments. IfSome (R.remaining source.old)
         (λ bytes. Splits bytes segments.items [])) }
-    ensures err { IfErr result (λ fault. IfSome (R.remaining source.old)
-        (λ bytes. IsReportedOfSource false place bytes fault)) }
+    ensures err { IfErr result (λ fault. IfSome (R.remaining source.old) (λ bytes.
+        IsReportedOfSource false (R.remaining source.new) (R.has_ended source.new) place bytes fault)) }
     ensures reported { ReportsFailure place (R.has_failed source.new) result }
-    ensures read { FailsOnly place (R.has_failed source.new) (R.remaining source.old)
-        most result }
+    ensures read { FailsOnly place (R.has_failed source.new) (R.good_reads source.new)
+        (R.remaining source.old) most result }
+    ensures named { NamesOnly place result }
+    ensures to_fault { IsReadToFault (R.remaining source.old) (R.remaining source.new) }
     ensures no_write { NeverWrite result }
 {
     let mut splitter = Splitter::new(alloc);
@@ -160,10 +175,12 @@ fn feed(
         Splits (splitter.old.rest ++ piece.now) segments.items splitter.new.rest
         × ((splitter.new.fed ≡ splitter.old.fed + length piece.now)
         × (splitter.new.fault ≡ None))) }
+    ensures rest { IsRest splitter.new.rest }
     ensures err { IfErr result (λ fault. (refusal : ℕ × Fault)
         × RefusesPiece splitter.old piece.now refusal
         × (fault ≡ of_segment place refusal.0 refusal.1)) }
     ensures no_read { NeverRead result }
+    ensures named { NamesOnly place result }
     ensures no_write { NeverWrite result }
 {
     match splitter.feed(alloc, piece) {
@@ -179,6 +196,7 @@ fn finish(place: u64, splitter: Splitter, segments: Vec<Segment>) -> Result<Vec<
     ensures err { IfErr result (λ fault. (0 < length splitter.rest) × IsRest splitter.rest
         × (fault ≡ of_segment place (start_of splitter) (cut_off splitter.rest))) }
     ensures no_read { NeverRead result }
+    ensures named { NamesOnly place result }
     ensures no_write { NeverWrite result }
 {
     match splitter.finish() {

@@ -1,11 +1,12 @@
 //! The run over sources, which are read as it goes on.
 
 ghost use Rattle.std.specs.Prelude.{◌≡◌, ◌≢◌, ◌⊎◌, ℕ, List, All, Some};
-ghost use Rattle.std.specs.Prelude.{false, true, map, IfErr, IfOk, OnOk};
+ghost use Rattle.std.specs.Prelude.{false, true, map, slice_get, IfErr, IfOk, OnOk};
 ghost use Rattle.std.specs.Option.{option_copied};
 ghost use Rattle.htl_main.specs.Causes.{Prints, PrintsPart};
 ghost use Rattle.htl_main.specs.Coverages.{Covers};
-ghost use Rattle.htl_main.specs.Sources.{IsSourcesCause, IsTrueAt, MayBeEndless};
+ghost use Rattle.htl_main.specs.Sources.{AreReadToFault, EndsBefore, IsEndless};
+ghost use Rattle.htl_main.specs.Sources.{IsSourcesCause, IsTrueAt};
 
 use crate::coverage::Coverage;
 use crate::fault::RunFault;
@@ -18,10 +19,11 @@ use std::sync::Wait;
 use std::thread::Threads;
 
 /// The same as `run` for the bytes that sources give, each of which is read to its end in reads of
-/// at most 65,536 bytes.
+/// 65,536 bytes.
 ///
-/// A fault of a source's bytes ends the run with no further read. Bytes are decoded as they come; a
-/// text in hexadecimal is gathered whole first.
+/// A fault of a source ends the run: no later source is read, and of its own bytes, which are
+/// decoded as they come, none after the read that gave the fault. A text in hexadecimal is gathered
+/// whole first.
 pub fn run_from<Rt: Threads + Wait + Sync, R: Source, W: Sink>(
     rt: &Rt,
     alloc: Global,
@@ -40,7 +42,8 @@ pub fn run_from<Rt: Threads + Wait + Sync, R: Source, W: Sink>(
         → IfOk result (Covers job.now.hex texts) }
     ensures fine { OnOk result (W.has_failed out.new ≡ false) }
     ensures cause { (texts : List (List ℕ)) → map R.remaining inputs.old ≡ map Some texts
-        → IfErr result (IsSourcesCause job.now texts (option_copied symbols.entry)) }
+        → IfErr result (IsSourcesCause job.now texts (map R.remaining inputs.new)
+        (map R.has_ended inputs.new) (option_copied symbols.entry)) }
     ensures write { (texts : List (List ℕ)) → map R.remaining inputs.old ≡ map Some texts
         → result ≡ Err RunFault.Write
         → PrintsPart job.now texts (option_copied symbols.entry)
@@ -51,7 +54,12 @@ pub fn run_from<Rt: Threads + Wait + Sync, R: Source, W: Sink>(
         → result ≡ Err (RunFault.Read place) }
     ensures read { (place : ℕ) → result ≡ Err (RunFault.Read place)
         → IsTrueAt (map R.has_failed inputs.new) place
-        ⊎ MayBeEndless (map R.remaining inputs.old) place }
+        ⊎ IsEndless (map R.good_reads inputs.new) (map R.remaining inputs.old) place }
+    // A fault ends the reading.
+    ensures unread { IfErr result (λ fault. (place : ℕ) → EndsBefore fault place
+        → slice_get inputs.new place ≡ slice_get inputs.old place) }
+    ensures to_fault { job.now.hex ≡ false
+        → AreReadToFault (map R.remaining inputs.old) (map R.remaining inputs.new) }
     ensures untouched { IfErr result (λ fault. fault ≢ RunFault.Write → out.new ≡ out.old) }
 {
     check_workers(job.workers)?;

@@ -306,6 +306,23 @@ late_stays_long b more fault None long head late is =
       | inr whole ↦ first_fault-append b more long whole ∙ is
     ]
 
+no_fault_stays_long : (b more : List ℕ) (head : Option Fault) → 32 ≤ length b → header_fault b ≡ head → first_fault b ≡ None
+    → first_fault (b ++ more) ≡ None
+no_fault_stays_long b more (Some first) long head none = absurd (cc (sym (first_fault-header b first head) ∙ none))
+no_fault_stays_long b more None long head none =
+    elim (cases_lt (length b) (length_in b)) [
+      | inl cut ↦ absurd (cc (sym (first_fault-cut b head cut) ∙ none))
+      | inr whole ↦ first_fault-append b more long whole ∙ none
+    ]
+
+-- a segment at the front
+pub no_fault_stays : (b more : List ℕ) → first_fault b ≡ None → first_fault (b ++ more) ≡ None
+no_fault_stays b more none =
+    elim (cases_lt (length b) 32) [
+      | inl short ↦ absurd (cc (sym (short_end b short) ∙ none))
+      | inr long ↦ no_fault_stays_long b more (header_fault b) long refl none
+    ]
+
 -- a fault that more bytes can't mend
 pub late_stays : (b more : List ℕ) (fault : Fault) → is_early_end fault ≡ false → first_fault b ≡ Some fault
     → first_fault (b ++ more) ≡ Some fault

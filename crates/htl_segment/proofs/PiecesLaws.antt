@@ -19,7 +19,7 @@ use Rattle.htl_segment.specs.Pieces.{SplitterState, RefusesPiece, AsksMemory, jo
 use Rattle.htl_segment.specs.Feeding.{Extends, HasRoom}
 use Rattle.htl_segment.proofs.SegmentLaws.{segment_again, begins}
 use Rattle.htl_segment.proofs.MoreBytes.{number-append, header_fault-append, first_fault-append}
-use Rattle.htl_segment.proofs.BundleLaws.{early_end, refused_boundary, late_stays, whole_fault, first_fault-rest}
+use Rattle.htl_segment.proofs.BundleLaws.{early_end, refused_boundary, late_stays, no_fault_stays, whole_fault, first_fault-rest}
 
 bundle-append : (ss ts : List Content) → bundle (ss ++ ts) ≡ bundle ss ++ bundle ts
 bundle-append ss ts = flat_map-append encoding ss ts
@@ -276,6 +276,15 @@ fault_more b more offset fault late found = record {
   offset_is = found.offset_is;
   some = omega (arith, length-append found.rest more, found.some);
   fault_is = late_stays found.rest more fault late found.fault_is;
+}
+
+pub segment_more : (b more : List ℕ) (offset : ℕ) → SegmentAt b offset → SegmentAt (b ++ more) offset
+segment_more b more offset at = record {
+  before = at.before;
+  rest = at.rest ++ more;
+  splits = record { parts = regroup b at.rest more at.before at.splits; fits = at.splits.fits };
+  offset_is = at.offset_is;
+  no_fault = no_fault_stays at.rest more at.no_fault;
 }
 
 fault_here : (s : SplitterState) (a piece more : List ℕ) (ss : List Content) (offset inside : ℕ) (fault : Fault) → Splits a ss s.rest

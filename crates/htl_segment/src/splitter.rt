@@ -89,6 +89,8 @@ impl Splitter {
             })) }
         ensures refused { self.old.fault ≡ None → IfErr result (λ refusal.
             RefusesPiece self.old piece.now refusal × self.new ≡ after_refusal self.old refusal) }
+        // What every splitter keeps, so that callers have it too.
+        ensures rest { IsRest self.new.rest }
     {
         if let Some(fault) = self.fault {
             return Err(fault);

@@ -1,5 +1,5 @@
 -- What was read so far and what is left are what the source had; each read gave bytes.
-use Rattle.std.proofs.Common.{◌≡◌, ◌<◌, ◌≤◌, length, false}
+use Rattle.std.proofs.Common.{◌≡◌, ◌≤◌, length, false}
 use Rattle.std.specs.Io.KnownBytes.{Consumes}
 use Rattle.htl_device.specs.declared.source.TheConstants.{MAX_READ_LEN}
 use Rattle.htl_device.proofs.whole.read_within.Given as goal
@@ -9,6 +9,6 @@ invariant-loop-read g l = record {
   given : Consumes (g.R.Source.remaining l.initial.source) (g.R.Source.remaining l.source) l.bytes.items;
   fine : g.R.Source.has_failed l.source ≡ false;
   each : l._read ≤ length l.bytes.items;
-  room : 0 < length l.buffer;
-  short : length l.buffer ≤ MAX_READ_LEN;
+  counted : l._read ≤ g.R.Source.good_reads l.source;
+  whole : length l.buffer ≡ MAX_READ_LEN;
 }

@@ -1,5 +1,5 @@
 -- One source more, and what is reported of the first that is refused or can't be read.
-use Rattle.std.proofs.Common.{◌≡◌, ◌<◌, false, length, get_or, arith, inl, inr}
+use Rattle.std.proofs.Common.{◌≡◌, ◌∙◌, ◌<◌, false, length, map, get_or, arith, inl, inr, refl}
 use Rattle.std.proofs.lemmas.Bool.{false_from_ne_true}
 use Rattle.std.proofs.lemmas.List.Elements.{All-set}
 use Rattle.std.proofs.lemmas.Option.{slice_get-get_or}
@@ -7,7 +7,8 @@ use Rattle.std.proofs.lemmas.Result.{err_from_is_err_and}
 use Rattle.htl_main.specs.Inputs.{Decodes}
 use Rattle.htl_main.specs.Sources.{IsReportedOfSource}
 use Rattle.htl_main.proofs.InputLaws.{asked_for, decode_next}
-use Rattle.htl_main.proofs.SourceLaws.{at_known, endless_at, known_now, other_value, knows_now, true_nowhere, true_of_new, true_there}
+use Rattle.htl_main.proofs.SourceLaws.{at_known, endless_at, known_now, knows_now, none_read, one_read, slice_get-set_other, true_nowhere, true_of_new}
+use Rattle.htl_main.proofs.SourceLaws.{true_there, value_there}
 use Rattle.htl_main.proofs.sources.read_all.Goals as goal
 
 pub returns-in_err-more-clause-err : goal.returns-in_err-more-clause-err
@@ -18,6 +19,7 @@ returns-in_err-more-clause-err g c =
     let within : place < length c.loop-place.sources = omega arith in
     let source = get_or c.loop-place.sources place c.index-sources-place.result in
     let here = slice_get-get_or c.loop-place.sources place c.index-sources-place.result within in
+    let new = c.read_input.new.source in
     λ inputs all.
     let knows = knows_now g.R.Source.remaining c.args.sources.now c.loop-place.sources inputs place source
     (inv.left place (omega arith)) here all in
@@ -27,8 +29,14 @@ returns-in_err-more-clause-err g c =
       here = knows.here;
       segments = c.loop-place.segments.items;
       before = inv.decoded inputs all;
-      reported = at_known inputs place (g.R.Source.remaining source)
-          (λ bytes. IsReportedOfSource c.args.hex place bytes c.in_err-more.field-0.0) knows c.in_err-more.ensures.err;
+      reported = (
+        g.R.Source.remaining new,
+        g.R.Source.has_ended new,
+        value_there g.R.Source.remaining c.loop-place.sources place new within,
+        value_there g.R.Source.has_ended c.loop-place.sources place new within,
+        at_known inputs place (g.R.Source.remaining source) (λ bytes. IsReportedOfSource c.args.hex (g.R.Source.remaining new)
+            (g.R.Source.has_ended new) place bytes c.in_err-more.field-0.0) knows c.in_err-more.ensures.err,
+      );
     }
 
 pub returns-in_err-append-clause-err : goal.returns-in_err-append-clause-err
@@ -41,6 +49,7 @@ returns-in_err-append-clause-err g c =
     let source = get_or c.loop-place.sources place c.index-sources-place.result in
     let here = slice_get-get_or c.loop-place.sources place c.index-sources-place.result within in
     let some : 0 < length more = omega (arith, c.in_err-append.ensures.full) in
+    let new = c.read_input.new.source in
     λ inputs all.
     let knows = knows_now g.R.Source.remaining c.args.sources.now c.loop-place.sources inputs place source
     (inv.left place (omega arith)) here all in
@@ -50,8 +59,14 @@ returns-in_err-append-clause-err g c =
       here = knows.here;
       segments = c.loop-place.segments.items;
       before = inv.decoded inputs all;
-      reported = inr (asked_for c.args.hex knows.input more (at_known inputs place (g.R.Source.remaining source)
-          (λ bytes. Decodes c.args.hex bytes more) knows c.in_ok-more.ensures.ok) some);
+      reported = (
+        g.R.Source.remaining new,
+        g.R.Source.has_ended new,
+        value_there g.R.Source.remaining c.loop-place.sources place new within,
+        value_there g.R.Source.has_ended c.loop-place.sources place new within,
+        inl (asked_for c.args.hex knows.input more (at_known inputs place (g.R.Source.remaining source)
+            (λ bytes. Decodes c.args.hex bytes more) knows c.in_ok-more.ensures.ok) some),
+      );
     }
 
 pub returns-in_err-more-clause-reported : goal.returns-in_err-more-clause-reported
@@ -75,10 +90,43 @@ returns-in_err-more-clause-read g c =
     let read = c.in_err-more.ensures.read at (cc (p.1, p.2, ended)) in
     rw (read.0) (elim (read.1) [
       | inl failed ↦ inl (true_there g.R.Source.has_failed c.loop-place.sources place c.read_input.new.source within failed)
-      | inr many ↦ inr (endless_at g.R.Source.remaining c.args.sources.now place source
-          (known_now g.R.Source.remaining c.args.sources.now c.loop-place.sources place source
+      | inr many ↦ inr (endless_at g.R.Source.remaining g.R.Source.good_reads c.args.sources.now c.loop-place.sources place source
+          c.read_input.new.source within (known_now g.R.Source.remaining c.args.sources.now c.loop-place.sources place source
           (inv.left place (omega arith)) here) many)
     ])
+
+pub returns-in_err-more-clause-unread : goal.returns-in_err-more-clause-unread
+returns-in_err-more-clause-unread g c =
+    let p = err_from_is_err_and c.from_residual.result c.from_residual.ensures.1 in
+    let place = c.loop-place.place in
+    rw (p.1, p.2) (λ later before.
+    let above : place < later = c.in_err-more.ensures.named later before in
+    slice_get-set_other c.loop-place.sources place later c.read_input.new.source (λ e. omega arith)
+    ∙ c.loop-place.invariant.left later (omega arith))
+
+pub returns-in_err-more-clause-to_fault : goal.returns-in_err-more-clause-to_fault
+returns-in_err-more-clause-to_fault g c =
+    let inv = c.loop-place.invariant in
+    let place = c.loop-place.place in
+    let within : place < length c.loop-place.sources = omega arith in
+    let source = get_or c.loop-place.sources place c.index-sources-place.result in
+    let here = slice_get-get_or c.loop-place.sources place c.index-sources-place.result within in
+    λ bytes.
+    one_read g.R.Source.remaining (map g.R.Source.remaining c.args.sources.now) c.loop-place.sources place source c.read_input.new.source within
+    (inv.to_fault bytes) (known_now g.R.Source.remaining c.args.sources.now c.loop-place.sources place source
+    (inv.left place (omega arith)) here) (c.in_err-more.ensures.to_fault bytes)
+
+pub returns-in_err-append-clause-to_fault : goal.returns-in_err-append-clause-to_fault
+returns-in_err-append-clause-to_fault g c =
+    let inv = c.loop-place.invariant in
+    let place = c.loop-place.place in
+    let within : place < length c.loop-place.sources = omega arith in
+    let source = get_or c.loop-place.sources place c.index-sources-place.result in
+    let here = slice_get-get_or c.loop-place.sources place c.index-sources-place.result within in
+    λ bytes.
+    one_read g.R.Source.remaining (map g.R.Source.remaining c.args.sources.now) c.loop-place.sources place source c.read_input.new.source within
+    (inv.to_fault bytes) (known_now g.R.Source.remaining c.args.sources.now c.loop-place.sources place source
+    (inv.left place (omega arith)) here) (c.in_ok-more.ensures.to_fault bytes)
 
 pub returns-in_err-append-clause-reported : goal.returns-in_err-append-clause-reported
 returns-in_err-append-clause-reported g c =
@@ -87,6 +135,14 @@ returns-in_err-append-clause-reported g c =
     c.loop-place.invariant.fine failed in
     let reported = c.in_ok-more.ensures.reported new.1 in
     absurd (cc reported)
+
+pub loop-place-init : goal.loop-place-init
+loop-place-init g c = record {
+  left = λ k above. refl;
+  fine = c.requires;
+  decoded = λ inputs all. c.new-segments.ensures.items;
+  to_fault = λ bytes. none_read (map g.R.Source.remaining c.args.sources.now);
+}
 
 pub loop-place-preserved : goal.loop-place-preserved
 loop-place-preserved g c =
@@ -99,8 +155,7 @@ loop-place-preserved g c =
     false_from_ne_true (g.R.Source.has_failed c.read_input.new.source) (λ failed. let reported = c.in_ok-more.ensures.reported failed in cc reported) in
     record {
       left = λ k above.
-          let same = other_value g.R.Source.remaining c.loop-place.sources place k c.read_input.new.source (λ e. omega arith) in
-          let before = inv.left k (omega arith) in cc (same, before);
+          slice_get-set_other c.loop-place.sources place k c.read_input.new.source (λ e. omega arith) ∙ inv.left k (omega arith);
       fine = All-set (λ source. g.R.Source.has_failed source ≡ false) c.loop-place.sources place c.read_input.new.source fine inv.fine;
       decoded = λ inputs all.
           let knows = knows_now g.R.Source.remaining c.args.sources.now c.loop-place.sources inputs place source
@@ -109,6 +164,10 @@ loop-place-preserved g c =
           c.in_ok-more.more.items knows.here (inv.decoded inputs all) (at_known inputs place
           (g.R.Source.remaining source) (λ bytes. Decodes c.args.hex bytes c.in_ok-more.more.items) knows
           c.in_ok-more.ensures.ok));
+      to_fault = λ bytes.
+          one_read g.R.Source.remaining (map g.R.Source.remaining c.args.sources.now) c.loop-place.sources place source
+          c.read_input.new.source within (inv.to_fault bytes) (known_now g.R.Source.remaining c.args.sources.now
+          c.loop-place.sources place source (inv.left place (omega arith)) here) (c.in_ok-more.ensures.to_fault bytes);
     }
 
 pub returns-clause-reported : goal.returns-clause-reported

@@ -1,11 +1,16 @@
--- One read more, and the end of the source.
-use Rattle.std.proofs.Common.{◌≡◌, ◌+◌, ◌<◌, ◌≤◌, ◌++◌, ℕ, false, [], length, take, arith, ap, subst, ◌∙◌, sym}
+-- One read more, the end of the source, and that a fault ends the reading.
+use Rattle.std.proofs.Common.{◌≡◌, ◌+◌, ◌<◌, ◌≤◌, ◌++◌, ℕ, true, false, [], length, take, arith, ap, subst, ◌∙◌, sym}
 use Rattle.std.proofs.lemmas.Grind.{common_steps}
 use Rattle.std.proofs.lemmas.List.{length-append}
 use Rattle.std.proofs.lemmas.Result.{err_from_is_err_and}
+use Rattle.std.specs.Prelude.{is_err}
 use Rattle.std.specs.Io.KnownBytes.{Consumes, IsAtEnd}
-use Rattle.htl_main.proofs.SourceLaws.{asked_of}
-use Rattle.htl_main.proofs.SplitLaws.{finished, finished_inside, read_bounded, refused, some_given, taken, taken_next}
+use Rattle.htl_device.specs.declared.source.TheConstants.{MAX_READ_LEN}
+use Rattle.htl_segment.specs.declared.fault.Fault.TheVariants as faults
+use Rattle.htl_segment.specs.Pieces.{start_of}
+use Rattle.htl_segment.proofs.PiecesLaws.{brought, list_refused}
+use Rattle.htl_main.proofs.SplitLaws.{finished, finished_inside, read_before, read_bounded, read_once_more, read_without_fault}
+use Rattle.htl_main.proofs.SplitLaws.{refused, taken, taken_next, taken_splits}
 use Rattle.htl_main.proofs.sources.split_within.Goals as goal
 
 pub returns-then-count-eq0-clause-ok : goal.returns-then-count-eq0-clause-ok
@@ -27,41 +32,89 @@ returns-then-count-eq0-clause-err g c =
     let none : Consumes (g.R.Source.remaining c.loop-read.source) last [] =
     subst (λ (n : ℕ). Consumes (g.R.Source.remaining c.loop-read.source) last (take n c.read.new.buffer)) zero c.in-Ok.ensures.bytes.0 in
     let end : IsAtEnd last = c.in-Ok.ensures.bytes.1 zero (omega arith) in
-    finished_inside (g.R.Source.remaining c.args.source.now) (g.R.Source.remaining c.loop-read.source) last c.args.place
-    c.loop-read.splitter c.loop-read.segments.items c.finish.result inv.fits inv.fed inv.given none end c.finish.ensures.err
+    finished_inside (g.R.Source.remaining c.args.source.now) (g.R.Source.remaining c.loop-read.source) last
+    (g.R.Source.has_ended c.read.new.self) c.args.place c.loop-read.splitter c.loop-read.segments.items c.finish.result inv.fits inv.fed
+    inv.given none end c.finish.ensures.err
 
 pub returns-in_err-more-clause-err : goal.returns-in_err-more-clause-err
 returns-in_err-more-clause-err g c =
     let p = err_from_is_err_and c.from_residual.result c.from_residual.ensures.1 in
     let inv = c.loop-read.invariant in
     let reported = c.in_err-more.ensures.err in
-    let count : 0 < c.in-Ok.count = grind (arith, common_steps) in
-    let short : c.in-Ok.count ≤ length c.read.new.buffer = c.in-Ok.ensures.bound in
-    let some : 0 < length (take c.in-Ok.count c.read.new.buffer) = grind (arith, common_steps) in
+    let refusal = reported.0 in
+    let s = c.loop-read.splitter in
+    let read = taken c.loop-read.segments.items s.rest in
+    let piece = take c.in-Ok.count c.read.new.buffer in
+    let more_left : g.R.Source.has_ended c.read.new.self ≡ false = grind (arith, common_steps) in
     rw (p.1, p.2, reported.2) (refused (g.R.Source.remaining c.args.source.now) (g.R.Source.remaining c.loop-read.source)
-    (g.R.Source.remaining c.read.new.self) c.args.place c.loop-read.splitter c.loop-read.segments.items
-    (take c.in-Ok.count c.read.new.buffer) reported.0 inv.fits inv.fed inv.given c.in-Ok.ensures.bytes.0 some reported.1)
+    (g.R.Source.remaining c.read.new.self) (g.R.Source.has_ended c.read.new.self) c.args.place read piece refusal.0 refusal.1 more_left
+    inv.given c.in-Ok.ensures.bytes.0 (λ left. brought s read piece left c.loop-read.segments.items refusal (taken_splits
+    c.loop-read.segments.items s.rest inv.fits) inv.fed reported.1))
 
 pub returns-in_err-append-clause-err : goal.returns-in_err-append-clause-err
 returns-in_err-append-clause-err g c =
     let p = err_from_is_err_and c.from_residual-in_err-append.result c.from_residual-in_err-append.ensures.1 in
     let inv = c.loop-read.invariant in
-    let count : 0 < c.in-Ok.count = grind (arith, common_steps) in
-    let short : c.in-Ok.count ≤ length c.read.new.buffer = c.in-Ok.ensures.bound in
-    let some : 0 < length (take c.in-Ok.count c.read.new.buffer) = grind (arith, common_steps) in
-    rw (p.1, p.2) (asked_of false c.args.place (g.R.Source.remaining c.args.source.now)
-    (some_given (g.R.Source.remaining c.args.source.now) (g.R.Source.remaining c.loop-read.source) (g.R.Source.remaining c.read.new.self)
-    (taken c.loop-read.segments.items c.loop-read.splitter.rest) (take c.in-Ok.count c.read.new.buffer) inv.given c.in-Ok.ensures.bytes.0
-    some))
+    let s = c.loop-read.splitter in
+    let segments = c.loop-read.segments.items in
+    let more = c.in_ok-more.more.items in
+    let read = taken segments s.rest in
+    let piece = take c.in-Ok.count c.read.new.buffer in
+    let some : 0 < length more = omega (arith, c.in_err-append.ensures.full) in
+    let more_left : g.R.Source.has_ended c.read.new.self ≡ false = grind (arith, common_steps) in
+    rw (p.1, p.2) (refused (g.R.Source.remaining c.args.source.now) (g.R.Source.remaining c.loop-read.source)
+    (g.R.Source.remaining c.read.new.self) (g.R.Source.has_ended c.read.new.self) c.args.place read piece (start_of s) faults.NoMemory
+    more_left inv.given c.in-Ok.ensures.bytes.0 (λ left. list_refused s read piece left c.feed.new.splitter.rest segments more (taken_splits
+    segments s.rest inv.fits) inv.fed c.in_ok-more.ensures.ok.0 some))
+
+pub returns-in_default-clause-to_fault : goal.returns-in_default-clause-to_fault
+returns-in_default-clause-to_fault g c =
+    let inv = c.loop-read.invariant in
+    let segments = c.loop-read.segments.items in
+    let rest = c.loop-read.splitter.rest in
+    let failed : is_err c.read.result ≡ true = grind (arith, common_steps) in
+    read_without_fault (g.R.Source.remaining c.args.source.now) (g.R.Source.remaining c.read.new.self) segments rest inv.fits inv.is_rest
+    (read_before (g.R.Source.remaining c.args.source.now) (g.R.Source.remaining c.loop-read.source) (g.R.Source.remaining c.read.new.self)
+    (taken segments rest) c.read.new.buffer c.read.result failed c.read.ensures.bytes inv.given)
+
+pub returns-then-count-eq0-clause-to_fault : goal.returns-then-count-eq0-clause-to_fault
+returns-then-count-eq0-clause-to_fault g c =
+    let inv = c.loop-read.invariant in
+    let piece = take c.in-Ok.count c.read.new.buffer in
+    let few : length piece ≤ MAX_READ_LEN = grind (arith, common_steps) in
+    read_once_more (g.R.Source.remaining c.args.source.now) (g.R.Source.remaining c.loop-read.source) (g.R.Source.remaining c.read.new.self)
+    c.loop-read.segments.items c.loop-read.splitter.rest piece inv.fits inv.is_rest inv.given c.in-Ok.ensures.bytes.0 few
+
+pub returns-in_err-more-clause-to_fault : goal.returns-in_err-more-clause-to_fault
+returns-in_err-more-clause-to_fault g c =
+    let inv = c.loop-read.invariant in
+    let piece = take c.in-Ok.count c.read.new.buffer in
+    let few : length piece ≤ MAX_READ_LEN = grind (arith, common_steps) in
+    read_once_more (g.R.Source.remaining c.args.source.now) (g.R.Source.remaining c.loop-read.source) (g.R.Source.remaining c.read.new.self)
+    c.loop-read.segments.items c.loop-read.splitter.rest piece inv.fits inv.is_rest inv.given c.in-Ok.ensures.bytes.0 few
+
+pub returns-in_err-append-clause-to_fault : goal.returns-in_err-append-clause-to_fault
+returns-in_err-append-clause-to_fault g c =
+    let inv = c.loop-read.invariant in
+    let piece = take c.in-Ok.count c.read.new.buffer in
+    let few : length piece ≤ MAX_READ_LEN = grind (arith, common_steps) in
+    read_once_more (g.R.Source.remaining c.args.source.now) (g.R.Source.remaining c.loop-read.source) (g.R.Source.remaining c.read.new.self)
+    c.loop-read.segments.items c.loop-read.splitter.rest piece inv.fits inv.is_rest inv.given c.in-Ok.ensures.bytes.0 few
+
+pub returns-clause-to_fault : goal.returns-clause-to_fault
+returns-clause-to_fault g c =
+    let inv = c.loop-read.invariant in
+    read_without_fault (g.R.Source.remaining c.args.source.now) (g.R.Source.remaining c.loop-read.source) c.loop-read.segments.items
+    c.loop-read.splitter.rest inv.fits inv.is_rest inv.given
 
 pub loop-read-preserved : goal.loop-read-preserved
 loop-read-preserved g c =
     let inv = c.loop-read.invariant in
     let piece = take c.in-Ok.count c.read.new.buffer in
     let some : 0 < c.in-Ok.count = grind (arith, common_steps) in
-    let short : c.in-Ok.count ≤ length c.read.new.buffer = c.in-Ok.ensures.bound in
+    let few : c.in-Ok.count ≤ length c.read.new.buffer = c.in-Ok.ensures.bound in
     let size : length piece ≡ c.in-Ok.count = grind (arith, common_steps) in
-    let same : length c.read.new.buffer ≡ length c.loop-read.buffer = omega arith in
+    let whole : length c.read.new.buffer ≡ MAX_READ_LEN = grind (arith, common_steps) in
     let fed = c.in_ok-more.ensures.ok in
     let next = taken_next (g.R.Source.remaining c.args.source.now) (g.R.Source.remaining c.loop-read.source)
     (g.R.Source.remaining c.read.new.self) c.loop-read.segments.items c.in_ok-more.more.items c.loop-read.splitter.rest
@@ -76,10 +129,10 @@ loop-read-preserved g c =
       fed = rw all (fed.1.0 ∙ ap (λ (n : ℕ). n + length piece) inv.fed ∙ sym total);
       no_fault = fed.1.1;
       fine = grind (arith, common_steps);
+      is_rest = c.in_ok-more.ensures.rest;
       each = rw all (omega (arith, inv.each, total, size, some));
-      bounded = rw (fed.1.0, size, same) (read_bounded c.loop-read._read (length c.loop-read.buffer) c.loop-read.splitter.fed
-          c.in-Ok.count inv.bounded (omega arith));
-      room = omega arith;
-      short = omega arith;
-      few = rw same (inv.few);
+      counted = grind (arith, common_steps);
+      bounded = rw (fed.1.0, size) (read_bounded c.loop-read._read MAX_READ_LEN c.loop-read.splitter.fed c.in-Ok.count inv.bounded
+          (omega (arith, few, whole)));
+      whole = whole;
     }

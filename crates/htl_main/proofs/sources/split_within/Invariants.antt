@@ -1,7 +1,8 @@
 -- The segments and the rest are the bytes that the source gave so far; each read gave some.
-use Rattle.std.proofs.Common.{◌≡◌, ◌<◌, ◌≤◌, ◌*◌, ◌^◌, length, false, None, All}
+use Rattle.std.proofs.Common.{◌≡◌, ◌≤◌, ◌*◌, length, false, None, All}
 use Rattle.std.specs.Io.KnownBytes.{Consumes}
 use Rattle.htl_device.specs.declared.source.TheConstants.{MAX_READ_LEN}
+use Rattle.htl_segment.specs.Bundles.{IsRest}
 use Rattle.htl_segment.specs.Content.{Fits}
 use Rattle.htl_main.proofs.SplitLaws.{taken}
 use Rattle.htl_main.proofs.sources.split_within.Given as goal
@@ -13,9 +14,9 @@ invariant-loop-read g l = record {
   fed : l.splitter.fed ≡ length (taken l.segments.items l.splitter.rest);
   no_fault : l.splitter.fault ≡ None;
   fine : g.R.Source.has_failed l.source ≡ false;
+  is_rest : IsRest l.splitter.rest;
   each : l._read ≤ length (taken l.segments.items l.splitter.rest);
-  bounded : l.splitter.fed ≤ l._read * length l.buffer;
-  room : 0 < length l.buffer;
-  short : length l.buffer ≤ MAX_READ_LEN;
-  few : l.most * length l.buffer < 2 ^ 64;
+  counted : l._read ≤ g.R.Source.good_reads l.source;
+  bounded : l.splitter.fed ≤ l._read * MAX_READ_LEN;
+  whole : length l.buffer ≡ MAX_READ_LEN;
 }

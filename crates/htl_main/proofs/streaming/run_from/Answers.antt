@@ -1,11 +1,15 @@
 -- Before the first read no source has failed, and what can't be written was printed.
 use Rattle.std.proofs.lemmas.Result.{err_from_is_err_and}
-use Rattle.htl_main.proofs.SourceLaws.{true_nowhere}
+use Rattle.std.proofs.Common.{map}
+use Rattle.htl_main.proofs.SourceLaws.{none_read, true_nowhere}
 use Rattle.htl_main.proofs.streaming.run_from.Goals as goal
 
 pub returns-in_err-check_workers-clause-reported : goal.returns-in_err-check_workers-clause-reported
 returns-in_err-check_workers-clause-reported g c =
     λ place failed. absurd (true_nowhere g.R.Source.has_failed c.args.inputs.now place c.requires.inputs failed)
+
+pub returns-in_err-check_workers-clause-to_fault : goal.returns-in_err-check_workers-clause-to_fault
+returns-in_err-check_workers-clause-to_fault g c = λ bytes. none_read (map g.R.Source.remaining c.args.inputs.now)
 
 pub returns-in_err-write_lines-clause-cause : goal.returns-in_err-write_lines-clause-cause
 returns-in_err-write_lines-clause-cause g c =

@@ -3,7 +3,7 @@
 use allocation_trials::{Equal, Refusal, Spent, Trials};
 use anyhow::Result;
 use htl_analyst::Analyst;
-use htl_case::{Case, Step, play};
+use htl_case::{AnalystAnswer, AnalystQuestion, Case, Step, answer_after, play};
 use htl_event::SharedEvent;
 use htl_samples::SMALL;
 use htl_segment::Segment;
@@ -47,7 +47,7 @@ pub fn try_all(trials: &mut Trials<'_, HostRuntime>) -> Result<()> {
     trials.changes("Case::of", unordered, case_of)?;
     trials.reads("trace", case, trace)?;
     trials.reads("play", case, played)?;
-    Ok(())
+    trials.reads("answer_after", case, answered_after)
 }
 
 /// The segments in reverse order, each twice, for each time that a case is made of them.
@@ -79,4 +79,13 @@ fn trace(alloc: Global, case: &Case) -> Result<Equal<Vec<SharedEvent>>, Refusal>
 
 fn played(alloc: Global, case: &Case) -> Result<Vec<Analyst<Global>>, Refusal> {
     Ok(play(alloc, case, 2, &STEPS)?)
+}
+
+/// The handles that the second analyst says are open.
+fn answered_after(alloc: Global, case: &Case) -> Result<Equal<Vec<SharedEvent>>, Refusal> {
+    let question = AnalystQuestion::Outstanding { process: 4 };
+    match answer_after(alloc, case, 2, &STEPS, 1, &question)? {
+        AnalystAnswer::Outstanding(rows) => Ok(Equal(rows)),
+        _ => Err(Refusal::Other),
+    }
 }

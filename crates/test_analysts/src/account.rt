@@ -1,8 +1,9 @@
 //! A plain account of what an analyst has taken.
 
-use htl_event::{NoMemory, SharedEvent};
+use htl_event::SharedEvent;
 use htl_segment::Segment;
 use std::alloc::Global;
+use std::process::Abort;
 
 /// How many processors an account is of.
 pub const PROCESSORS: usize = 2;
@@ -22,30 +23,29 @@ impl Account {
         }
     }
 
-    pub fn copy(&self) -> Result<Account, NoMemory> {
-        Ok(Account {
-            keys: self.keys.clone()?,
+    pub fn copy(&self, rt: &impl Abort) -> Account {
+        Account {
+            keys: self.keys.clone().expect(rt, "the memory"),
             fronts: self.fronts,
-        })
+        }
     }
 
     /// Takes a segment, and says whether it is new.
-    pub fn take(&mut self, processor: u16, number: u32) -> Result<bool, NoMemory> {
+    pub fn take(&mut self, rt: &impl Abort, processor: u16, number: u32) -> bool {
         let is_new = !self.has(processor, number);
         if is_new {
-            self.keys.push((processor, number))?;
+            self.keys.push((processor, number)).expect(rt, "the memory");
         }
-        Ok(is_new)
+        is_new
     }
 
-    pub fn merge(&mut self, other: &Account) -> Result<(), NoMemory> {
+    pub fn merge(&mut self, rt: &impl Abort, other: &Account) {
         for (processor, number) in &other.keys {
-            self.take(*processor, *number)?;
+            self.take(rt, *processor, *number);
         }
         for (front, theirs) in self.fronts.iter_mut().zip(&other.fronts) {
             *front = (*theirs).max(*front);
         }
-        Ok(())
     }
 
     /// Moves each front to the least number that wasn't taken. All are below `segments`.
@@ -103,24 +103,21 @@ impl Account {
     }
 
     /// The events of the segments that were taken.
-    pub fn events(
-        &self,
-        alloc: Global,
-        segments: &[Segment],
-    ) -> Result<Vec<SharedEvent>, NoMemory> {
+    pub fn events(&self, rt: &impl Abort, alloc: Global, segments: &[Segment]) -> Vec<SharedEvent> {
         let mut events = Vec::new(alloc);
         for segment in segments {
             if self.has(segment.processor(), segment.number()) {
-                push_all(&mut events, segment.events())?;
+                push_all(rt, &mut events, segment.events());
             }
         }
-        Ok(events)
+        events
     }
 }
 
-fn push_all(events: &mut Vec<SharedEvent>, more: &[SharedEvent]) -> Result<(), NoMemory> {
+/// Copies the events.
+pub fn push_all(rt: &impl Abort, events: &mut Vec<SharedEvent>, more: &[SharedEvent]) {
     for event in more {
-        events.push(event.copy()?)?;
+        let copy = event.copy().expect(rt, "the memory");
+        events.push(copy).expect(rt, "the memory");
     }
-    Ok(())
 }

@@ -1,7 +1,8 @@
-//! Analysts made of lines.
+//! Analysts made of lines. A line that is no segment ends a test, and so does refused memory.
 
 use htl_analyst::{Analyst, TakeFault, Took};
-use htl_samples::{SampleFault, TRACE, Trace};
+use htl_samples::{TRACE, Trace};
+use htl_segment::Segment;
 use std::alloc::Global;
 use std::process::Abort;
 
@@ -11,70 +12,71 @@ pub const TWO_PROCESSORS: Trace = Trace {
     ..TRACE
 };
 
-/// An analyst that has taken nothing. There is memory for it.
+/// An analyst that has taken nothing.
 pub fn new(rt: &impl Abort, alloc: Global, trace: Trace) -> Analyst<Global> {
     Analyst::new(alloc, trace.id, trace.processors).expect(rt, "an analyst")
 }
 
+/// The segment of a line of this trace.
+pub fn segment(rt: &impl Abort, alloc: Global, trace: Trace, line: &str) -> Segment {
+    trace
+        .segment(alloc, line)
+        .expect(rt, "the line is a segment")
+}
+
 /// What an analyst answers to the segment of a line.
 pub fn take(
+    rt: &impl Abort,
     alloc: Global,
     analyst: &mut Analyst<Global>,
     line: &str,
-) -> Result<Result<Took, TakeFault>, SampleFault> {
+) -> Result<Took, TakeFault> {
     let trace = Trace {
         id: analyst.trace_id(),
         processors: analyst.processors(),
     };
-    take_of(alloc, analyst, trace, line)
+    take_of(rt, alloc, analyst, trace, line)
 }
 
 /// What an analyst answers to the segment of a line of this trace.
 pub fn take_of(
+    rt: &impl Abort,
     alloc: Global,
     analyst: &mut Analyst<Global>,
     trace: Trace,
     line: &str,
-) -> Result<Result<Took, TakeFault>, SampleFault> {
-    let segment = trace.segment(alloc, line)?;
-    Ok(analyst.take(segment).map_err(|(fault, _segment)| fault))
+) -> Result<Took, TakeFault> {
+    let segment = segment(rt, alloc, trace, line);
+    analyst.take(segment).map_err(|(fault, _segment)| fault)
 }
 
 /// Takes the segments of lines, each for the first time.
-pub fn take_all(
-    rt: &impl Abort,
-    alloc: Global,
-    analyst: &mut Analyst<Global>,
-    lines: &[&str],
-) -> Result<(), SampleFault> {
+pub fn take_all(rt: &impl Abort, alloc: Global, analyst: &mut Analyst<Global>, lines: &[&str]) {
     for line in lines {
-        assert_eq!(rt; take(alloc, analyst, line)?, Ok(Took::New), "{line}");
+        assert_eq!(rt; take(rt, alloc, analyst, line), Ok(Took::New), "{line}");
     }
-    Ok(())
+}
+
+pub fn compact(rt: &impl Abort, analyst: &mut Analyst<Global>) {
+    analyst.compact().expect(rt, "the memory");
+}
+
+pub fn merge(rt: &impl Abort, analyst: &mut Analyst<Global>, other: &Analyst<Global>) {
+    analyst.merge(other).expect(rt, "a merge");
 }
 
 /// An analyst that took the segments of lines.
-pub fn taken(
-    rt: &impl Abort,
-    alloc: Global,
-    trace: Trace,
-    lines: &[&str],
-) -> Result<Analyst<Global>, SampleFault> {
+pub fn taken(rt: &impl Abort, alloc: Global, trace: Trace, lines: &[&str]) -> Analyst<Global> {
     let mut analyst = new(rt, alloc, trace);
-    take_all(rt, alloc, &mut analyst, lines)?;
-    Ok(analyst)
+    take_all(rt, alloc, &mut analyst, lines);
+    analyst
 }
 
 /// An analyst that took the segments of lines and was compacted.
-pub fn compacted(
-    rt: &impl Abort,
-    alloc: Global,
-    trace: Trace,
-    lines: &[&str],
-) -> Result<Analyst<Global>, SampleFault> {
-    let mut analyst = taken(rt, alloc, trace, lines)?;
-    analyst.compact()?;
-    Ok(analyst)
+pub fn compacted(rt: &impl Abort, alloc: Global, trace: Trace, lines: &[&str]) -> Analyst<Global> {
+    let mut analyst = taken(rt, alloc, trace, lines);
+    compact(rt, &mut analyst);
+    analyst
 }
 
 /// The front of processor 0, and how many segments are held and were taken.

@@ -1,13 +1,12 @@
 //! Answers that count, before and after what was taken is folded.
 
-use crate::analysts::taken;
+use crate::analysts::{compact, taken};
 use htl_analyst::Analyst;
-use htl_event::{Count, NoMemory, SharedStack, Sign, Slot};
+use htl_event::{Count, SharedStack, Sign, Slot};
 use htl_samples::{TRACE, stack};
 use htl_tree::StackTree;
 use std::alloc::Global;
 use std::process::Abort;
-use std::test::Fail;
 
 /// The object and the tag of most lines.
 const OBJECT: u64 = 0x1000;
@@ -47,13 +46,14 @@ fn count(plus: u64, minus: u64) -> Count {
 }
 
 /// The tree of the shared frames, counted by hand.
-fn counted(rt: &impl Abort, alloc: Global) -> Result<StackTree<Global>, NoMemory> {
+fn counted(rt: &impl Abort, alloc: Global) -> StackTree<Global> {
     let mut tree = StackTree::new(alloc);
     for (sign, frames) in [(Sign::Minus, E), (Sign::Plus, Y), (Sign::Plus, X)] {
         assert!(rt; tree.fits(1));
-        tree.add(SLOT, sign, &stack(frames))?;
+        tree.add(SLOT, sign, &stack(frames))
+            .expect(rt, "the memory");
     }
-    Ok(tree)
+    tree
 }
 
 fn are_under(rt: &impl Abort, analyst: &Analyst<Global>) {
@@ -75,52 +75,68 @@ fn are_stacks(rt: &impl Abort, rows: &[(SharedStack, Count)], wanted: &[(&[u64],
     }
 }
 
-fn are_counted(
-    rt: &impl Abort,
-    alloc: Global,
-    analyst: &Analyst<Global>,
-    tree: &StackTree<Global>,
-) -> Result<(), NoMemory> {
-    are_under(rt, analyst);
-    assert!(rt; analyst.whole_tree()?.same(tree));
-    let rows = analyst.stacks(alloc, OBJECT, TAG)?;
+fn are_stacks_behind_tag(rt: &impl Abort, alloc: Global, analyst: &Analyst<Global>) {
+    let rows = analyst.stacks(alloc, OBJECT, TAG).expect(rt, "the memory");
     are_stacks(
         rt,
         &rows,
         &[(E, count(0, 1)), (X, count(1, 0)), (Y, count(1, 0))],
     );
-    Ok(())
+}
+
+fn has_tree(rt: &impl Abort, analyst: &Analyst<Global>, tree: &StackTree<Global>) {
+    let whole = analyst.whole_tree().expect(rt, "the memory");
+    assert!(rt; whole.same(tree));
+}
+
+fn are_counted(
+    rt: &impl Abort,
+    alloc: Global,
+    analyst: &Analyst<Global>,
+    tree: &StackTree<Global>,
+) {
+    are_under(rt, analyst);
+    has_tree(rt, analyst, tree);
+    are_stacks_behind_tag(rt, alloc, analyst);
 }
 
 #[test]
-fn shared_outer_frames(rt: HostRuntime) -> Result<(), Fail> {
-    let alloc = rt.alloc();
-    let tree = counted(&rt, alloc)?;
-    let mut analyst = taken(&rt, alloc, TRACE, SHARED_FRAMES)?;
-    are_counted(&rt, alloc, &analyst, &tree)?;
-    analyst.compact()?;
-    are_counted(&rt, alloc, &analyst, &tree)?;
-    Ok(())
+fn shared_outer_frames(rt: HostRuntime) {
+    let tree = counted(&rt, rt.alloc());
+    let mut analyst = taken(&rt, rt.alloc(), TRACE, SHARED_FRAMES);
+    are_counted(&rt, rt.alloc(), &analyst, &tree);
+    compact(&rt, &mut analyst);
+    are_counted(&rt, rt.alloc(), &analyst, &tree);
+}
+
+fn are_tags(
+    rt: &impl Abort,
+    alloc: Global,
+    analyst: &Analyst<Global>,
+    object: u64,
+    wanted: &[([u8; 4], Count)],
+) {
+    let tags = analyst.tags(alloc, object).expect(rt, "the memory");
+    assert_eq!(rt; tags.as_slice(), wanted);
 }
 
 #[test]
-fn tags_of_an_object(rt: HostRuntime) -> Result<(), Fail> {
-    let mut analyst = taken(&rt, rt.alloc(), TRACE, TAGS)?;
+fn tags_of_an_object(rt: HostRuntime) {
+    let mut analyst = taken(&rt, rt.alloc(), TRACE, TAGS);
     let wanted = [
         ([1, 0x41, 0x42, 0x43], count(0, 1)),
         (*b"Dflt", count(1, 1)),
         (TAG, count(2, 1)),
     ];
     for _ in 0..2 {
-        let tags = analyst.tags(rt.alloc(), 0xffff_a000_0000_1000)?;
-        assert_eq!(rt; tags.as_slice(), wanted.as_slice());
-        assert!(rt; analyst.tags(rt.alloc(), 0x2000)?.is_empty());
-        analyst.compact()?;
+        are_tags(&rt, rt.alloc(), &analyst, 0xffff_a000_0000_1000, &wanted);
+        are_tags(&rt, rt.alloc(), &analyst, 0x2000, &[]);
+        compact(&rt, &mut analyst);
     }
-    Ok(())
 }
 
-fn are_leaks(rt: &impl Abort, rows: &[(SharedStack, u64)]) {
+fn are_leaks(rt: &impl Abort, alloc: Global, analyst: &Analyst<Global>) {
+    let rows = analyst.leaks(alloc, 4).expect(rt, "the memory");
     let wanted: [(&[u64], u64); 3] = [(&[0x60], 2), (&[0x50, 0x20], 1), (&[0x30, 0x40], 1)];
     assert_eq!(rt; rows.len(), wanted.len());
     for ((stack, number), (frames, count)) in rows.iter().zip(wanted) {
@@ -128,7 +144,8 @@ fn are_leaks(rt: &impl Abort, rows: &[(SharedStack, u64)]) {
     }
 }
 
-fn are_bad(rt: &impl Abort, rows: &[(u32, SharedStack, u64)]) {
+fn are_bad(rt: &impl Abort, alloc: Global, analyst: &Analyst<Global>) {
+    let rows = analyst.bad(alloc, 4).expect(rt, "the memory");
     let wanted: [(u32, &[u64], u64); 2] = [(0x0, &[], 1), (0x7, &[0x10], 2)];
     assert_eq!(rt; rows.len(), wanted.len());
     for ((handle, stack, number), (written, frames, count)) in rows.iter().zip(wanted) {
@@ -140,12 +157,11 @@ fn are_bad(rt: &impl Abort, rows: &[(u32, SharedStack, u64)]) {
 }
 
 #[test]
-fn leaking_stacks_and_bad_references(rt: HostRuntime) -> Result<(), Fail> {
-    let mut analyst = taken(&rt, rt.alloc(), TRACE, LEAKS)?;
+fn leaking_stacks_and_bad_references(rt: HostRuntime) {
+    let mut analyst = taken(&rt, rt.alloc(), TRACE, LEAKS);
     for _ in 0..2 {
-        are_leaks(&rt, &analyst.leaks(rt.alloc(), 4)?);
-        are_bad(&rt, &analyst.bad(rt.alloc(), 4)?);
-        analyst.compact()?;
+        are_leaks(&rt, rt.alloc(), &analyst);
+        are_bad(&rt, rt.alloc(), &analyst);
+        compact(&rt, &mut analyst);
     }
-    Ok(())
 }

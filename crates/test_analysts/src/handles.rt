@@ -1,11 +1,10 @@
 //! Answers on handles, before and after what was taken is folded.
 
-use crate::analysts::{TWO_PROCESSORS, sizes, taken};
+use crate::analysts::{TWO_PROCESSORS, compact, sizes, taken};
 use htl_analyst::Analyst;
-use htl_event::{NoMemory, SharedEvent};
+use htl_event::SharedEvent;
 use std::alloc::Global;
 use std::process::Abort;
-use std::test::Fail;
 
 const CLOSE_BEFORE_OPEN: &[&str] = &["0/1: C 9 0x44", "0/0: O 4 0x44"];
 
@@ -17,12 +16,11 @@ const SNAPSHOT: &[&str] = &["0/0: O 7 0x14, O 8 0x10, S 10, C 11 0x14, O 12 0x18
 
 const EXIT: &[&str] = &["0/0: O 1 0x44, exit 2, O 3 0x48"];
 
-fn sequences(alloc: Global, events: &[SharedEvent]) -> Result<Vec<u64>, NoMemory> {
-    let mut sequences = Vec::new(alloc);
-    for event in events {
-        sequences.push(event.sequence)?;
+fn have_sequences(rt: &impl Abort, events: &[SharedEvent], sequences: &[u64]) {
+    assert_eq!(rt; events.len(), sequences.len());
+    for (event, sequence) in events.iter().zip(sequences) {
+        assert_eq!(rt; event.sequence, *sequence);
     }
-    Ok(sequences)
 }
 
 /// The opens of the outstanding handles, by base handle.
@@ -32,15 +30,21 @@ fn are_outstanding(
     analyst: &Analyst<Global>,
     process: u32,
     opens: &[u64],
-) -> Result<(), NoMemory> {
-    let rows = analyst.outstanding(alloc, process)?;
-    assert_eq!(rt; sequences(alloc, &rows)?.as_slice(), opens);
-    Ok(())
+) {
+    let rows = analyst.outstanding(alloc, process).expect(rt, "the memory");
+    have_sequences(rt, &rows, opens);
+}
+
+/// The same of an analyst that took the lines, before and after it is compacted.
+fn are_outstanding_of(rt: &impl Abort, alloc: Global, lines: &[&str], process: u32, opens: &[u64]) {
+    let mut analyst = taken(rt, alloc, TWO_PROCESSORS, lines);
+    are_outstanding(rt, alloc, &analyst, process, opens);
+    compact(rt, &mut analyst);
+    are_outstanding(rt, alloc, &analyst, process, opens);
 }
 
 #[test]
-fn outstanding_handles(rt: HostRuntime) -> Result<(), Fail> {
-    let alloc = rt.alloc();
+fn outstanding_handles(rt: HostRuntime) {
     let table: [(&[&str], u32, &[u64]); 14] = [
         (&["0/0:"], 4, &[]),
         (CLOSE_BEFORE_OPEN, 4, &[]),
@@ -58,19 +62,14 @@ fn outstanding_handles(rt: HostRuntime) -> Result<(), Fail> {
         (&["1/0: C 2 0x44", "0/0: O 1 0x44"], 4, &[]),
     ];
     for (lines, process, opens) in table {
-        let mut analyst = taken(&rt, alloc, TWO_PROCESSORS, lines)?;
-        are_outstanding(&rt, alloc, &analyst, process, opens)?;
-        analyst.compact()?;
-        are_outstanding(&rt, alloc, &analyst, process, opens)?;
+        are_outstanding_of(&rt, rt.alloc(), lines, process, opens);
     }
-    Ok(())
 }
 
 #[test]
-fn a_close_before_its_open_is_held(rt: HostRuntime) -> Result<(), Fail> {
-    let analyst = taken(&rt, rt.alloc(), TWO_PROCESSORS, CLOSE_BEFORE_OPEN)?;
+fn a_close_before_its_open_is_held(rt: HostRuntime) {
+    let analyst = taken(&rt, rt.alloc(), TWO_PROCESSORS, CLOSE_BEFORE_OPEN);
     assert_eq!(rt; sizes(&analyst), (0, 2, 2));
-    Ok(())
 }
 
 /// The sequence and the handle of the latest event.
@@ -80,8 +79,23 @@ fn latest_of(analyst: &Analyst<Global>, process: u32, handle: u32) -> Option<(u6
         .map(|event| (event.sequence, event.handle))
 }
 
+/// The latest event of the handle in the lines, before and after what was taken is folded.
+fn is_latest(
+    rt: &impl Abort,
+    alloc: Global,
+    lines: &[&str],
+    process: u32,
+    handle: u32,
+    latest: Option<(u64, u32)>,
+) {
+    let mut analyst = taken(rt, alloc, TWO_PROCESSORS, lines);
+    assert_eq!(rt; latest_of(&analyst, process, handle), latest, "{lines:?}");
+    compact(rt, &mut analyst);
+    assert_eq!(rt; latest_of(&analyst, process, handle), latest, "{lines:?}");
+}
+
 #[test]
-fn latest_events(rt: HostRuntime) -> Result<(), Fail> {
+fn latest_events(rt: HostRuntime) {
     let table = [
         (CLOSE_BEFORE_OPEN, 4, 0x44, Some((9, 0x44))),
         (LOW_BITS, 4, 0x47, Some((2, 0x46))),
@@ -91,36 +105,24 @@ fn latest_events(rt: HostRuntime) -> Result<(), Fail> {
         (EXIT, 4, 0x44, Some((1, 0x44))),
     ];
     for (lines, process, handle, latest) in table {
-        let mut analyst = taken(&rt, rt.alloc(), TWO_PROCESSORS, lines)?;
-        assert_eq!(rt; latest_of(&analyst, process, handle), latest, "{lines:?}");
-        analyst.compact()?;
-        assert_eq!(rt; latest_of(&analyst, process, handle), latest, "{lines:?}");
+        is_latest(&rt, rt.alloc(), lines, process, handle, latest);
     }
-    Ok(())
 }
 
 /// The opens of the handles that are outstanding and were opened after a moment.
-fn are_since(
-    rt: &impl Abort,
-    alloc: Global,
-    analyst: &Analyst<Global>,
-    since: u64,
-    opens: &[u64],
-) -> Result<(), NoMemory> {
-    let rows = analyst.diff(alloc, 4, since)?;
-    assert_eq!(rt; sequences(alloc, &rows)?.as_slice(), opens, "since {since}");
-    Ok(())
+fn are_since(rt: &impl Abort, alloc: Global, analyst: &Analyst<Global>, since: u64, opens: &[u64]) {
+    let rows = analyst.diff(alloc, 4, since).expect(rt, "the memory");
+    have_sequences(rt, &rows, opens);
 }
 
 #[test]
-fn snapshot_and_difference(rt: HostRuntime) -> Result<(), Fail> {
+fn snapshot_and_difference(rt: HostRuntime) {
     let alloc = rt.alloc();
-    let mut analyst = taken(&rt, alloc, TWO_PROCESSORS, SNAPSHOT)?;
+    let mut analyst = taken(&rt, alloc, TWO_PROCESSORS, SNAPSHOT);
     for _ in 0..2 {
         assert_eq!(rt; (analyst.mark(4), analyst.mark(5)), (10, 0));
-        are_since(&rt, alloc, &analyst, 10, &[13, 12])?;
-        are_since(&rt, alloc, &analyst, 13, &[])?;
-        analyst.compact()?;
+        are_since(&rt, alloc, &analyst, 10, &[13, 12]);
+        are_since(&rt, alloc, &analyst, 13, &[]);
+        compact(&rt, &mut analyst);
     }
-    Ok(())
 }

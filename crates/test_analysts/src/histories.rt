@@ -4,15 +4,14 @@
 
 use crate::account::{Account, PROCESSORS};
 use crate::dice::Dice;
-use crate::plain;
+use crate::{analysts, plain};
 use htl_analyst::{Analyst, Took};
-use htl_event::{Kind, NoMemory, SharedEvent, SharedStack, Slot};
-use htl_samples::{RandomTrace, SMALL, SampleFault};
+use htl_event::{Kind, SharedEvent, SharedStack, Slot};
+use htl_samples::{RandomTrace, SMALL};
 use htl_segment::Segment;
 use htl_tree::StackTree;
 use std::alloc::Global;
 use std::process::Abort;
-use std::test::Fail;
 
 const LISTS: u64 = 200;
 
@@ -48,23 +47,28 @@ struct Subject {
 }
 
 impl Subject {
-    fn new(alloc: Global) -> Result<Subject, SampleFault> {
-        let segments = TRACE.segments(alloc)?;
-        let mut stacks = Vec::new(alloc);
-        for segment in &segments {
-            push_stacks(&mut stacks, segment.events())?;
-        }
-        stacks.sort_unstable();
-        stacks.dedup();
-        Ok(Subject { segments, stacks })
+    fn new(rt: &impl Abort, alloc: Global) -> Subject {
+        let segments = TRACE.segments(alloc).expect(rt, "the segments");
+        let stacks = stacks_of(rt, alloc, &segments);
+        Subject { segments, stacks }
     }
 }
 
-fn push_stacks(stacks: &mut Vec<SharedStack>, events: &[SharedEvent]) -> Result<(), NoMemory> {
-    for event in events {
-        stacks.push(event.stack.copy()?)?;
+fn stacks_of(rt: &impl Abort, alloc: Global, segments: &[Segment]) -> Vec<SharedStack> {
+    let mut stacks = Vec::new(alloc);
+    for segment in segments {
+        push_stacks(rt, &mut stacks, segment.events());
     }
-    Ok(())
+    stacks.sort_unstable();
+    stacks.dedup();
+    stacks
+}
+
+fn push_stacks(rt: &impl Abort, stacks: &mut Vec<SharedStack>, events: &[SharedEvent]) {
+    for event in events {
+        let copy = event.stack.copy().expect(rt, "the memory");
+        stacks.push(copy).expect(rt, "the memory");
+    }
 }
 
 /// An analyst and the account of it.
@@ -82,142 +86,137 @@ impl Player {
         }
     }
 
-    fn copy(&self) -> Result<Player, NoMemory> {
-        Ok(Player {
-            analyst: self.analyst.copy()?,
-            account: self.account.copy()?,
-        })
+    fn copy(&self, rt: &impl Abort) -> Player {
+        Player {
+            analyst: self.analyst.copy().expect(rt, "the memory"),
+            account: self.account.copy(rt),
+        }
     }
 
-    fn take(&mut self, rt: &impl Abort, segment: &Segment) -> Result<(), NoMemory> {
-        let took = self.analyst.take(segment.copy()?).expect(rt, "the memory");
-        let is_new = self.account.take(segment.processor(), segment.number())?;
+    fn take(&mut self, rt: &impl Abort, segment: &Segment) {
+        let copy = segment.copy().expect(rt, "the memory");
+        let took = self.analyst.take(copy).expect(rt, "the memory");
+        let is_new = self.account.take(rt, segment.processor(), segment.number());
         assert_eq!(rt; took == Took::New, is_new);
-        Ok(())
     }
 
-    fn merge(&mut self, rt: &impl Abort, other: &Player) -> Result<(), NoMemory> {
-        self.analyst.merge(&other.analyst).expect(rt, "a merge");
-        self.account.merge(&other.account)
+    fn merge(&mut self, rt: &impl Abort, other: &Player) {
+        analysts::merge(rt, &mut self.analyst, &other.analyst);
+        self.account.merge(rt, &other.account);
     }
 
-    fn absorb(&mut self, rt: &impl Abort, other: Player) -> Result<(), NoMemory> {
+    fn absorb(&mut self, rt: &impl Abort, other: Player) {
+        self.account.merge(rt, &other.account);
         assert!(rt; self.analyst.absorb(other.analyst).is_ok());
-        self.account.merge(&other.account)
     }
 
-    fn compact(&mut self) -> Result<(), NoMemory> {
+    fn compact(&mut self, rt: &impl Abort) {
         self.account.compact(TRACE.segments);
-        self.analyst.compact()
+        analysts::compact(rt, &mut self.analyst);
     }
 }
 
 /// One random step of one of the three: mostly a take, else a merge of another in either way, or a
 /// compaction.
-fn step(
-    rt: &impl Abort,
-    subject: &Subject,
-    players: &mut [Player; 3],
-    dice: &mut Dice,
-) -> Result<usize, NoMemory> {
+fn step(rt: &impl Abort, subject: &Subject, players: &mut [Player; 3], dice: &mut Dice) -> usize {
     let which = dice.below(3) as usize;
-    let other = players[dice.below(3) as usize].copy()?;
+    let other = players[dice.below(3) as usize].copy(rt);
     let player = &mut players[which];
     match dice.below(8) {
-        0 => player.compact()?,
-        1 => player.merge(rt, &other)?,
-        2 => player.absorb(rt, other)?,
-        _ => {
-            let place = dice.below(subject.segments.len() as u64) as usize;
-            if let Some(segment) = subject.segments.get(place) {
-                player.take(rt, segment)?;
-            }
-        }
+        0 => player.compact(rt),
+        1 => player.merge(rt, &other),
+        2 => player.absorb(rt, other),
+        _ => take_one(rt, subject, player, dice),
     }
-    Ok(which)
+    which
+}
+
+fn take_one(rt: &impl Abort, subject: &Subject, player: &mut Player, dice: &mut Dice) {
+    let place = dice.below(subject.segments.len() as u64) as usize;
+    if let Some(segment) = subject.segments.get(place) {
+        player.take(rt, segment);
+    }
 }
 
 #[test]
-fn random_histories(rt: HostRuntime) -> Result<(), Fail> {
-    let alloc = rt.alloc();
-    let subject = Subject::new(alloc)?;
+fn random_histories(rt: HostRuntime) {
+    let subject = Subject::new(&rt, rt.alloc());
     let mut dice = Dice::new(1);
     for _ in 0..LISTS {
-        play(&rt, alloc, &subject, &mut dice)?;
+        let mut players = three(&rt, rt.alloc());
+        play(&rt, rt.alloc(), &subject, &mut players, &mut dice);
+        compare_orders(&rt, rt.alloc(), &subject, &players);
     }
-    Ok(())
+}
+
+/// Three players who have taken nothing.
+fn three(rt: &impl Abort, alloc: Global) -> [Player; 3] {
+    [
+        Player::new(rt, alloc),
+        Player::new(rt, alloc),
+        Player::new(rt, alloc),
+    ]
 }
 
 fn play(
     rt: &impl Abort,
     alloc: Global,
     subject: &Subject,
+    players: &mut [Player; 3],
     dice: &mut Dice,
-) -> Result<(), NoMemory> {
-    let mut players = [
-        Player::new(rt, alloc),
-        Player::new(rt, alloc),
-        Player::new(rt, alloc),
-    ];
+) {
     for _ in 0..STEPS {
-        let which = step(rt, subject, &mut players, dice)?;
+        let which = step(rt, subject, players, dice);
         if let Some(player) = players.get(which) {
-            compare(rt, alloc, subject, player)?;
+            compare(rt, alloc, subject, player);
         }
     }
-    let [one, two, three] = &players;
-    let forwards = all_of(rt, one, two, three)?;
-    let backwards = all_of(rt, three, two, one)?;
+}
+
+fn compare_orders(rt: &impl Abort, alloc: Global, subject: &Subject, players: &[Player; 3]) {
+    let [one, two, three] = players;
+    let forwards = all_of(rt, one, two, three);
+    let backwards = all_of(rt, three, two, one);
     assert!(rt; forwards.analyst.same(&backwards.analyst));
-    compare(rt, alloc, subject, &forwards)
+    compare(rt, alloc, subject, &forwards);
 }
 
 /// What the three know together, compacted.
-fn all_of(rt: &impl Abort, one: &Player, two: &Player, three: &Player) -> Result<Player, NoMemory> {
-    let mut player = one.copy()?;
-    player.merge(rt, two)?;
-    player.merge(rt, three)?;
-    player.compact()?;
-    Ok(player)
+fn all_of(rt: &impl Abort, one: &Player, two: &Player, three: &Player) -> Player {
+    let mut player = one.copy(rt);
+    player.merge(rt, two);
+    player.merge(rt, three);
+    player.compact(rt);
+    player
 }
 
 // ---- answers beside plain ones
 
-fn compare(
+fn compare(rt: &impl Abort, alloc: Global, subject: &Subject, player: &Player) {
+    let events = player.account.events(rt, alloc, &subject.segments);
+    compare_states(rt, subject, player);
+    compare_trees(rt, alloc, &player.analyst, &events);
+    compare_answers(rt, alloc, &player.analyst, &events, &subject.stacks);
+}
+
+fn compare_answers(
     rt: &impl Abort,
     alloc: Global,
-    subject: &Subject,
-    player: &Player,
-) -> Result<(), NoMemory> {
-    let events = player.account.events(alloc, &subject.segments)?;
-    compare_states(rt, subject, player);
-    compare_trees(rt, alloc, &player.analyst, &events)?;
+    analyst: &Analyst<Global>,
+    events: &[SharedEvent],
+    stacks: &[SharedStack],
+) {
     for process in PROCESSES {
-        compare_latest(rt, &player.analyst, &events, process);
-        compare_outstanding(rt, alloc, &player.analyst, &events, process)?;
-        compare_diff(rt, alloc, &player.analyst, &events, process)?;
-        compare_leaks(
-            rt,
-            alloc,
-            &player.analyst,
-            &events,
-            process,
-            &subject.stacks,
-        )?;
-        compare_bad(
-            rt,
-            alloc,
-            &player.analyst,
-            &events,
-            process,
-            &subject.stacks,
-        )?;
+        compare_latest(rt, analyst, events, process);
+        compare_outstanding(rt, alloc, analyst, events, process);
+        compare_diff(rt, alloc, analyst, events, process);
+        compare_leaks(rt, alloc, analyst, events, process, stacks);
+        compare_bad(rt, alloc, analyst, events, process, stacks);
     }
     for object in OBJECTS {
-        compare_tags(rt, alloc, &player.analyst, &events, object)?;
-        compare_stacks(rt, alloc, &player.analyst, &events, object, &subject.stacks)?;
+        compare_tags(rt, alloc, analyst, events, object);
+        compare_stacks(rt, alloc, analyst, events, object, stacks);
     }
-    Ok(())
 }
 
 fn compare_states(rt: &impl Abort, subject: &Subject, player: &Player) {
@@ -243,14 +242,18 @@ fn compare_trees(
     alloc: Global,
     analyst: &Analyst<Global>,
     events: &[SharedEvent],
-) -> Result<(), NoMemory> {
+) {
+    let whole = analyst.whole_tree().expect(rt, "the memory");
+    assert!(rt; whole.same(&tree_of(rt, alloc, events)));
+}
+
+fn tree_of(rt: &impl Abort, alloc: Global, events: &[SharedEvent]) -> StackTree<Global> {
     let mut tree = StackTree::new(alloc);
     for event in events {
         assert!(rt; tree.fits(1));
-        tree.note(event)?;
+        tree.note(event).expect(rt, "the memory");
     }
-    assert!(rt; analyst.whole_tree()?.same(&tree));
-    Ok(())
+    tree
 }
 
 fn compare_latest(
@@ -277,11 +280,10 @@ fn compare_outstanding(
     analyst: &Analyst<Global>,
     events: &[SharedEvent],
     process: u32,
-) -> Result<(), NoMemory> {
-    let rows = analyst.outstanding(alloc, process)?;
-    let opens = plain::outstanding(alloc, events, process, &BASES, 0)?;
+) {
+    let rows = analyst.outstanding(alloc, process).expect(rt, "the memory");
+    let opens = plain::outstanding(rt, alloc, events, process, &BASES, 0);
     assert!(rt; rows.iter().eq(opens.iter().copied()));
-    Ok(())
 }
 
 fn compare_diff(
@@ -290,12 +292,11 @@ fn compare_diff(
     analyst: &Analyst<Global>,
     events: &[SharedEvent],
     process: u32,
-) -> Result<(), NoMemory> {
+) {
     let mark = analyst.mark(process);
-    let rows = analyst.diff(alloc, process, mark)?;
-    let opens = plain::outstanding(alloc, events, process, &BASES, mark)?;
+    let rows = analyst.diff(alloc, process, mark).expect(rt, "the memory");
+    let opens = plain::outstanding(rt, alloc, events, process, &BASES, mark);
     assert!(rt; rows.iter().eq(opens.iter().copied()));
-    Ok(())
 }
 
 fn compare_leaks(
@@ -305,16 +306,15 @@ fn compare_leaks(
     events: &[SharedEvent],
     process: u32,
     stacks: &[SharedStack],
-) -> Result<(), NoMemory> {
-    let opens = plain::outstanding(alloc, events, process, &BASES, 0)?;
-    let wanted = plain::leaks(alloc, &opens, stacks)?;
-    let rows = analyst.leaks(alloc, process)?;
+) {
+    let opens = plain::outstanding(rt, alloc, events, process, &BASES, 0);
+    let wanted = plain::leaks(rt, alloc, &opens, stacks);
+    let rows = analyst.leaks(alloc, process).expect(rt, "the memory");
     assert!(rt;
         rows.iter()
             .map(|row| (&row.0, row.1))
             .eq(wanted.iter().copied())
     );
-    Ok(())
 }
 
 fn compare_bad(
@@ -324,20 +324,14 @@ fn compare_bad(
     events: &[SharedEvent],
     process: u32,
     stacks: &[SharedStack],
-) -> Result<(), NoMemory> {
-    let mut wanted = Vec::new(alloc);
-    for handle in BAD_HANDLES {
-        for (stack, count) in plain::stacks(alloc, events, Slot::Bad { process, handle }, stacks)? {
-            wanted.push((handle, stack, count.plus))?;
-        }
-    }
-    let rows = analyst.bad(alloc, process)?;
+) {
+    let wanted = plain::bad(rt, alloc, events, process, &BAD_HANDLES, stacks);
+    let rows = analyst.bad(alloc, process).expect(rt, "the memory");
     assert!(rt;
         rows.iter()
             .map(|row| (row.0, &row.1, row.2))
             .eq(wanted.iter().copied())
     );
-    Ok(())
 }
 
 fn compare_tags(
@@ -346,11 +340,10 @@ fn compare_tags(
     analyst: &Analyst<Global>,
     events: &[SharedEvent],
     object: u64,
-) -> Result<(), NoMemory> {
-    let rows = analyst.tags(alloc, object)?;
-    let wanted = plain::tags(alloc, events, object, &TAGS)?;
+) {
+    let rows = analyst.tags(alloc, object).expect(rt, "the memory");
+    let wanted = plain::tags(rt, alloc, events, object, &TAGS);
     assert_eq!(rt; rows.as_slice(), wanted.as_slice());
-    Ok(())
 }
 
 fn compare_stacks(
@@ -360,17 +353,16 @@ fn compare_stacks(
     events: &[SharedEvent],
     object: u64,
     stacks: &[SharedStack],
-) -> Result<(), NoMemory> {
+) {
     for tag in TAGS {
         let slot = Slot::Tagged { object, tag };
-        let rows = analyst.stacks(alloc, object, tag)?;
-        let wanted = plain::stacks(alloc, events, slot, stacks)?;
+        assert_eq!(rt; analyst.under(&[], slot), plain::under(events, slot, &[]));
+        let rows = analyst.stacks(alloc, object, tag).expect(rt, "the memory");
+        let wanted = plain::stacks(rt, alloc, events, slot, stacks);
         assert!(rt;
             rows.iter()
                 .map(|row| (&row.0, row.1))
                 .eq(wanted.iter().copied())
         );
-        assert_eq!(rt; analyst.under(&[], slot), plain::under(events, slot, &[]));
     }
-    Ok(())
 }

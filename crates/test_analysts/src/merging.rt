@@ -1,13 +1,14 @@
 //! Fronts, and what analysts take over from one another.
 
-use crate::analysts::{TWO_PROCESSORS, compacted, sizes, take, take_all, taken};
+use crate::analysts::{
+    TWO_PROCESSORS, compact, compacted, merge, new, sizes, take, take_all, taken,
+};
 use htl_analyst::{Analyst, Took};
 use htl_event::Count;
-use htl_samples::{SampleFault, TRACE};
+use htl_samples::TRACE;
 use htl_segment::{Segment, decode, from_hex};
 use std::alloc::Global;
 use std::process::Abort;
-use std::test::Fail;
 
 /// Six segments with a reference each.
 const SIX: [&str; 6] = [
@@ -33,103 +34,119 @@ fn empty_segment(rt: &impl Abort, alloc: Global) -> Segment {
 }
 
 #[test]
-fn an_empty_segment(rt: HostRuntime) -> Result<(), Fail> {
-    let mut analyst = Analyst::new(rt.alloc(), 7, 1)?;
-    assert_eq!(rt; analyst.take(empty_segment(&rt, rt.alloc()))?, Took::New);
+fn an_empty_segment(rt: HostRuntime) {
+    let mut analyst = new(&rt, rt.alloc(), TRACE);
+    let took = analyst.take(empty_segment(&rt, rt.alloc()));
+    assert!(rt; matches!(took, Ok(Took::New)));
     assert_eq!(rt; sizes(&analyst), (0, 1, 1));
-    analyst.compact()?;
+    compact(&rt, &mut analyst);
     assert_eq!(rt; sizes(&analyst), (1, 0, 1));
-    Ok(())
 }
 
 #[test]
-fn the_last_segment_number(rt: HostRuntime) -> Result<(), Fail> {
-    let mut analyst = compacted(&rt, rt.alloc(), TRACE, &[LAST])?;
+fn the_last_segment_number(rt: HostRuntime) {
+    let mut analyst = compacted(&rt, rt.alloc(), TRACE, &[LAST]);
     assert_eq!(rt; sizes(&analyst), (0, 1, 1));
     assert!(rt; analyst.has(0, 0xffff_fffe) && !analyst.has(0, 0));
-    assert_eq!(rt; take(rt.alloc(), &mut analyst, LAST)?, Ok(Took::Repeat));
-    Ok(())
+    assert_eq!(rt; take(&rt, rt.alloc(), &mut analyst, LAST), Ok(Took::Repeat));
 }
 
 /// It has folded the first three, and holds two behind a gap.
-fn behind(rt: &impl Abort, alloc: Global) -> Result<Analyst<Global>, SampleFault> {
-    let mut analyst = compacted(rt, alloc, TRACE, &SIX[..3])?;
-    take_all(rt, alloc, &mut analyst, &SIX[4..])?;
-    Ok(analyst)
+fn behind(rt: &impl Abort, alloc: Global) -> Analyst<Global> {
+    let mut analyst = compacted(rt, alloc, TRACE, &SIX[..3]);
+    take_all(rt, alloc, &mut analyst, &SIX[4..]);
+    analyst
 }
 
 #[test]
-fn merge_over_a_gap(rt: HostRuntime) -> Result<(), Fail> {
-    let mut analyst = compacted(&rt, rt.alloc(), TRACE, &SIX[..5])?;
+fn merge_over_a_gap(rt: HostRuntime) {
+    let mut analyst = compacted(&rt, rt.alloc(), TRACE, &SIX[..5]);
     assert_eq!(rt; sizes(&analyst), (5, 0, 5));
-    analyst.merge(&behind(&rt, rt.alloc())?)?;
+    merge(&rt, &mut analyst, &behind(&rt, rt.alloc()));
     assert_eq!(rt; sizes(&analyst), (5, 1, 6));
-    analyst.compact()?;
+    compact(&rt, &mut analyst);
     assert_eq!(rt; sizes(&analyst), (6, 0, 6));
-    Ok(())
+}
+
+/// What holds two behind a gap takes over what closes it, and is compacted.
+fn closed_from_behind(rt: &impl Abort, alloc: Global) -> Analyst<Global> {
+    let mut analyst = behind(rt, alloc);
+    assert_eq!(rt; sizes(&analyst), (3, 2, 5));
+    merge(rt, &mut analyst, &compacted(rt, alloc, TRACE, &SIX[..5]));
+    compact(rt, &mut analyst);
+    analyst
 }
 
 #[test]
-fn merge_from_behind_a_gap(rt: HostRuntime) -> Result<(), Fail> {
-    let mut analyst = behind(&rt, rt.alloc())?;
-    assert_eq!(rt; sizes(&analyst), (3, 2, 5));
-    analyst.merge(&compacted(&rt, rt.alloc(), TRACE, &SIX[..5])?)?;
-    analyst.compact()?;
-    let whole = compacted(&rt, rt.alloc(), TRACE, &SIX)?;
-    assert!(rt; analyst.same(&whole));
-    let tags = analyst.tags(rt.alloc(), 0x1000)?;
+fn merge_from_behind_a_gap(rt: HostRuntime) {
+    let analyst = closed_from_behind(&rt, rt.alloc());
+    assert!(rt; analyst.same(&compacted(&rt, rt.alloc(), TRACE, &SIX)));
+    let tags = analyst.tags(rt.alloc(), 0x1000).expect(&rt, "the memory");
     assert_eq!(rt;
         tags.as_slice(),
         [(*b"Lky8", Count { plus: 6, minus: 0 })].as_slice()
     );
-    Ok(())
+}
+
+fn even(rt: &impl Abort, alloc: Global) -> Analyst<Global> {
+    taken(rt, alloc, TRACE, &[SIX[0], SIX[2]])
+}
+
+fn odd(rt: &impl Abort, alloc: Global) -> Analyst<Global> {
+    taken(rt, alloc, TRACE, &[SIX[1], SIX[3]])
+}
+
+/// The even segments and then the odd ones, merged by reference.
+fn even_and_odd(rt: &impl Abort, alloc: Global) -> Analyst<Global> {
+    let mut analyst = even(rt, alloc);
+    merge(rt, &mut analyst, &odd(rt, alloc));
+    assert_eq!(rt; sizes(&analyst), (0, 4, 4));
+    compact(rt, &mut analyst);
+    analyst
+}
+
+/// The odd segments and then the even ones, merged by moves.
+fn odd_and_even(rt: &impl Abort, alloc: Global) -> Analyst<Global> {
+    let mut analyst = odd(rt, alloc);
+    assert!(rt; analyst.absorb(even(rt, alloc)).is_ok());
+    compact(rt, &mut analyst);
+    analyst
 }
 
 #[test]
-fn gaps_close_each_other(rt: HostRuntime) -> Result<(), Fail> {
-    let alloc = rt.alloc();
-    let mut one = taken(&rt, alloc, TRACE, &[SIX[0], SIX[2]])?;
-    let mut other = taken(&rt, alloc, TRACE, &[SIX[1], SIX[3]])?;
-    let before = one.copy()?;
-    one.merge(&other.copy()?)?;
-    assert_eq!(rt; sizes(&one), (0, 4, 4));
-    assert!(rt; other.absorb(before).is_ok());
-    one.compact()?;
-    other.compact()?;
+fn gaps_close_each_other(rt: HostRuntime) {
+    let one = even_and_odd(&rt, rt.alloc());
     assert_eq!(rt; sizes(&one), (4, 0, 4));
-    assert!(rt; one.same(&other));
-    Ok(())
+    assert!(rt; one.same(&odd_and_even(&rt, rt.alloc())));
 }
 
 #[test]
-fn repeats_count_once(rt: HostRuntime) -> Result<(), Fail> {
-    let mut analyst = taken(&rt, rt.alloc(), TRACE, &[OPEN])?;
+fn repeats_count_once(rt: HostRuntime) {
+    let mut analyst = taken(&rt, rt.alloc(), TRACE, &[OPEN]);
     for _ in 0..2 {
-        assert_eq!(rt; take(rt.alloc(), &mut analyst, OPEN)?, Ok(Took::Repeat));
+        assert_eq!(rt; take(&rt, rt.alloc(), &mut analyst, OPEN), Ok(Took::Repeat));
         assert_eq!(rt; analyst.taken(), 1);
-        analyst.compact()?;
+        compact(&rt, &mut analyst);
     }
-    Ok(())
 }
 
 #[test]
-fn an_analyst_merged_with_its_own_copy(rt: HostRuntime) -> Result<(), Fail> {
-    let mut analyst = compacted(&rt, rt.alloc(), TRACE, &[OPEN])?;
-    let copy = analyst.copy()?;
-    analyst.merge(&copy)?;
-    assert_eq!(rt; analyst.outstanding(rt.alloc(), 4)?.len(), 1);
+fn an_analyst_merged_with_its_own_copy(rt: HostRuntime) {
+    let mut analyst = compacted(&rt, rt.alloc(), TRACE, &[OPEN]);
+    let copy = analyst.copy().expect(&rt, "the memory");
+    merge(&rt, &mut analyst, &copy);
     assert!(rt; analyst.same(&copy));
-    Ok(())
+    let opens = analyst.outstanding(rt.alloc(), 4).expect(&rt, "the memory");
+    assert_eq!(rt; opens.len(), 1);
 }
 
 #[test]
-fn two_processors(rt: HostRuntime) -> Result<(), Fail> {
+fn two_processors(rt: HostRuntime) {
     let (open, close) = (OPEN, "1/0: C 2 0x44");
-    let one = compacted(&rt, rt.alloc(), TWO_PROCESSORS, &[open, close])?;
-    let other = compacted(&rt, rt.alloc(), TWO_PROCESSORS, &[close, open])?;
+    let one = compacted(&rt, rt.alloc(), TWO_PROCESSORS, &[open, close]);
     assert_eq!(rt; (one.front(0), one.front(1), one.held()), (1, 1, 0));
+    let other = compacted(&rt, rt.alloc(), TWO_PROCESSORS, &[close, open]);
     assert!(rt; one.same(&other));
-    Ok(())
 }
 
 fn numbers_of(analyst: &Analyst<Global>) -> (u32, u32, u64, u64) {
@@ -144,18 +161,20 @@ fn numbers_of(analyst: &Analyst<Global>) -> (u32, u32, u64, u64) {
 const LOOSE: [&str; 3] = ["0/0:", "0/1:", "0/3:"];
 
 #[test]
-fn fronts_and_loose_numbers(rt: HostRuntime) -> Result<(), Fail> {
-    let mut analyst = taken(&rt, rt.alloc(), TWO_PROCESSORS, &LOOSE)?;
-    assert_eq!(rt; take(rt.alloc(), &mut analyst, LOOSE[2])?, Ok(Took::Repeat));
+fn fronts_and_loose_numbers(rt: HostRuntime) {
+    let mut analyst = taken(&rt, rt.alloc(), TWO_PROCESSORS, &LOOSE);
+    assert_eq!(rt;
+        take(&rt, rt.alloc(), &mut analyst, LOOSE[2]),
+        Ok(Took::Repeat)
+    );
     assert_eq!(rt; numbers_of(&analyst), (0, 0, 3, 3));
-    analyst.compact()?;
+    compact(&rt, &mut analyst);
     assert_eq!(rt; numbers_of(&analyst), (2, 0, 1, 3));
-    Ok(())
 }
 
 #[test]
-fn taken_numbers(rt: HostRuntime) -> Result<(), Fail> {
-    let analyst = compacted(&rt, rt.alloc(), TWO_PROCESSORS, &LOOSE)?;
+fn taken_numbers(rt: HostRuntime) {
+    let analyst = compacted(&rt, rt.alloc(), TWO_PROCESSORS, &LOOSE);
     for (processor, number, has) in [
         (0, 1, true),
         (0, 2, false),
@@ -165,16 +184,18 @@ fn taken_numbers(rt: HostRuntime) -> Result<(), Fail> {
     ] {
         assert_eq!(rt; analyst.has(processor, number), has);
     }
-    Ok(())
 }
 
 #[test]
-fn loose_numbers_are_united(rt: HostRuntime) -> Result<(), Fail> {
-    let mut analyst = compacted(&rt, rt.alloc(), TWO_PROCESSORS, &LOOSE)?;
+fn loose_numbers_are_united(rt: HostRuntime) {
+    let mut analyst = compacted(&rt, rt.alloc(), TWO_PROCESSORS, &LOOSE);
     let more = ["0/1:", "0/2:", "1/0:"];
-    analyst.merge(&taken(&rt, rt.alloc(), TWO_PROCESSORS, &more)?)?;
+    merge(
+        &rt,
+        &mut analyst,
+        &taken(&rt, rt.alloc(), TWO_PROCESSORS, &more),
+    );
     assert_eq!(rt; numbers_of(&analyst), (2, 0, 3, 5));
-    analyst.compact()?;
+    compact(&rt, &mut analyst);
     assert_eq!(rt; numbers_of(&analyst), (4, 1, 0, 5));
-    Ok(())
 }

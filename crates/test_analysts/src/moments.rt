@@ -1,11 +1,10 @@
 //! Up to which moment nothing is missing.
 
-use crate::analysts::{TWO_PROCESSORS, compacted, take_all, taken};
+use crate::analysts::{TWO_PROCESSORS, compact, compacted, merge, take_all, taken};
 use htl_analyst::Analyst;
-use htl_samples::{SampleFault, TRACE};
+use htl_samples::TRACE;
 use std::alloc::Global;
 use std::process::Abort;
-use std::test::Fail;
 
 const LINES: [&str; 4] = [
     "0/0: O 10 0x44",
@@ -15,43 +14,35 @@ const LINES: [&str; 4] = [
 ];
 
 /// Up to when all is known and how many segments are held, once the segment was taken and folded.
-fn after(
-    rt: &impl Abort,
-    alloc: Global,
-    analyst: &mut Analyst<Global>,
-    line: &str,
-) -> Result<(u64, u64), SampleFault> {
-    take_all(rt, alloc, analyst, &[line])?;
-    analyst.compact()?;
-    Ok((analyst.complete_to(), analyst.held()))
+fn after(rt: &impl Abort, alloc: Global, analyst: &mut Analyst<Global>, line: &str) -> (u64, u64) {
+    take_all(rt, alloc, analyst, &[line]);
+    compact(rt, analyst);
+    (analyst.complete_to(), analyst.held())
 }
 
 #[test]
-fn complete_to_a_moment(rt: HostRuntime) -> Result<(), Fail> {
-    let mut analyst = taken(&rt, rt.alloc(), TWO_PROCESSORS, &LINES[..2])?;
+fn complete_to_a_moment(rt: HostRuntime) {
+    let mut analyst = taken(&rt, rt.alloc(), TWO_PROCESSORS, &LINES[..2]);
     assert_eq!(rt; analyst.complete_to(), 0);
-    analyst.compact()?;
+    compact(&rt, &mut analyst);
     assert_eq!(rt; analyst.complete_to(), 7);
     for (line, moment, held) in [(LINES[2], 7, 1), (LINES[3], 10, 1)] {
-        let moments = after(&rt, rt.alloc(), &mut analyst, line)?;
+        let moments = after(&rt, rt.alloc(), &mut analyst, line);
         assert_eq!(rt; moments, (moment, held));
     }
-    Ok(())
 }
 
 #[test]
-fn a_merge_completes(rt: HostRuntime) -> Result<(), Fail> {
-    let mut analyst = compacted(&rt, rt.alloc(), TWO_PROCESSORS, &LINES[..1])?;
+fn a_merge_completes(rt: HostRuntime) {
+    let mut analyst = compacted(&rt, rt.alloc(), TWO_PROCESSORS, &LINES[..1]);
     assert_eq!(rt; analyst.complete_to(), 0);
-    let other = compacted(&rt, rt.alloc(), TWO_PROCESSORS, &LINES)?;
-    analyst.merge(&other)?;
+    let other = compacted(&rt, rt.alloc(), TWO_PROCESSORS, &LINES);
+    merge(&rt, &mut analyst, &other);
     assert_eq!(rt; analyst.complete_to(), 10);
-    Ok(())
 }
 
 #[test]
-fn an_empty_segment_completes_nothing(rt: HostRuntime) -> Result<(), Fail> {
-    let analyst = compacted(&rt, rt.alloc(), TRACE, &["0/0:"])?;
+fn an_empty_segment_completes_nothing(rt: HostRuntime) {
+    let analyst = compacted(&rt, rt.alloc(), TRACE, &["0/0:"]);
     assert_eq!(rt; (analyst.complete_to(), analyst.front(0)), (0, 1));
-    Ok(())
 }

@@ -1,8 +1,9 @@
 //! Answers by plain scans of a list of events, which stand in any order.
 
-use htl_event::{Count, Kind, NoMemory, SharedEvent, SharedStack, Sign, Slot, base};
+use htl_event::{Count, Kind, SharedEvent, SharedStack, Sign, Slot, base};
 use std::alloc::Global;
 use std::cmp::Reverse;
+use std::process::Abort;
 
 pub const NONE: Count = Count { plus: 0, minus: 0 };
 
@@ -33,12 +34,13 @@ pub fn last(events: &[SharedEvent], kind: Kind, process: u32) -> u64 {
 
 /// The opens of the base handles that are outstanding and were opened after a moment.
 pub fn outstanding<'a>(
+    rt: &impl Abort,
     alloc: Global,
     events: &'a [SharedEvent],
     process: u32,
     bases: &[u32],
     since: u64,
-) -> Result<Vec<&'a SharedEvent>, NoMemory> {
+) -> Vec<&'a SharedEvent> {
     let after = last(events, Kind::Exited, process).max(since);
     let mut opens = Vec::new(alloc);
     for base in bases {
@@ -46,27 +48,29 @@ pub fn outstanding<'a>(
             && event.kind == Kind::Opened
             && event.sequence > after
         {
-            opens.push(event)?;
+            opens.push(event).expect(rt, "the memory");
         }
     }
-    Ok(opens)
+    opens
 }
 
 /// Of these stacks those that opened handles, each with their number, the greatest number first.
 pub fn leaks<'a>(
+    rt: &impl Abort,
     alloc: Global,
     opens: &[&SharedEvent],
     stacks: &'a [SharedStack],
-) -> Result<Vec<(&'a SharedStack, u64)>, NoMemory> {
+) -> Vec<(&'a SharedStack, u64)> {
     let mut rows = Vec::new(alloc);
     for stack in stacks {
         let number = opens.iter().filter(|event| event.stack == *stack).count() as u64;
         if number > 0 {
-            rows.push((stack, number))?;
+            rows.push((stack, number)).expect(rt, "the memory");
         }
     }
-    rows.sort_by_key(|row| Reverse(row.1))?;
-    Ok(rows)
+    rows.sort_by_key(|row| Reverse(row.1))
+        .expect(rt, "the memory");
+    rows
 }
 
 fn add(count: &mut Count, slot: Slot, event: &SharedEvent) {
@@ -106,34 +110,63 @@ pub fn under(events: &[SharedEvent], slot: Slot, path: &[u64]) -> Count {
 
 /// Of these tags those that the object has, with their counts.
 pub fn tags(
+    rt: &impl Abort,
     alloc: Global,
     events: &[SharedEvent],
     object: u64,
     tags: &[[u8; 4]],
-) -> Result<Vec<([u8; 4], Count)>, NoMemory> {
+) -> Vec<([u8; 4], Count)> {
     let mut rows = Vec::new(alloc);
     for tag in tags {
         let count = under(events, Slot::Tagged { object, tag: *tag }, &[]);
         if count != NONE {
-            rows.push((*tag, count))?;
+            rows.push((*tag, count)).expect(rt, "the memory");
         }
     }
-    Ok(rows)
+    rows
 }
 
 /// Of these stacks those that the slot came with, with their counts.
 pub fn stacks<'a>(
+    rt: &impl Abort,
     alloc: Global,
     events: &[SharedEvent],
     slot: Slot,
     stacks: &'a [SharedStack],
-) -> Result<Vec<(&'a SharedStack, Count)>, NoMemory> {
+) -> Vec<(&'a SharedStack, Count)> {
     let mut rows = Vec::new(alloc);
     for stack in stacks {
         let count = at(events, slot, stack);
         if count != NONE {
-            rows.push((stack, count))?;
+            rows.push((stack, count)).expect(rt, "the memory");
         }
     }
-    Ok(rows)
+    rows
+}
+
+/// Of these handles those that the process used while they weren't open, each with a stack of these
+/// and how often they came.
+pub fn bad<'a>(
+    rt: &impl Abort,
+    alloc: Global,
+    events: &[SharedEvent],
+    process: u32,
+    handles: &[u32],
+    stacks: &'a [SharedStack],
+) -> Vec<(u32, &'a SharedStack, u64)> {
+    let mut rows = Vec::new(alloc);
+    for handle in handles {
+        for stack in stacks {
+            let slot = Slot::Bad {
+                process,
+                handle: *handle,
+            };
+            let count = at(events, slot, stack);
+            if count != NONE {
+                rows.push((*handle, stack, count.plus))
+                    .expect(rt, "the memory");
+            }
+        }
+    }
+    rows
 }

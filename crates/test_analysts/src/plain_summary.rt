@@ -1,22 +1,25 @@
 //! Summaries by plain scans of a list of events, which stand in any order, and of a list of keys.
 
 use crate::plain::{NONE, last, latest, under};
-use htl_event::{Kind, NoMemory, ObjectRow, ProcessRow, SharedEvent, Slot};
+use htl_event::{Kind, ObjectRow, ProcessRow, SharedEvent, Slot};
 use htl_taken::Gap;
 use std::alloc::Global;
 use std::cmp::Reverse;
+use std::process::Abort;
 
 /// The row of each process that has an open, a close or a bad reference.
-pub fn processes(alloc: Global, events: &[SharedEvent]) -> Result<Vec<ProcessRow>, NoMemory> {
+pub fn processes(rt: &impl Abort, alloc: Global, events: &[SharedEvent]) -> Vec<ProcessRow> {
     let mut rows: Vec<ProcessRow> = Vec::new(alloc);
     for event in events {
         let is_of_handle = event.kind.opens_or_closes() || event.kind == Kind::BadRef;
         if is_of_handle && !rows.iter().any(|row| row.process == event.process) {
-            rows.push(process_row(events, event.process))?;
+            rows.push(process_row(events, event.process))
+                .expect(rt, "the memory");
         }
     }
-    rows.sort_by_key(|row| (Reverse(row.outstanding), row.process))?;
-    Ok(rows)
+    rows.sort_by_key(|row| (Reverse(row.outstanding), row.process))
+        .expect(rt, "the memory");
+    rows
 }
 
 fn process_row(events: &[SharedEvent], process: u32) -> ProcessRow {
@@ -53,26 +56,27 @@ fn is_last_open(events: &[SharedEvent], event: &SharedEvent) -> bool {
 }
 
 /// The row of each object, by object.
-pub fn objects(alloc: Global, events: &[SharedEvent]) -> Result<Vec<ObjectRow>, NoMemory> {
+pub fn objects(rt: &impl Abort, alloc: Global, events: &[SharedEvent]) -> Vec<ObjectRow> {
     let mut rows: Vec<ObjectRow> = Vec::new(alloc);
     for event in events {
         let is_of_object = matches!(event.kind, Kind::Ref | Kind::Deref);
         if is_of_object && !rows.iter().any(|row| row.object == event.object) {
-            rows.push(object_row(alloc, events, event.object)?)?;
+            let row = object_row(rt, alloc, events, event.object);
+            rows.push(row).expect(rt, "the memory");
         }
     }
-    rows.sort_by_key(|row| row.object)?;
-    Ok(rows)
+    rows.sort_by_key(|row| row.object).expect(rt, "the memory");
+    rows
 }
 
 /// The rows with an unbalanced tag, the most of these first and then by object.
-pub fn unbalanced(rows: &mut Vec<ObjectRow>) -> Result<(), NoMemory> {
+pub fn unbalanced(rt: &impl Abort, rows: &mut Vec<ObjectRow>) {
     rows.retain(|row| row.unbalanced > 0);
-    rows.sort_by_key(|row| Reverse(row.unbalanced))?;
-    Ok(())
+    rows.sort_by_key(|row| Reverse(row.unbalanced))
+        .expect(rt, "the memory");
 }
 
-fn object_row(alloc: Global, events: &[SharedEvent], object: u64) -> Result<ObjectRow, NoMemory> {
+fn object_row(rt: &impl Abort, alloc: Global, events: &[SharedEvent], object: u64) -> ObjectRow {
     let mut row = ObjectRow {
         object,
         tags: 0,
@@ -80,8 +84,8 @@ fn object_row(alloc: Global, events: &[SharedEvent], object: u64) -> Result<Obje
         refs: 0,
         derefs: 0,
     };
-    for tag in tags_of(alloc, events, object)? {
-        let count = under(events, Slot::Tagged { object, tag }, &[]);
+    for tag in &tags_of(rt, alloc, events, object) {
+        let count = under(events, Slot::Tagged { object, tag: *tag }, &[]);
         row.tags = row.tags.wrapping_add(1);
         row.unbalanced = row
             .unbalanced
@@ -89,11 +93,11 @@ fn object_row(alloc: Global, events: &[SharedEvent], object: u64) -> Result<Obje
         row.refs = row.refs.wrapping_add(count.plus);
         row.derefs = row.derefs.wrapping_add(count.minus);
     }
-    Ok(row)
+    row
 }
 
 /// The tags that the object has an event under.
-fn tags_of(alloc: Global, events: &[SharedEvent], object: u64) -> Result<Vec<[u8; 4]>, NoMemory> {
+fn tags_of(rt: &impl Abort, alloc: Global, events: &[SharedEvent], object: u64) -> Vec<[u8; 4]> {
     let mut tags = Vec::new(alloc);
     for event in events {
         let slot = Slot::Tagged {
@@ -101,23 +105,25 @@ fn tags_of(alloc: Global, events: &[SharedEvent], object: u64) -> Result<Vec<[u8
             tag: event.tag,
         };
         if under(events, slot, &[]) != NONE && !tags.contains(&event.tag) {
-            tags.push(event.tag)?;
+            tags.push(event.tag).expect(rt, "the memory");
         }
     }
-    Ok(tags)
+    tags
 }
 
 /// The gaps of a list of keys, which are processors and numbers below `numbers`.
 pub fn gaps(
+    rt: &impl Abort,
     alloc: Global,
     keys: &[(u16, u32)],
     processors: u16,
     numbers: u32,
-) -> Result<Vec<Gap>, NoMemory> {
+) -> Vec<Gap> {
     let mut gaps = Vec::new(alloc);
     for processor in 0..processors {
         if !keys.iter().any(|key| key.0 == processor) {
-            gaps.push(Gap::Absent { processor })?;
+            gaps.push(Gap::Absent { processor })
+                .expect(rt, "the memory");
         }
         for from in 0..numbers {
             for to in from..numbers {
@@ -126,12 +132,13 @@ pub fn gaps(
                         processor,
                         from,
                         to,
-                    })?;
+                    })
+                    .expect(rt, "the memory");
                 }
             }
         }
     }
-    Ok(gaps)
+    gaps
 }
 
 /// Whether none of these numbers is there, the one behind them is, and no longer run ends with

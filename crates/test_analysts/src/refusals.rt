@@ -1,14 +1,12 @@
 //! What analysts refuse, and that a refusal changes nothing.
 
-use crate::analysts::{TWO_PROCESSORS, compacted, new, take, take_of, taken};
+use crate::analysts::{TWO_PROCESSORS, compacted, merge, new, segment, take, take_of, taken};
 use htl_analyst::{Analyst, AnalystFault, MergeFault, TakeFault, Took};
-use htl_event::NoMemory;
 use htl_samples::{SampleFault, TRACE, Trace};
 use htl_segment::{Fault, Segment, decode, from_hex};
 use linked_list_allocator::LocalHeap;
 use std::alloc::Global;
 use std::process::Abort;
-use std::test::Fail;
 
 const STORED: &[u8] = b"484c5331 0100 0100 0000 0000 00000000 0700000000000000 03000000 9c000000
     0100000000000000 01 00 0000 04000000 0c000000 44000000 0000000000000000 00000000
@@ -18,23 +16,37 @@ const STORED: &[u8] = b"484c5331 0100 0100 0000 0000 00000000 0700000000000000 0
 
 const OTHER_TRACE: Trace = Trace { id: 8, ..TRACE };
 
+fn made(alloc: Global, processors: u16) -> Result<u16, AnalystFault> {
+    Ok(Analyst::new(alloc, 7, processors)?.processors())
+}
+
 #[test]
-fn numbers_of_processors(rt: HostRuntime) -> Result<(), Fail> {
+fn numbers_of_processors(rt: HostRuntime) {
     for (processors, answer) in [
         (0, Err(AnalystFault::Processors)),
         (1, Ok(1)),
         (256, Ok(256)),
         (257, Err(AnalystFault::Processors)),
     ] {
-        let made = Analyst::new(rt.alloc(), 7, processors);
-        assert_eq!(rt; made.map(|analyst| analyst.processors()), answer);
+        assert_eq!(rt; made(rt.alloc(), processors), answer);
     }
-    Ok(())
+}
+
+/// What an analyst with one segment answers to that of a line. It has one after it.
+fn taken_second(
+    rt: &impl Abort,
+    alloc: Global,
+    trace: Trace,
+    line: &str,
+) -> Result<Took, TakeFault> {
+    let mut analyst = taken(rt, alloc, TRACE, &["0/3: O 1 0x44"]);
+    let answer = take_of(rt, alloc, &mut analyst, trace, line);
+    assert_eq!(rt; analyst.taken(), 1);
+    answer
 }
 
 #[test]
-fn segments_that_are_not_taken(rt: HostRuntime) -> Result<(), Fail> {
-    let alloc = rt.alloc();
+fn segments_that_are_not_taken(rt: HostRuntime) {
     let table = [
         (TRACE, "0/3: O 2 0x44", Err(TakeFault::Conflict(0, 3))),
         (OTHER_TRACE, "0/3: O 1 0x44", Err(TakeFault::OtherTrace)),
@@ -47,22 +59,26 @@ fn segments_that_are_not_taken(rt: HostRuntime) -> Result<(), Fail> {
         (TRACE, "0/3: O 1 0x44", Ok(Took::Repeat)),
     ];
     for (trace, line, answer) in table {
-        let mut analyst = taken(&rt, alloc, TRACE, &["0/3: O 1 0x44"])?;
-        assert_eq!(rt; take_of(alloc, &mut analyst, trace, line)?, answer);
-        assert_eq!(rt; analyst.taken(), 1);
+        assert_eq!(rt; taken_second(&rt, rt.alloc(), trace, line), answer);
     }
-    Ok(())
+}
+
+/// Why an analyst refuses the segment, and the segment that it hands back.
+fn handed_back(
+    rt: &impl Abort,
+    analyst: &mut Analyst<Global>,
+    segment: Segment,
+) -> (TakeFault, Segment) {
+    analyst.take(segment).expect_err(rt, "a refusal")
 }
 
 #[test]
-fn a_conflicting_segment_is_handed_back(rt: HostRuntime) -> Result<(), Fail> {
-    let mut analyst = taken(&rt, rt.alloc(), TRACE, &["0/3: O 1 0x44"])?;
-    let segment = TRACE.segment(rt.alloc(), "0/3: O 2 0x44")?;
-    let copy = segment.copy()?;
-    let (fault, back) = analyst.take(segment).expect_err(&rt, "a conflict");
+fn a_conflicting_segment_is_handed_back(rt: HostRuntime) {
+    let mut analyst = taken(&rt, rt.alloc(), TRACE, &["0/3: O 1 0x44"]);
+    let conflicting = segment(&rt, rt.alloc(), TRACE, "0/3: O 2 0x44");
+    let (fault, back) = handed_back(&rt, &mut analyst, conflicting);
     assert_eq!(rt; fault, TakeFault::Conflict(0, 3));
-    assert!(rt; back.same(&copy));
-    Ok(())
+    assert!(rt; back.same(&segment(&rt, rt.alloc(), TRACE, "0/3: O 2 0x44")));
 }
 
 /// The stored run's bytes, in this version.
@@ -75,60 +91,77 @@ fn stored(rt: &impl Abort, alloc: Global, version: u8) -> Segment {
     segment
 }
 
+/// What an analyst answers to the stored run.
+fn take_stored(
+    rt: &impl Abort,
+    alloc: Global,
+    analyst: &mut Analyst<Global>,
+    version: u8,
+) -> Result<Took, TakeFault> {
+    let segment = stored(rt, alloc, version);
+    analyst.take(segment).map_err(|(fault, _segment)| fault)
+}
+
 #[test]
-fn one_content_in_two_versions(rt: HostRuntime) -> Result<(), Fail> {
+fn one_content_in_two_versions(rt: HostRuntime) {
     let mut analyst = new(&rt, rt.alloc(), TRACE);
-    assert_eq!(rt; analyst.take(stored(&rt, rt.alloc(), 1))?, Took::New);
-    let other = analyst.take(stored(&rt, rt.alloc(), 2));
-    assert_eq!(rt;
-        other.err().map(|refused| refused.0),
-        Some(TakeFault::Conflict(0, 0))
-    );
-    Ok(())
+    let first = take_stored(&rt, rt.alloc(), &mut analyst, 1);
+    assert_eq!(rt; first, Ok(Took::New));
+    let second = take_stored(&rt, rt.alloc(), &mut analyst, 2);
+    assert_eq!(rt; second, Err(TakeFault::Conflict(0, 0)));
 }
 
 // What was folded is no longer compared.
 #[test]
-fn other_content_below_the_front(rt: HostRuntime) -> Result<(), Fail> {
-    let mut analyst = compacted(&rt, rt.alloc(), TRACE, &["0/0: O 1 0x44"])?;
-    let answer = take(rt.alloc(), &mut analyst, "0/0: O 2 0x48")?;
+fn other_content_below_the_front(rt: HostRuntime) {
+    let mut analyst = compacted(&rt, rt.alloc(), TRACE, &["0/0: O 1 0x44"]);
+    let answer = take(&rt, rt.alloc(), &mut analyst, "0/0: O 2 0x48");
     assert_eq!(rt; answer, Ok(Took::Repeat));
     let more = ["0/0: O 1 0x48", "0/1:"];
-    analyst.merge(&compacted(&rt, rt.alloc(), TRACE, &more)?)?;
+    merge(&rt, &mut analyst, &compacted(&rt, rt.alloc(), TRACE, &more));
     assert_eq!(rt; (analyst.front(0), analyst.taken()), (2, 2));
-    Ok(())
+}
+
+/// An analyst that holds two segments.
+fn two_held(rt: &impl Abort, alloc: Global) -> Analyst<Global> {
+    taken(rt, alloc, TRACE, &["0/3: O 3 0x44", "0/2: O 1 0x48"])
 }
 
 /// A refused merge changes nothing.
-fn merge_is_refused(
-    rt: &impl Abort,
-    one: &mut Analyst<Global>,
-    other: &Analyst<Global>,
-    fault: MergeFault,
-) -> Result<(), NoMemory> {
-    let before = one.copy()?;
+fn merge_is_refused(rt: &impl Abort, alloc: Global, other: &Analyst<Global>, fault: MergeFault) {
+    let mut one = two_held(rt, alloc);
     assert_eq!(rt; one.merge(other), Err(fault));
-    assert!(rt; one.same(&before));
-    Ok(())
+    assert!(rt; one.same(&two_held(rt, alloc)));
 }
 
-/// So does a refused `absorb`, and it hands the other back.
+/// Why an analyst isn't taken over, and the analyst that is handed back. The one that refuses it has
+/// two segments after it.
+fn not_absorbed(
+    rt: &impl Abort,
+    alloc: Global,
+    other: Analyst<Global>,
+) -> (MergeFault, Analyst<Global>) {
+    let mut one = two_held(rt, alloc);
+    let refused = one.absorb(other).expect_err(rt, "a refusal");
+    assert_eq!(rt; one.taken(), 2);
+    refused
+}
+
+/// A refused `absorb` hands the other back.
 fn absorb_is_refused(
     rt: &impl Abort,
-    one: &mut Analyst<Global>,
-    other: Analyst<Global>,
+    alloc: Global,
+    trace: Trace,
+    lines: &[&str],
     fault: MergeFault,
-) -> Result<(), NoMemory> {
-    let others = other.copy()?;
-    let (why, back) = one.absorb(other).expect_err(rt, "a refusal");
+) {
+    let (why, back) = not_absorbed(rt, alloc, taken(rt, alloc, trace, lines));
     assert_eq!(rt; why, fault);
-    assert!(rt; back.same(&others));
-    Ok(())
+    assert!(rt; back.same(&taken(rt, alloc, trace, lines)));
 }
 
 #[test]
-fn analysts_that_are_not_merged(rt: HostRuntime) -> Result<(), Fail> {
-    let alloc = rt.alloc();
+fn analysts_that_are_not_merged(rt: HostRuntime) {
     let table: [(Trace, &[&str], MergeFault); 4] = [
         (TRACE, &["0/3: O 2 0x44"], MergeFault::Conflict(0, 3)),
         (
@@ -144,13 +177,10 @@ fn analysts_that_are_not_merged(rt: HostRuntime) -> Result<(), Fail> {
         ),
     ];
     for (trace, lines, fault) in table {
-        let mut analyst = taken(&rt, alloc, TRACE, &["0/3: O 3 0x44", "0/2: O 1 0x48"])?;
-        let other = taken(&rt, alloc, trace, lines)?;
-        merge_is_refused(&rt, &mut analyst, &other, fault)?;
-        absorb_is_refused(&rt, &mut analyst, other, fault)?;
-        assert_eq!(rt; analyst.taken(), 2);
+        let other = taken(&rt, rt.alloc(), trace, lines);
+        merge_is_refused(&rt, rt.alloc(), &other, fault);
+        absorb_is_refused(&rt, rt.alloc(), trace, lines, fault);
     }
-    Ok(())
 }
 
 // The number 0xffffffff is none.
@@ -162,29 +192,41 @@ fn a_number_too_large(rt: HostRuntime) {
 
 /// Why the first of the empty segments from number 1 on is refused that is, and its number.
 fn first_refused(
+    rt: &impl Abort,
     alloc: Global,
     analyst: &mut Analyst<&LocalHeap>,
-) -> Result<Option<(TakeFault, u64)>, SampleFault> {
+) -> Option<(TakeFault, u64)> {
     for number in 1..1000 {
-        if let Err((fault, segment)) = analyst.take(empty(alloc, number)?) {
-            return Ok(Some((fault, u64::from(segment.number()))));
+        if let Err((fault, segment)) = analyst.take(empty(rt, alloc, number)) {
+            return Some((fault, u64::from(segment.number())));
         }
     }
-    Ok(None)
+    None
 }
 
-#[test]
-fn a_small_heap_refuses_a_segment(rt: HostRuntime) -> Result<(), Fail> {
-    let heap = LocalHeap::new(rt.alloc(), 4096)?;
-    let mut analyst = Analyst::new(&heap, 7, 1).expect(&rt, "an analyst");
-    let refused = first_refused(rt.alloc(), &mut analyst)?;
+/// An analyst in a heap without room for a thousand segments takes all that it has room for.
+fn takes_until_refused(rt: &impl Abort, alloc: Global, heap: &LocalHeap) {
+    let mut analyst = Analyst::new(heap, 7, 1).expect(rt, "an analyst");
+    let refused = first_refused(rt, alloc, &mut analyst);
     let next = analyst.taken().wrapping_add(1);
     assert_eq!(rt; refused, Some((TakeFault::NoMemory, next)));
     assert_eq!(rt; analyst.held(), analyst.taken());
-    assert!(rt; analyst.outstanding(rt.alloc(), 4)?.is_empty());
-    Ok(())
+    has_no_open_handle(rt, alloc, &analyst);
 }
 
-fn empty(alloc: Global, number: u32) -> Result<Segment, SampleFault> {
-    Ok(Segment::build(alloc, 7, 1, 0, number, Vec::new(alloc))?)
+fn has_no_open_handle(rt: &impl Abort, alloc: Global, analyst: &Analyst<&LocalHeap>) {
+    let opens = analyst.outstanding(alloc, 4).expect(rt, "the memory");
+    assert!(rt; opens.is_empty());
+}
+
+#[test]
+fn a_small_heap_refuses_a_segment(rt: HostRuntime) {
+    let heap = LocalHeap::new(rt.alloc(), 4096).expect(&rt, "the memory");
+    takes_until_refused(&rt, rt.alloc(), &heap);
+}
+
+fn empty(rt: &impl Abort, alloc: Global, number: u32) -> Segment {
+    Segment::build(alloc, 7, 1, 0, number, Vec::new(alloc))
+        .ok()
+        .expect(rt, "a segment")
 }

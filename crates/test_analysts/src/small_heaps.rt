@@ -1,14 +1,12 @@
 //! Refused allocations. Each call is tried in heaps of rising size: it is refused in some and
 //! answers in others, and where it is refused every answer is as before.
 
-use crate::analysts::TWO_PROCESSORS;
+use crate::analysts::{TWO_PROCESSORS, segment};
 use htl_analyst::Analyst;
-use htl_event::{NoMemory, Slot};
-use htl_samples::SampleFault;
+use htl_event::Slot;
 use linked_list_allocator::LocalHeap;
 use std::alloc::Global;
 use std::process::Abort;
-use std::test::Fail;
 
 /// Heaps of so many bytes more each time.
 const STEP: usize = 64;
@@ -48,20 +46,34 @@ enum Call {
 
 /// An analyst that took the lines, if the heap has room for it.
 fn analyst_in<'a>(
+    rt: &impl Abort,
     alloc: Global,
     heap: &'a LocalHeap,
     lines: &[&str],
-) -> Result<Option<Analyst<&'a LocalHeap>>, SampleFault> {
-    let Ok(mut analyst) = Analyst::new(heap, TWO_PROCESSORS.id, TWO_PROCESSORS.processors) else {
-        return Ok(None);
-    };
+) -> Option<Analyst<&'a LocalHeap>> {
+    let trace = TWO_PROCESSORS;
+    let mut analyst = Analyst::new(heap, trace.id, trace.processors).ok()?;
     for line in lines {
-        let segment = TWO_PROCESSORS.segment(alloc, line)?;
-        if analyst.take(segment).is_err() {
-            return Ok(None);
+        if is_take_refused(rt, alloc, &mut analyst, line) {
+            return None;
         }
     }
-    Ok(Some(analyst))
+    Some(analyst)
+}
+
+fn is_take_refused(
+    rt: &impl Abort,
+    alloc: Global,
+    analyst: &mut Analyst<&LocalHeap>,
+    line: &str,
+) -> bool {
+    let segment = segment(rt, alloc, TWO_PROCESSORS, line);
+    analyst.take(segment).is_err()
+}
+
+/// Another analyst, in a heap with room.
+fn other_in<'a>(rt: &impl Abort, alloc: Global, roomy: &'a LocalHeap) -> Analyst<&'a LocalHeap> {
+    analyst_in(rt, alloc, roomy, &MORE).expect(rt, "room")
 }
 
 /// Whether the call is refused. What is taken over lies in a heap with room.
@@ -71,33 +83,26 @@ fn is_refused<'a>(
     call: Call,
     analyst: &mut Analyst<&'a LocalHeap>,
     roomy: &'a LocalHeap,
-) -> Result<bool, SampleFault> {
-    let other = analyst_in(alloc, roomy, &MORE)?.expect(rt, "room");
-    Ok(match call {
-        Call::Take => {
-            let segment = TWO_PROCESSORS.segment(alloc, "0/7: O 30 0x60")?;
-            analyst.take(segment).is_err()
-        }
-        Call::Merge => analyst.merge(&other).is_err(),
-        Call::Absorb => analyst.absorb(other).is_err(),
+) -> bool {
+    match call {
+        Call::Take => is_take_refused(rt, alloc, analyst, "0/7: O 30 0x60"),
+        Call::Merge => analyst.merge(&other_in(rt, alloc, roomy)).is_err(),
+        Call::Absorb => analyst.absorb(other_in(rt, alloc, roomy)).is_err(),
         Call::Compact => analyst.compact().is_err(),
         Call::Copy => analyst.copy().is_err(),
         Call::WholeTree => analyst.whole_tree().is_err(),
-    })
+    }
 }
 
 /// Answers are equal, whatever was folded.
-fn agree(
-    rt: &impl Abort,
-    alloc: Global,
-    one: &Analyst<&LocalHeap>,
-    other: &Analyst<&LocalHeap>,
-) -> Result<(), NoMemory> {
-    agree_on_opens(rt, alloc, one, other)?;
-    agree_on_stacks(rt, alloc, one, other)?;
-    agree_on_tags(rt, alloc, one, other)?;
+fn agree(rt: &impl Abort, alloc: Global, one: &Analyst<&LocalHeap>, other: &Analyst<&LocalHeap>) {
+    agree_on_opens(rt, alloc, one, other);
+    agree_on_opens_since(rt, alloc, one, other);
+    agree_on_leaks(rt, alloc, one, other);
+    agree_on_bad(rt, alloc, one, other);
+    agree_on_tags(rt, alloc, one, other);
+    agree_on_stacks(rt, alloc, one, other);
     agree_on_numbers(rt, one, other);
-    Ok(())
 }
 
 fn agree_on_opens(
@@ -105,26 +110,44 @@ fn agree_on_opens(
     alloc: Global,
     one: &Analyst<&LocalHeap>,
     other: &Analyst<&LocalHeap>,
-) -> Result<(), NoMemory> {
-    let opens = one.outstanding(alloc, 4)?;
-    assert_eq!(rt; opens.as_slice(), other.outstanding(alloc, 4)?.as_slice());
-    let since = one.mark(4);
-    let opens = one.diff(alloc, 4, since)?;
-    assert_eq!(rt; opens.as_slice(), other.diff(alloc, 4, since)?.as_slice());
-    Ok(())
+) {
+    let opens = one.outstanding(alloc, 4).expect(rt, "the memory");
+    let others = other.outstanding(alloc, 4).expect(rt, "the memory");
+    assert_eq!(rt; opens.as_slice(), others.as_slice());
 }
 
-fn agree_on_stacks(
+fn agree_on_opens_since(
     rt: &impl Abort,
     alloc: Global,
     one: &Analyst<&LocalHeap>,
     other: &Analyst<&LocalHeap>,
-) -> Result<(), NoMemory> {
-    let leaks = one.leaks(alloc, 4)?;
-    assert!(rt; leaks.iter().eq(&other.leaks(alloc, 4)?));
-    let bad = one.bad(alloc, 4)?;
-    assert!(rt; bad.iter().eq(&other.bad(alloc, 4)?));
-    Ok(())
+) {
+    let since = one.mark(4);
+    let opens = one.diff(alloc, 4, since).expect(rt, "the memory");
+    let others = other.diff(alloc, 4, since).expect(rt, "the memory");
+    assert_eq!(rt; opens.as_slice(), others.as_slice());
+}
+
+fn agree_on_leaks(
+    rt: &impl Abort,
+    alloc: Global,
+    one: &Analyst<&LocalHeap>,
+    other: &Analyst<&LocalHeap>,
+) {
+    let leaks = one.leaks(alloc, 4).expect(rt, "the memory");
+    let others = other.leaks(alloc, 4).expect(rt, "the memory");
+    assert!(rt; leaks.iter().eq(&others));
+}
+
+fn agree_on_bad(
+    rt: &impl Abort,
+    alloc: Global,
+    one: &Analyst<&LocalHeap>,
+    other: &Analyst<&LocalHeap>,
+) {
+    let bad = one.bad(alloc, 4).expect(rt, "the memory");
+    let others = other.bad(alloc, 4).expect(rt, "the memory");
+    assert!(rt; bad.iter().eq(&others));
 }
 
 fn agree_on_tags(
@@ -132,12 +155,21 @@ fn agree_on_tags(
     alloc: Global,
     one: &Analyst<&LocalHeap>,
     other: &Analyst<&LocalHeap>,
-) -> Result<(), NoMemory> {
-    let tags = one.tags(alloc, OBJECT)?;
-    assert_eq!(rt; tags.as_slice(), other.tags(alloc, OBJECT)?.as_slice());
-    let stacks = one.stacks(alloc, OBJECT, TAG)?;
-    assert!(rt; stacks.iter().eq(&other.stacks(alloc, OBJECT, TAG)?));
-    Ok(())
+) {
+    let tags = one.tags(alloc, OBJECT).expect(rt, "the memory");
+    let others = other.tags(alloc, OBJECT).expect(rt, "the memory");
+    assert_eq!(rt; tags.as_slice(), others.as_slice());
+}
+
+fn agree_on_stacks(
+    rt: &impl Abort,
+    alloc: Global,
+    one: &Analyst<&LocalHeap>,
+    other: &Analyst<&LocalHeap>,
+) {
+    let stacks = one.stacks(alloc, OBJECT, TAG).expect(rt, "the memory");
+    let others = other.stacks(alloc, OBJECT, TAG).expect(rt, "the memory");
+    assert!(rt; stacks.iter().eq(&others));
 }
 
 fn agree_on_numbers(rt: &impl Abort, one: &Analyst<&LocalHeap>, other: &Analyst<&LocalHeap>) {
@@ -160,12 +192,12 @@ fn wanted<'a>(
     call: Call,
     roomy: &'a LocalHeap,
     refused: bool,
-) -> Result<Analyst<&'a LocalHeap>, SampleFault> {
-    let mut twin = analyst_in(alloc, roomy, &LINES)?.expect(rt, "room");
+) -> Analyst<&'a LocalHeap> {
+    let mut twin = analyst_in(rt, alloc, roomy, &LINES).expect(rt, "room");
     if !refused {
-        assert!(rt; !is_refused(rt, alloc, call, &mut twin, roomy)?);
+        assert!(rt; !is_refused(rt, alloc, call, &mut twin, roomy));
     }
-    Ok(twin)
+    twin
 }
 
 /// Whether the call is refused in this heap, if the analyst has room there. Only a compaction may
@@ -176,34 +208,41 @@ fn tried<'a>(
     call: Call,
     small: &'a LocalHeap,
     roomy: &'a LocalHeap,
-) -> Result<Option<bool>, SampleFault> {
-    let Some(mut analyst) = analyst_in(alloc, small, &LINES)? else {
-        return Ok(None);
-    };
-    let refused = is_refused(rt, alloc, call, &mut analyst, roomy)?;
-    let twin = wanted(rt, alloc, call, roomy, refused)?;
+) -> Option<bool> {
+    let mut analyst = analyst_in(rt, alloc, small, &LINES)?;
+    let refused = is_refused(rt, alloc, call, &mut analyst, roomy);
+    let twin = wanted(rt, alloc, call, roomy, refused);
     assert!(rt; analyst.same(&twin) || refused && call == Call::Compact);
-    agree(rt, alloc, &analyst, &twin)?;
-    Ok(Some(refused))
+    agree(rt, alloc, &analyst, &twin);
+    Some(refused)
+}
+
+fn heap(rt: &impl Abort, alloc: Global, size: usize) -> LocalHeap {
+    LocalHeap::new(alloc, size).expect(rt, "the memory")
+}
+
+/// Whether the call is refused in a heap of this size, if the analyst has room there.
+fn tried_in(rt: &impl Abort, alloc: Global, call: Call, size: usize) -> Option<bool> {
+    let small = heap(rt, alloc, size);
+    let roomy = heap(rt, alloc, 65536);
+    tried(rt, alloc, call, &small, &roomy)
 }
 
 /// In how many heaps the call is refused, and in how many it answers.
-fn outcomes(rt: &impl Abort, alloc: Global, call: Call) -> Result<(u64, u64), SampleFault> {
+fn outcomes(rt: &impl Abort, alloc: Global, call: Call) -> (u64, u64) {
     let (mut refused, mut answered) = (0u64, 0u64);
     for step in 1..STEPS {
-        let small = LocalHeap::new(alloc, step * STEP)?;
-        let roomy = LocalHeap::new(alloc, 65536)?;
-        match tried(rt, alloc, call, &small, &roomy)? {
+        match tried_in(rt, alloc, call, step * STEP) {
             Some(true) => refused = refused.wrapping_add(1),
             Some(false) => answered = answered.wrapping_add(1),
             None => {}
         }
     }
-    Ok((refused, answered))
+    (refused, answered)
 }
 
 #[test]
-fn refused_allocations(rt: HostRuntime) -> Result<(), Fail> {
+fn refused_allocations(rt: HostRuntime) {
     for call in [
         Call::Take,
         Call::Merge,
@@ -212,11 +251,10 @@ fn refused_allocations(rt: HostRuntime) -> Result<(), Fail> {
         Call::Copy,
         Call::WholeTree,
     ] {
-        let (refused, answered) = outcomes(&rt, rt.alloc(), call)?;
+        let (refused, answered) = outcomes(&rt, rt.alloc(), call);
         assert!(rt;
             refused > 0 && answered > 0,
             "{call:?}: {refused}, {answered}"
         );
     }
-    Ok(())
 }

@@ -1,15 +1,16 @@
 //! Summaries of random traces that lack segments. Whatever was folded of the segments that are
 //! there, processes, objects and gaps are the plain ones.
 
+use crate::account::push_all;
+use crate::analysts::compact;
 use crate::dice::Dice;
 use crate::plain_summary as plain;
 use htl_analyst::Analyst;
-use htl_event::{NoMemory, SharedEvent};
-use htl_samples::{RandomTrace, SMALL, SampleFault};
+use htl_event::SharedEvent;
+use htl_samples::{RandomTrace, SMALL};
 use htl_segment::Segment;
 use std::alloc::Global;
 use std::process::Abort;
-use std::test::Fail;
 
 const TRACES: u64 = 100;
 
@@ -38,48 +39,52 @@ impl Subject {
         }
     }
 
-    fn take(&mut self, rt: &impl Abort, segment: &Segment) -> Result<(), NoMemory> {
-        self.keys.push((segment.processor(), segment.number()))?;
-        for event in segment.events() {
-            self.events.push(event.copy()?)?;
-        }
-        self.analyst.take(segment.copy()?).expect(rt, "the memory");
-        Ok(())
+    fn take(&mut self, rt: &impl Abort, segment: &Segment) {
+        let key = (segment.processor(), segment.number());
+        self.keys.push(key).expect(rt, "the memory");
+        push_all(rt, &mut self.events, segment.events());
+        let copy = segment.copy().expect(rt, "the memory");
+        self.analyst.take(copy).expect(rt, "the memory");
     }
 }
 
 /// Of every four segments about so many are taken, and now and then what can be folded is.
-fn partly_taken(
-    rt: &impl Abort,
-    alloc: Global,
-    seed: u64,
-    share: u64,
-    dice: &mut Dice,
-) -> Result<Subject, SampleFault> {
+fn partly_taken(rt: &impl Abort, alloc: Global, seed: u64, share: u64, dice: &mut Dice) -> Subject {
     let trace = RandomTrace { seed, ..TRACE };
+    let segments = trace.segments(alloc).expect(rt, "the segments");
     let mut subject = Subject::new(rt, alloc);
-    for segment in &trace.segments(alloc)? {
+    for segment in &segments {
         if dice.below(4) < share {
-            subject.take(rt, segment)?;
+            subject.take(rt, segment);
         }
         if dice.below(4) == 0 {
-            subject.analyst.compact()?;
+            compact(rt, &mut subject.analyst);
         }
     }
-    Ok(subject)
+    subject
 }
 
-fn compare(rt: &impl Abort, alloc: Global, subject: &Subject) -> Result<(), NoMemory> {
-    let Subject {
-        analyst,
-        keys,
-        events,
-    } = subject;
-    let rows = plain::processes(alloc, events)?;
-    assert_eq!(rt; analyst.processes(alloc)?.as_slice(), rows.as_slice());
-    let gaps = plain::gaps(alloc, keys, TRACE.processors, TRACE.segments)?;
-    assert_eq!(rt; analyst.gaps(alloc)?.as_slice(), gaps.as_slice());
-    compare_objects(rt, alloc, analyst, events)
+fn compare(rt: &impl Abort, alloc: Global, subject: &Subject) {
+    compare_processes(rt, alloc, &subject.analyst, &subject.events);
+    compare_gaps(rt, alloc, &subject.analyst, &subject.keys);
+    compare_objects(rt, alloc, &subject.analyst, &subject.events);
+}
+
+fn compare_processes(
+    rt: &impl Abort,
+    alloc: Global,
+    analyst: &Analyst<Global>,
+    events: &[SharedEvent],
+) {
+    let wanted = plain::processes(rt, alloc, events);
+    let rows = analyst.processes(alloc).expect(rt, "the memory");
+    assert_eq!(rt; rows.as_slice(), wanted.as_slice());
+}
+
+fn compare_gaps(rt: &impl Abort, alloc: Global, analyst: &Analyst<Global>, keys: &[(u16, u32)]) {
+    let wanted = plain::gaps(rt, alloc, keys, TRACE.processors, TRACE.segments);
+    let gaps = analyst.gaps(alloc).expect(rt, "the memory");
+    assert_eq!(rt; gaps.as_slice(), wanted.as_slice());
 }
 
 fn compare_objects(
@@ -87,29 +92,36 @@ fn compare_objects(
     alloc: Global,
     analyst: &Analyst<Global>,
     events: &[SharedEvent],
-) -> Result<(), NoMemory> {
-    let objects = analyst.objects(alloc)?;
-    let mut rows = plain::objects(alloc, events)?;
+) {
+    let objects = analyst.objects(alloc).expect(rt, "the memory");
+    let mut rows = plain::objects(rt, alloc, events);
     assert_eq!(rt; objects.number, rows.len() as u64);
-    plain::unbalanced(&mut rows)?;
+    plain::unbalanced(rt, &mut rows);
     assert_eq!(rt; objects.unbalanced.as_slice(), rows.as_slice());
-    Ok(())
+}
+
+fn has_gaps(rt: &impl Abort, alloc: Global, analyst: &Analyst<Global>) -> bool {
+    let gaps = analyst.gaps(alloc).expect(rt, "the memory");
+    !gaps.is_empty()
+}
+
+/// Whether the trace of this seed has gaps, once its summaries were compared.
+fn compared(rt: &impl Abort, alloc: Global, seed: u64, dice: &mut Dice) -> bool {
+    let mut subject = partly_taken(rt, alloc, seed, 1 + seed % 3, dice);
+    compare(rt, alloc, &subject);
+    compact(rt, &mut subject.analyst);
+    compare(rt, alloc, &subject);
+    has_gaps(rt, alloc, &subject.analyst)
 }
 
 #[test]
-fn random_summaries(rt: HostRuntime) -> Result<(), Fail> {
-    let alloc = rt.alloc();
+fn random_summaries(rt: HostRuntime) {
     let mut dice = Dice::new(1);
     let mut with_gaps = 0u64;
     for seed in 0..TRACES {
-        let mut subject = partly_taken(&rt, alloc, seed, 1 + seed % 3, &mut dice)?;
-        compare(&rt, alloc, &subject)?;
-        subject.analyst.compact()?;
-        compare(&rt, alloc, &subject)?;
-        if !subject.analyst.gaps(alloc)?.is_empty() {
+        if compared(&rt, rt.alloc(), seed, &mut dice) {
             with_gaps = with_gaps.saturating_add(1);
         }
     }
     assert!(rt; with_gaps > TRACES / 2);
-    Ok(())
 }

@@ -1,13 +1,12 @@
 //! What a summary says, before and after what was taken is folded.
 
-use crate::analysts::taken;
+use crate::analysts::{compact, taken};
 use htl_analyst::Analyst;
-use htl_event::{NoMemory, ObjectRow, ProcessRow};
+use htl_event::{ObjectRow, ProcessRow};
 use htl_samples::{TRACE, Trace};
 use htl_taken::Gap;
 use std::alloc::Global;
 use std::process::Abort;
-use std::test::Fail;
 
 /// Of three processors one has a gap and one no segment. Of three processes one exited, and one
 /// made a bad reference. Of four objects the first is balanced, the next two have a reference too
@@ -82,25 +81,36 @@ const GAPS: &[Gap] = &[
     Gap::Absent { processor: 2 },
 ];
 
-fn is_summed_up(rt: &impl Abort, alloc: Global, analyst: &Analyst<Global>) -> Result<(), NoMemory> {
-    assert_eq!(rt; analyst.processes(alloc)?.as_slice(), PROCESSES);
-    let objects = analyst.objects(alloc)?;
+fn has_processes(rt: &impl Abort, alloc: Global, analyst: &Analyst<Global>) {
+    let processes = analyst.processes(alloc).expect(rt, "the memory");
+    assert_eq!(rt; processes.as_slice(), PROCESSES);
+}
+
+fn has_objects(rt: &impl Abort, alloc: Global, analyst: &Analyst<Global>) {
+    let objects = analyst.objects(alloc).expect(rt, "the memory");
     assert_eq!(rt; objects.number, 4);
     assert_eq!(rt; objects.unbalanced.as_slice(), UNBALANCED);
-    assert_eq!(rt; analyst.gaps(alloc)?.as_slice(), GAPS);
-    Ok(())
+}
+
+fn has_gaps(rt: &impl Abort, alloc: Global, analyst: &Analyst<Global>) {
+    let gaps = analyst.gaps(alloc).expect(rt, "the memory");
+    assert_eq!(rt; gaps.as_slice(), GAPS);
+}
+
+fn is_summed_up(rt: &impl Abort, alloc: Global, analyst: &Analyst<Global>) {
+    has_processes(rt, alloc, analyst);
+    has_objects(rt, alloc, analyst);
+    has_gaps(rt, alloc, analyst);
 }
 
 #[test]
-fn processes_objects_and_gaps(rt: HostRuntime) -> Result<(), Fail> {
-    let alloc = rt.alloc();
+fn processes_objects_and_gaps(rt: HostRuntime) {
     let trace = Trace {
         processors: 3,
         ..TRACE
     };
-    let mut analyst = taken(&rt, alloc, trace, LINES)?;
-    is_summed_up(&rt, alloc, &analyst)?;
-    analyst.compact()?;
-    is_summed_up(&rt, alloc, &analyst)?;
-    Ok(())
+    let mut analyst = taken(&rt, rt.alloc(), trace, LINES);
+    is_summed_up(&rt, rt.alloc(), &analyst);
+    compact(&rt, &mut analyst);
+    is_summed_up(&rt, rt.alloc(), &analyst);
 }

@@ -4,14 +4,25 @@
 mod lines;
 mod texts;
 
+use htl_command::{ParseFault, parse};
 use std::alloc::Global;
-use std::test::Fail;
+use std::process::Abort;
 
 /// The words of a line, which `|` divides.
-fn words(alloc: Global, line: &str) -> Result<Vec<String>, Fail> {
+fn words(rt: &impl Abort, alloc: Global, line: &str) -> Vec<String> {
     let mut words = Vec::new(alloc);
     for word in line.split('|') {
-        words.push(String::from_str(alloc, word)?)?;
+        let word = String::from_str(alloc, word).expect(rt, "the memory");
+        words.push(word).expect(rt, "the memory");
     }
-    Ok(words)
+    words
+}
+
+/// Why a line is refused, or the help that it asks for.
+fn fault_of(rt: &impl Abort, alloc: Global, line: &str) -> ParseFault {
+    parse(alloc, words(rt, alloc, line)).expect_err(rt, "no job")
+}
+
+fn text_of(rt: &impl Abort, alloc: Global, fault: &ParseFault) -> String {
+    fault.to_string(alloc).expect(rt, "the memory")
 }

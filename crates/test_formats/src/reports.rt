@@ -1,20 +1,32 @@
 //! The eight texts, and how addresses print.
-use htl_event::{Count, ObjectRow, ProcessRow};
+use htl_event::{Count, ObjectRow, ProcessRow, SharedEvent, SharedStack};
 use htl_report::{Answer, Totals, text};
 use htl_samples::{shared_events, shared_stack};
 use htl_symbols::Symbols;
 use htl_taken::Gap;
 use std::alloc::Global;
 use std::process::Abort;
-use std::test::Fail;
 
 fn count(plus: u64, minus: u64) -> Count {
     Count { plus, minus }
 }
 
-fn outstanding(alloc: Global) -> Result<(Answer, &'static str), Fail> {
-    let rows = shared_events(alloc, "O 1 0x46, O 3 0x48 [0x1010 0x2000]")?;
-    Ok((
+/// The events of lines.
+fn events(rt: &impl Abort, alloc: Global, lines: &str) -> Vec<SharedEvent> {
+    shared_events(alloc, lines).expect(rt, "the lines are events")
+}
+
+fn stack(rt: &impl Abort, alloc: Global, frames: &[u64]) -> SharedStack {
+    shared_stack(alloc, frames).expect(rt, "a stack")
+}
+
+fn list<T: Drop, const N: usize>(rt: &impl Abort, alloc: Global, rows: [T; N]) -> Vec<T> {
+    Vec::from_array(alloc, rows).expect(rt, "the memory")
+}
+
+fn outstanding(rt: &impl Abort, alloc: Global) -> (Answer, &'static str) {
+    let rows = events(rt, alloc, "O 1 0x46, O 3 0x48 [0x1010 0x2000]");
+    (
         Answer::Outstanding { process: 4, rows },
         "outstanding process=4 count=2
 OPEN handle=0x44 seq=1 thread=12
@@ -22,12 +34,12 @@ OPEN handle=0x48 seq=3 thread=12
   0x0000000000001010
   0x0000000000002000
 ",
-    ))
+    )
 }
 
-fn diff(alloc: Global) -> Result<(Answer, &'static str), Fail> {
-    let rows = shared_events(alloc, "O 13 0x14, O 12 0x18")?;
-    Ok((
+fn diff(rt: &impl Abort, alloc: Global) -> (Answer, &'static str) {
+    let rows = events(rt, alloc, "O 13 0x14, O 12 0x18");
+    (
         Answer::Diff {
             process: 4,
             since: 10,
@@ -37,17 +49,17 @@ fn diff(alloc: Global) -> Result<(Answer, &'static str), Fail> {
 OPEN handle=0x14 seq=13 thread=12
 OPEN handle=0x18 seq=12 thread=12
 ",
-    ))
+    )
 }
 
-fn tags(alloc: Global) -> Result<(Answer, &'static str), Fail> {
+fn tags(rt: &impl Abort, alloc: Global) -> (Answer, &'static str) {
     let rows = [
         ([1, 0x41, 0x42, 0x43], count(0, 1)),
         (*b"Dflt", count(1, 1)),
         (*b"Lky8", count(2, 1)),
     ];
-    let rows = Vec::from_slice(alloc, &rows)?;
-    Ok((
+    let rows = Vec::from_slice(alloc, &rows).expect(rt, "the memory");
+    (
         Answer::Tags {
             object: 0xffff_a000_0000_1000,
             rows,
@@ -57,32 +69,34 @@ TAG .ABC refs=0 derefs=1 under=1
 TAG Dflt refs=1 derefs=1 balanced
 TAG Lky8 refs=2 derefs=1 over=1
 ",
-    ))
+    )
 }
 
-fn bad(alloc: Global) -> Result<(Answer, &'static str), Fail> {
+fn bad(rt: &impl Abort, alloc: Global) -> (Answer, &'static str) {
     let mut rows = Vec::new(alloc);
     let stacks: [(u32, &[u64], u64); 2] = [(0, &[], 1), (7, &[0x10], 2)];
     for (handle, frames, times) in stacks {
-        rows.push((handle, shared_stack(alloc, frames)?, times))?;
+        rows.push((handle, stack(rt, alloc, frames), times))
+            .expect(rt, "the memory");
     }
-    Ok((
+    (
         Answer::Bad { process: 4, rows },
         "bad process=4 count=2
 BAD REF handle=0x0 times=1
 BAD REF handle=0x7 times=2
   0x0000000000000010
 ",
-    ))
+    )
 }
 
-fn leaks(alloc: Global) -> Result<(Answer, &'static str), Fail> {
+fn leaks(rt: &impl Abort, alloc: Global) -> (Answer, &'static str) {
     let mut rows = Vec::new(alloc);
     let stacks: [(&[u64], u64); 3] = [(&[0x60], 2), (&[0x50, 0x20], 1), (&[0x30, 0x40], 1)];
     for (frames, handles) in stacks {
-        rows.push((shared_stack(alloc, frames)?, handles))?;
+        rows.push((stack(rt, alloc, frames), handles))
+            .expect(rt, "the memory");
     }
-    Ok((
+    (
         Answer::Leaks { process: 4, rows },
         "leaks process=4 count=3
 LEAK handles=2
@@ -94,10 +108,10 @@ LEAK handles=1
   0x0000000000000030
   0x0000000000000040
 ",
-    ))
+    )
 }
 
-fn stacks(alloc: Global) -> Result<(Answer, &'static str), Fail> {
+fn stacks(rt: &impl Abort, alloc: Global) -> (Answer, &'static str) {
     let mut rows = Vec::new(alloc);
     let stacks: [(&[u64], Count); 3] = [
         (&[], count(0, 1)),
@@ -105,9 +119,10 @@ fn stacks(alloc: Global) -> Result<(Answer, &'static str), Fail> {
         (&[0x40, 0x20, 0x10], count(1, 0)),
     ];
     for (frames, count) in stacks {
-        rows.push((shared_stack(alloc, frames)?, count))?;
+        rows.push((stack(rt, alloc, frames), count))
+            .expect(rt, "the memory");
     }
-    Ok((
+    (
         Answer::Stacks {
             object: 0x1000,
             tag: *b"Lky8",
@@ -124,16 +139,15 @@ STACK refs=1 derefs=0
   0x0000000000000020
   0x0000000000000010
 ",
-    ))
+    )
 }
 
 /// A listing has events of the first three kinds alone; the others print by the kind's word.
-fn trace(alloc: Global) -> Result<(Answer, &'static str), Fail> {
-    let rows = shared_events(
-        alloc,
-        "C 3 0x46, B 2 0x45, O 1 0x44 [0x10], S 7, R 6 0x1000 Lky8, D 5 0x1000 Lky8, exit 4",
-    )?;
-    Ok((
+fn trace(rt: &impl Abort, alloc: Global) -> (Answer, &'static str) {
+    let lines =
+        "C 3 0x46, B 2 0x45, O 1 0x44 [0x10], S 7, R 6 0x1000 Lky8, D 5 0x1000 Lky8, exit 4";
+    let rows = events(rt, alloc, lines);
+    (
         Answer::Trace {
             process: 4,
             handle: 0x45,
@@ -149,7 +163,7 @@ REF handle=0x0 seq=6 thread=12
 DEREF handle=0x0 seq=5 thread=12
 EXIT handle=0x0 seq=4 thread=12
 ",
-    ))
+    )
 }
 
 fn process(process: u32, outstanding: u64, exit: u64) -> ProcessRow {
@@ -174,16 +188,19 @@ fn object(object: u64, unbalanced: u64) -> ObjectRow {
     }
 }
 
-fn summary(alloc: Global) -> Result<(Answer, &'static str), Fail> {
+fn summary(rt: &impl Abort, alloc: Global) -> (Answer, &'static str) {
     let between = Gap::Between {
         processor: 0,
         from: 0,
         to: 4_294_967_292,
     };
-    let gaps = Vec::from_array(alloc, [between, Gap::Absent { processor: 1 }])?;
-    let rows = [process(4, 2, 0), process(u32::MAX, 0, u64::MAX)];
-    let processes = Vec::from_array(alloc, rows)?;
-    let objects = Vec::from_array(alloc, [object(0xffff_a000_0000_1000, 2)])?;
+    let gaps = list(rt, alloc, [between, Gap::Absent { processor: 1 }]);
+    let processes = list(
+        rt,
+        alloc,
+        [process(4, 2, 0), process(u32::MAX, 0, u64::MAX)],
+    );
+    let objects = list(rt, alloc, [object(0xffff_a000_0000_1000, 2)]);
     let totals = Totals {
         processors: 2,
         segments: 1,
@@ -191,7 +208,7 @@ fn summary(alloc: Global) -> Result<(Answer, &'static str), Fail> {
         complete_to: 0,
         objects: 4,
     };
-    Ok((
+    (
         Answer::Summary {
             totals,
             gaps,
@@ -206,49 +223,56 @@ PROCESS process=4 outstanding=2 opens=3 closes=1 bad=2 mark=7 exit=0
 PROCESS process=4294967295 outstanding=0 opens=3 closes=1 bad=2 mark=7 exit=18446744073709551615
 OBJECT object=0xffffa00000001000 tags=3 unbalanced=2 refs=6 derefs=5
 ",
-    ))
+    )
 }
 
 /// The answer's text, without symbols, is the one beside it.
-fn assert_text(rt: &impl Abort, alloc: Global, row: &(Answer, &'static str)) -> Result<(), Fail> {
-    let (answer, wanted) = row;
-    let bytes = text(alloc, answer, &Symbols::none(alloc))?;
+fn assert_text(rt: &impl Abort, alloc: Global, (answer, wanted): &(Answer, &'static str)) {
+    let bytes = text(alloc, answer, &Symbols::none(alloc)).expect(rt, "the text");
     assert_eq!(rt; bytes.as_slice(), wanted.as_bytes(), "instead of {wanted}");
-    Ok(())
 }
 
 #[test]
-fn texts_of_handles(rt: HostRuntime) -> Result<(), Fail> {
-    assert_text(&rt, rt.alloc(), &outstanding(rt.alloc())?)?;
-    assert_text(&rt, rt.alloc(), &diff(rt.alloc())?)?;
-    assert_text(&rt, rt.alloc(), &leaks(rt.alloc())?)?;
-    assert_text(&rt, rt.alloc(), &bad(rt.alloc())?)
+fn texts_of_handles(rt: HostRuntime) {
+    assert_text(&rt, rt.alloc(), &outstanding(&rt, rt.alloc()));
+    assert_text(&rt, rt.alloc(), &diff(&rt, rt.alloc()));
+    assert_text(&rt, rt.alloc(), &leaks(&rt, rt.alloc()));
+    assert_text(&rt, rt.alloc(), &bad(&rt, rt.alloc()));
 }
 
 #[test]
-fn texts_of_references(rt: HostRuntime) -> Result<(), Fail> {
-    assert_text(&rt, rt.alloc(), &tags(rt.alloc())?)?;
-    assert_text(&rt, rt.alloc(), &stacks(rt.alloc())?)
+fn texts_of_references(rt: HostRuntime) {
+    assert_text(&rt, rt.alloc(), &tags(&rt, rt.alloc()));
+    assert_text(&rt, rt.alloc(), &stacks(&rt, rt.alloc()));
 }
 
 #[test]
-fn texts_of_a_trace(rt: HostRuntime) -> Result<(), Fail> {
-    assert_text(&rt, rt.alloc(), &trace(rt.alloc())?)?;
-    assert_text(&rt, rt.alloc(), &summary(rt.alloc())?)
+fn texts_of_a_trace(rt: HostRuntime) {
+    assert_text(&rt, rt.alloc(), &trace(&rt, rt.alloc()));
+    assert_text(&rt, rt.alloc(), &summary(&rt, rt.alloc()));
+}
+
+/// The table of these rows.
+fn symbols_of(rt: &impl Abort, alloc: Global, rows: &[u8]) -> Symbols {
+    let mut table = Vec::from_slice(alloc, b"start,end,module,name\n").expect(rt, "the memory");
+    table.extend_from_slice(rows).expect(rt, "the memory");
+    Symbols::read(alloc, &table).expect(rt, "a table")
+}
+
+/// A leak of a stack of these addresses.
+fn leak_of(rt: &impl Abort, alloc: Global, addresses: &[u64]) -> Answer {
+    let rows = list(rt, alloc, [(stack(rt, alloc, addresses), 1)]);
+    Answer::Leaks { process: 4, rows }
 }
 
 /// What each address prints under these rows of a table.
-fn names_of(alloc: Global, rows: &[u8], addresses: &[u64]) -> Result<Vec<u8>, Fail> {
-    let mut table = Vec::from_slice(alloc, b"start,end,module,name\n")?;
-    table.extend_from_slice(rows)?;
-    let symbols = Symbols::read(alloc, &table)?;
-    let mut rows = Vec::new(alloc);
-    rows.push((shared_stack(alloc, addresses)?, 1))?;
-    Ok(text(alloc, &Answer::Leaks { process: 4, rows }, &symbols)?)
+fn names_of(rt: &impl Abort, alloc: Global, rows: &[u8], addresses: &[u64]) -> Vec<u8> {
+    let symbols = symbols_of(rt, alloc, rows);
+    text(alloc, &leak_of(rt, alloc, addresses), &symbols).expect(rt, "the text")
 }
 
 #[test]
-fn texts_of_addresses(rt: HostRuntime) -> Result<(), Fail> {
+fn texts_of_addresses(rt: HostRuntime) {
     let table: [(&[u8], &[u64], &str); 3] = [
         (
             b"0x1000,0x1020,ntdll,NtCreateFile\n2000,2001,app,main\n",
@@ -281,8 +305,7 @@ LEAK handles=1
         ),
     ];
     for (rows, addresses, wanted) in table {
-        let bytes = names_of(rt.alloc(), rows, addresses)?;
+        let bytes = names_of(&rt, rt.alloc(), rows, addresses);
         assert_eq!(rt; bytes.as_slice(), wanted.as_bytes(), "instead of {wanted}");
     }
-    Ok(())
 }

@@ -1,20 +1,25 @@
 //! Tables from worked rows: what addresses resolve to, and why rows are refused.
 use htl_symbols::{SymbolFault, Symbols};
-use std::alloc::{AllocError, Global};
-use std::test::Fail;
+use std::alloc::Global;
+use std::process::Abort;
 
 /// What reading the header and these rows answers.
-fn read_rows(alloc: Global, rows: &[u8]) -> Result<Result<Symbols, SymbolFault>, AllocError> {
-    let mut bytes = Vec::from_slice(alloc, b"start,end,module,name\n")?;
-    bytes.extend_from_slice(rows)?;
-    Ok(Symbols::read(alloc, &bytes))
+fn read_rows(rt: &impl Abort, alloc: Global, rows: &[u8]) -> Result<Symbols, SymbolFault> {
+    let mut bytes = Vec::from_slice(alloc, b"start,end,module,name\n").expect(rt, "the memory");
+    bytes.extend_from_slice(rows).expect(rt, "the memory");
+    Symbols::read(alloc, &bytes)
+}
+
+/// Why these rows are refused, if they are.
+fn fault_of(rt: &impl Abort, alloc: Global, rows: &[u8]) -> Option<SymbolFault> {
+    read_rows(rt, alloc, rows).err()
 }
 
 #[test]
-fn addresses_of_ranges(rt: HostRuntime) -> Result<(), Fail> {
+fn addresses_of_ranges(rt: HostRuntime) {
     let alloc = rt.alloc();
     let rows = b"0x1000,0x1020,ntdll,NtCreateFile\n2000,2001,app,main\n2001,2002,\"a,b\",\n0,1,,\n";
-    let symbols = read_rows(alloc, rows)??;
+    let symbols = read_rows(&rt, alloc, rows).expect(&rt, "a table");
     for (address, wanted) in [
         (0x1000, Some(("ntdll", "NtCreateFile", 0))),
         (0x1010, Some(("ntdll", "NtCreateFile", 0x10))),
@@ -30,11 +35,10 @@ fn addresses_of_ranges(rt: HostRuntime) -> Result<(), Fail> {
         assert_eq!(rt; symbols.resolve(address), wanted, "at {address:x}");
     }
     assert_eq!(rt; Symbols::none(alloc).resolve(0), None);
-    Ok(())
 }
 
 #[test]
-fn faults_of_rows(rt: HostRuntime) -> Result<(), Fail> {
+fn faults_of_rows(rt: HostRuntime) {
     let table: [(&[u8], Option<SymbolFault>); 21] = [
         (b"", None),
         (b"1,2,a,b\n2,3,c,d", None),
@@ -74,13 +78,12 @@ fn faults_of_rows(rt: HostRuntime) -> Result<(), Fail> {
         ),
     ];
     for (rows, wanted) in table {
-        assert_eq!(rt; read_rows(rt.alloc(), rows)?.err(), wanted, "of {rows:?}");
+        assert_eq!(rt; fault_of(&rt, rt.alloc(), rows), wanted, "of {rows:?}");
     }
-    Ok(())
 }
 
 #[test]
-fn first_records(rt: HostRuntime) -> Result<(), Fail> {
+fn first_records(rt: HostRuntime) {
     let table: [(&[u8], Option<SymbolFault>); 6] = [
         (b"", Some(SymbolFault::Header)),
         (b"START,end,module,name\n", Some(SymbolFault::Header)),
@@ -96,11 +99,10 @@ fn first_records(rt: HostRuntime) -> Result<(), Fail> {
             "of {bytes:?}"
         );
     }
-    Ok(())
 }
 
 #[test]
-fn codes_of_faults(rt: HostRuntime) -> Result<(), Fail> {
+fn codes_of_faults(rt: HostRuntime) {
     for (fault, code) in [
         (SymbolFault::Header, "Y1"),
         (SymbolFault::Fields(1), "Y2(1)"),
@@ -110,7 +112,7 @@ fn codes_of_faults(rt: HostRuntime) -> Result<(), Fail> {
         (SymbolFault::Csv(0), "Y6(0)"),
         (SymbolFault::NoMemory, "Y7"),
     ] {
-        assert_eq!(rt; format!(in rt.alloc(); "{fault}")?.as_str(), code);
+        let text = format!(in rt.alloc(); "{fault}").expect(&rt, "the memory");
+        assert_eq!(rt; text.as_str(), code);
     }
-    Ok(())
 }

@@ -2,13 +2,12 @@
 //! under heaps of its own.
 
 use htl_event::{EventList, NoMemory, SharedEvent};
-use htl_samples::{SMALL, SampleFault, shared_events};
+use htl_samples::{SMALL, shared_events};
 use htl_tables::{Exits, Latest, Marks};
 use linked_list_allocator::LocalHeap;
 use std::alloc::{Allocator, Global};
 use std::process::Abort;
 use std::slice;
-use std::test::Fail;
 
 /// A table of either kind, under any allocator.
 trait Table<A: Allocator>: Sized + Drop {
@@ -77,13 +76,30 @@ impl<A: Allocator + Clone> Table<A> for Exits<A> {
     }
 }
 
-/// The table of the events, noted one by one.
-fn noted<A: Allocator, T: Table<A>>(alloc: A, events: &[SharedEvent]) -> Result<T, NoMemory> {
+/// The table of the events, noted one by one, if there is memory.
+fn try_noted<A: Allocator, T: Table<A>>(alloc: A, events: &[SharedEvent]) -> Result<T, NoMemory> {
     let mut table = T::empty(alloc);
     for event in events {
         table.note(event)?;
     }
     Ok(table)
+}
+
+fn noted<A: Allocator, T: Table<A>>(rt: &impl Abort, alloc: A, events: &[SharedEvent]) -> T {
+    try_noted(alloc, events).expect(rt, "the memory")
+}
+
+fn copy<A: Allocator, T: Table<A>>(rt: &impl Abort, table: &T) -> T {
+    table.copy().expect(rt, "the memory")
+}
+
+fn join<A: Allocator, T: Table<A>>(rt: &impl Abort, one: &T, other: &T) -> T {
+    one.join(other).expect(rt, "the memory")
+}
+
+/// The events of lines.
+fn events_of(rt: &impl Abort, alloc: Global, lines: &str) -> Vec<SharedEvent> {
+    shared_events(alloc, lines).expect(rt, "the lines are events")
 }
 
 fn sequence_of<A: Allocator>(latest: &Latest<A>, process: u32, handle: u32) -> Option<u64> {
@@ -95,9 +111,19 @@ const CLOSE_FIRST: &str = "C 9 0x44, O 4 0x44, S 10";
 const OPEN_FIRST: &str = "O 4 0x44, S 10, C 9 0x44";
 
 /// The latest events of the lines, noted one by one.
-fn latest_of(alloc: Global, lines: &str) -> Result<Latest<Global>, SampleFault> {
-    let events = shared_events(alloc, lines)?;
-    Ok(noted(alloc, &events)?)
+fn latest_of(rt: &impl Abort, alloc: Global, lines: &str) -> Latest<Global> {
+    noted(rt, alloc, &events_of(rt, alloc, lines))
+}
+
+/// The latest events of the lines, gathered together.
+fn latest_together(rt: &impl Abort, alloc: Global, lines: &[&str]) -> Latest<Global> {
+    let mut lists = Vec::new(alloc);
+    for line in lines {
+        lists
+            .push(events_of(rt, alloc, line))
+            .expect(rt, "the memory");
+    }
+    Latest::of(alloc, &lists).expect(rt, "the memory")
 }
 
 /// The close of sequence 9 is the one latest event.
@@ -109,58 +135,59 @@ fn assert_closed(rt: &impl Abort, latest: &Latest<Global>) {
 }
 
 #[test]
-fn a_close_noted_before_its_open(rt: HostRuntime) -> Result<(), Fail> {
+fn a_close_noted_before_its_open(rt: HostRuntime) {
     for lines in [CLOSE_FIRST, OPEN_FIRST] {
-        let latest = latest_of(rt.alloc(), lines)?;
+        let latest = latest_of(&rt, rt.alloc(), lines);
         assert_closed(&rt, &latest);
-        assert!(rt; latest.copy()?.same(&latest));
+        assert!(rt; copy(&rt, &latest).same(&latest));
     }
-    Ok(())
 }
 
 #[test]
-fn a_close_gathered_before_its_open(rt: HostRuntime) -> Result<(), Fail> {
+fn a_close_gathered_before_its_open(rt: HostRuntime) {
     for lines in [CLOSE_FIRST, OPEN_FIRST] {
-        let events = shared_events(rt.alloc(), lines)?;
-        let latest = Latest::of(rt.alloc(), slice::from_ref(&events))?;
+        let latest = latest_together(&rt, rt.alloc(), &[lines]);
         assert_closed(&rt, &latest);
     }
-    Ok(())
+}
+
+/// The first joined with the second is closed and the same as `close`.
+fn assert_joined(
+    rt: &impl Abort,
+    first: &Latest<Global>,
+    second: &Latest<Global>,
+    close: &Latest<Global>,
+) {
+    let latest = join(rt, first, second);
+    assert_closed(rt, &latest);
+    assert!(rt; latest.same(close));
 }
 
 #[test]
-fn a_close_joined_with_its_open(rt: HostRuntime) -> Result<(), Fail> {
-    let close = latest_of(rt.alloc(), "C 9 0x44")?;
-    let open = latest_of(rt.alloc(), "O 4 0x44")?;
+fn a_close_joined_with_its_open(rt: HostRuntime) {
+    let close = latest_of(&rt, rt.alloc(), "C 9 0x44");
+    let open = latest_of(&rt, rt.alloc(), "O 4 0x44");
     assert!(rt; !close.same(&open));
-    for latest in [close.join(&open), open.join(&close)] {
-        let latest = latest?;
-        assert_closed(&rt, &latest);
-        assert!(rt; latest.same(&close));
-    }
-    Ok(())
+    assert_joined(&rt, &close, &open, &close);
+    assert_joined(&rt, &open, &close, &close);
 }
 
 // Of two events with one sequence the one that was there stays.
 #[test]
-fn the_first_of_two_at_once_stays(rt: HostRuntime) -> Result<(), Fail> {
-    let open = shared_events(rt.alloc(), "O 4 0x44")?;
-    let close = shared_events(rt.alloc(), "C 4 0x45")?;
-    let first: Latest<_> = noted(rt.alloc(), &open)?;
-    let second: Latest<_> = noted(rt.alloc(), &close)?;
-    for latest in [
-        first.join(&second)?,
-        Latest::of(rt.alloc(), &[open, close])?,
-    ] {
-        assert!(rt; latest.same(&first) && !latest.same(&second));
-    }
-    Ok(())
+fn the_first_of_two_at_once_stays(rt: HostRuntime) {
+    let (open, close) = ("O 4 0x44", "C 4 0x45");
+    let first = latest_of(&rt, rt.alloc(), open);
+    let second = latest_of(&rt, rt.alloc(), close);
+    let joined = join(&rt, &first, &second);
+    assert!(rt; joined.same(&first) && !joined.same(&second));
+    let gathered = latest_together(&rt, rt.alloc(), &[open, close]);
+    assert!(rt; gathered.same(&first) && !gathered.same(&second));
 }
 
 #[test]
-fn rows_of_a_process(rt: HostRuntime) -> Result<(), Fail> {
+fn rows_of_a_process(rt: HostRuntime) {
     let lines = "O 1 0x48, O 2 0x44 process=5, C 3 0x10, O 4 0x10 process=3, O 5 0x44";
-    let latest = Latest::of(rt.alloc(), &[shared_events(rt.alloc(), lines)?])?;
+    let latest = latest_together(&rt, rt.alloc(), &[lines]);
     for (process, handles) in [(4, [0x10, 0x44, 0x48].as_slice()), (5, &[0x44]), (6, &[])] {
         let rows = latest.rows_of(process);
         assert!(rt;
@@ -170,28 +197,37 @@ fn rows_of_a_process(rt: HostRuntime) -> Result<(), Fail> {
             "{process}"
         );
     }
-    Ok(())
+}
+
+fn note_marks(rt: &impl Abort, marks: &mut Marks<Global>, events: &[SharedEvent]) {
+    for event in events {
+        marks.note(event).expect(rt, "the memory");
+    }
 }
 
 /// The marks of the events, noted one by one.
-fn marks_noted(alloc: Global, events: &[SharedEvent]) -> Result<Marks<Global>, NoMemory> {
+fn marks_noted(rt: &impl Abort, alloc: Global, events: &[SharedEvent]) -> Marks<Global> {
     let mut marks = Marks::new(alloc);
-    for event in events {
-        marks.note(event)?;
-    }
-    Ok(marks)
+    note_marks(rt, &mut marks, events);
+    marks
+}
+
+fn marks_joined_with_none(rt: &impl Abort, alloc: Global, marks: &Marks<Global>) -> Marks<Global> {
+    marks.join(&Marks::new(alloc)).expect(rt, "the memory")
 }
 
 #[test]
-fn a_snapshot_marks_its_process(rt: HostRuntime) -> Result<(), Fail> {
-    let events = shared_events(rt.alloc(), "S 10, exit 12, S 0 process=5, S 7")?;
-    let marks = marks_noted(rt.alloc(), &events)?;
+fn a_snapshot_marks_its_process(rt: HostRuntime) {
+    let lines = "S 10, exit 12, S 0 process=5, S 7";
+    let events = events_of(&rt, rt.alloc(), lines);
+    let marks = marks_noted(&rt, rt.alloc(), &events);
     assert_eq!(rt; (marks.get(4), marks.get(5)), (10, 0));
     assert_eq!(rt; marks.rows(), [(4, 10)].as_slice());
-    assert!(rt; marks.copy()?.same(&marks));
-    assert!(rt; marks.join(&Marks::new(rt.alloc()))?.same(&marks));
-    assert!(rt; Marks::of(rt.alloc(), slice::from_ref(&events))?.same(&marks));
-    Ok(())
+    let copy = marks.copy().expect(&rt, "the memory");
+    assert!(rt; copy.same(&marks));
+    assert!(rt; marks_joined_with_none(&rt, rt.alloc(), &marks).same(&marks));
+    let gathered = Marks::of(rt.alloc(), slice::from_ref(&events)).expect(&rt, "the memory");
+    assert!(rt; gathered.same(&marks));
 }
 
 const LATE_FIRST: &str = "exit 10, exit 8";
@@ -199,76 +235,102 @@ const LATE_FIRST: &str = "exit 10, exit 8";
 const EARLY_FIRST: &str = "exit 8, S 12, exit 10";
 
 /// The last exits of the lines, noted one by one.
-fn exits_of(alloc: Global, lines: &str) -> Result<Exits<Global>, SampleFault> {
-    let events = shared_events(alloc, lines)?;
-    Ok(noted(alloc, &events)?)
+fn exits_of(rt: &impl Abort, alloc: Global, lines: &str) -> Exits<Global> {
+    noted(rt, alloc, &events_of(rt, alloc, lines))
 }
 
 #[test]
-fn the_last_exit_of_a_process(rt: HostRuntime) -> Result<(), Fail> {
+fn the_last_exit_of_a_process(rt: HostRuntime) {
     for lines in [LATE_FIRST, EARLY_FIRST] {
-        let exits = exits_of(rt.alloc(), lines)?;
+        let exits = exits_of(&rt, rt.alloc(), lines);
         assert_eq!(rt; exits.rows(), [(4, 10)].as_slice());
-        assert!(rt; exits.copy()?.same(&exits));
+        assert!(rt; copy(&rt, &exits).same(&exits));
     }
-    Ok(())
 }
 
 #[test]
-fn exits_joined_with_none(rt: HostRuntime) -> Result<(), Fail> {
-    let exits = exits_of(rt.alloc(), LATE_FIRST)?;
+fn exits_joined_with_none(rt: HostRuntime) {
+    let exits = exits_of(&rt, rt.alloc(), LATE_FIRST);
     let none = Exits::new(rt.alloc());
-    assert!(rt; exits.join(&none)?.same(&exits));
-    assert!(rt; none.join(&exits)?.same(&exits));
-    Ok(())
+    assert!(rt; join(&rt, &exits, &none).same(&exits));
+    assert!(rt; join(&rt, &none, &exits).same(&exits));
 }
 
 #[test]
-fn the_last_exit_of_two_lists(rt: HostRuntime) -> Result<(), Fail> {
-    let late_first = shared_events(rt.alloc(), LATE_FIRST)?;
-    let early_first = shared_events(rt.alloc(), EARLY_FIRST)?;
-    let exits = Exits::of(rt.alloc(), &[late_first, early_first])?;
+fn the_last_exit_of_two_lists(rt: HostRuntime) {
+    let late_first = events_of(&rt, rt.alloc(), LATE_FIRST);
+    let early_first = events_of(&rt, rt.alloc(), EARLY_FIRST);
+    let exits = Exits::of(rt.alloc(), &[late_first, early_first]).expect(&rt, "the memory");
     assert_eq!(rt; exits.rows(), [(4, 10)].as_slice());
-    Ok(())
+}
+
+fn note_latest(rt: &impl Abort, latest: &mut Latest<Global>, events: &[SharedEvent]) {
+    for event in events {
+        latest.note(event).expect(rt, "the memory");
+    }
 }
 
 /// The latest events of the lists, noted from the last list to the first.
-fn latest_noted<L: EventList>(alloc: Global, lists: &[L]) -> Result<Latest<Global>, NoMemory> {
+fn latest_noted<L: EventList>(rt: &impl Abort, alloc: Global, lists: &[L]) -> Latest<Global> {
     let mut latest = Latest::new(alloc);
     for list in lists.iter().rev() {
-        for event in list.events() {
-            latest.note(event)?;
-        }
+        note_latest(rt, &mut latest, list.events());
     }
-    Ok(latest)
+    latest
+}
+
+/// The latest events of the lists, gathered in a small heap, are the rows.
+fn are_latest_in_small_heap<L: EventList>(
+    rt: &impl Abort,
+    alloc: Global,
+    lists: &[L],
+    rows: &[SharedEvent],
+) {
+    let small = LocalHeap::new(alloc, 16384).expect(rt, "the memory");
+    let latest = Latest::of(&small, lists).expect(rt, "the memory");
+    assert_eq!(rt; latest.rows(), rows);
 }
 
 // Segments in any order, under any allocator, as if each event were noted by itself.
 #[test]
-fn latest_events_of_generated_segments(rt: HostRuntime) -> Result<(), Fail> {
-    let segments = SMALL.segments(rt.alloc())?;
-    let latest = latest_noted(rt.alloc(), &segments)?;
+fn latest_events_of_generated_segments(rt: HostRuntime) {
+    let segments = SMALL.segments(rt.alloc()).expect(&rt, "the segments");
+    let latest = latest_noted(&rt, rt.alloc(), &segments);
     assert!(rt; latest.rows().len() > 10);
-    assert!(rt; Latest::of(rt.alloc(), &segments)?.same(&latest));
-    let small = LocalHeap::new(rt.alloc(), 16384)?;
-    assert_eq!(rt; Latest::of(&small, &segments)?.rows(), latest.rows());
-    Ok(())
+    let gathered = Latest::of(rt.alloc(), &segments).expect(&rt, "the memory");
+    assert!(rt; gathered.same(&latest));
+    are_latest_in_small_heap(&rt, rt.alloc(), &segments, latest.rows());
+}
+
+/// The marks of the lists, noted from the last list to the first.
+fn marks_of_lists<L: EventList>(rt: &impl Abort, alloc: Global, lists: &[L]) -> Marks<Global> {
+    let mut marks = Marks::new(alloc);
+    for list in lists.iter().rev() {
+        note_marks(rt, &mut marks, list.events());
+    }
+    marks
+}
+
+/// The marks of the lists, gathered in a small heap, are the rows.
+fn are_marks_in_small_heap<L: EventList>(
+    rt: &impl Abort,
+    alloc: Global,
+    lists: &[L],
+    rows: &[(u32, u64)],
+) {
+    let small = LocalHeap::new(alloc, 16384).expect(rt, "the memory");
+    let marks = Marks::of(&small, lists).expect(rt, "the memory");
+    assert_eq!(rt; marks.rows(), rows);
 }
 
 #[test]
-fn marks_of_generated_segments(rt: HostRuntime) -> Result<(), Fail> {
-    let segments = SMALL.segments(rt.alloc())?;
-    let mut marks = Marks::new(rt.alloc());
-    for segment in segments.iter().rev() {
-        for event in segment.events() {
-            marks.note(event)?;
-        }
-    }
+fn marks_of_generated_segments(rt: HostRuntime) {
+    let segments = SMALL.segments(rt.alloc()).expect(&rt, "the segments");
+    let marks = marks_of_lists(&rt, rt.alloc(), &segments);
     assert!(rt; marks.rows().len() > 1);
-    assert!(rt; Marks::of(rt.alloc(), &segments)?.same(&marks));
-    let small = LocalHeap::new(rt.alloc(), 16384)?;
-    assert_eq!(rt; Marks::of(&small, &segments)?.rows(), marks.rows());
-    Ok(())
+    let gathered = Marks::of(rt.alloc(), &segments).expect(&rt, "the memory");
+    assert!(rt; gathered.same(&marks));
+    are_marks_in_small_heap(&rt, rt.alloc(), &segments, marks.rows());
 }
 
 // ---- refused allocations
@@ -297,19 +359,44 @@ fn note_is_refused<'a, T: Table<&'a LocalHeap>>(
     small: &'a LocalHeap,
     roomy: &'a LocalHeap,
     events: &[SharedEvent],
-) -> Result<bool, NoMemory> {
+) -> bool {
     let mut table = T::empty(small);
     let mut twin = T::empty(roomy);
     for event in events {
-        let noted = table.note(event);
-        if noted.is_err() {
+        if table.note(event).is_err() {
             assert!(rt; table.same(&twin));
-            return Ok(true);
+            return true;
         }
-        twin.note(event)?;
+        twin.note(event).expect(rt, "room");
     }
     assert!(rt; table.same(&twin));
-    Ok(false)
+    false
+}
+
+fn join_is_refused<'a, T: Table<&'a LocalHeap>>(
+    rt: &impl Abort,
+    small: &'a LocalHeap,
+    roomy: &'a LocalHeap,
+    events: &[SharedEvent],
+) -> Result<bool, NoMemory> {
+    let table: T = try_noted(small, events)?;
+    let twin: T = noted(rt, roomy, events);
+    // The left table's heap is asked, however full the right one's is.
+    assert!(rt; join(rt, &twin, &table).same(&twin));
+    Ok(is_none(rt, table.join(&twin), &twin))
+}
+
+// Whether no table was made. One that was made is the twin's.
+fn is_none<'a, T: Table<&'a LocalHeap>>(
+    rt: &impl Abort,
+    made: Result<T, NoMemory>,
+    twin: &T,
+) -> bool {
+    let Ok(table) = made else {
+        return true;
+    };
+    assert!(rt; table.same(twin));
+    false
 }
 
 // Whether the call was refused. It takes its memory from the small heap alone, and where that
@@ -321,47 +408,57 @@ fn is_refused<'a, T: Table<&'a LocalHeap>>(
     roomy: &'a LocalHeap,
     events: &Vec<SharedEvent>,
 ) -> Result<bool, NoMemory> {
-    let twin: T = noted(roomy, events)?;
     let made = match call {
-        Call::Note => return note_is_refused::<T>(rt, small, roomy, events),
+        Call::Note => return Ok(note_is_refused::<T>(rt, small, roomy, events)),
+        Call::Join => return join_is_refused::<T>(rt, small, roomy, events),
         Call::Of => T::of(small, slice::from_ref(events)),
-        Call::Join => {
-            let table: T = noted(small, events)?;
-            // The left table's heap is asked, however full the right one's is.
-            assert!(rt; twin.join(&table)?.same(&twin));
-            table.join(&twin)
-        }
-        Call::Copy => noted::<_, T>(small, events)?.copy(),
+        Call::Copy => try_noted::<_, T>(small, events)?.copy(),
     };
-    match made {
-        Ok(table) => {
-            assert!(rt; table.same(&twin));
-            Ok(false)
+    Ok(is_none(rt, made, &noted(rt, roomy, events)))
+}
+
+// What comes of the call on a table of each kind, in heaps of this size.
+fn answers(
+    rt: &impl Abort,
+    alloc: Global,
+    call: Call,
+    size: usize,
+    roomy: &LocalHeap,
+    events: &Vec<SharedEvent>,
+) -> [Result<bool, NoMemory>; 2] {
+    let small = LocalHeap::new(alloc, size).expect(rt, "the memory");
+    let other = LocalHeap::new(alloc, size).expect(rt, "the memory");
+    [
+        is_refused::<Latest<_>>(rt, call, &small, roomy, events),
+        is_refused::<Exits<_>>(rt, call, &other, roomy, events),
+    ]
+}
+
+// Of each kind, whether the call is refused in some heaps, and whether it answers in others.
+fn outcomes(
+    rt: &impl Abort,
+    alloc: Global,
+    call: Call,
+    roomy: &LocalHeap,
+    events: &Vec<SharedEvent>,
+) -> ([bool; 2], [bool; 2]) {
+    let (mut refused, mut answered) = ([false; 2], [false; 2]);
+    for step in 1..STEPS {
+        let answers = answers(rt, alloc, call, step * STEP, roomy, events);
+        for (kind, answer) in answers.iter().enumerate() {
+            refused[kind] |= *answer == Ok(true);
+            answered[kind] |= *answer == Ok(false);
         }
-        Err(NoMemory) => Ok(true),
     }
+    (refused, answered)
 }
 
 #[test]
-fn each_call_is_refused_until_its_heap_is_large_enough(rt: HostRuntime) -> Result<(), Fail> {
-    let events = shared_events(rt.alloc(), LINES)?;
-    let roomy = LocalHeap::new(rt.alloc(), 65536)?;
+fn each_call_is_refused_until_its_heap_is_large_enough(rt: HostRuntime) {
+    let events = events_of(&rt, rt.alloc(), LINES);
+    let roomy = LocalHeap::new(rt.alloc(), 65536).expect(&rt, "the memory");
     for call in [Call::Note, Call::Of, Call::Join, Call::Copy] {
-        let mut refused = [false; 2];
-        let mut answered = [false; 2];
-        for step in 1..STEPS {
-            let heap = LocalHeap::new(rt.alloc(), step * STEP)?;
-            let other = LocalHeap::new(rt.alloc(), step * STEP)?;
-            let answers = [
-                is_refused::<Latest<_>>(&rt, call, &heap, &roomy, &events),
-                is_refused::<Exits<_>>(&rt, call, &other, &roomy, &events),
-            ];
-            for (kind, answer) in answers.iter().enumerate() {
-                refused[kind] |= *answer == Ok(true);
-                answered[kind] |= *answer == Ok(false);
-            }
-        }
+        let (refused, answered) = outcomes(&rt, rt.alloc(), call, &roomy, &events);
         assert!(rt; refused == [true; 2] && answered == [true; 2], "{call:?}");
     }
-    Ok(())
 }

@@ -6,77 +6,108 @@ use htl_taken::{Gap, MAX_FRONT, Taken};
 use linked_list_allocator::LocalHeap;
 use std::alloc::{Allocator, Global};
 use std::process::Abort;
-use std::test::Fail;
 
-fn filled<A: Allocator + Clone>(
+/// Inserts a number into a set that has room for it.
+fn insert<A: Allocator + Clone>(
+    rt: &impl Abort,
+    taken: &mut Taken<A>,
+    processor: u16,
+    number: u32,
+) -> bool {
+    try_insert(rt, taken, processor, number).expect(rt, "the memory")
+}
+
+/// Inserts a number, if there is memory.
+fn try_insert<A: Allocator + Clone>(
+    rt: &impl Abort,
+    taken: &mut Taken<A>,
+    processor: u16,
+    number: u32,
+) -> Result<bool, NoMemory> {
+    assert!(rt; processor < taken.processors() && number < MAX_FRONT);
+    taken.insert(processor, number)
+}
+
+/// A set of these segments of two processors, if there is memory.
+fn try_filled<A: Allocator + Clone>(
     rt: &impl Abort,
     alloc: A,
     segments: &[(u16, u32)],
 ) -> Result<Taken<A>, NoMemory> {
     let mut taken = Taken::new(alloc, 2)?;
     for (processor, number) in segments {
-        assert!(rt; *processor < taken.processors() && *number < MAX_FRONT);
-        taken.insert(*processor, *number)?;
+        try_insert(rt, &mut taken, *processor, *number)?;
     }
     Ok(taken)
 }
 
+fn filled<A: Allocator + Clone>(rt: &impl Abort, alloc: A, segments: &[(u16, u32)]) -> Taken<A> {
+    try_filled(rt, alloc, segments).expect(rt, "the memory")
+}
+
 #[test]
-fn a_number_is_new_once(rt: HostRuntime) -> Result<(), Fail> {
-    let mut taken = Taken::new(rt.alloc(), 2)?;
+fn a_number_is_new_once(rt: HostRuntime) {
+    let mut taken = Taken::new(rt.alloc(), 2).expect(&rt, "the memory");
+    for (number, is_new) in [(0, true), (1, true), (3, true), (3, false)] {
+        assert_eq!(rt; insert(&rt, &mut taken, 0, number), is_new);
+    }
     assert_eq!(rt; taken.processors(), 2);
-    assert!(rt; taken.insert(0, 0)?);
-    assert!(rt; taken.insert(0, 1)?);
-    assert!(rt; taken.insert(0, 3)?);
-    assert!(rt; !taken.insert(0, 3)?);
     assert_eq!(rt; (taken.front(0), taken.reach(0), taken.len()), (0, 2, 3));
-    Ok(())
 }
 
 /// The numbers 0, 1 and 3 of processor 0, settled.
-fn settled(rt: &impl Abort, alloc: Global) -> Result<Taken<Global>, NoMemory> {
-    let mut taken = filled(rt, alloc, &[(0, 0), (0, 1), (0, 3)])?;
+fn settled(rt: &impl Abort, alloc: Global) -> Taken<Global> {
+    let mut taken = filled(rt, alloc, &[(0, 0), (0, 1), (0, 3)]);
     taken.settle(0);
-    Ok(taken)
+    taken
 }
 
 #[test]
-fn fronts_and_loose_numbers(rt: HostRuntime) -> Result<(), Fail> {
-    let taken = settled(&rt, rt.alloc())?;
+fn fronts_and_loose_numbers(rt: HostRuntime) {
+    let taken = settled(&rt, rt.alloc());
     assert_eq!(rt; (taken.front(0), taken.len()), (2, 3));
     assert_eq!(rt; taken.loose(0), [3].as_slice());
     assert!(rt; taken.has(0, 1) && !taken.has(0, 2));
     assert_eq!(rt; taken.search(0, 3), Ok(0));
     assert_eq!(rt; taken.search(0, 4), Err(1));
-    assert!(rt; taken.copy()?.same(&taken));
-    Ok(())
+    let copy = taken.copy().expect(&rt, "the memory");
+    assert!(rt; copy.same(&taken));
+}
+
+fn union<A: Allocator + Clone>(rt: &impl Abort, one: &Taken<A>, other: &Taken<A>) -> Taken<A> {
+    try_union(rt, one, other).expect(rt, "the memory")
+}
+
+/// The union of two sets of two processors, if there is memory.
+fn try_union<A: Allocator + Clone>(
+    rt: &impl Abort,
+    one: &Taken<A>,
+    other: &Taken<A>,
+) -> Result<Taken<A>, NoMemory> {
+    assert_eq!(rt; (one.processors(), other.processors()), (2, 2));
+    one.union(other)
 }
 
 #[test]
-fn a_union_of_two(rt: HostRuntime) -> Result<(), Fail> {
-    let taken = settled(&rt, rt.alloc())?;
-    let other = filled(&rt, rt.alloc(), &[(0, 1), (0, 2), (1, 0)])?;
-    assert_eq!(rt; (taken.processors(), other.processors()), (2, 2));
-    let both = taken.union(&other)?;
-    assert_eq!(rt; both.front(0), 2);
+fn a_union_of_two(rt: HostRuntime) {
+    let taken = settled(&rt, rt.alloc());
+    let other = filled(&rt, rt.alloc(), &[(0, 1), (0, 2), (1, 0)]);
+    let both = union(&rt, &taken, &other);
+    assert_eq!(rt; (both.front(0), both.len()), (2, 5));
     assert_eq!(rt; both.loose(0), [2, 3].as_slice());
     assert_eq!(rt; both.loose(1), [0].as_slice());
-    assert_eq!(rt; both.len(), 5);
     assert!(rt; both.covers(&taken) && both.covers(&other));
     assert!(rt; !taken.covers(&both) && !other.covers(&both));
-    Ok(())
 }
 
 #[test]
-fn nothing_is_taken_of_a_processor_that_is_not_there(rt: HostRuntime) -> Result<(), Fail> {
-    let mut taken = filled(&rt, rt.alloc(), &[(1, 7)])?;
-    let before = taken.copy()?;
+fn nothing_is_taken_of_a_processor_that_is_not_there(rt: HostRuntime) {
+    let mut taken = filled(&rt, rt.alloc(), &[(1, 7)]);
     taken.settle(2);
-    assert!(rt; taken.same(&before));
+    assert!(rt; taken.same(&filled(&rt, rt.alloc(), &[(1, 7)])));
     assert_eq!(rt; (taken.front(2), taken.reach(2)), (0, 0));
     assert_eq!(rt; taken.loose(2).len(), 0);
     assert!(rt; !taken.has(2, 0));
-    Ok(())
 }
 
 // ---- refused allocations
@@ -107,80 +138,111 @@ enum Call {
 }
 
 // Whether an insertion was refused. What was taken before it stands.
-fn insertion_is_refused(
+fn insertion_is_refused<'a>(
     rt: &impl Abort,
-    small: &LocalHeap,
-    roomy: &LocalHeap,
+    small: &'a LocalHeap,
+    roomy: &'a LocalHeap,
 ) -> Result<bool, NoMemory> {
     let mut taken = Taken::new(small, 2)?;
-    let mut twin = Taken::new(roomy, 2)?;
+    let mut twin = filled(rt, roomy, &[]);
+    Ok(is_some_insertion_refused(rt, &mut taken, &mut twin))
+}
+
+fn is_some_insertion_refused<'a>(
+    rt: &impl Abort,
+    taken: &mut Taken<&'a LocalHeap>,
+    twin: &mut Taken<&'a LocalHeap>,
+) -> bool {
     for (processor, number) in &SEGMENTS {
-        assert!(rt; *processor < taken.processors() && *processor < twin.processors());
-        let inserted = taken.insert(*processor, *number);
-        if inserted.is_err() {
-            assert!(rt; taken.same(&twin), "{number} was refused");
-            return Ok(true);
+        if try_insert(rt, taken, *processor, *number).is_err() {
+            assert!(rt; taken.same(twin), "{number} was refused");
+            return true;
         }
-        twin.insert(*processor, *number)?;
+        insert(rt, twin, *processor, *number);
     }
-    assert!(rt; taken.same(&twin));
-    Ok(false)
+    assert!(rt; taken.same(twin));
+    false
 }
 
 // Whether the call was refused. It takes its memory from the small heap alone, and where that
 // doesn't hold the set that is called, there is no answer.
-fn is_refused(
+fn is_refused<'a>(
     rt: &impl Abort,
     call: Call,
-    small: &LocalHeap,
-    roomy: &LocalHeap,
+    small: &'a LocalHeap,
+    roomy: &'a LocalHeap,
 ) -> Result<bool, NoMemory> {
-    let twin = filled(rt, roomy, &SEGMENTS)?;
-    let made = match call {
-        Call::New => return Ok(Taken::new(small, 8).is_err()),
-        Call::Insert => return insertion_is_refused(rt, small, roomy),
-        Call::Copy => filled(rt, small, &SEGMENTS)?.copy(),
-        Call::Union => {
-            let taken = filled(rt, small, &SEGMENTS)?;
-            assert_eq!(rt; (taken.processors(), twin.processors()), (2, 2));
-            // The left set's heap is asked, however full the right one's is.
-            assert!(rt; twin.union(&taken)?.same(&twin));
-            taken.union(&twin)
-        }
-    };
-    match made {
-        Ok(taken) => {
-            assert!(rt; taken.same(&twin));
-            Ok(false)
-        }
-        Err(NoMemory) => Ok(true),
+    match call {
+        Call::New => Ok(Taken::new(small, 8).is_err()),
+        Call::Insert => insertion_is_refused(rt, small, roomy),
+        Call::Copy => copy_is_refused(rt, small, roomy),
+        Call::Union => union_is_refused(rt, small, roomy),
     }
 }
 
-#[test]
-fn each_call_is_refused_until_its_heap_is_large_enough(rt: HostRuntime) -> Result<(), Fail> {
-    let roomy = LocalHeap::new(rt.alloc(), 4096)?;
-    for call in [Call::New, Call::Insert, Call::Copy, Call::Union] {
-        let mut refused = false;
-        let mut answered = false;
-        for step in 1..STEPS {
-            let small = LocalHeap::new(rt.alloc(), step * STEP)?;
-            match is_refused(&rt, call, &small, &roomy) {
-                Ok(true) => refused = true,
-                Ok(false) => answered = true,
-                Err(NoMemory) => {}
-            }
+fn copy_is_refused<'a>(
+    rt: &impl Abort,
+    small: &'a LocalHeap,
+    roomy: &'a LocalHeap,
+) -> Result<bool, NoMemory> {
+    let copy = try_filled(rt, small, &SEGMENTS)?.copy();
+    Ok(is_none(rt, copy, roomy))
+}
+
+fn union_is_refused<'a>(
+    rt: &impl Abort,
+    small: &'a LocalHeap,
+    roomy: &'a LocalHeap,
+) -> Result<bool, NoMemory> {
+    let taken = try_filled(rt, small, &SEGMENTS)?;
+    let twin = filled(rt, roomy, &SEGMENTS);
+    // The left set's heap is asked, however full the right one's is.
+    assert!(rt; union(rt, &twin, &taken).same(&twin));
+    Ok(is_none(rt, try_union(rt, &taken, &twin), roomy))
+}
+
+// Whether no set was made. One that was made has all the segments.
+fn is_none<'a>(
+    rt: &impl Abort,
+    made: Result<Taken<&'a LocalHeap>, NoMemory>,
+    roomy: &'a LocalHeap,
+) -> bool {
+    let Ok(taken) = made else {
+        return true;
+    };
+    assert!(rt; taken.same(&filled(rt, roomy, &SEGMENTS)));
+    false
+}
+
+// Whether the call is refused in some heaps, and whether it answers in others.
+fn outcomes(rt: &impl Abort, alloc: Global, call: Call, roomy: &LocalHeap) -> (bool, bool) {
+    let (mut refused, mut answered) = (false, false);
+    for step in 1..STEPS {
+        let small = LocalHeap::new(alloc, step * STEP).expect(rt, "the memory");
+        match is_refused(rt, call, &small, roomy) {
+            Ok(true) => refused = true,
+            Ok(false) => answered = true,
+            Err(NoMemory) => {}
         }
+    }
+    (refused, answered)
+}
+
+#[test]
+fn each_call_is_refused_until_its_heap_is_large_enough(rt: HostRuntime) {
+    let roomy = LocalHeap::new(rt.alloc(), 4096).expect(&rt, "the memory");
+    for call in [Call::New, Call::Insert, Call::Copy, Call::Union] {
+        let (refused, answered) = outcomes(&rt, rt.alloc(), call, &roomy);
         assert!(rt; refused && answered, "{call:?}");
     }
-    Ok(())
 }
 
 #[test]
-fn gaps_of_two_processors(rt: HostRuntime) -> Result<(), Fail> {
-    let mut taken = filled(&rt, rt.alloc(), &[(0, 0), (0, 1), (0, 3), (0, 4), (0, 7)])?;
+fn gaps_of_two_processors(rt: HostRuntime) {
+    let segments = [(0, 0), (0, 1), (0, 3), (0, 4), (0, 7)];
+    let mut taken = filled(&rt, rt.alloc(), &segments);
     taken.settle(0);
-    let gaps = taken.gaps(rt.alloc())?;
+    let gaps = taken.gaps(rt.alloc()).expect(&rt, "the memory");
     let between = Gap::Between {
         processor: 0,
         from: 2,
@@ -193,5 +255,4 @@ fn gaps_of_two_processors(rt: HostRuntime) -> Result<(), Fail> {
     };
     let absent = Gap::Absent { processor: 1 };
     assert_eq!(rt; gaps.as_slice(), [between, later, absent].as_slice());
-    Ok(())
 }

@@ -5,7 +5,6 @@ use htl_tree::{Slots, StackTree, fits_events};
 use linked_list_allocator::LocalHeap;
 use std::alloc::{Allocator, Global};
 use std::process::Abort;
-use std::test::Fail;
 
 const SLOT: Slot = Slot::Tagged {
     object: 0x1000,
@@ -26,37 +25,71 @@ fn stack(frames: &[u64]) -> Stack {
     stack
 }
 
-fn shared(alloc: Global, frames: &[u64], fingerprint: u64) -> Result<SharedStack, NoMemory> {
-    if frames.len() > 64 {
-        return Err(NoMemory);
-    }
-    SharedStack::of(alloc, Vec::from_slice(alloc, frames)?, fingerprint)
+fn shared(rt: &impl Abort, alloc: Global, frames: &[u64], fingerprint: u64) -> SharedStack {
+    assert!(rt; frames.len() <= 64);
+    let frames = Vec::from_slice(alloc, frames).expect(rt, "the memory");
+    SharedStack::of(alloc, frames, fingerprint).expect(rt, "the memory")
 }
 
 fn count(plus: u64, minus: u64) -> Count {
     Count { plus, minus }
 }
 
-// References at X and at Y and a dereference at the empty stack, in this order of places.
-fn three<A: Allocator + Clone>(
+// Counts one more, if there is memory.
+fn try_add<A: Allocator + Clone>(
+    rt: &impl Abort,
+    tree: &mut StackTree<A>,
+    slot: Slot,
+    sign: Sign,
+    frames: &[u64],
+) -> Result<(), NoMemory> {
+    assert!(rt; tree.fits(1));
+    tree.add(slot, sign, &stack(frames))
+}
+
+fn add<A: Allocator + Clone>(
+    rt: &impl Abort,
+    tree: &mut StackTree<A>,
+    slot: Slot,
+    sign: Sign,
+    frames: &[u64],
+) {
+    try_add(rt, tree, slot, sign, frames).expect(rt, "the memory");
+}
+
+// References at X and at Y and a dereference at the empty stack, in this order of places, if there
+// is memory.
+fn try_three<A: Allocator + Clone>(
     rt: &impl Abort,
     alloc: A,
     order: &[u8],
 ) -> Result<StackTree<A>, NoMemory> {
     let mut tree = StackTree::new(alloc);
     for place in order {
-        assert!(rt; tree.fits(1));
-        match *place {
-            0 => tree.add(SLOT, Sign::Plus, &stack(&X))?,
-            1 => tree.add(SLOT, Sign::Plus, &stack(&Y))?,
-            _ => tree.add(SLOT, Sign::Minus, &stack(&[]))?,
-        }
+        let (sign, frames) = match *place {
+            0 => (Sign::Plus, X.as_slice()),
+            1 => (Sign::Plus, Y.as_slice()),
+            _ => (Sign::Minus, [].as_slice()),
+        };
+        try_add(rt, &mut tree, SLOT, sign, frames)?;
     }
     Ok(tree)
 }
 
-fn shared_outer_frames<A: Allocator + Clone>(rt: &impl Abort, alloc: A) -> Result<(), NoMemory> {
-    let tree = three(rt, alloc.clone()?, &[0, 1, 2])?;
+fn three<A: Allocator + Clone>(rt: &impl Abort, alloc: A, order: &[u8]) -> StackTree<A> {
+    try_three(rt, alloc, order).expect(rt, "the memory")
+}
+
+fn plus<A: Allocator + Clone>(
+    rt: &impl Abort,
+    one: &StackTree<A>,
+    other: &StackTree<A>,
+) -> StackTree<A> {
+    assert!(rt; one.fits(other.total()));
+    one.plus(other).expect(rt, "the memory")
+}
+
+fn has_shared_outer_frames<A: Allocator + Clone>(rt: &impl Abort, tree: &StackTree<A>) {
     assert_eq!(rt; tree.under(&[], SLOT), count(2, 1));
     assert_eq!(rt; tree.under(&[0x10, 0x20], SLOT), count(2, 0));
     assert_eq!(rt; tree.under(&[0x10, 0x20, 0x40], SLOT), count(1, 0));
@@ -64,105 +97,169 @@ fn shared_outer_frames<A: Allocator + Clone>(rt: &impl Abort, alloc: A) -> Resul
     assert_eq!(rt; tree.at(SLOT, &stack(&X)), count(1, 0));
     assert_eq!(rt; tree.at(SLOT, &stack(&[0x20, 0x10])), count(0, 0));
     assert_eq!(rt; tree.total(), 3);
-    let copy = tree.copy()?;
-    assert!(rt; copy.same(&tree));
-    assert!(rt; tree.fits(copy.total()));
-    let sum = tree.plus(&copy)?;
+}
+
+fn adds_to_its_copy<A: Allocator + Clone>(rt: &impl Abort, tree: &StackTree<A>) {
+    let copy = tree.copy().expect(rt, "the memory");
+    assert!(rt; copy.same(tree));
+    let sum = plus(rt, tree, &copy);
     assert_eq!(rt; sum.total(), 6);
     assert_eq!(rt; sum.at(SLOT, &stack(&X)), count(2, 0));
+}
+
+// Whether the tree that is made in this order is this one.
+fn is_same_in<A: Allocator + Clone>(
+    rt: &impl Abort,
+    alloc: A,
+    order: &[u8],
+    tree: &StackTree<A>,
+) -> bool {
+    three(rt, alloc, order).same(tree)
+}
+
+fn shared_outer_frames<A: Allocator + Clone + Copy>(rt: &impl Abort, alloc: A) {
+    let tree = three(rt, alloc, &[0, 1, 2]);
+    has_shared_outer_frames(rt, &tree);
+    adds_to_its_copy(rt, &tree);
     for order in [[2, 1, 0], [1, 0, 2], [0, 2, 1]] {
-        assert!(rt; three(rt, alloc.clone()?, &order)?.same(&tree));
+        assert!(rt; is_same_in(rt, alloc, &order, &tree));
     }
-    assert!(rt; !three(rt, alloc, &[0, 1])?.same(&tree));
-    Ok(())
+    assert!(rt; !is_same_in(rt, alloc, &[0, 1], &tree));
 }
 
 #[test]
-fn shared_outer_frames_under_two_allocators(rt: HostRuntime) -> Result<(), Fail> {
-    shared_outer_frames(&rt, rt.alloc())?;
-    let heap = LocalHeap::new(rt.alloc(), 65536)?;
-    shared_outer_frames(&rt, &heap)?;
-    Ok(())
+fn shared_outer_frames_under_two_allocators(rt: HostRuntime) {
+    shared_outer_frames(&rt, rt.alloc());
+    let heap = LocalHeap::new(rt.alloc(), 65536).expect(&rt, "the memory");
+    shared_outer_frames(&rt, &heap);
+}
+
+fn one(rt: &impl Abort, alloc: Global) -> StackTree<Global> {
+    three(rt, alloc, &[0, 2])
+}
+
+fn two(rt: &impl Abort, alloc: Global) -> StackTree<Global> {
+    three(rt, alloc, &[1, 2, 0])
+}
+
+fn with_other(rt: &impl Abort, alloc: Global) -> StackTree<Global> {
+    let mut tree = three(rt, alloc, &[2, 0]);
+    add(rt, &mut tree, OTHER, Sign::Plus, &X[1..]);
+    tree
+}
+
+fn first_two(rt: &impl Abort, alloc: Global) -> StackTree<Global> {
+    plus(rt, &one(rt, alloc), &two(rt, alloc))
+}
+
+fn last_two(rt: &impl Abort, alloc: Global) -> StackTree<Global> {
+    plus(rt, &two(rt, alloc), &with_other(rt, alloc))
 }
 
 #[test]
-fn sums_of_three(rt: HostRuntime) -> Result<(), Fail> {
-    let alloc = rt.alloc();
-    let one = three(&rt, alloc, &[0, 2])?;
-    let two = three(&rt, alloc, &[1, 2, 0])?;
-    let mut other = three(&rt, alloc, &[2, 0])?;
-    assert!(rt; other.fits(1));
-    other.add(OTHER, Sign::Plus, &stack(&X[1..]))?;
-    assert!(rt; one.fits(two.total()));
-    let both = one.plus(&two)?;
-    assert!(rt; both.fits(other.total()));
-    let sum = both.plus(&other)?;
-    assert!(rt; two.fits(other.total()));
-    let last_two = two.plus(&other)?;
-    assert!(rt; one.fits(last_two.total()));
-    assert!(rt; sum.same(&one.plus(&last_two)?));
-    assert_eq!(rt; sum.total(), 8);
-    let none = StackTree::new(alloc);
-    assert!(rt; none.fits(one.total()));
-    assert!(rt; none.plus(&one)?.same(&one));
-    Ok(())
-}
-
-#[test]
-fn lists_rows_and_sums(rt: HostRuntime) -> Result<(), Fail> {
-    let mut tree = three(&rt, rt.alloc(), &[1, 2, 0])?;
-    assert!(rt; tree.fits(1));
-    tree.add(OTHER, Sign::Plus, &stack(&X))?;
-    let empty = shared(rt.alloc(), &[], 1)?;
-    let x = shared(rt.alloc(), &X, 2)?;
-    let y = shared(rt.alloc(), &Y, 3)?;
-    let rows = tree.rows(rt.alloc(), SLOT)?;
-    let expected = [
-        (empty.copy()?, count(0, 1)),
-        (x.copy()?, count(1, 0)),
-        (y.copy()?, count(1, 0)),
-    ];
-    assert!(rt; rows.as_slice() == expected.as_slice());
-    let rows = tree.rows_of(rt.alloc(), Slots::OfObject(0x1000))?;
-    let expected = [
-        ((SLOT, empty), count(0, 1)),
-        ((SLOT, x), count(1, 0)),
-        ((SLOT, y), count(1, 0)),
-    ];
-    assert!(rt; rows.as_slice() == expected.as_slice());
-    let sums = tree.sums_of(rt.alloc(), Slots::OfObject(0x1000))?;
-    assert_eq!(rt; sums.as_slice(), [(SLOT, count(2, 1))].as_slice());
-    let others = tree.rows_of(rt.alloc(), Slots::One(OTHER))?;
-    let expected = [((OTHER, shared(rt.alloc(), &X, 2)?), count(1, 0))];
-    assert!(rt; others.as_slice() == expected.as_slice());
-    assert_eq!(rt;
-        tree.slots(rt.alloc())?.as_slice(),
-        [SLOT, OTHER].as_slice()
+fn sums_of_three(rt: HostRuntime) {
+    let sum = plus(
+        &rt,
+        &first_two(&rt, rt.alloc()),
+        &with_other(&rt, rt.alloc()),
     );
-    Ok(())
+    assert_eq!(rt; sum.total(), 8);
+    let other = plus(&rt, &one(&rt, rt.alloc()), &last_two(&rt, rt.alloc()));
+    assert!(rt; sum.same(&other));
+    let only = plus(&rt, &StackTree::new(rt.alloc()), &sum);
+    assert!(rt; only.same(&sum));
 }
 
-// There are more processes than marks. Handles of every other one were opened.
+// The three and an open at X.
+fn four(rt: &impl Abort, alloc: Global) -> StackTree<Global> {
+    let mut tree = three(rt, alloc, &[1, 2, 0]);
+    add(rt, &mut tree, OTHER, Sign::Plus, &X);
+    tree
+}
+
+fn has_rows(rt: &impl Abort, alloc: Global, tree: &StackTree<Global>, wanted: &[(&[u64], Count)]) {
+    let rows = tree.rows(alloc, SLOT).expect(rt, "the memory");
+    assert_eq!(rt; rows.len(), wanted.len());
+    for ((stack, count), (frames, number)) in rows.iter().zip(wanted) {
+        assert_eq!(rt; (stack.frames(), *count), (*frames, *number));
+    }
+}
+
+fn has_rows_of(
+    rt: &impl Abort,
+    alloc: Global,
+    tree: &StackTree<Global>,
+    slots: Slots,
+    wanted: &[(Slot, &[u64], Count)],
+) {
+    let rows = tree.rows_of(alloc, slots).expect(rt, "the memory");
+    assert_eq!(rt; rows.len(), wanted.len());
+    for (((slot, stack), count), (of, frames, number)) in rows.iter().zip(wanted) {
+        assert_eq!(rt; (*slot, stack.frames(), *count), (*of, *frames, *number));
+    }
+}
+
+fn has_sums(rt: &impl Abort, alloc: Global, tree: &StackTree<Global>) {
+    let sums = tree
+        .sums_of(alloc, Slots::OfObject(0x1000))
+        .expect(rt, "the memory");
+    assert_eq!(rt; sums.as_slice(), [(SLOT, count(2, 1))].as_slice());
+}
+
+fn has_slots(rt: &impl Abort, alloc: Global, tree: &StackTree<Global>) {
+    let slots = tree.slots(alloc).expect(rt, "the memory");
+    assert_eq!(rt; slots.as_slice(), [SLOT, OTHER].as_slice());
+}
+
 #[test]
-fn slots_with_one_mark_are_distinct(rt: HostRuntime) -> Result<(), Fail> {
-    let mut tree = StackTree::new(rt.alloc());
+fn lists_rows_and_sums(rt: HostRuntime) {
+    let tree = four(&rt, rt.alloc());
+    let rows: [(&[u64], Count); 3] = [(&[], count(0, 1)), (&X, count(1, 0)), (&Y, count(1, 0))];
+    has_rows(&rt, rt.alloc(), &tree, &rows);
+    let rows: [(Slot, &[u64], Count); 3] = [
+        (SLOT, &[], count(0, 1)),
+        (SLOT, &X, count(1, 0)),
+        (SLOT, &Y, count(1, 0)),
+    ];
+    has_rows_of(&rt, rt.alloc(), &tree, Slots::OfObject(0x1000), &rows);
+    let rows: [(Slot, &[u64], Count); 1] = [(OTHER, &X, count(1, 0))];
+    has_rows_of(&rt, rt.alloc(), &tree, Slots::One(OTHER), &rows);
+    has_sums(&rt, rt.alloc(), &tree);
+    has_slots(&rt, rt.alloc(), &tree);
+}
+
+// Handles of every other process of 512 were opened.
+fn of_every_other(rt: &impl Abort, alloc: Global) -> StackTree<Global> {
+    let mut tree = StackTree::new(alloc);
     for number in 0..256u32 {
         let slot = Slot::Handles {
             process: 8 * number,
         };
-        assert!(rt; tree.fits(1));
-        tree.add(slot, Sign::Plus, &stack(&[u64::from(number % 7), 0x10]))?;
+        let frames = [u64::from(number % 7), 0x10];
+        add(rt, &mut tree, slot, Sign::Plus, &frames);
     }
+    tree
+}
+
+fn rows_of(rt: &impl Abort, alloc: Global, tree: &StackTree<Global>, slot: Slot) -> usize {
+    let rows = tree.rows(alloc, slot).expect(rt, "the memory");
+    rows.len()
+}
+
+// There are more processes than marks.
+#[test]
+fn slots_with_one_mark_are_distinct(rt: HostRuntime) {
+    let tree = of_every_other(&rt, rt.alloc());
     for number in 0..512u32 {
         let slot = Slot::Handles {
             process: 4 * number,
         };
-        let times = u64::from(1 - number % 2);
-        assert_eq!(rt; tree.under(&[], slot), count(times, 0), "{number}");
-        let rows = tree.rows(rt.alloc(), slot)?;
-        assert_eq!(rt; rows.len() as u64, times, "{number}");
+        let times = 1 - number % 2;
+        let opens = count(u64::from(times), 0);
+        assert_eq!(rt; tree.under(&[], slot), opens, "{number}");
+        let rows = rows_of(&rt, rt.alloc(), &tree, slot);
+        assert_eq!(rt; rows, times as usize, "{number}");
     }
-    Ok(())
 }
 
 const KINDS: [Kind; 7] = [
@@ -176,20 +273,20 @@ const KINDS: [Kind; 7] = [
 ];
 
 // By the last two bits of the number. The first two have one fingerprint.
-fn stack_of(alloc: Global, number: u64) -> Result<SharedStack, NoMemory> {
+fn stack_of(rt: &impl Abort, alloc: Global, number: u64) -> SharedStack {
     match number % 4 {
-        0 => shared(alloc, &X, 1),
-        1 => shared(alloc, &Y, 1),
-        2 => shared(alloc, &[0x20, 0x10], 2),
-        _ => shared(alloc, &[], 3),
+        0 => shared(rt, alloc, &X, 1),
+        1 => shared(rt, alloc, &Y, 1),
+        2 => shared(rt, alloc, &[0x20, 0x10], 2),
+        _ => shared(rt, alloc, &[], 3),
     }
 }
 
 // An event that follows from the number, of few slots and stacks (Steele, Lea, Flood: SplitMix64).
-fn event(alloc: Global, number: u64) -> Result<SharedEvent, NoMemory> {
+fn event(rt: &impl Abort, alloc: Global, number: u64) -> SharedEvent {
     let mixed = (number ^ number >> 30).wrapping_mul(0xbf58_476d_1ce4_e5b9);
     let mixed = (mixed ^ mixed >> 27).wrapping_mul(0x94d0_49bb_1331_11eb) >> 20;
-    Ok(Event {
+    Event {
         sequence: number,
         kind: KINDS[(mixed % 7) as usize],
         process: (4 * (mixed >> 4 & 1)) as u32,
@@ -197,24 +294,35 @@ fn event(alloc: Global, number: u64) -> Result<SharedEvent, NoMemory> {
         handle: (mixed >> 8 & 7) as u32,
         object: mixed >> 12 & 3,
         tag: *b"Lky8",
-        stack: stack_of(alloc, mixed >> 16)?,
-    })
+        stack: stack_of(rt, alloc, mixed >> 16),
+    }
 }
 
-fn run(alloc: Global, first: u64, len: u64) -> Result<Vec<SharedEvent>, NoMemory> {
+fn run(rt: &impl Abort, alloc: Global, first: u64, len: u64) -> Vec<SharedEvent> {
     let mut events = Vec::new(alloc);
     for number in 0..len {
-        events.push(event(alloc, first.wrapping_add(number.wrapping_mul(0x9e37_79b9)))?)?;
+        let number = first.wrapping_add(number.wrapping_mul(0x9e37_79b9));
+        events
+            .push(event(rt, alloc, number))
+            .expect(rt, "the memory");
     }
-    Ok(events)
+    events
 }
 
-fn runs(alloc: Global, first: u64) -> Result<Vec<Vec<SharedEvent>>, NoMemory> {
+fn runs(rt: &impl Abort, alloc: Global, first: u64) -> Vec<Vec<SharedEvent>> {
     let mut runs = Vec::new(alloc);
     for len in [17, 0, 1, 64] {
-        runs.push(run(alloc, first.wrapping_add(len), len)?)?;
+        runs.push(run(rt, alloc, first.wrapping_add(len), len))
+            .expect(rt, "the memory");
     }
-    Ok(runs)
+    runs
+}
+
+fn note<A: Allocator + Clone>(rt: &impl Abort, tree: &mut StackTree<A>, events: &[SharedEvent]) {
+    for event in events {
+        assert!(rt; tree.fits(1));
+        tree.note(event).expect(rt, "the memory");
+    }
 }
 
 // The tree of the events, one by one.
@@ -222,33 +330,34 @@ fn noted<A: Allocator + Clone>(
     rt: &impl Abort,
     alloc: A,
     runs: &[Vec<SharedEvent>],
-) -> Result<StackTree<A>, NoMemory> {
+) -> StackTree<A> {
     let mut tree = StackTree::new(alloc);
     for run in runs {
-        for event in run {
-            assert!(rt; tree.fits(1));
-            tree.note(event)?;
-        }
+        note(rt, &mut tree, run);
     }
-    Ok(tree)
+    tree
+}
+
+// The tree of the events, made at once, is that.
+fn is_made_as_noted<A: Allocator + Clone + Copy>(
+    rt: &impl Abort,
+    alloc: A,
+    runs: &[Vec<SharedEvent>],
+) {
+    assert!(rt; fits_events(runs));
+    let tree = StackTree::of(alloc, runs).expect(rt, "the memory");
+    assert!(rt; tree.total() > 40);
+    assert!(rt; tree.same(&noted(rt, alloc, runs)));
 }
 
 #[test]
-fn events_together_make_the_tree_of_events_one_by_one(rt: HostRuntime) -> Result<(), Fail> {
+fn events_together_make_the_tree_of_events_one_by_one(rt: HostRuntime) {
     for first in 0..8 {
-        let runs = runs(rt.alloc(), first)?;
-        assert!(rt; fits_events(runs.as_slice()));
-        let tree = StackTree::of(rt.alloc(), runs.as_slice())?;
-        assert!(rt; tree.total() > 40, "{first}");
-        assert!(rt; tree.same(&noted(&rt, rt.alloc(), &runs)?), "{first}");
-        let heap = LocalHeap::new(rt.alloc(), 65536)?;
-        let tree = StackTree::of(&heap, runs.as_slice())?;
-        assert!(rt;
-            tree.same(&noted(&rt, &heap, &runs)?),
-            "{first} in a small heap"
-        );
+        let runs = runs(&rt, rt.alloc(), first);
+        is_made_as_noted(&rt, rt.alloc(), &runs);
+        let heap = LocalHeap::new(rt.alloc(), 65536).expect(&rt, "the memory");
+        is_made_as_noted(&rt, &heap, &runs);
     }
-    Ok(())
 }
 
 #[derive(Clone, Copy, Debug, PartialEq, Eq)]
@@ -273,40 +382,62 @@ fn is_done(
         assert!(rt; fits_events(runs));
         return Ok(StackTree::of(heap, runs).is_ok());
     }
-    let mut tree = three(rt, heap, &[0, 1, 2])?;
-    assert!(rt; tree.fits(tree.total()));
-    let done = match call {
-        Call::Plus => tree.plus(&tree).is_ok(),
-        Call::Copy => tree.copy().is_ok(),
-        Call::Add => tree.add(SLOT, Sign::Plus, &stack(&[0x50, 0x10])).is_ok(),
-        Call::Note | Call::Of => tree.note(event).is_ok(),
-    };
+    let mut tree = try_three(rt, heap, &[0, 1, 2])?;
+    let done = is_done_on(rt, call, &mut tree, event);
     let changes = done && (call == Call::Add || call == Call::Note);
     assert_eq!(rt; tree.total(), if changes { 4 } else { 3 });
     Ok(done)
 }
 
-#[test]
-fn each_call_is_refused_until_its_heap_is_large_enough(rt: HostRuntime) -> Result<(), Fail> {
-    let runs = runs(rt.alloc(), 1)?;
-    let mut event = event(rt.alloc(), 1)?;
-    event.kind = Kind::Ref;
-    event.stack = shared(rt.alloc(), &[0x60, 0x50], 4)?;
-    for call in [Call::Add, Call::Note, Call::Plus, Call::Copy, Call::Of] {
-        let mut refused = 0u32;
-        let mut done = false;
-        for step in 4..1024usize {
-            let heap = LocalHeap::new(rt.alloc(), 16 * step)?;
-            match is_done(&rt, call, &heap, &runs, &event) {
-                Ok(true) => {
-                    done = true;
-                    break;
-                }
-                Ok(false) => refused = refused.saturating_add(1),
-                Err(NoMemory) => {}
-            }
+fn is_done_on(
+    rt: &impl Abort,
+    call: Call,
+    tree: &mut StackTree<&LocalHeap>,
+    event: &SharedEvent,
+) -> bool {
+    assert!(rt; tree.fits(1) && tree.fits(tree.total()));
+    match call {
+        Call::Plus => tree.plus(tree).is_ok(),
+        Call::Copy => tree.copy().is_ok(),
+        Call::Add => try_add(rt, tree, SLOT, Sign::Plus, &[0x50, 0x10]).is_ok(),
+        Call::Note | Call::Of => tree.note(event).is_ok(),
+    }
+}
+
+// In how many heaps the call is refused before one is large enough for it, and whether one is.
+fn outcomes(
+    rt: &impl Abort,
+    alloc: Global,
+    call: Call,
+    runs: &[Vec<SharedEvent>],
+    event: &SharedEvent,
+) -> (u32, bool) {
+    let mut refused = 0u32;
+    for step in 4..1024usize {
+        let heap = LocalHeap::new(alloc, 16 * step).expect(rt, "the memory");
+        match is_done(rt, call, &heap, runs, event) {
+            Ok(true) => return (refused, true),
+            Ok(false) => refused = refused.saturating_add(1),
+            Err(NoMemory) => {}
         }
+    }
+    (refused, false)
+}
+
+// A reference at a stack that no other event has.
+fn reference(rt: &impl Abort, alloc: Global) -> SharedEvent {
+    let mut event = event(rt, alloc, 1);
+    event.kind = Kind::Ref;
+    event.stack = shared(rt, alloc, &[0x60, 0x50], 4);
+    event
+}
+
+#[test]
+fn each_call_is_refused_until_its_heap_is_large_enough(rt: HostRuntime) {
+    let runs = runs(&rt, rt.alloc(), 1);
+    let event = reference(&rt, rt.alloc());
+    for call in [Call::Add, Call::Note, Call::Plus, Call::Copy, Call::Of] {
+        let (refused, done) = outcomes(&rt, rt.alloc(), call, &runs, &event);
         assert!(rt; done && refused > 0, "{call:?}");
     }
-    Ok(())
 }

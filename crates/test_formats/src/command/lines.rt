@@ -1,8 +1,8 @@
 // Which job a line asks for, and which lines are refused.
-use super::words;
+use super::{fault_of, text_of, words};
 use htl_command::{Asked, Job, ParseFault, Question, parse};
 use std::alloc::Global;
-use std::test::Fail;
+use std::process::Abort;
 
 /// Lines and their questions.
 const QUESTIONS: [(&str, Question); 29] = [
@@ -272,17 +272,15 @@ const REFUSED: [(&str, &str); 51] = [
 ];
 
 /// What a line asks for.
-fn asked(alloc: Global, line: &str) -> Result<Asked, Fail> {
-    Ok(parse(alloc, words(alloc, line)?)?)
+fn asked(rt: &impl Abort, alloc: Global, line: &str) -> Asked {
+    parse(alloc, words(rt, alloc, line)).expect(rt, "a job")
 }
 
 /// The text of the usage fault that a line is refused with.
-fn usage_text(alloc: Global, line: &str) -> Result<String, Fail> {
-    let fault = parse(alloc, words(alloc, line)?)
-        .err()
-        .filter(|fault| matches!(fault, ParseFault::Usage(_)))
-        .ok_or("it isn't a usage fault")?;
-    Ok(fault.to_string(alloc)?)
+fn usage_text(rt: &impl Abort, alloc: Global, line: &str) -> String {
+    let fault = fault_of(rt, alloc, line);
+    assert!(rt; matches!(fault, ParseFault::Usage(_)), "of {line}");
+    text_of(rt, alloc, &fault)
 }
 
 /// Whether the names are those of the files.
@@ -294,46 +292,42 @@ fn are_files(names: &[&str], files: &[String]) -> bool {
 }
 
 #[test]
-fn lines_ask_questions(rt: HostRuntime) -> Result<(), Fail> {
+fn lines_ask_questions(rt: HostRuntime) {
     for (line, question) in QUESTIONS {
         let job = Job {
             question,
             hex: false,
             workers: 1,
         };
-        assert_eq!(rt; asked(rt.alloc(), line)?.job, job, "of {line}");
+        assert_eq!(rt; asked(&rt, rt.alloc(), line).job, job, "of {line}");
     }
-    Ok(())
 }
 
 #[test]
-fn lines_have_options(rt: HostRuntime) -> Result<(), Fail> {
+fn lines_have_options(rt: HostRuntime) {
     for (line, hex, workers, files, symbols) in OPTIONS {
-        let asked = asked(rt.alloc(), line)?;
+        let asked = asked(&rt, rt.alloc(), line);
         assert_eq!(rt; asked.job.hex, hex, "of {line}");
         assert_eq!(rt; asked.job.workers, workers, "of {line}");
         assert!(rt; are_files(files, &asked.files), "the files of {line}");
         assert_eq!(rt; asked.symbols.as_deref(), symbols, "of {line}");
     }
-    Ok(())
 }
 
 #[test]
-fn no_words_ask_for_the_stored_job(rt: HostRuntime) -> Result<(), Fail> {
-    let stored = parse(rt.alloc(), Vec::new(rt.alloc()))?;
-    let written = asked(rt.alloc(), "outstanding|--process|4|--hex")?;
+fn no_words_ask_for_the_stored_job(rt: HostRuntime) {
+    let stored = parse(rt.alloc(), Vec::new(rt.alloc())).expect(&rt, "a job");
+    let written = asked(&rt, rt.alloc(), "outstanding|--process|4|--hex");
     assert_eq!(rt; stored, written);
     assert_eq!(rt; stored.job.workers, 1);
     assert!(rt; stored.files.is_empty());
-    Ok(())
 }
 
 #[test]
-fn refused_lines_name_what_is_wrong(rt: HostRuntime) -> Result<(), Fail> {
+fn refused_lines_name_what_is_wrong(rt: HostRuntime) {
     for (line, named) in REFUSED {
-        let text = usage_text(rt.alloc(), line)?;
+        let text = usage_text(&rt, rt.alloc(), line);
         assert!(rt; text.as_str().contains(named), "of {line}: {text}");
         assert!(rt; text.as_str().ends_with("--help'.\n"), "of {line}: {text}");
     }
-    Ok(())
 }

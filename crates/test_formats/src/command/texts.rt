@@ -1,7 +1,8 @@
 // The texts of help and of refusals, as a person reads them in a terminal of 80 columns.
-use super::words;
-use htl_command::{ParseFault, parse};
-use std::test::Fail;
+use super::{fault_of, text_of};
+use htl_command::ParseFault;
+use std::alloc::Global;
+use std::process::Abort;
 
 const PROGRAM: &str = "\
 Finds handles that were opened and never closed, and object references that
@@ -290,38 +291,41 @@ fn fits(text: &str) -> bool {
     text.lines().all(|line| line.chars().count() <= 80)
 }
 
+/// The line's answer has this status and this text, which fits.
+fn is_answered(
+    rt: &impl Abort,
+    alloc: Global,
+    line: &str,
+    fault: &ParseFault,
+    status: u8,
+    text: &str,
+) {
+    assert_eq!(rt; fault.status(), status, "of {line}");
+    assert_eq!(rt; text_of(rt, alloc, fault).as_str(), text, "of {line}");
+    assert!(rt; fits(text), "of {line}");
+}
+
 #[test]
-fn help_is_shown(rt: HostRuntime) -> Result<(), Fail> {
+fn help_is_shown(rt: HostRuntime) {
     for (line, help) in HELP {
-        let asked = parse(rt.alloc(), words(rt.alloc(), line)?);
-        let fault = asked.err().ok_or("it is a job")?;
+        let fault = fault_of(&rt, rt.alloc(), line);
         assert!(rt; matches!(fault, ParseFault::Help(_)), "of {line}");
-        assert_eq!(rt; fault.status(), 0);
-        assert_eq!(rt; fault.to_string(rt.alloc())?.as_str(), help, "of {line}");
-        assert!(rt; fits(help), "of {line}");
+        is_answered(&rt, rt.alloc(), line, &fault, 0, help);
     }
-    Ok(())
 }
 
 #[test]
-fn refusals_say_what_is_wrong(rt: HostRuntime) -> Result<(), Fail> {
+fn refusals_say_what_is_wrong(rt: HostRuntime) {
     for (line, usage) in USAGE {
-        let asked = parse(rt.alloc(), words(rt.alloc(), line)?);
-        let fault = asked.err().ok_or("it is a job")?;
+        let fault = fault_of(&rt, rt.alloc(), line);
         assert!(rt; matches!(fault, ParseFault::Usage(_)), "of {line}");
-        assert_eq!(rt; fault.status(), 2);
-        assert_eq!(rt; fault.to_string(rt.alloc())?.as_str(), usage, "of {line}");
-        assert!(rt; fits(usage), "of {line}");
+        is_answered(&rt, rt.alloc(), line, &fault, 2, usage);
     }
-    Ok(())
 }
 
 #[test]
-fn want_of_memory_has_a_line(rt: HostRuntime) -> Result<(), Fail> {
+fn want_of_memory_has_a_line(rt: HostRuntime) {
     assert_eq!(rt; ParseFault::Memory.status(), 6);
-    assert_eq!(rt;
-        ParseFault::Memory.to_string(rt.alloc())?.as_str(),
-        "hleak: out of memory"
-    );
-    Ok(())
+    let text = text_of(&rt, rt.alloc(), &ParseFault::Memory);
+    assert_eq!(rt; text.as_str(), "hleak: out of memory");
 }

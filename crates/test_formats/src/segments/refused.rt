@@ -2,14 +2,72 @@
 //! that meets it has to report out of memory, and has to answer when it is asked again.
 
 use super::deep_event;
+use htl_event::Event;
 use htl_segment::{
     Fault, HexFault, Segment, Splitter, decode, decode_bundle, decode_pieces, encode, from_hex,
 };
+use std::alloc::Global;
+use std::process::Abort;
 
 /// The empty segment, and then one with an open of handle 0x44 without frames: 32 and 68 bytes.
 const BUNDLE: [u8; 100] = *b"HLS1\x01\0\x01\0\0\0\0\0\0\0\0\0\x07\0\0\0\0\0\0\0\0\0\0\0\x20\0\0\0\
     HLS1\x01\0\x01\0\0\0\0\0\x01\0\0\0\x07\0\0\0\0\0\0\0\x01\0\0\0\x44\0\0\0\
     \x01\0\0\0\0\0\0\0\x01\0\0\0\x04\0\0\0\x0c\0\0\0\x44\0\0\0\0\0\0\0\0\0\0\0\0\0\0\0";
+
+fn decoded(rt: &impl Abort, alloc: Global, bytes: &[u8]) -> Segment {
+    match decode(alloc, bytes) {
+        Ok((segment, _)) => segment,
+        Err(fault) => {
+            assert_eq!(rt; fault, Fault::NoMemory);
+            decode(alloc, bytes).expect(rt, "a segment").0
+        }
+    }
+}
+
+fn encoded(rt: &impl Abort, alloc: Global, segment: &Segment) -> Vec<u8> {
+    match encode(alloc, segment) {
+        Ok(bytes) => bytes,
+        Err(_) => encode(alloc, segment).expect(rt, "bytes"),
+    }
+}
+
+/// A segment of the bundle is refused for want of memory.
+fn is_no_memory(rt: &impl Abort, (offset, fault): (u64, Fault)) {
+    assert!(rt; offset == 0 || offset == 32);
+    assert_eq!(rt; fault, Fault::NoMemory);
+}
+
+/// How many segments the bundle has.
+fn number_in_bundle(rt: &impl Abort, alloc: Global, bytes: &[u8]) -> usize {
+    match decode_bundle(alloc, bytes) {
+        Ok(segments) => segments.len(),
+        Err(refused) => {
+            is_no_memory(rt, refused);
+            decode_bundle(alloc, bytes).expect(rt, "a bundle").len()
+        }
+    }
+}
+
+/// How many segments the pieces of the bundle have.
+fn number_in_pieces(rt: &impl Abort, alloc: Global, pieces: &[&[u8]]) -> usize {
+    match decode_pieces(alloc, pieces) {
+        Ok(segments) => segments.len(),
+        Err(refused) => {
+            is_no_memory(rt, refused);
+            decode_pieces(alloc, pieces).expect(rt, "a bundle").len()
+        }
+    }
+}
+
+fn bytes_of(rt: &impl Abort, alloc: Global, digits: &[u8]) -> Vec<u8> {
+    match from_hex(alloc, digits) {
+        Ok(bytes) => bytes,
+        Err(fault) => {
+            assert_eq!(rt; fault, HexFault::NoMemory);
+            from_hex(alloc, digits).expect(rt, "bytes")
+        }
+    }
+}
 
 #[test]
 fn refused_allocations_of_reading(rt: HostRuntime) {
@@ -17,76 +75,58 @@ fn refused_allocations_of_reading(rt: HostRuntime) {
     let bundle = BUNDLE;
     let bytes = bundle.as_slice();
     let (_, last) = bytes.split_at(32);
-    let mut decoded = decode(alloc, last);
-    if let Err(fault) = decoded {
-        assert_eq!(rt; fault, Fault::NoMemory);
-        decoded = decode(alloc, last);
-    }
-    let (segment, _) = decoded.expect(&rt, "a segment");
-
-    let mut written = encode(alloc, &segment);
-    if written.is_err() {
-        written = encode(alloc, &segment);
-    }
-    assert!(rt; written.expect(&rt, "bytes").as_slice() == last);
-
-    let mut read = decode_bundle(alloc, bytes);
-    if let Err((offset, fault)) = read {
-        assert!(rt; (offset == 0 || offset == 32) && fault == Fault::NoMemory);
-        read = decode_bundle(alloc, bytes);
-    }
-    assert_eq!(rt; read.expect(&rt, "a bundle").len(), 2);
-
+    let segment = decoded(&rt, alloc, last);
+    assert!(rt; encoded(&rt, alloc, &segment).as_slice() == last);
+    assert_eq!(rt; number_in_bundle(&rt, alloc, bytes), 2);
     let (front, back) = bytes.split_at(40);
-    let mut joined = decode_pieces(alloc, &[front, back]);
-    if let Err((offset, fault)) = joined {
-        assert!(rt; (offset == 0 || offset == 32) && fault == Fault::NoMemory);
-        joined = decode_pieces(alloc, &[front, back]);
-    }
-    assert_eq!(rt; joined.expect(&rt, "a bundle").len(), 2);
+    assert_eq!(rt; number_in_pieces(&rt, alloc, &[front, back]), 2);
+    let read = bytes_of(&rt, alloc, b"48 4c");
+    assert!(rt; read.as_slice() == b"HL".as_slice());
+}
 
-    let mut text = from_hex(alloc, b"48 4c");
-    if let Err(fault) = text {
-        assert_eq!(rt; fault, HexFault::NoMemory);
-        text = from_hex(alloc, b"48 4c");
+/// How many segments the piece completes. Nothing is fed by a call that is refused.
+fn number_fed(rt: &impl Abort, alloc: Global, splitter: &mut Splitter, piece: &[u8]) -> usize {
+    assert!(rt; splitter.fed() < 1_000 && piece.len() < 1_000);
+    let fed = splitter.fed();
+    match splitter.feed(alloc, piece) {
+        Ok(segments) => segments.len(),
+        Err(refused) => {
+            is_no_memory(rt, refused);
+            assert!(rt; splitter.fed() == fed && splitter.fed() < 1_000);
+            splitter.feed(alloc, piece).expect(rt, "no fault").len()
+        }
     }
-    assert!(rt; text.expect(&rt, "bytes").as_slice() == b"HL".as_slice());
 }
 
 #[test]
 fn refused_allocations_of_a_splitter(rt: HostRuntime) {
-    let alloc = rt.alloc();
     let bundle = BUNDLE;
     let bytes = bundle.as_slice();
-    let mut splitter = Splitter::new(alloc);
+    let mut splitter = Splitter::new(rt.alloc());
     let mut found = 0;
     // The first piece ends in a header, the second in records, the third with a segment.
     for piece in bytes.chunks(40) {
-        assert!(rt; splitter.fed() < 1_000 && piece.len() < 1_000);
-        let fed = splitter.fed();
-        let mut fed_now = splitter.feed(alloc, piece);
-        if let Err((offset, fault)) = fed_now {
-            assert!(rt; (offset == 0 || offset == 32) && fault == Fault::NoMemory);
-            assert!(rt; splitter.fed() == fed && splitter.fed() < 1_000);
-            fed_now = splitter.feed(alloc, piece);
-        }
-        let segments = fed_now.expect(&rt, "no fault");
-        found = segments.len().wrapping_add(found);
+        found = number_fed(&rt, rt.alloc(), &mut splitter, piece).wrapping_add(found);
     }
     assert_eq!(rt; (found, splitter.finish()), (2, Ok(())));
 }
 
+fn built(rt: &impl Abort, alloc: Global, events: Vec<Event>) -> Segment {
+    match Segment::build2(alloc, 7, 1, 0, 0, events) {
+        Ok(segment) => segment,
+        Err((fault, events)) => {
+            assert!(rt; fault == Fault::NoMemory && events.len() == 1);
+            let built = Segment::build2(alloc, 7, 1, 0, 0, events);
+            built.ok().expect(rt, "a segment")
+        }
+    }
+}
+
 #[test]
 fn refused_allocations_of_building(rt: HostRuntime) {
-    let alloc = rt.alloc();
-    let mut events = Vec::new(alloc);
+    let mut events = Vec::new(rt.alloc());
     if events.push(deep_event()).is_err() {
         return;
     }
-    let mut built = Segment::build2(alloc, 7, 1, 0, 0, events);
-    if let Err((fault, events)) = built {
-        assert!(rt; fault == Fault::NoMemory && events.len() == 1);
-        built = Segment::build2(alloc, 7, 1, 0, 0, events);
-    }
-    assert_eq!(rt; built.ok().expect(&rt, "a segment").events().len(), 1);
+    assert_eq!(rt; built(&rt, rt.alloc(), events).events().len(), 1);
 }

@@ -1,5 +1,5 @@
 //! Whole texts, over as many reads or writes as they take.
-ghost use Rattle.std.specs.Prelude.{◌≡◌, ◌<◌, ◌≤◌, ◌⊎◌, ℕ, List, [], false, true, length, is_err};
+ghost use Rattle.std.specs.Prelude.{◌≡◌, ◌<◌, ◌≤◌, ◌+◌, ◌⊎◌, ℕ, List, [], false, true, length, is_err};
 ghost use Rattle.std.specs.Prelude.{IfOk, IfErr, IfSome, OnOk, OnErr};
 ghost use Rattle.std.specs.Io.KnownBytes.{Appends, Consumes};
 ghost use Rattle.htl_device.specs.Devices.{AppendsPrefix};
@@ -57,6 +57,7 @@ pub fn read_whole<R: Source>(alloc: Global, source: &mut R) -> Result<Vec<u8>, R
     requires { R.has_failed source.old ≡ false }
     ensures ok { IfOk result (λ v. IfSome (R.remaining source.old) (λ xs. v.items ≡ xs)) }
     ensures fine { OnOk result (R.has_failed source.new ≡ false) }
+    ensures ended { OnOk result (R.has_ended source.new ≡ true) }
     ensures reported { R.has_failed source.new ≡ true → result ≡ Err ReadFault.Failed }
     ensures memory { result ≡ Err NoMemory → (R.has_ended source.new ≡ false)
         × (read : List ℕ) × (0 < length read)
@@ -64,6 +65,7 @@ pub fn read_whole<R: Source>(alloc: Global, source: &mut R) -> Result<Vec<u8>, R
     ensures failed { IfErr result (λ e. (e ≡ NoMemory) ⊎ ((R.has_failed source.new ≡ true)
         ⊎ ((MAX_READS ≤ R.good_reads source.new)
         × IfSome (R.remaining source.old) (λ xs. MAX_READS ≤ length xs)))) }
+    ensures bounded { R.good_reads source.new ≤ R.good_reads source.old + MAX_READS }
 {
     let mut buffer = [0u8; MAX_READ_LEN];
     let mut bytes = Vec::new(alloc);
@@ -83,6 +85,7 @@ fn read_within<R: Source>(
     requires empty { bytes.old.items ≡ [] }
     ensures ok { OnOk result (IfSome (R.remaining source.old) (λ xs. bytes.new.items ≡ xs)) }
     ensures fine { OnOk result (R.has_failed source.new ≡ false) }
+    ensures ended { OnOk result (R.has_ended source.new ≡ true) }
     ensures reported { R.has_failed source.new ≡ true → result ≡ Err ReadFault.Failed }
     ensures memory { result ≡ Err NoMemory → (R.has_ended source.new ≡ false)
         × (read : List ℕ) × (0 < length read)
@@ -90,6 +93,7 @@ fn read_within<R: Source>(
     ensures failed { IfErr result (λ e. (e ≡ NoMemory) ⊎ ((R.has_failed source.new ≡ true)
         ⊎ ((most ≤ R.good_reads source.new)
         × IfSome (R.remaining source.old) (λ xs. most ≤ length xs)))) }
+    ensures bounded { R.good_reads source.new ≤ R.good_reads source.old + most }
 {
     for _read in 0..most {
         let Ok(count) = source.read(buffer) else {

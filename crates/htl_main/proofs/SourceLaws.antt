@@ -1,14 +1,15 @@
--- Sources one after another: which of them has failed, and what is reported of the one that was read last.
-use Rattle.std.proofs.Common.{◌≡◌, ◌⊎◌, ◌<◌, ◌≤◌, ℕ, zero, suc, Bool, true, false, List, [], ◌∷◌, length, map, All, refl, sym, ap, ◌∙◌}
+-- Sources one after another: which of them has failed or ended, and what is reported of the one that was read last.
+use Rattle.std.proofs.Common.{◌≡◌, ◌⊎◌, ◌<◌, ◌≤◌, ◌+◌, ℕ, zero, suc, Bool, true, false, List, [], ◌∷◌, length, map, All, refl, sym, ap, ◌∙◌}
 use Rattle.std.proofs.Common.{Option, Some, None, IfSome, arith, inl, inr}
 use Rattle.std.specs.Prelude.{slice_get, option_map}
 use Rattle.std.proofs.Math.ListN.{set}
 use Rattle.std.proofs.KnownBytes.{Consumes-nil}
-use Rattle.std.proofs.lemmas.List.Elements.{All-head, All-nil, All-tail}
+use Rattle.std.proofs.lemmas.Bool.{cases_lt}
+use Rattle.std.proofs.lemmas.List.Elements.{All-cons, All-head, All-nil, All-tail}
 use Rattle.std.proofs.lemmas.Option.{slice_get-map}
 use Rattle.htl_device.specs.declared.whole.TheConstants.{MAX_READS}
 use Rattle.htl_segment.specs.Content.{Fits}
-use Rattle.htl_main.specs.Sources.{AreReadToFault, IsEndless, IsReadToFault, IsTrueAt}
+use Rattle.htl_main.specs.Sources.{AreReadInOrder, AreReadToFault, AreReadWithin, IsEndless, IsReadToFault, IsTrueAt}
 use Rattle.htl_main.proofs.SplitLaws.{read_without_fault}
 
 pub slice_get-set_other : {X : Type 0} (xs : List X) (i k : ℕ) (y : X) → (k ≡ i → ⊥) → slice_get (set xs i y) k ≡ slice_get xs k
@@ -66,7 +67,7 @@ knows_all (x ∷ inputs) (suc place) known is =
     let there = knows_all inputs place known is in record { input = there.input; here = there.here; is = there.is }
 
 -- the source that is read next is as it was at the start
-pub known_now : {X : Type 0} (f : X → Option (List ℕ)) (first now : List X) (place : ℕ) (x : X)
+pub known_now : {X Y : Type 0} (f : X → Y) (first now : List X) (place : ℕ) (x : X)
     → slice_get now place ≡ slice_get first place → slice_get now place ≡ Some x → slice_get (map f first) place ≡ Some (f x)
 known_now f first now place x left here = slice_get-map f first place ∙ ap (option_map f) (sym left ∙ here)
 
@@ -86,6 +87,47 @@ at_known inputs place (Some x) P knows fact = let is : x ≡ knows.input = let e
 -- what a new element at a place is mapped to
 pub value_there : {X Y : Type 0} (f : X → Y) (xs : List X) (i : ℕ) (y : X) → i < length xs → slice_get (map f (set xs i y)) i ≡ Some (f y)
 value_there f xs i y within = slice_get-map f (set xs i y) i ∙ ap (option_map f) (slice_get-set_same xs i y within)
+
+-- ---- in which order sources are read
+
+-- the test is true of all, if it is at each place
+pub true_of_all : {X : Type 0} (f : X → Bool) (xs : List X) → ((k : ℕ) → k < length xs → IsTrueAt (map f xs) k) → All (λ x. f x ≡ true) xs
+true_of_all f [] each = All-nil (λ x. f x ≡ true)
+true_of_all f (x ∷ xs) each =
+    let first : f x ≡ true = let there = each zero (omega arith) in cc in
+    All-cons (λ z. f z ≡ true) x xs first (true_of_all f xs (λ k within. each (suc k) (omega (arith, within))))
+
+-- all before the place ended, and none from there on was read
+pub stopped_before : {X : Type 0} (ended : X → Bool) (first now : List X) (place : ℕ)
+    → ((k : ℕ) → k < place → IsTrueAt (map ended now) k) → ((k : ℕ) → place ≤ k → slice_get now k ≡ slice_get first k)
+    → AreReadInOrder ended first now
+stopped_before ended first now place before left earlier later below =
+    elim (cases_lt earlier place) [
+      | inl done ↦ inl (before earlier done)
+      | inr not_before ↦ inr (left later (omega (arith, not_before, below)))
+    ]
+
+-- the same where the one at the place was read
+pub stopped_at : {X : Type 0} (ended : X → Bool) (first now : List X) (place : ℕ) (y : X)
+    → ((k : ℕ) → k < place → IsTrueAt (map ended now) k) → ((k : ℕ) → place ≤ k → slice_get now k ≡ slice_get first k)
+    → AreReadInOrder ended first (set now place y)
+stopped_at ended first now place y before left earlier later below =
+    elim (cases_lt earlier place) [
+      | inl done ↦ inl (other_value ended now place earlier y (λ e. omega (arith, done, e)) ∙ before earlier done)
+      | inr not_before ↦ inr (slice_get-set_other now place later y (λ e. omega (arith, not_before, below, e))
+          ∙ left later (omega (arith, not_before, below)))
+    ]
+
+-- one more has ended
+pub ended_next : {X : Type 0} (ended : X → Bool) (now : List X) (place : ℕ) (y : X) → place < length now → ended y ≡ true
+    → ((k : ℕ) → k < place → IsTrueAt (map ended now) k) → (k : ℕ) → k < place + 1 → IsTrueAt (map ended (set now place y)) k
+ended_next ended now place y within is before k below =
+    elim (cases_lt k place) [
+      | inl done ↦ other_value ended now place k y (λ e. omega (arith, done, e)) ∙ before k done
+      | inr not_before ↦
+          let same : k ≡ place = omega (arith, not_before, below) in
+          rw same (true_there ended now place y within is)
+    ]
 
 -- so many reads of the source at a place gave bytes
 pub endless_at : {X : Type 0} (f : X → Option (List ℕ)) (reads : X → ℕ) (first now : List X) (place : ℕ) (x y : X)
@@ -127,4 +169,24 @@ one_read f known now i x y within before here one place given left is new =
           let left_is : left ≡ f y = cc (new, there) in
           rw (given_is, left_is) one
       | inr other ↦ before place given left is (sym (other_value f now i place y other) ∙ new)
+    ]
+
+-- ---- how often sources are read
+
+pub none_read_within : (reads : List ℕ) → AreReadWithin reads reads
+none_read_within reads place old new is there = let same : old ≡ new = cc (is, there) in omega (arith, same)
+
+-- one source more was read
+pub one_read_within : {X : Type 0} (reads : X → ℕ) (first : List ℕ) (now : List X) (i : ℕ) (x y : X) → i < length now
+    → AreReadWithin first (map reads now) → slice_get first i ≡ Some (reads x) → reads y ≤ reads x + MAX_READS
+    → AreReadWithin first (map reads (set now i y))
+one_read_within reads first now i x y within before here few place old new is after =
+    elim (same_or_other place i) [
+      | inl same ↦
+          let there : slice_get (map reads (set now i y)) place ≡ Some (reads y) = rw same (value_there reads now i y within) in
+          let was : slice_get first place ≡ Some (reads x) = rw same here in
+          let old_is : old ≡ reads x = cc (is, was) in
+          let new_is : new ≡ reads y = cc (after, there) in
+          rw (old_is, new_is) few
+      | inr other ↦ before place old new is (sym (other_value reads now i place y other) ∙ after)
     ]

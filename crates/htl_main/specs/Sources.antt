@@ -1,5 +1,5 @@
 -- Why a run over sources ends, and how far it reads them (this project's own). What a source gives is known where it reports its bytes.
-use Rattle.std.specs.Prelude.{◌≡◌, ◌<◌, ◌≤◌, ◌⊎◌, ⊤, ℕ, Bool, true, false, List, ◌++◌, length, slice_get, Option, Some, IfSome}
+use Rattle.std.specs.Prelude.{◌≡◌, ◌<◌, ◌≤◌, ◌+◌, ◌⊎◌, ⊤, ℕ, Bool, true, false, List, ◌++◌, length, map, slice_get, Option, Some, IfSome}
 use Rattle.std.specs.Io.KnownBytes.{Consumes}
 use Rattle.htl_device.specs.declared.source.TheConstants.{MAX_READ_LEN}
 use Rattle.htl_device.specs.declared.whole.TheConstants.{MAX_READS}
@@ -59,6 +59,16 @@ EndsBefore (Segment input offset fault) place = input < place
 EndsBefore (Hex input fault) place = input < place
 EndsBefore (Read input) place = input < place
 EndsBefore fault place = ⊥
+
+-- Sources are read one after another: where one was read, those before it were read to their ends.
+abbrev pub AreReadInOrder : {R : Type 0} → (R → Bool) → List R → List R → Type 0
+AreReadInOrder has_ended old new =
+    (earlier later : ℕ) → earlier < later → IsTrueAt (map has_ended new) earlier ⊎ (slice_get new later ≡ slice_get old later)
+
+-- at most so many reads of each source gave bytes
+abbrev pub AreReadWithin : List ℕ → List ℕ → Type 0
+AreReadWithin before after =
+    (place old new : ℕ) → slice_get before place ≡ Some old → slice_get after place ≡ Some new → new ≤ old + MAX_READS
 
 -- What was read of a source of bytes: segments and the beginning of one more, and after these one read's bytes at most. So it
 -- is read no further once a fault was read.

@@ -2,7 +2,7 @@
 
 ghost use Rattle.std.specs.Prelude.{◌≡◌, ◌⊎◌, ◌+◌, ◌*◌, ◌<◌, ◌≤◌, ◌^◌, ◌++◌};
 ghost use Rattle.std.specs.Prelude.{ℕ, List, [], All, None, Some, false, true};
-ghost use Rattle.std.specs.Prelude.{length, map, slice_get, IfOk, IfErr, IfSome};
+ghost use Rattle.std.specs.Prelude.{length, map, slice_get, IfOk, IfErr, IfSome, OnOk};
 ghost use Rattle.htl_segment.specs.Bundles.{IsRest, Splits, cut_off};
 ghost use Rattle.htl_segment.specs.Pieces.{RefusesPiece, start_of};
 ghost use Rattle.htl_segment.specs.declared.fault.Fault.{Fault};
@@ -10,7 +10,8 @@ ghost use Rattle.htl_main.specs.Faults.{of_segment};
 ghost use Rattle.htl_main.specs.Inputs.{Decodes, DecodeAll, StopsAt};
 ghost use Rattle.htl_main.specs.Reads.{FailsOnly, NamesOnly, NeverRead, NeverWrite};
 ghost use Rattle.htl_main.specs.Reads.{ReportsFailure};
-ghost use Rattle.htl_main.specs.Sources.{AreReadToFault, EndsBefore, IsEndless, IsReadToFault};
+ghost use Rattle.htl_main.specs.Sources.{AreReadInOrder, AreReadToFault, AreReadWithin};
+ghost use Rattle.htl_main.specs.Sources.{EndsBefore, IsEndless, IsReadToFault};
 ghost use Rattle.htl_main.specs.Sources.{IsReportedAt, IsReportedOfSource, IsTrueAt};
 
 use crate::fault::RunFault;
@@ -32,11 +33,14 @@ pub(crate) fn read_all<R: Source>(
     ensures err { (inputs : List (List ℕ)) → map R.remaining sources.old ≡ map Some inputs
         → IfErr result (StopsAt hex (IsReportedAt hex (map R.remaining sources.new)
         (map R.has_ended sources.new)) inputs) }
+    ensures ended { OnOk result (All (λ source. R.has_ended source ≡ true) sources.new) }
+    ensures in_order { AreReadInOrder R.has_ended sources.old sources.new }
     ensures reported { (place : ℕ) → IsTrueAt (map R.has_failed sources.new) place
         → result ≡ Err (RunFault.Read place) }
     ensures read { (place : ℕ) → result ≡ Err (RunFault.Read place)
         → IsTrueAt (map R.has_failed sources.new) place
         ⊎ IsEndless (map R.good_reads sources.new) (map R.remaining sources.old) place }
+    ensures bounded { AreReadWithin (map R.good_reads sources.old) (map R.good_reads sources.new) }
     ensures unread { IfErr result (λ fault. (place : ℕ) → EndsBefore fault place
         → slice_get sources.new place ≡ slice_get sources.old place) }
     ensures to_fault { hex ≡ false
@@ -63,9 +67,11 @@ fn read_input<R: Source>(
         (λ bytes. Decodes hex bytes segments.items)) }
     ensures err { IfErr result (λ fault. IfSome (R.remaining source.old) (λ bytes.
         IsReportedOfSource hex (R.remaining source.new) (R.has_ended source.new) place bytes fault)) }
+    ensures ended { OnOk result (R.has_ended source.new ≡ true) }
     ensures reported { ReportsFailure place (R.has_failed source.new) result }
     ensures read { FailsOnly place (R.has_failed source.new) (R.good_reads source.new)
         (R.remaining source.old) MAX_READS result }
+    ensures bounded { R.good_reads source.new ≤ R.good_reads source.old + MAX_READS }
     ensures named { NamesOnly place result }
     ensures to_fault { hex ≡ false
         → IsReadToFault (R.remaining source.old) (R.remaining source.new) }
@@ -89,9 +95,11 @@ fn read_digits<R: Source>(
         (λ text. Decodes true text segments.items)) }
     ensures err { IfErr result (λ fault. IfSome (R.remaining source.old) (λ text.
         IsReportedOfSource true (R.remaining source.new) (R.has_ended source.new) place text fault)) }
+    ensures ended { OnOk result (R.has_ended source.new ≡ true) }
     ensures reported { ReportsFailure place (R.has_failed source.new) result }
     ensures read { FailsOnly place (R.has_failed source.new) (R.good_reads source.new)
         (R.remaining source.old) MAX_READS result }
+    ensures bounded { R.good_reads source.new ≤ R.good_reads source.old + MAX_READS }
     ensures named { NamesOnly place result }
     ensures no_write { NeverWrite result }
 {
@@ -114,9 +122,11 @@ fn read_bundle<R: Source>(
         (λ bytes. Splits bytes segments.items [])) }
     ensures err { IfErr result (λ fault. IfSome (R.remaining source.old) (λ bytes.
         IsReportedOfSource false (R.remaining source.new) (R.has_ended source.new) place bytes fault)) }
+    ensures ended { OnOk result (R.has_ended source.new ≡ true) }
     ensures reported { ReportsFailure place (R.has_failed source.new) result }
     ensures read { FailsOnly place (R.has_failed source.new) (R.good_reads source.new)
         (R.remaining source.old) MAX_READS result }
+    ensures bounded { R.good_reads source.new ≤ R.good_reads source.old + MAX_READS }
     ensures named { NamesOnly place result }
     ensures to_fault { IsReadToFault (R.remaining source.old) (R.remaining source.new) }
     ensures no_write { NeverWrite result }
@@ -140,9 +150,11 @@ fn split_within<R: Source>(
         (λ bytes. Splits bytes segments.items [])) }
     ensures err { IfErr result (λ fault. IfSome (R.remaining source.old) (λ bytes.
         IsReportedOfSource false (R.remaining source.new) (R.has_ended source.new) place bytes fault)) }
+    ensures ended { OnOk result (R.has_ended source.new ≡ true) }
     ensures reported { ReportsFailure place (R.has_failed source.new) result }
     ensures read { FailsOnly place (R.has_failed source.new) (R.good_reads source.new)
         (R.remaining source.old) most result }
+    ensures bounded { R.good_reads source.new ≤ R.good_reads source.old + most }
     ensures named { NamesOnly place result }
     ensures to_fault { IsReadToFault (R.remaining source.old) (R.remaining source.new) }
     ensures no_write { NeverWrite result }

@@ -5,8 +5,8 @@ ghost use Rattle.std.specs.Prelude.{false, true, map, slice_get, IfErr, IfOk, On
 ghost use Rattle.std.specs.Option.{option_copied};
 ghost use Rattle.htl_main.specs.Causes.{Prints, PrintsPart};
 ghost use Rattle.htl_main.specs.Coverages.{Covers};
-ghost use Rattle.htl_main.specs.Sources.{AreReadToFault, EndsBefore, IsEndless};
-ghost use Rattle.htl_main.specs.Sources.{IsSourcesCause, IsTrueAt};
+ghost use Rattle.htl_main.specs.Sources.{AreReadInOrder, AreReadToFault, AreReadWithin};
+ghost use Rattle.htl_main.specs.Sources.{EndsBefore, IsEndless, IsSourcesCause, IsTrueAt};
 
 use crate::coverage::Coverage;
 use crate::fault::RunFault;
@@ -49,12 +49,16 @@ pub fn run_from<Rt: Threads + Wait + Sync, R: Source, W: Sink>(
         → PrintsPart job.now texts (option_copied symbols.entry)
         (W.contents out.old) (W.contents out.new) }
     ensures failed { result ≡ Err RunFault.Write → W.has_failed out.new ≡ true }
+    // Each source is read to its end before the next.
+    ensures ended { OnOk result (All (λ source. R.has_ended source ≡ true) inputs.new) }
+    ensures in_order { AreReadInOrder R.has_ended inputs.old inputs.new }
     // A read that failed is reported, and reported only then or after too many reads.
     ensures reported { (place : ℕ) → IsTrueAt (map R.has_failed inputs.new) place
         → result ≡ Err (RunFault.Read place) }
     ensures read { (place : ℕ) → result ≡ Err (RunFault.Read place)
         → IsTrueAt (map R.has_failed inputs.new) place
         ⊎ IsEndless (map R.good_reads inputs.new) (map R.remaining inputs.old) place }
+    ensures bounded { AreReadWithin (map R.good_reads inputs.old) (map R.good_reads inputs.new) }
     // A fault ends the reading.
     ensures unread { IfErr result (λ fault. (place : ℕ) → EndsBefore fault place
         → slice_get inputs.new place ≡ slice_get inputs.old place) }

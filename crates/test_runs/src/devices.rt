@@ -6,7 +6,7 @@ use crate::pieces::Pieces;
 use crate::printed::{OUTSTANDING, bundles, over_bytes, refusal};
 use crate::rows::{PRINTED, Printed, STORED, STORED_COVERAGE, STORED_TEXT};
 use htl_command::Job;
-use htl_main::{Coverage, Reading, RunFault, Source, Writing, run, run_from};
+use htl_main::{Coverage, Reading, RunFault, Source, Writing, run_from};
 use htl_segment::{Fault, from_hex};
 use std::alloc::Global;
 use std::io;
@@ -39,10 +39,6 @@ impl Write for Narrow {
         Ok(())
     }
 }
-
-/// The header of a segment of no known version.
-const OTHER_VERSION: &str =
-    "484c5331 0300 0100 0000 0000 00000000 0700000000000000 00000000 20000000";
 
 /// The bytes of the stored run.
 fn stored(alloc: Global) -> Result<Vec<u8>, Fail> {
@@ -159,9 +155,18 @@ fn reports_failed_reads_of_digits(rt: HostRuntime) -> Result<(), Fail> {
     Ok(())
 }
 
+/// The bytes of the stored run in a version that is none.
+fn stored_in_version_3(alloc: Global) -> Result<Vec<u8>, Fail> {
+    let mut bytes = stored(alloc)?;
+    let version = bytes.get_mut(4).ok_or("it is short")?;
+    *version = 3;
+    Ok(bytes)
+}
+
 #[test]
 fn a_fault_ends_the_reading(rt: HostRuntime) -> Result<(), Fail> {
-    let other = from_hex(rt.alloc(), OTHER_VERSION.as_bytes())?;
+    let other = stored_in_version_3(rt.alloc())?;
+    // the second read of the first source would fail, and the first one of the second source
     let fault = refused_from(
         &rt,
         rt.alloc(),
@@ -198,25 +203,26 @@ fn reports_an_end_inside_a_segment(rt: HostRuntime) -> Result<(), Fail> {
     Ok(())
 }
 
-/// What went into a narrow writer in the stored run, and how the run ended.
+/// What went into a narrow writer in the stored run, whose bytes come 7 a read, and how the run
+/// ended.
 fn printed_into(
     rt: &(impl Threads + Wait + Sync),
     alloc: Global,
     piece: usize,
     most: usize,
 ) -> Result<(Vec<u8>, Result<Coverage, RunFault>), Fail> {
-    let inputs = vec![in alloc; stored(alloc)?]?;
-    let job = over_bytes(OUTSTANDING);
+    let bytes = stored(alloc)?;
+    let mut sources = [Reading::new(Pieces::new(&bytes, 7, 10_000))];
     let mut narrow = Narrow {
         held: Vec::new(alloc),
         piece,
         most,
     };
-    let ended = run(
+    let ended = run_from(
         rt,
         alloc,
-        &job,
-        &inputs,
+        &over_bytes(OUTSTANDING),
+        &mut sources,
         None,
         &mut Writing::new(&mut narrow),
     );
@@ -235,9 +241,11 @@ fn reports_failed_writes(rt: HostRuntime) -> Result<(), Fail> {
 
 #[test]
 fn writes_pieces(rt: HostRuntime) -> Result<(), Fail> {
-    let (held, ended) = printed_into(&rt, rt.alloc(), 7, 10_000)?;
-    assert_eq!(rt; ended, Ok(STORED_COVERAGE));
-    assert_eq!(rt; held.as_slice(), STORED_TEXT.as_bytes());
+    for piece in [1, 7] {
+        let (held, ended) = printed_into(&rt, rt.alloc(), piece, 10_000)?;
+        assert_eq!(rt; ended, Ok(STORED_COVERAGE));
+        assert_eq!(rt; held.as_slice(), STORED_TEXT.as_bytes());
+    }
     Ok(())
 }
 

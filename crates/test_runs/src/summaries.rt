@@ -98,7 +98,7 @@ fn input(alloc: Global, row: &Summary) -> Result<Vec<Vec<u8>>, Fail> {
 fn prints_summaries(rt: HostRuntime) -> Result<(), Fail> {
     for row in [MISSING, TORN, WHOLE] {
         let inputs = input(rt.alloc(), &row)?;
-        for workers in [1, 4] {
+        for workers in [1, 2, 4] {
             let job = Job {
                 workers,
                 ..over_bytes(Question::Summary)

@@ -31,5 +31,6 @@ loop-read-preserved g c =
       fine = grind (arith, common_steps);
       each = omega (arith, inv.each, ap length all, some, length-append c.loop-read.bytes.items piece);
       counted = grind (arith, common_steps);
+      bounded = grind (arith, common_steps);
       whole = grind (arith, common_steps);
     }

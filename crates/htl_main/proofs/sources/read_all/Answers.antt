@@ -8,7 +8,7 @@ use Rattle.htl_main.specs.Inputs.{Decodes}
 use Rattle.htl_main.specs.Sources.{IsReportedOfSource}
 use Rattle.htl_main.proofs.InputLaws.{asked_for, decode_next}
 use Rattle.htl_main.proofs.SourceLaws.{at_known, endless_at, known_now, knows_now, none_read, one_read, slice_get-set_other, true_nowhere, true_of_new}
-use Rattle.htl_main.proofs.SourceLaws.{true_there, value_there}
+use Rattle.htl_main.proofs.SourceLaws.{ended_next, none_read_within, one_read_within, stopped_at, stopped_before, true_of_all, true_there, value_there}
 use Rattle.htl_main.proofs.sources.read_all.Goals as goal
 
 pub returns-in_err-more-clause-err : goal.returns-in_err-more-clause-err
@@ -136,11 +136,57 @@ returns-in_err-append-clause-reported g c =
     let reported = c.in_ok-more.ensures.reported new.1 in
     absurd (cc reported)
 
+pub returns-in_err-more-clause-bounded : goal.returns-in_err-more-clause-bounded
+returns-in_err-more-clause-bounded g c =
+    let inv = c.loop-place.invariant in
+    let place = c.loop-place.place in
+    let within : place < length c.loop-place.sources = omega arith in
+    let source = get_or c.loop-place.sources place c.index-sources-place.result in
+    let here = slice_get-get_or c.loop-place.sources place c.index-sources-place.result within in
+    one_read_within g.R.Source.good_reads (map g.R.Source.good_reads c.args.sources.now) c.loop-place.sources place source
+    c.read_input.new.source within inv.bounded (known_now g.R.Source.good_reads c.args.sources.now c.loop-place.sources place source
+    (inv.left place (omega arith)) here)
+    c.in_err-more.ensures.bounded
+
+pub returns-in_err-more-clause-in_order : goal.returns-in_err-more-clause-in_order
+returns-in_err-more-clause-in_order g c =
+    let inv = c.loop-place.invariant in
+    stopped_at g.R.Source.has_ended c.args.sources.now c.loop-place.sources c.loop-place.place c.read_input.new.source inv.ended inv.left
+
+pub returns-in_err-append-clause-bounded : goal.returns-in_err-append-clause-bounded
+returns-in_err-append-clause-bounded g c =
+    let inv = c.loop-place.invariant in
+    let place = c.loop-place.place in
+    let within : place < length c.loop-place.sources = omega arith in
+    let source = get_or c.loop-place.sources place c.index-sources-place.result in
+    let here = slice_get-get_or c.loop-place.sources place c.index-sources-place.result within in
+    one_read_within g.R.Source.good_reads (map g.R.Source.good_reads c.args.sources.now) c.loop-place.sources place source
+    c.read_input.new.source within inv.bounded (known_now g.R.Source.good_reads c.args.sources.now c.loop-place.sources place source
+    (inv.left place (omega arith)) here)
+    c.in_ok-more.ensures.bounded
+
+pub returns-in_err-append-clause-in_order : goal.returns-in_err-append-clause-in_order
+returns-in_err-append-clause-in_order g c =
+    let inv = c.loop-place.invariant in
+    stopped_at g.R.Source.has_ended c.args.sources.now c.loop-place.sources c.loop-place.place c.read_input.new.source inv.ended inv.left
+
+pub returns-clause-in_order : goal.returns-clause-in_order
+returns-clause-in_order g c =
+    let inv = c.loop-place.invariant in
+    stopped_before g.R.Source.has_ended c.args.sources.now c.loop-place.sources c.loop-place.place inv.ended inv.left
+
+pub returns-clause-ended : goal.returns-clause-ended
+returns-clause-ended g c =
+    let inv = c.loop-place.invariant in
+    true_of_all g.R.Source.has_ended c.loop-place.sources (λ k within. inv.ended k (omega (arith, within)))
+
 pub loop-place-init : goal.loop-place-init
 loop-place-init g c = record {
   left = λ k above. refl;
+  ended = λ k below. absurd (omega (arith, below));
   fine = c.requires;
   decoded = λ inputs all. c.new-segments.ensures.items;
+  bounded = none_read_within (map g.R.Source.good_reads c.args.sources.now);
   to_fault = λ bytes. none_read (map g.R.Source.remaining c.args.sources.now);
 }
 
@@ -156,6 +202,8 @@ loop-place-preserved g c =
     record {
       left = λ k above.
           slice_get-set_other c.loop-place.sources place k c.read_input.new.source (λ e. omega arith) ∙ inv.left k (omega arith);
+      ended = ended_next g.R.Source.has_ended c.loop-place.sources place c.read_input.new.source within c.in_ok-more.ensures.ended
+          inv.ended;
       fine = All-set (λ source. g.R.Source.has_failed source ≡ false) c.loop-place.sources place c.read_input.new.source fine inv.fine;
       decoded = λ inputs all.
           let knows = knows_now g.R.Source.remaining c.args.sources.now c.loop-place.sources inputs place source
@@ -164,6 +212,9 @@ loop-place-preserved g c =
           c.in_ok-more.more.items knows.here (inv.decoded inputs all) (at_known inputs place
           (g.R.Source.remaining source) (λ bytes. Decodes c.args.hex bytes c.in_ok-more.more.items) knows
           c.in_ok-more.ensures.ok));
+      bounded = one_read_within g.R.Source.good_reads (map g.R.Source.good_reads c.args.sources.now) c.loop-place.sources place source
+          c.read_input.new.source within inv.bounded (known_now g.R.Source.good_reads c.args.sources.now c.loop-place.sources place
+          source (inv.left place (omega arith)) here) c.in_ok-more.ensures.bounded;
       to_fault = λ bytes.
           one_read g.R.Source.remaining (map g.R.Source.remaining c.args.sources.now) c.loop-place.sources place source
           c.read_input.new.source within (inv.to_fault bytes) (known_now g.R.Source.remaining c.args.sources.now

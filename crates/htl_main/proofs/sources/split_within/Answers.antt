@@ -132,6 +132,7 @@ loop-read-preserved g c =
       is_rest = c.in_ok-more.ensures.rest;
       each = rw all (omega (arith, inv.each, total, size, some));
       counted = grind (arith, common_steps);
+      reads = grind (arith, common_steps);
       bounded = rw (fed.1.0, size) (read_bounded c.loop-read._read MAX_READ_LEN c.loop-read.splitter.fed c.in-Ok.count inv.bounded
           (omega (arith, few, whole)));
       whole = whole;

@@ -1,5 +1,5 @@
 -- The segments and the rest are the bytes that the source gave so far; each read gave some.
-use Rattle.std.proofs.Common.{◌≡◌, ◌≤◌, ◌*◌, length, false, None, All}
+use Rattle.std.proofs.Common.{◌≡◌, ◌≤◌, ◌+◌, ◌*◌, length, false, None, All}
 use Rattle.std.specs.Io.KnownBytes.{Consumes}
 use Rattle.htl_device.specs.declared.source.TheConstants.{MAX_READ_LEN}
 use Rattle.htl_segment.specs.Bundles.{IsRest}
@@ -17,6 +17,7 @@ invariant-loop-read g l = record {
   is_rest : IsRest l.splitter.rest;
   each : l._read ≤ length (taken l.segments.items l.splitter.rest);
   counted : l._read ≤ g.R.Source.good_reads l.source;
+  reads : g.R.Source.good_reads l.source ≤ g.R.Source.good_reads l.initial.source + l._read;
   bounded : l.splitter.fed ≤ l._read * MAX_READ_LEN;
   whole : length l.buffer ≡ MAX_READ_LEN;
 }

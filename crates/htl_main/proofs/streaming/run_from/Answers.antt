@@ -1,7 +1,7 @@
 -- Before the first read no source has failed, and what can't be written was printed.
 use Rattle.std.proofs.lemmas.Result.{err_from_is_err_and}
-use Rattle.std.proofs.Common.{map}
-use Rattle.htl_main.proofs.SourceLaws.{none_read, true_nowhere}
+use Rattle.std.proofs.Common.{inr, map, refl}
+use Rattle.htl_main.proofs.SourceLaws.{none_read, none_read_within, true_nowhere}
 use Rattle.htl_main.proofs.streaming.run_from.Goals as goal
 
 pub returns-in_err-check_workers-clause-reported : goal.returns-in_err-check_workers-clause-reported
@@ -10,6 +10,13 @@ returns-in_err-check_workers-clause-reported g c =
 
 pub returns-in_err-check_workers-clause-to_fault : goal.returns-in_err-check_workers-clause-to_fault
 returns-in_err-check_workers-clause-to_fault g c = λ bytes. none_read (map g.R.Source.remaining c.args.inputs.now)
+
+pub returns-in_err-check_workers-clause-in_order : goal.returns-in_err-check_workers-clause-in_order
+returns-in_err-check_workers-clause-in_order g c = λ earlier later below. inr refl
+
+pub returns-in_err-check_workers-clause-bounded : goal.returns-in_err-check_workers-clause-bounded
+returns-in_err-check_workers-clause-bounded g c =
+    none_read_within (map g.R.Source.good_reads c.args.inputs.now)
 
 pub returns-in_err-write_lines-clause-cause : goal.returns-in_err-write_lines-clause-cause
 returns-in_err-write_lines-clause-cause g c =

@@ -89,7 +89,8 @@ module _ {K : Type 0} (cmp : K → K → Ordering) where
   counted_there rows i x row lt at same =
       let one_on : suc i ≡ i + 1 = omega arith in
       let parts : take i rows ++ x ∷ drop (suc i) rows ≡ rows =
-      ap (λ z. take i rows ++ z ∷ drop (suc i) rows) at ∙ ap (λ n. take i rows ++ get_or rows i x ∷ drop n rows) one_on ∙ ap (λ l. take i rows ++ l) (sym (drop_more rows i x lt)) ∙ take-append-drop i rows in
+      ap (λ z. take i rows ++ z ∷ drop (suc i) rows) at ∙ ap (λ n. take i rows ++ get_or rows i x ∷ drop n rows) one_on
+      ∙ ap (λ l. take i rows ++ l) (sym (drop_more rows i x lt)) ∙ take-append-drop i rows in
       subst (λ l. CountAlike cmp (rows ++ row ∷ []) l) (sym (set_split rows i (x.0, plus_count x.1 row.1) lt))
       (subst (λ l. CountAlike cmp (l ++ row ∷ []) (take i rows ++ (x.0, plus_count x.1 row.1) ∷ drop (suc i) rows)) parts
       (joined_alike (take i rows) (drop (suc i) rows) x row same))

@@ -11,8 +11,8 @@
 //! (what is asked of held events, and answers that take no memory), `open.rt` and `leaking.rt`
 //! (outstanding handles, differences, and the stacks that opened them), `counts.rt` (the prefix
 //! tally), `counted_by.rt`, `hints.rt`, `adding.rt` and `asked.rt` (the rows of the slots that are
-//! asked for, of all parts), `tagging.rt` and `bad_references.rt` (the answers made of these), `sums.rt` (how
-//! often each slot came), `whole.rt` (the one tree of all parts).
+//! asked for, of all parts), `tagging.rt` and `bad_references.rt` (the answers made of these),
+//! `sums.rt` (how often each slot came), `whole.rt` (the one tree of all parts).
 #![tactic(auto)]
 
 mod adding;

@@ -6,10 +6,10 @@
 //! process and no object is asked for alone.
 //!
 //! Files, in reading order: `summarizing.rt`, `leaking.rt` and `balancing.rt` (the answers: both,
-//! about processes and about objects), `tables.rt` (the tables of all parts), `usage.rt` and `tags.rt` (what a slot
-//! says of a process and of an object), `rows.rt` (the rows that all slots give), `adding.rt` (rows
-//! of one key made one). In `proofs/`, `ProcessRows` and `ObjectRows` show that rows are those of
-//! the definitions.
+//! about processes and about objects), `tables.rt` (the tables of all parts), `usage.rt` and
+//! `tags.rt` (what a slot says of a process and of an object), `rows.rt` (the rows that all slots
+//! give), `adding.rt` (rows of one key made one). In `proofs/`, `ProcessRows` and `ObjectRows` show
+//! that rows are those of the definitions.
 #![tactic(auto)]
 
 mod adding;

@@ -17,14 +17,9 @@ use Rattle.htl_event.specs.declared.slot.Count.{Count}
 use Rattle.htl_event.specs.Members.{IsRising}
 use Rattle.htl_event.specs.Tallies.{plus_count, total_of, IsPositive}
 use Rattle.htl_event.proofs.Members.{Contains-here, Contains-there, Contains-cases, Contains-nil, at_member, each_member}
-use Rattle.htl_answers.specs.Rows.{at_key, count_of, EachPositive, ByKey, AreSums}
-use Rattle.htl_answers.proofs.RowCounts.{plus_side, minus_side, count_of-append, count_of-moved}
-
-pub positive_both : {K : Type 0} (xs ys : List (K × Count)) → EachPositive xs → EachPositive ys → EachPositive (xs ++ ys)
-positive_both xs ys of_xs of_ys row h = elim (Contains-append_cases xs ys row h) [
-  | inl left ↦ of_xs row left
-  | inr right ↦ of_ys row right
-]
+use Rattle.htl_answers.specs.Rows.{count_of, EachPositive, ByKey, AreSums, CountAlike}
+use Rattle.htl_answers.proofs.RowCounts.{count_of-append, count_of-moved}
+use Rattle.htl_answers.proofs.CountedAlike.{joined_alike, positive_both}
 
 -- ---- a list and its last element
 
@@ -111,58 +106,21 @@ module _ {K : Type 0} {cmp : K → K → Ordering} (o : IsTotalOrder cmp) where
       split : rows ≡ front ++ x ∷ []
       split = with_last rows some x ∙ ap (λ z. front ++ z ∷ []) (sym is_x)
 
-      number : (side : Count → ℕ) → ((c d : Count) → side (plus_count c d) ≡ side c + side d) → (k : K)
-          → sum_by (at_key cmp k side) (front ++ sum ∷ []) ≡ sum_by (at_key cmp k side) (rows ++ row ∷ [])
-      number side adds k =
-          let f = at_key cmp k side in
-          let left = sum_by-append f front (sum ∷ []) in
-          let one = sum_by-cons f sum [] in
-          let right = sum_by-append f rows (row ∷ []) in
-          let other = sum_by-cons f row [] in
-          let whole = ap (sum_by f) split ∙ sum_by-append f front (x ∷ []) in
-          let last = sum_by-cons f x [] in
-          let both : f sum ≡ f x + f row =
-          (elim (is_eq (cmp k x.0)) as (λ b. is_eq (cmp k x.0) ≡ b → cond b (side (plus_count x.1 row.1)) 0 ≡ cond b (side x.1) 0 + f row) [
-            | true ↦ λ e. let t : f row ≡ side row.1 = ap (λ b. cond b (side row.1) 0) (ap (λ z. is_eq (cmp k z)) (sym same) ∙ e) in
-                let a = adds x.1 row.1 in omega (arith, t, a)
-            | false ↦ λ e. let t : f row ≡ 0 = ap (λ b. cond b (side row.1) 0) (ap (λ z. is_eq (cmp k z)) (sym same) ∙ e) in omega (arith, t)
-          ]) refl in
-          omega (arith, left, one, right, other, whole, last, both)
-
       -- the row joins the last one, which has its key
       pub join_last : AreSums cmp (rows ++ row ∷ []) (set rows (length rows - 1) sum)
       join_last = subst (λ l. AreSums cmp (rows ++ row ∷ []) l) (sym (set_last rows some sum)) joined
         where
           joined : AreSums cmp (rows ++ row ∷ []) (front ++ sum ∷ [])
-          joined = record {
-            rising =
-                let rises : IsRising (ByKey cmp) (front ++ x ∷ []) = subst (IsRising (ByKey cmp)) split rising in
-                one_after front sum (but_last_rises front (x ∷ []) rises) (λ r h. before_last front x rises r h);
-            counts = λ k.
-                let p = number plus_side (λ c d. refl) k in
-                let m = number minus_side (λ c d. refl) k in
-                λ i. record { plus = p i; minus = m i };
-            total =
-                let f : K × Count → ℕ = λ r. total_of r.1 in
-                let left = sum_by-append f front (sum ∷ []) in
-                let one = sum_by-cons f sum [] in
-                let right = sum_by-append f rows (row ∷ []) in
-                let other = sum_by-cons f row [] in
-                let whole = ap (sum_by f) split ∙ sum_by-append f front (x ∷ []) in
-                let last = sum_by-cons f x [] in
-                omega (arith, left, one, right, other, whole, last);
-            positive = λ each.
-                let of_rows : EachPositive (front ++ x ∷ []) =
-                λ r h. each r (Contains-append_left rows (row ∷ []) r (subst (λ l. Contains l r) (sym split) h)) in
-                positive_both front (sum ∷ []) (λ r h. of_rows r (Contains-append_left front (x ∷ []) r h)) (λ r h. (elim (Contains-cases sum [] r h) [
-                  | inl is ↦ let some : IsPositive x.1 = of_rows x (Contains-append_right front (x ∷ []) x (Contains-here x [])) in
-                      subst (λ z. IsPositive z.1) is (more x.1 row.1 some)
-                  | inr none ↦ absurd (Contains-nil r none)
-                ]));
-          }
-            where
-              more : (c d : Count) → IsPositive c → IsPositive (plus_count c d)
-              more c d some = omega (arith, some)
+          joined =
+              let alike : CountAlike cmp (rows ++ row ∷ []) (front ++ sum ∷ []) =
+              subst (λ l. CountAlike cmp (l ++ row ∷ []) (front ++ sum ∷ [])) (sym split) (joined_alike cmp front [] x row same) in
+              let rises : IsRising (ByKey cmp) (front ++ x ∷ []) = subst (IsRising (ByKey cmp)) split rising in
+              record {
+                rising = one_after front sum (but_last_rises front (x ∷ []) rises) (λ r h. before_last front x rises r h);
+                counts = alike.counts;
+                total = alike.total;
+                positive = alike.positive;
+              }
 
   -- sums of sums
   pub sums_more : (rows sums : List (K × Count)) (row : K × Count) (new : List (K × Count)) → AreSums cmp rows sums

@@ -9,6 +9,7 @@ pub mod Outermost
 pub mod WholeLemmas
 pub mod NumberSums
 pub mod RowCounts
+pub mod CountedAlike
 pub mod AddedRows
 pub mod EventRows
 pub mod PartRows

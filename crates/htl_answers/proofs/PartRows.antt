@@ -7,7 +7,7 @@ use Rattle.htl_event.specs.declared.slot.Slot.{Slot}
 use Rattle.htl_event.specs.declared.slot.Count.{Count}
 use Rattle.htl_event.specs.Tallies.{plus_count, total_of}
 use Rattle.htl_tree.specs.declared.slots.Slots.{Slots}
-use Rattle.htl_answers.specs.Rows.{count_of, total_in, rows_of}
+use Rattle.htl_answers.specs.Rows.{count_of, total_in, rows_of, CountAlike}
 use Rattle.htl_answers.proofs.RowCounts.{count_of-append}
 use Rattle.htl_answers.proofs.EventRows.{rows_of-append, rows_few}
 
@@ -41,3 +41,11 @@ module _ {K : Type 0} (cmp : K → K → Ordering) (key : Slot → List ℕ → 
       let first = sum_by-append f before folded in
       let few = rows_few cmp key slots held in
       omega (arith, of_before, of_folded, all, first, few)
+
+  -- rows that count so many events more count no more than these
+  pub counted_upto : (rows : List (K × Count)) → CountAlike cmp (before ++ rows_of key slots held) rows → total_in rows ≤ total_in before + length held
+  counted_upto rows alike =
+      let same = alike.total in
+      let all = sum_by-append (λ (row : K × Count). total_of row.1) before (rows_of key slots held) in
+      let few = rows_few cmp key slots held in
+      omega (arith, same, all, few)

@@ -41,6 +41,12 @@ pub record AreSums {K : Type 0} (cmp : K → K → Ordering) (rows sums : List (
   pub total : total_in sums ≡ total_in rows
   pub positive : EachPositive rows → EachPositive sums
 
+-- the rows count what the others do
+pub record CountAlike {K : Type 0} (cmp : K → K → Ordering) (others rows : List (K × Count)) : Type 0 where
+  pub counts : (k : K) → count_of cmp k rows ≡ count_of cmp k others
+  pub total : total_in rows ≡ total_in others
+  pub positive : EachPositive others → EachPositive rows
+
 -- the key of the last row
 abbrev pub HasLastKey : {K : Type 0} → K → List (K × Count) → Type 0
 HasLastKey {K} k rows = (0 < length rows) × ((d : K × Count) → (get_or rows (length rows - 1) d).0 ≡ k)

@@ -1,12 +1,13 @@
 //! What counts are listed by: by slots, or by slots and stacks.
 
-ghost use Rattle.std.specs.Prelude.{◌≡◌, ◌≤◌, ℕ, List, IfOk};
+ghost use Rattle.std.specs.Prelude.{◌≡◌, ◌≤◌, ℕ, List, true, IfOk};
 ghost use Rattle.std.specs.declared.cmp.Ordering.TheVariants.{Equal};
 ghost use Rattle.htl_event.specs.Events.{Event};
 ghost use Rattle.htl_event.specs.declared.slot.Slot.{Slot};
 ghost use Rattle.htl_tree.specs.Trees.{HasTally, total_count};
 ghost use Rattle.htl_answers.specs.Rows.{count_of, total_in, rows_of, EachPositive};
 
+use crate::hints::hash_of;
 use htl_event::{Count, NoMemory, SharedStack, Slot};
 use htl_tree::{Slots, StackTree};
 use std::alloc::{AllocError, Allocator, Global};
@@ -19,6 +20,12 @@ pub(crate) trait CountedBy {
 
     fn key(slot: Slot, stack: &SharedStack) -> Result<Self::Key, AllocError>
         ensures { IfOk result (λ key. key ≡ key_of slot stack.now) };
+
+    /// A number by which a hint finds the key's row again.
+    fn hash(slot: Slot, stack: &SharedStack) -> u64;
+
+    fn is_key(key: &Self::Key, slot: Slot, stack: &SharedStack) -> bool
+        ensures { result ≡ true → key.now ≡ key_of slot stack.now };
 
     fn copy(key: &Self::Key) -> Result<Self::Key, AllocError>
         ensures { IfOk result (λ copy. copy ≡ key.now) };
@@ -55,6 +62,14 @@ impl CountedBy for BySlot {
         Ok(slot)
     }
 
+    fn hash(slot: Slot, _stack: &SharedStack) -> u64 {
+        hash_of(slot)
+    }
+
+    fn is_key(key: &Slot, slot: Slot, _stack: &SharedStack) -> bool {
+        *key == slot
+    }
+
     fn copy(key: &Slot) -> Result<Slot, AllocError> {
         Ok(*key)
     }
@@ -82,6 +97,14 @@ impl CountedBy for BySlotAndStack {
 
     fn key(slot: Slot, stack: &SharedStack) -> Result<(Slot, SharedStack), AllocError> {
         Ok((slot, stack.copy()?))
+    }
+
+    fn hash(slot: Slot, stack: &SharedStack) -> u64 {
+        hash_of(slot) ^ stack.fingerprint()
+    }
+
+    fn is_key(key: &(Slot, SharedStack), slot: Slot, stack: &SharedStack) -> bool {
+        key.0 == slot && key.1.fingerprint() == stack.fingerprint() && key.1 == *stack
     }
 
     fn copy(key: &(Slot, SharedStack)) -> Result<(Slot, SharedStack), AllocError> {

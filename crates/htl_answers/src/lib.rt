@@ -4,15 +4,15 @@
 //! `specs/Parts` says which events parts stand for. Each answer is that of htl_event's definitions
 //! over these events, whatever was folded and whatever is held. Handles are answered from the
 //! tables' rows of one process. What is counted is answered from rows: those that the parts' trees
-//! list of the slots that are asked for, and one for each held event. The rows of all parts are
-//! sorted, and those of one key added up, so that no tree is made.
+//! list of the slots that are asked for, and those that count the held events, which hints find. The
+//! rows of all parts are sorted, and those of one key added up, so that no tree is made.
 //!
 //! Files, in reading order: `part.rt` (what the answers are made of), `held.rt` and `handles.rt`
 //! (what is asked of held events, and answers that take no memory), `open.rt` and `leaking.rt`
 //! (outstanding handles, differences, and the stacks that opened them), `counts.rt` (the prefix
-//! tally), `counted_by.rt`, `adding.rt` and `asked.rt` (the rows of the slots that are asked for,
-//! of all parts), `tagging.rt` and `bad_references.rt` (the answers made of these), `sums.rt` (how
-//! often each slot came), `whole.rt` (the one tree of all parts).
+//! tally), `counted_by.rt`, `hints.rt`, `adding.rt` and `asked.rt` (the rows of the slots that are
+//! asked for, of all parts), `tagging.rt` and `bad_references.rt` (the answers made of these),
+//! `sums.rt` (how often each slot came), `whole.rt` (the one tree of all parts).
 #![tactic(auto)]
 
 mod adding;
@@ -22,6 +22,7 @@ mod counted_by;
 mod counts;
 mod handles;
 mod held;
+mod hints;
 mod leaking;
 mod open;
 mod part;

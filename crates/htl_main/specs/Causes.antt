@@ -1,5 +1,5 @@
 -- Why a run ends without its lines, also where that is no fault of what was given (this project's own).
-use Rattle.std.specs.Prelude.{◌⊎◌, ⊤, ℕ, List, Option, Ok, Err}
+use Rattle.std.specs.Prelude.{◌⊎◌, ℕ, List, Option, Ok, Err}
 use Rattle.std.specs.Io.KnownBytes.{Appends}
 use Rattle.htl_device.specs.Devices.{AppendsPrefix}
 use Rattle.htl_segment.specs.Content.{Content}
@@ -7,14 +7,12 @@ use Rattle.htl_segment.specs.Traces.{Trace}
 use Rattle.htl_case.specs.Cases.{IsCaseOf}
 use Rattle.htl_case.specs.Faults.{IsRefusal}
 use Rattle.htl_case.specs.declared.fault.CaseFault.TheVariants as case_faults
-use Rattle.htl_symbols.specs.Ranges.{Range}
 use Rattle.htl_command.specs.declared.question.Job.{Job}
 use Rattle.htl_command.specs.declared.question.Question.{Question}
-use Rattle.htl_command.specs.declared.question.Question.TheVariants as asked
 use Rattle.htl_main.specs.Inputs.{DecodeAll, IsReported, StopsAt}
-use Rattle.htl_main.specs.Printed.{HasSymbols, IsPrinted, WorkersFit, Printed}
+use Rattle.htl_main.specs.Printed.{IsPrinted, WorkersFit, Printed}
 use Rattle.htl_main.specs.declared.fault.RunFault.{RunFault}
-use Rattle.htl_main.specs.declared.fault.RunFault.TheVariants.{Write, Memory, NoThread}
+use Rattle.htl_main.specs.declared.fault.RunFault.TheVariants.{Write, Memory}
 
 -- the known bytes of a sink got the printed lines
 abbrev pub Prints : Job → List (List ℕ) → Option (List ℕ) → Option (List ℕ) → Option (List ℕ) → Type 0
@@ -25,29 +23,18 @@ abbrev pub PrintsPart : Job → List (List ℕ) → Option (List ℕ) → Option
 PrintsPart job inputs symbols old new =
     (lines : List ℕ) × Printed job inputs symbols (Ok lines) × AppendsPrefix old new lines
 
--- Only a summary is made by workers. Every other answer is made from the case as it is.
-abbrev pub StartsWorkers : Question → Type 0
-StartsWorkers asked.Summary = ⊤
-StartsWorkers question = ⊥
-
--- Why nothing is printed of decoded segments. Memory is asked for where the rules of a case that take none hold,
--- and threads where there is a case, the symbols have no fault and the question starts workers.
+-- Why nothing is printed of decoded segments. Memory is asked for where the rules of a case that take none hold.
 abbrev pub IsCauseAfter : List Content → Option (List ℕ) → Question → RunFault → Type 0
 IsCauseAfter segments symbols question Memory =
     IsRefusal segments case_faults.NoMemory ⊎ ((T : Trace) × IsCaseOf segments T)
-IsCauseAfter segments symbols question NoThread =
-    StartsWorkers question × (T : Trace) × (table : List Range) × IsCaseOf segments T × HasSymbols symbols table
 IsCauseAfter segments symbols question fault = IsPrinted segments symbols question (Err fault)
 
--- Why a run ends: the first fault of what was given; or memory was refused where no fault came before, a thread
--- was refused, or the lines could not be written.
+-- Why a run ends: the first fault of what was given; or memory was refused where no fault came before, or the lines
+-- could not be written. No run needs a thread, so none ends because one was refused.
 abbrev pub IsCause : Job → List (List ℕ) → Option (List ℕ) → RunFault → Type 0
 IsCause job inputs symbols Memory =
     WorkersFit job.workers
     × (StopsAt job.hex (IsReported job.hex) inputs Memory
     ⊎ ((segments : List Content) × DecodeAll job.hex inputs segments × IsCauseAfter segments symbols job.question Memory))
-IsCause job inputs symbols NoThread =
-    WorkersFit job.workers
-    × (segments : List Content) × DecodeAll job.hex inputs segments × IsCauseAfter segments symbols job.question NoThread
 IsCause job inputs symbols Write = (lines : List ℕ) × Printed job inputs symbols (Ok lines)
 IsCause job inputs symbols fault = Printed job inputs symbols (Err fault)

@@ -9,12 +9,10 @@ use Rattle.htl_segment.specs.declared.hexadecimal.HexFault.{HexFault}
 use Rattle.htl_segment.specs.declared.hexadecimal.HexFault.TheVariants as digits
 use Rattle.htl_case.specs.declared.fault.CaseFault.{CaseFault}
 use Rattle.htl_case.specs.declared.fault.CaseFault.TheVariants as cases
-use Rattle.htl_exchange.specs.declared.fault.SurveyFault.{SurveyFault}
-use Rattle.htl_exchange.specs.declared.fault.SurveyFault.TheVariants as surveys
 use Rattle.htl_symbols.specs.declared.fault.SymbolFault.{SymbolFault}
 use Rattle.htl_symbols.specs.declared.fault.SymbolFault.TheVariants as tables
 use Rattle.htl_main.specs.declared.fault.RunFault.{RunFault}
-use Rattle.htl_main.specs.declared.fault.RunFault.TheVariants.{Workers, Segment, Hex, Case, Symbols, Read, Memory, NoThread}
+use Rattle.htl_main.specs.declared.fault.RunFault.TheVariants.{Segment, Hex, Case, Symbols, Read, Memory}
 
 -- of the bytes at an offset of an input
 abbrev pub of_segment : ℕ → ℕ → Fault → RunFault
@@ -40,12 +38,6 @@ of_case fault = Case fault
 abbrev pub of_symbols : SymbolFault → RunFault
 of_symbols tables.NoMemory = Memory
 of_symbols fault = Symbols fault
-
--- of a survey
-abbrev pub of_survey : SurveyFault → RunFault
-of_survey surveys.Workers = Workers
-of_survey surveys.NoMemory = Memory
-of_survey surveys.NoThread = NoThread
 
 -- out of memory, whatever reports it
 abbrev pub IsMemory : RunFault → Type 0

@@ -8,7 +8,6 @@ pub mod Sources
 pub mod Statuses
 -- What only private contracts cite.
 pub mod Faults
-pub mod Sizes
 pub mod Questions
 pub mod Reads
 pub mod Unfolded

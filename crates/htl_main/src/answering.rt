@@ -1,80 +1,55 @@
 //! The answer to a question over a case.
 
-ghost use Rattle.std.specs.Prelude.{◌≡◌, ◌⊎◌, ◌<◌, ◌^◌, List, map};
-ghost use Rattle.std.specs.Prelude.{IfOk, IfErr, IfSome, IfNone, Contains};
+ghost use Rattle.std.specs.Prelude.{◌≡◌, ◌<◌, ◌^◌, List, map};
+ghost use Rattle.std.specs.Prelude.{IfOk, IfSome, IfNone, Contains};
 ghost use Rattle.htl_event.specs.Events.{Event};
 ghost use Rattle.htl_event.specs.Handles.{HaveOwnSequences, IsMark};
 ghost use Rattle.htl_segment.specs.Traces.{all_events};
 ghost use Rattle.htl_answers.specs.Parts.{AreEventsOf, size_of_all};
 ghost use Rattle.htl_symbols.specs.Ranges.{Range};
 ghost use Rattle.htl_report.specs.Texts.{text_of};
-ghost use Rattle.htl_exchange.specs.Desks.{IsWholeStanding};
-ghost use Rattle.htl_main.specs.Causes.{StartsWorkers};
 ghost use Rattle.htl_main.specs.Coverages.{IsCoverage};
-ghost use Rattle.htl_main.specs.Printed.{IsText, IsTextOver, WorkersFit};
+ghost use Rattle.htl_main.specs.Printed.{IsText, IsTextOver};
 ghost use Rattle.htl_main.specs.Questions.{IsOfParts};
 ghost use Rattle.htl_main.specs.Unfolded.{contents_of};
 
 use crate::coverage::Coverage;
-use crate::fault::RunFault;
-use crate::summarizing::{Sizes, summary};
+use crate::summarizing::summary;
 use crate::unfolded::Unfolded;
-use htl_analyst::Analyst;
 use htl_answers::{bad, diff, leaks, mark, outstanding, stacks, tags};
 use htl_case::Case;
-use htl_command::{Job, Question};
+use htl_command::Question;
 use htl_event::NoMemory;
-use htl_exchange::{Free, survey_owned};
 use htl_report::Answer;
 use std::alloc::Global;
-use std::sync::Wait;
-use std::thread::Threads;
 
-/// The answer to the job's question, over a case of this coverage. A summary is made by an analyst
-/// that has taken the whole case, of which only the sizes are kept until then, and every other
-/// answer from the case itself.
-pub(crate) fn answer<Rt: Threads + Wait + Sync>(
-    rt: &Rt,
+/// The answer to a question, over a case of this coverage: from the segments as they lie there,
+/// without folding any.
+pub(crate) fn answer(
     alloc: Global,
-    job: &Job,
-    case: Case,
+    question: Question,
+    case: &Case,
     coverage: Coverage,
-) -> Result<Answer, RunFault>
-    requires workers { WorkersFit job.now.workers }
-    requires coverage { IsCoverage case coverage }
-    ensures ok { IfOk result (λ answer. (table : List Range)
-        → IsText case table job.now.question (text_of table answer)) }
-    ensures err { IfErr result (λ fault. (fault ≡ RunFault.Memory)
-        ⊎ ((fault ≡ RunFault.NoThread) × StartsWorkers job.now.question)) }
+) -> Result<Answer, NoMemory>
+    requires { IsCoverage case.now coverage }
+    ensures { IfOk result (λ answer. (table : List Range)
+        → IsText case.now table question (text_of table answer)) }
 {
-    match job.question {
+    match question {
         Question::Trace { process, handle } => Ok(Answer::Trace {
             process,
             handle,
             rows: case.trace(alloc, process, handle)?,
         }),
         Question::Summary => {
-            let _is_case = case.segments();
-            let sizes = Sizes::of(&case, coverage);
-            let analyst = standing(rt, alloc, case, job.workers)?;
-            Ok(summary(alloc, sizes, &analyst)?)
+            let answer = summary(alloc, case, coverage)?;
+            Ok(answer)
         }
-        question => Ok(answer_over(alloc, &case, question)?),
+        question => {
+            let answer = answer_over(alloc, case, question)?;
+            Ok(answer)
+        }
     }
-}
-
-/// The analyst that has taken in the whole case, by so many workers in threads of their own.
-fn standing<Rt: Threads + Wait + Sync>(
-    rt: &Rt,
-    alloc: Global,
-    case: Case,
-    workers: u32,
-) -> Result<Analyst<Global>, RunFault>
-    requires { WorkersFit workers }
-    ensures ok { IfOk result (IsWholeStanding case) }
-    ensures err { IfErr result (λ fault. (fault ≡ RunFault.Memory) ⊎ (fault ≡ RunFault.NoThread)) }
-{
-    Ok(survey_owned(rt, alloc, case, workers, &Free)?)
 }
 
 /// The answer to a question about events, by one part that holds all segments of the case.

@@ -1,15 +1,20 @@
-//! How much of its trace a case has. Nothing here takes memory or looks at more than the last event
-//! of a segment.
+//! How much of its trace a case has. Nothing here looks at more than the last event of a segment, and
+//! only the list of gaps takes memory.
 
 ghost use Rattle.std.specs.Prelude.{◌≡◌, ◌<◌, ◌≤◌, ◌+◌, ◌++◌, ℕ, length, take, All, Contains};
+ghost use Rattle.std.specs.Prelude.{IfOk, OnOk};
 ghost use Rattle.htl_event.specs.Handles.{IsGreatestSequence};
-ghost use Rattle.htl_segment.specs.Traces.{AreInOrder, all_events};
-ghost use Rattle.htl_taken.specs.GapLists.{gaps_of};
+ghost use Rattle.htl_segment.specs.Traces.{AreInOrder, HasKey, all_events};
+ghost use Rattle.htl_taken.specs.Gaps.{IsGaps};
+ghost use Rattle.htl_taken.specs.GapLists.{gaps_from, gaps_of};
 ghost use Rattle.htl_taken.specs.Rising.{reach_from};
 ghost use Rattle.htl_main.specs.Numbers.{numbers_of};
 
 use htl_case::Case;
+use htl_event::NoMemory;
 use htl_segment::Segment;
+use htl_taken::Gap;
+use std::alloc::Global;
 
 /// How much of its trace a case has. An answer over a case with a gap holds for the segments that
 /// are there.
@@ -40,6 +45,53 @@ impl Coverage {
         }
         Coverage { gaps, complete_to }
     }
+}
+
+/// The gaps of a case: for each processor, in order, the longest unbroken runs of numbers that are
+/// missing below one that is there; or that it has no segment.
+pub(crate) fn gaps(alloc: Global, case: &Case) -> Result<Vec<Gap>, NoMemory>
+    ensures { IfOk result (λ gaps. IsGaps (HasKey case.now) case.now.processors gaps.items) }
+{
+    let mut gaps = Vec::new(alloc);
+    let mut rest = case.segments();
+    for processor in 0..case.processors() {
+        let (own, after) = split_at_processor(rest, processor);
+        add_gaps(&mut gaps, processor, own)?;
+        rest = after;
+    }
+    Ok(gaps)
+}
+
+/// Adds the gaps of a processor with these segments.
+fn add_gaps(gaps: &mut Vec<Gap>, processor: u16, own: &[Segment]) -> Result<(), NoMemory>
+    ensures { OnOk result (gaps.new.items
+        ≡ gaps.old.items ++ gaps_of processor 0 (numbers_of own.now)) }
+{
+    if own.is_empty() {
+        gaps.push(Gap::Absent { processor })?;
+        return Ok(());
+    }
+    add_runs(gaps, processor, own)
+}
+
+/// Adds the runs of missing numbers before each of these segments.
+fn add_runs(gaps: &mut Vec<Gap>, processor: u16, segments: &[Segment]) -> Result<(), NoMemory>
+    ensures { OnOk result (gaps.new.items
+        ≡ gaps.old.items ++ gaps_from processor 0 (numbers_of segments.now)) }
+{
+    let mut next = 0;
+    for segment in segments {
+        let number = segment.number();
+        if next < u64::from(number) {
+            gaps.push(Gap::Between {
+                processor,
+                from: next as u32,
+                to: number - 1,
+            })?;
+        }
+        next = u64::from(number) + 1;
+    }
+    Ok(())
 }
 
 /// The segments of the processor, and those of the processors after it, where there are none of

@@ -3,7 +3,6 @@
 use htl_case::CaseFault;
 use htl_device::ReadFault;
 use htl_event::NoMemory;
-use htl_exchange::SurveyFault;
 use htl_segment::{Fault, HexFault};
 use htl_symbols::SymbolFault;
 use std::alloc::{AllocError, AllocFailed};
@@ -51,7 +50,7 @@ pub enum RunFault {
     /// Memory for a growth was refused.
     #[error("hleak: out of memory")]
     Memory,
-    /// The system refused to start a worker.
+    /// The system refused to start a worker. No run answers it, since none needs a thread.
     #[error("hleak: no thread")]
     NoThread,
 }
@@ -137,21 +136,6 @@ impl From<SymbolFault> for RunFault {
         match fault {
             SymbolFault::NoMemory => RunFault::Memory,
             _ => RunFault::Symbols(fault),
-        }
-    }
-}
-
-impl From<SurveyFault> for RunFault {
-    ghost use Rattle.std.specs.Prelude.{◌≡◌};
-    ghost use Rattle.htl_main.specs.Faults.{of_survey};
-
-    ghost from_gives = { λ fault reported. reported ≡ of_survey fault };
-
-    fn from(fault: SurveyFault) -> RunFault {
-        match fault {
-            SurveyFault::Workers => RunFault::Workers,
-            SurveyFault::NoMemory => RunFault::Memory,
-            SurveyFault::NoThread => RunFault::NoThread,
         }
     }
 }

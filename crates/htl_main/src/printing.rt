@@ -31,7 +31,7 @@ use std::thread::Threads;
 /// What is printed is the same for every number of workers. A run that ends well reports how much
 /// of its trace the case of all segments has.
 pub fn run<Rt: Threads + Wait + Sync, W: Sink>(
-    rt: &Rt,
+    _rt: &Rt,
     alloc: Global,
     job: &Job,
     inputs: &[Vec<u8>],
@@ -54,7 +54,7 @@ pub fn run<Rt: Threads + Wait + Sync, W: Sink>(
 {
     check_workers(job.workers)?;
     let segments = decode_all(alloc, job.hex, inputs)?;
-    let (lines, coverage) = answered(rt, alloc, job, segments, symbols)?;
+    let (lines, coverage) = answered(alloc, job, segments, symbols)?;
     write_lines(out, &lines)?;
     Ok(coverage)
 }
@@ -73,8 +73,7 @@ pub(crate) fn check_workers(workers: u32) -> Result<(), RunFault>
 
 /// The lines of the answer to the job's question over the decoded segments, and how much of its
 /// trace their case has.
-pub(crate) fn answered<Rt: Threads + Wait + Sync>(
-    rt: &Rt,
+pub(crate) fn answered(
     alloc: Global,
     job: &Job,
     segments: Vec<Segment>,
@@ -90,7 +89,7 @@ pub(crate) fn answered<Rt: Threads + Wait + Sync>(
     let case = Case::of(alloc, segments)?;
     let symbols = read_symbols(alloc, symbols)?;
     let coverage = Coverage::of(&case);
-    let answer = answer(rt, alloc, job, case, coverage)?;
+    let answer = answer(alloc, job.question, &case, coverage)?;
     Ok((text(alloc, &answer, &symbols)?, coverage))
 }
 

@@ -25,7 +25,7 @@ use std::thread::Threads;
 /// decoded as they come, none after the read that gave the fault. A text in hexadecimal is gathered
 /// whole first.
 pub fn run_from<Rt: Threads + Wait + Sync, R: Source, W: Sink>(
-    rt: &Rt,
+    _rt: &Rt,
     alloc: Global,
     job: &Job,
     inputs: &mut [R],
@@ -68,7 +68,7 @@ pub fn run_from<Rt: Threads + Wait + Sync, R: Source, W: Sink>(
 {
     check_workers(job.workers)?;
     let segments = read_all(alloc, job.hex, inputs)?;
-    let (lines, coverage) = answered(rt, alloc, job, segments, symbols)?;
+    let (lines, coverage) = answered(alloc, job, segments, symbols)?;
     write_lines(out, &lines)?;
     Ok(coverage)
 }

@@ -2,15 +2,19 @@
 
 ghost use Rattle.std.specs.Prelude.{◌≡◌, ◌<◌, ◌^◌, ◌↔◌, List, Contains, filter};
 ghost use Rattle.std.specs.Prelude.{length, map, nat_eq, nat_lt, IfOk};
-ghost use Rattle.std.specs.List.{IsDistinct};
+ghost use Rattle.std.specs.List.{IsDistinct, sum_by};
 ghost use Rattle.htl_event.specs.Events.{Event};
+ghost use Rattle.htl_event.specs.declared.slot.Slot.{Slot};
+ghost use Rattle.htl_event.specs.declared.slot.Count.{Count};
+ghost use Rattle.htl_event.specs.Tallies.{total_of, IsPositive};
 ghost use Rattle.htl_event.specs.Members.{IsRising};
 ghost use Rattle.htl_event.specs.Summaries.{IsUnbalanced, IsNumberOfObjects, MostUnbalancedFirst};
 ghost use Rattle.htl_answers.specs.Parts.{AreEventsOf, size_of_all};
+ghost use Rattle.htl_answers.specs.Sums.{ListsSlotSums};
 
 use crate::tags::object_rows;
 use htl_answers::{Part, slot_sums};
-use htl_event::{NoMemory, ObjectRow};
+use htl_event::{Count, NoMemory, ObjectRow, Slot};
 use std::alloc::Global;
 use std::cmp::Reverse;
 
@@ -34,7 +38,19 @@ pub fn balances<P: Part>(alloc: Global, parts: &[P]) -> Result<Objects, NoMemory
         → IsUnbalanced events objects.unbalanced.items) }
 {
     let sums = slot_sums(alloc, parts)?;
-    let mut rows = object_rows(alloc, &sums)?;
+    balances_of_slots(alloc, &sums)
+}
+
+/// The same of the objects of these slots.
+pub(crate) fn balances_of_slots(alloc: Global, sums: &[(Slot, Count)]) -> Result<Objects, NoMemory>
+    requires positive { (sum : Slot × Count) → Contains sums.now sum → IsPositive sum.1 }
+    requires fits { sum_by (λ sum. total_of sum.1) sums.now < 2 ^ 64 }
+    ensures number { IfOk result (λ objects. (events : List Event)
+        → ListsSlotSums events sums.now → IsNumberOfObjects events objects.number) }
+    ensures unbalanced { IfOk result (λ objects. (events : List Event)
+        → ListsSlotSums events sums.now → IsUnbalanced events objects.unbalanced.items) }
+{
+    let mut rows = object_rows(alloc, sums)?;
     let number = number_of(&rows);
     keep_unbalanced(&mut rows);
     put_in_order(&mut rows);

@@ -2,19 +2,23 @@
 
 ghost use Rattle.std.specs.Prelude.{◌≡◌, ◌<◌, ◌^◌, ◌↔◌, List, Contains};
 ghost use Rattle.std.specs.Prelude.{filter, length, map, nat_eq, IfOk};
-ghost use Rattle.std.specs.List.{IsDistinct};
+ghost use Rattle.std.specs.List.{IsDistinct, sum_by};
 ghost use Rattle.htl_event.specs.Events.{Event};
+ghost use Rattle.htl_event.specs.declared.slot.Slot.{Slot};
+ghost use Rattle.htl_event.specs.declared.slot.Count.{Count};
+ghost use Rattle.htl_event.specs.Tallies.{total_of};
 ghost use Rattle.htl_event.specs.Members.{IsRising};
 ghost use Rattle.htl_event.specs.Handles.{HaveOwnSequences};
 ghost use Rattle.htl_event.specs.Summaries.{IsProcesses, MostOutstandingFirst};
 ghost use Rattle.htl_answers.specs.Parts.{AreEventsOf, AreTablesOf, size_of_all};
 ghost use Rattle.htl_answers.specs.Candidates.{is_opened_after};
+ghost use Rattle.htl_answers.specs.Sums.{ListsSlotSums};
 ghost use Rattle.htl_summary.specs.Rows.{IsRowOf, AreRowsOf};
 
 use crate::tables::{Tables, tables_of};
 use crate::usage::{Usage, used_by_process};
 use htl_answers::{Part, slot_sums};
-use htl_event::{Kind, NoMemory, ProcessRow, SharedEvent};
+use htl_event::{Count, Kind, NoMemory, ProcessRow, SharedEvent, Slot};
 use std::alloc::{Allocator, Global};
 use std::cmp::Reverse;
 
@@ -31,8 +35,23 @@ pub fn processes<P: Part>(
         → HaveOwnSequences events → IsProcesses events rows.items) }
 {
     let sums = slot_sums(alloc, parts)?;
+    processes_of_slots(alloc, tree_alloc, parts, &sums)
+}
+
+/// The same from the sums of the parts' slots.
+pub(crate) fn processes_of_slots<P: Part>(
+    alloc: Global,
+    tree_alloc: &P::Alloc,
+    parts: &[P],
+    sums: &[(Slot, Count)],
+) -> Result<Vec<ProcessRow>, NoMemory>
+    requires { sum_by (λ sum. total_of sum.1) sums.now < 2 ^ 64 }
+    ensures { IfOk result (λ rows. (events : List Event)
+        → AreEventsOf (map P.contents parts.now) events → ListsSlotSums events sums.now
+        → HaveOwnSequences events → IsProcesses events rows.items) }
+{
     let tables = tables_of(tree_alloc, parts)?;
-    let used = used_by_process(alloc, &sums)?;
+    let used = used_by_process(alloc, sums)?;
     let mut rows = process_rows(alloc, &used, &tables)?;
     put_in_order(&mut rows);
     Ok(rows)

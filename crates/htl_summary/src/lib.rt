@@ -5,20 +5,22 @@
 //! (`htl_answers::slot_sums`); what these sums say of one process or one object is added up. So no
 //! process and no object is asked for alone.
 //!
-//! Files, in reading order: `leaking.rt` and `balancing.rt` (the answers, about processes and
-//! about objects), `tables.rt` (the tables of all parts), `usage.rt` and `tags.rt` (what a slot
-//! says of a process and of an object), `rows.rt` (the rows that all slots give), `adding.rt` (rows
-//! of one key made one). In `proofs/`, `ProcessRows` and `ObjectRows` show that rows are those of
-//! the definitions.
+//! Files, in reading order: `summarizing.rt`, `leaking.rt` and `balancing.rt` (the answers: both,
+//! about processes and about objects), `tables.rt` (the tables of all parts), `usage.rt` and
+//! `tags.rt` (what a slot says of a process and of an object), `rows.rt` (the rows that all slots
+//! give), `adding.rt` (rows of one key made one). In `proofs/`, `ProcessRows` and `ObjectRows` show
+//! that rows are those of the definitions.
 #![tactic(auto)]
 
 mod adding;
 mod balancing;
 mod leaking;
 mod rows;
+mod summarizing;
 mod tables;
 mod tags;
 mod usage;
 
 pub use balancing::{Objects, balances};
 pub use leaking::processes;
+pub use summarizing::{Summary, summarize};

@@ -1,6 +1,6 @@
 //! The tables of all parts as one table of each kind.
 
-ghost use Rattle.std.specs.Prelude.{List, [], ◌++◌, map, flat_map, IfOk};
+ghost use Rattle.std.specs.Prelude.{◌≡◌, List, [], ◌++◌, true, map, flat_map, IfOk};
 ghost use Rattle.htl_event.specs.Events.{Event};
 ghost use Rattle.htl_answers.specs.Parts.{AreEventsOf, AreTablesOf, IsFoldOf};
 
@@ -56,11 +56,24 @@ fn tables_of_part<P: Part>(alloc: &P::Alloc, part: &P) -> Result<Tables<P::Alloc
         tables.latest tables.marks tables.exits) }
 {
     let held = tables_of_lists(alloc, part.held())?;
+    if has_no_tables(part) {
+        return Ok(held);
+    }
     Ok(Tables {
         latest: part.latest().join(&held.latest)?,
         marks: part.marks().join(&held.marks)?,
         exits: part.exits().join(&held.exits)?,
     })
+}
+
+/// Whether a part's own tables are empty, as they are where it has folded nothing.
+fn has_no_tables<P: Part>(part: &P) -> bool
+    ensures { result ≡ true → ((P.contents part.now).latest ≡ [])
+        × ((P.contents part.now).marks ≡ []) × ((P.contents part.now).exits ≡ []) }
+{
+    part.latest().rows().is_empty()
+        && part.marks().rows().is_empty()
+        && part.exits().rows().is_empty()
 }
 
 /// The tables of the events of the lists.

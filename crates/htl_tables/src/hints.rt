@@ -6,8 +6,8 @@ use std::alloc::{AllocError, Allocator};
 /// In how many cells the hint of one handle may stand.
 pub(crate) const WAYS: usize = 8;
 
-/// The most cells: 4 MiB, which half a million handles fill by half.
-const MAX_CELLS: usize = 1 << 20;
+/// The most cells: 16 MiB, which two million handles fill by half.
+const MAX_CELLS: usize = 1 << 22;
 
 /// A cell without a hint.
 const EMPTY: u32 = u32::MAX;

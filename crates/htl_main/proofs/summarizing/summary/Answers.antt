@@ -1,27 +1,34 @@
--- The analyst's rows are those of the trace's events, and its gaps those of the trace's keys.
-use Rattle.std.proofs.Common.{List, refl, subst}
-use Rattle.htl_event.specs.Events.{Event}
-use Rattle.htl_event.specs.Summaries.{IsNumberOfObjects, IsProcesses, IsUnbalanced}
-use Rattle.htl_main.proofs.WholeLaws.{whole_events, whole_gaps}
+-- The case's segments are one part, whose rows are those of all its events; and its gaps are those of its keys.
+use Rattle.std.proofs.Common.{refl}
+use Rattle.htl_segment.specs.Traces.{all_events}
+use Rattle.htl_main.specs.Unfolded.{contents_of}
+use Rattle.htl_main.proofs.UnfoldedLaws.{are_events, size_fits}
 use Rattle.htl_main.proofs.summarizing.summary.Goals as goal
 
+pub summarize-requires : goal.summarize-requires
+summarize-requires c =
+    size_fits c.args.case.now (contents_of c.new-part.result) c.segments.result.now c.new-part.ensures c.segments.ensures.value
+    c.segments.ensures.is_case.trace
+
+pub totals-requires-clause-objects : goal.totals-requires-clause-objects
+totals-requires-clause-objects c =
+    let T = c.args.case.now in
+    let are = are_events T (contents_of c.new-part.result) c.segments.result.now c.new-part.ensures c.segments.ensures.value in
+    c.in_ok-objects.ensures.number (all_events T.segments) are
+
 pub returns : goal.returns
-returns c T trace sizes whole table =
-    let a = c.args.analyst.now in
-    let right = whole.standing.right in
-    let events = whole_events T a whole in
-    let number = c.in_ok-number.field-0.number in
-    let gaps = c.in_ok-gaps.gaps.items in
-    let processes = c.in_ok-processes.processes.items in
-    let objects = c.in_ok-number.field-0.unbalanced.items in (
+returns c =
+    let T = c.args.case.now in
+    let events = all_events T.segments in
+    let are = are_events T (contents_of c.new-part.result) c.segments.result.now c.new-part.ensures c.segments.ensures.value in
+    λ table. (
       c.totals.result,
-      gaps,
-      processes,
-      objects,
-      c.totals.ensures T sizes
-          (subst (λ (es : List Event). IsNumberOfObjects es number) events (c.in_ok-number.ensures.number T right)),
-      whole_gaps T a gaps whole c.in_ok-gaps.ensures,
-      subst (λ (es : List Event). IsProcesses es processes) events (c.in_ok-processes.ensures T trace right),
-      subst (λ (es : List Event). IsUnbalanced es objects) events (c.in_ok-number.ensures.unbalanced T right),
+      c.in_ok-gaps.gaps.items,
+      c.in_ok-objects.field-0.processes.items,
+      c.in_ok-objects.field-0.objects.unbalanced.items,
+      c.totals.ensures,
+      c.in_ok-gaps.ensures,
+      c.in_ok-objects.ensures.processes events are c.segments.ensures.is_case.trace.sequences,
+      c.in_ok-objects.ensures.unbalanced events are,
       refl,
     )

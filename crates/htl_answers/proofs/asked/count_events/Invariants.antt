@@ -1,0 +1,8 @@
+-- The events so far were counted.
+use Rattle.std.proofs.Common.{◌++◌, take}
+use Rattle.htl_answers.specs.Rows.{rows_of, CountAlike}
+use Rattle.htl_answers.proofs.asked.count_events.Given as goal
+
+abbrev pub invariant-loop-event : goal.invariant-loop-event
+invariant-loop-event g l =
+    CountAlike g.L.Key.Ord.cmp (l.initial.rows.items ++ rows_of g.L.CountedBy.key_of l.slots (take l.event-index l.events)) l.rows.items

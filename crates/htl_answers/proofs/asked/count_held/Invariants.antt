@@ -1,0 +1,10 @@
+-- The lists so far were counted.
+use Rattle.std.proofs.Common.{◌++◌, take}
+use Rattle.std.specs.Prelude.{flat_map}
+use Rattle.htl_answers.specs.Rows.{rows_of, CountAlike}
+use Rattle.htl_answers.proofs.asked.count_held.Given as goal
+
+abbrev pub invariant-loop-list : goal.invariant-loop-list
+invariant-loop-list g l =
+    CountAlike g.L.Key.Ord.cmp
+    (l.initial.rows.items ++ rows_of g.L.CountedBy.key_of l.slots (flat_map g.E.EventList.events_of (take l.list-index l.lists))) l.rows.items

@@ -135,8 +135,7 @@ fn tags_of_an_object(rt: HostRuntime) {
     }
 }
 
-fn are_leaks(rt: &impl Abort, alloc: Global, analyst: &Analyst<Global>) {
-    let rows = analyst.leaks(alloc, 4).expect(rt, "the memory");
+fn are_leaks(rt: &impl Abort, rows: &[(SharedStack, u64)]) {
     let wanted: [(&[u64], u64); 3] = [(&[0x60], 2), (&[0x50, 0x20], 1), (&[0x30, 0x40], 1)];
     assert_eq!(rt; rows.len(), wanted.len());
     for ((stack, number), (frames, count)) in rows.iter().zip(wanted) {
@@ -144,8 +143,7 @@ fn are_leaks(rt: &impl Abort, alloc: Global, analyst: &Analyst<Global>) {
     }
 }
 
-fn are_bad(rt: &impl Abort, alloc: Global, analyst: &Analyst<Global>) {
-    let rows = analyst.bad(alloc, 4).expect(rt, "the memory");
+fn are_bad(rt: &impl Abort, rows: &[(u32, SharedStack, u64)]) {
     let wanted: [(u32, &[u64], u64); 2] = [(0x0, &[], 1), (0x7, &[0x10], 2)];
     assert_eq!(rt; rows.len(), wanted.len());
     for ((handle, stack, number), (written, frames, count)) in rows.iter().zip(wanted) {
@@ -156,12 +154,17 @@ fn are_bad(rt: &impl Abort, alloc: Global, analyst: &Analyst<Global>) {
     }
 }
 
+fn are_leaks_and_bad(rt: &impl Abort, alloc: Global, analyst: &Analyst<Global>) {
+    let rows = analyst.leaks(alloc, 4).expect(rt, "the memory");
+    are_leaks(rt, &rows);
+    let rows = analyst.bad(alloc, 4).expect(rt, "the memory");
+    are_bad(rt, &rows);
+}
+
 #[test]
 fn leaking_stacks_and_bad_references(rt: HostRuntime) {
     let mut analyst = taken(&rt, rt.alloc(), TRACE, LEAKS);
-    for _ in 0..2 {
-        are_leaks(&rt, rt.alloc(), &analyst);
-        are_bad(&rt, rt.alloc(), &analyst);
-        compact(&rt, &mut analyst);
-    }
+    are_leaks_and_bad(&rt, rt.alloc(), &analyst);
+    compact(&rt, &mut analyst);
+    are_leaks_and_bad(&rt, rt.alloc(), &analyst);
 }

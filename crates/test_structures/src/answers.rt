@@ -84,11 +84,14 @@ fn part(rt: &impl Abort, alloc: Global, folded: &str, held: &str) -> Sample
     }
 }
 
+// What one part folded and another holds.
+fn folded_and_held(rt: &impl Abort, alloc: Global, folded: &str, held: &str) -> [Sample; 2] {
+    [part(rt, alloc, folded, ""), part(rt, alloc, "", held)]
+}
+
 fn have_sequences(rt: &impl Abort, events: &[SharedEvent], sequences: &[u64]) {
-    assert_eq!(rt; events.len(), sequences.len());
-    for (event, sequence) in events.iter().zip(sequences) {
-        assert_eq!(rt; event.sequence, *sequence);
-    }
+    let found = events.iter().map(|event| event.sequence);
+    assert!(rt; found.eq(sequences.iter().copied()));
 }
 
 // The opens of the outstanding handles of a process.
@@ -114,13 +117,19 @@ fn are_since(rt: &impl Abort, alloc: Global, parts: &[Sample], since: u64, seque
 #[test]
 fn snapshot_and_difference(rt: HostRuntime) {
     let alloc = rt.alloc();
-    let held = part(&rt, alloc, "", "C 11 0x14, O 12 0x18, O 13 0x14");
-    let folded = part(&rt, alloc, "O 7 0x14, O 8 0x10, S 10", "");
-    let parts = [held, folded];
+    let held = "C 11 0x14, O 12 0x18, O 13 0x14";
+    let mut parts = folded_and_held(&rt, alloc, "O 7 0x14, O 8 0x10, S 10", held);
+    parts.reverse();
     assert_eq!(rt; (mark(&parts, 4), mark(&parts, 5)), (10, 0));
     are_outstanding(&rt, alloc, &parts, 4, &[8, 13, 12]);
     are_since(&rt, alloc, &parts, 10, &[13, 12]);
     are_since(&rt, alloc, &parts, 13, &[]);
+}
+
+// The last exit of process 4, and the sequence of the latest event of handle 0x44.
+fn exit_and_latest(parts: &[Sample]) -> (u64, Option<u64>) {
+    let latest = latest(parts, 4, 0x44).map(|event| event.sequence);
+    (last_exit(parts, 4), latest)
 }
 
 // An exit of sequence 5 ends the handle that was opened at 4 and not the one opened at 6, nor that
@@ -128,12 +137,9 @@ fn snapshot_and_difference(rt: HostRuntime) {
 #[test]
 fn process_exit(rt: HostRuntime) {
     let alloc = rt.alloc();
-    let folded = part(&rt, alloc, "O 3 0x44 process=5, O 4 0x44, O 6 0x48", "");
-    let held = part(&rt, alloc, "", "exit 5");
-    let parts = [folded, held];
-    assert_eq!(rt; last_exit(&parts, 4), 5);
-    let ended = latest(&parts, 4, 0x44).map(|event| event.sequence);
-    assert_eq!(rt; ended, Some(4));
+    let folded = "O 3 0x44 process=5, O 4 0x44, O 6 0x48";
+    let parts = folded_and_held(&rt, alloc, folded, "exit 5");
+    assert_eq!(rt; exit_and_latest(&parts), (5, Some(4)));
     are_outstanding(&rt, alloc, &parts, 4, &[6]);
     are_outstanding(&rt, alloc, &parts, 5, &[3]);
 }
@@ -141,27 +147,32 @@ fn process_exit(rt: HostRuntime) {
 // Two processors, the close on one and the open on the other.
 #[test]
 fn two_processors(rt: HostRuntime) {
-    let alloc = rt.alloc();
-    let folded = part(&rt, alloc, "C 2 0x46", "");
-    let held = part(&rt, alloc, "", "O 1 0x44");
-    are_outstanding(&rt, alloc, &[folded, held], 4, &[]);
+    let parts = folded_and_held(&rt, rt.alloc(), "C 2 0x46", "O 1 0x44");
+    are_outstanding(&rt, rt.alloc(), &parts, 4, &[]);
+}
+
+// The stacks of the rows, each with its number.
+fn are_rows<T: Copy + PartialEq>(
+    rt: &impl Abort,
+    rows: &[(SharedStack, T)],
+    wanted: &[(&[u64], T)],
+) {
+    let found = rows.iter().map(|row| (row.0.frames(), row.1));
+    assert!(rt; found.eq(wanted.iter().copied()));
 }
 
 // Two opens of one stack, one folded and one held, and two of other stacks.
-fn leaking(rt: &impl Abort, alloc: Global) -> Vec<(SharedStack, u64)> {
-    let folded = part(rt, alloc, "O 1 0x44 [0x50 0x20], O 3 0x4c [0x60]", "");
-    let held = part(rt, alloc, "", "O 2 0x48 [0x30 0x40], O 4 0x50 [0x60]");
-    leaks(alloc, &[folded, held], 4).expect(rt, "the memory")
-}
-
 #[test]
 fn leaking_stacks(rt: HostRuntime) {
-    let rows = leaking(&rt, rt.alloc());
-    assert_eq!(rt; rows.len(), 3);
-    let (first, second, third) = (&rows[0], &rows[1], &rows[2]);
-    assert_eq!(rt; (first.0.frames(), first.1), ([0x60].as_slice(), 2));
-    assert_eq!(rt; (second.0.frames(), second.1), ([0x50, 0x20].as_slice(), 1));
-    assert_eq!(rt; (third.0.frames(), third.1), ([0x30, 0x40].as_slice(), 1));
+    let folded = "O 1 0x44 [0x50 0x20], O 3 0x4c [0x60]";
+    let held = "O 2 0x48 [0x30 0x40], O 4 0x50 [0x60]";
+    let parts = folded_and_held(&rt, rt.alloc(), folded, held);
+    let rows = leaks(rt.alloc(), &parts, 4).expect(&rt, "the memory");
+    are_rows(
+        &rt,
+        &rows,
+        &[(&[0x60], 2), (&[0x50, 0x20], 1), (&[0x30, 0x40], 1)],
+    );
 }
 
 fn count(plus: u64, minus: u64) -> Count {
@@ -174,17 +185,21 @@ const FOLDED: &str = "R 1 0x1000 Lky8 [0x50 0x20], R 1 0x1000 0x496f2020 [0x20],
 
 const HELD: &str = "D 1 0x1000 Lky8 [0x50 0x20], R 1 0x1000 Lky8 [0x30 0x20], B 1 0x44 [0x60]";
 
+const SLOT: Slot = Slot::Tagged {
+    object: 0x1000,
+    tag: *b"Lky8",
+};
+
+// How often the slot came with a stack under 0x20, and how many events are counted.
+fn counted(rt: &impl Abort, alloc: Global) -> (Count, u64) {
+    let parts = [part(rt, alloc, FOLDED, ""), part(rt, alloc, "", HELD)];
+    let tree = whole_tree(&alloc, &parts).expect(rt, "the memory");
+    (under(&parts, &[0x20], SLOT), tree.total())
+}
+
 #[test]
 fn counts_of_a_slot(rt: HostRuntime) {
-    let alloc = rt.alloc();
-    let parts = [part(&rt, alloc, FOLDED, ""), part(&rt, alloc, "", HELD)];
-    let slot = Slot::Tagged {
-        object: 0x1000,
-        tag: *b"Lky8",
-    };
-    assert_eq!(rt; under(&parts, &[0x20], slot), count(2, 1));
-    let tree = whole_tree(&alloc, &parts).expect(&rt, "the memory");
-    assert_eq!(rt; tree.total(), 6);
+    assert_eq!(rt; counted(&rt, rt.alloc()), (count(2, 1), 6));
 }
 
 #[test]
@@ -196,23 +211,15 @@ fn tags_of_an_object(rt: HostRuntime) {
     assert_eq!(rt; rows.as_slice(), expected.as_slice());
 }
 
-fn stacks_behind_tag(rt: &impl Abort, alloc: Global) -> Vec<(SharedStack, Count)> {
-    let parts = [part(rt, alloc, FOLDED, ""), part(rt, alloc, "", HELD)];
-    stacks(alloc, &parts, 0x1000, *b"Lky8").expect(rt, "the memory")
-}
-
 #[test]
 fn stacks_of_a_tag(rt: HostRuntime) {
-    let rows = stacks_behind_tag(&rt, rt.alloc());
-    assert_eq!(rt; rows.len(), 2);
-    let (first, second) = (&rows[0], &rows[1]);
-    assert_eq!(rt;
-        (first.0.frames(), first.1),
-        ([0x30, 0x20].as_slice(), count(1, 0))
-    );
-    assert_eq!(rt;
-        (second.0.frames(), second.1),
-        ([0x50, 0x20].as_slice(), count(1, 1))
+    let alloc = rt.alloc();
+    let parts = [part(&rt, alloc, FOLDED, ""), part(&rt, alloc, "", HELD)];
+    let rows = stacks(alloc, &parts, 0x1000, *b"Lky8").expect(&rt, "the memory");
+    are_rows(
+        &rt,
+        &rows,
+        &[(&[0x30, 0x20], count(1, 0)), (&[0x50, 0x20], count(1, 1))],
     );
 }
 

@@ -128,10 +128,15 @@ fn latest_together(rt: &impl Abort, alloc: Global, lines: &[&str]) -> Latest<Glo
 
 /// The close of sequence 9 is the one latest event.
 fn assert_closed(rt: &impl Abort, latest: &Latest<Global>) {
-    assert_eq!(rt; sequence_of(latest, 4, 0x44), Some(9));
-    assert_eq!(rt; sequence_of(latest, 4, 0x47), Some(9));
-    assert_eq!(rt; sequence_of(latest, 5, 0x44), None);
-    assert_eq!(rt; latest.rows().len(), 1);
+    let sequences = [
+        sequence_of(latest, 4, 0x44),
+        sequence_of(latest, 4, 0x47),
+        sequence_of(latest, 5, 0x44),
+    ];
+    assert_eq!(rt;
+        (sequences, latest.rows().len()),
+        ([Some(9), Some(9), None], 1)
+    );
 }
 
 #[test]
@@ -221,13 +226,14 @@ fn a_snapshot_marks_its_process(rt: HostRuntime) {
     let lines = "S 10, exit 12, S 0 process=5, S 7";
     let events = events_of(&rt, rt.alloc(), lines);
     let marks = marks_noted(&rt, rt.alloc(), &events);
-    assert_eq!(rt; (marks.get(4), marks.get(5)), (10, 0));
-    assert_eq!(rt; marks.rows(), [(4, 10)].as_slice());
+    assert_eq!(rt;
+        (marks.get(4), marks.get(5), marks.rows()),
+        (10, 0, [(4, 10)].as_slice())
+    );
     let copy = marks.copy().expect(&rt, "the memory");
-    assert!(rt; copy.same(&marks));
-    assert!(rt; marks_joined_with_none(&rt, rt.alloc(), &marks).same(&marks));
+    let joined = marks_joined_with_none(&rt, rt.alloc(), &marks);
     let gathered = Marks::of(rt.alloc(), slice::from_ref(&events)).expect(&rt, "the memory");
-    assert!(rt; gathered.same(&marks));
+    assert!(rt; copy.same(&marks) && joined.same(&marks) && gathered.same(&marks));
 }
 
 const LATE_FIRST: &str = "exit 10, exit 8";

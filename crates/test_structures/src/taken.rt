@@ -48,11 +48,22 @@ fn filled<A: Allocator + Clone>(rt: &impl Abort, alloc: A, segments: &[(u16, u32
 #[test]
 fn a_number_is_new_once(rt: HostRuntime) {
     let mut taken = Taken::new(rt.alloc(), 2).expect(&rt, "the memory");
-    for (number, is_new) in [(0, true), (1, true), (3, true), (3, false)] {
-        assert_eq!(rt; insert(&rt, &mut taken, 0, number), is_new);
-    }
-    assert_eq!(rt; taken.processors(), 2);
-    assert_eq!(rt; (taken.front(0), taken.reach(0), taken.len()), (0, 2, 3));
+    let are_new = [
+        insert(&rt, &mut taken, 0, 0),
+        insert(&rt, &mut taken, 0, 1),
+        insert(&rt, &mut taken, 0, 3),
+        insert(&rt, &mut taken, 0, 3),
+    ];
+    assert_eq!(rt; are_new, [true, true, true, false]);
+    assert_eq!(rt;
+        (
+            taken.processors(),
+            taken.front(0),
+            taken.reach(0),
+            taken.len()
+        ),
+        (2, 0, 2, 3)
+    );
 }
 
 /// The numbers 0, 1 and 3 of processor 0, settled.
@@ -65,11 +76,12 @@ fn settled(rt: &impl Abort, alloc: Global) -> Taken<Global> {
 #[test]
 fn fronts_and_loose_numbers(rt: HostRuntime) {
     let taken = settled(&rt, rt.alloc());
-    assert_eq!(rt; (taken.front(0), taken.len()), (2, 3));
-    assert_eq!(rt; taken.loose(0), [3].as_slice());
-    assert!(rt; taken.has(0, 1) && !taken.has(0, 2));
-    assert_eq!(rt; taken.search(0, 3), Ok(0));
-    assert_eq!(rt; taken.search(0, 4), Err(1));
+    assert_eq!(rt;
+        (taken.front(0), taken.len(), taken.loose(0)),
+        (2, 3, [3].as_slice())
+    );
+    assert_eq!(rt; [taken.has(0, 1), taken.has(0, 2)], [true, false]);
+    assert_eq!(rt; [taken.search(0, 3), taken.search(0, 4)], [Ok(0), Err(1)]);
     let copy = taken.copy().expect(&rt, "the memory");
     assert!(rt; copy.same(&taken));
 }
@@ -93,11 +105,17 @@ fn a_union_of_two(rt: HostRuntime) {
     let taken = settled(&rt, rt.alloc());
     let other = filled(&rt, rt.alloc(), &[(0, 1), (0, 2), (1, 0)]);
     let both = union(&rt, &taken, &other);
-    assert_eq!(rt; (both.front(0), both.len()), (2, 5));
-    assert_eq!(rt; both.loose(0), [2, 3].as_slice());
-    assert_eq!(rt; both.loose(1), [0].as_slice());
-    assert!(rt; both.covers(&taken) && both.covers(&other));
-    assert!(rt; !taken.covers(&both) && !other.covers(&both));
+    assert_eq!(rt;
+        (both.front(0), both.len(), both.loose(0), both.loose(1)),
+        (2, 5, [2, 3].as_slice(), [0].as_slice())
+    );
+    assert_eq!(rt; cover(&both, &taken), (true, false));
+    assert_eq!(rt; cover(&both, &other), (true, false));
+}
+
+/// Whether the first covers the second, and the second the first.
+fn cover(one: &Taken<Global>, other: &Taken<Global>) -> (bool, bool) {
+    (one.covers(other), other.covers(one))
 }
 
 #[test]
@@ -105,9 +123,15 @@ fn nothing_is_taken_of_a_processor_that_is_not_there(rt: HostRuntime) {
     let mut taken = filled(&rt, rt.alloc(), &[(1, 7)]);
     taken.settle(2);
     assert!(rt; taken.same(&filled(&rt, rt.alloc(), &[(1, 7)])));
-    assert_eq!(rt; (taken.front(2), taken.reach(2)), (0, 0));
-    assert_eq!(rt; taken.loose(2).len(), 0);
-    assert!(rt; !taken.has(2, 0));
+    assert_eq!(rt;
+        (
+            taken.front(2),
+            taken.reach(2),
+            taken.loose(2),
+            taken.has(2, 0)
+        ),
+        (0, 0, [].as_slice(), false)
+    );
 }
 
 // ---- refused allocations

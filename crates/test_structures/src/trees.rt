@@ -90,21 +90,24 @@ fn plus<A: Allocator + Clone>(
 }
 
 fn has_shared_outer_frames<A: Allocator + Clone>(rt: &impl Abort, tree: &StackTree<A>) {
-    assert_eq!(rt; tree.under(&[], SLOT), count(2, 1));
-    assert_eq!(rt; tree.under(&[0x10, 0x20], SLOT), count(2, 0));
-    assert_eq!(rt; tree.under(&[0x10, 0x20, 0x40], SLOT), count(1, 0));
-    assert_eq!(rt; tree.under(&[0x20], SLOT), count(0, 0));
-    assert_eq!(rt; tree.at(SLOT, &stack(&X)), count(1, 0));
-    assert_eq!(rt; tree.at(SLOT, &stack(&[0x20, 0x10])), count(0, 0));
-    assert_eq!(rt; tree.total(), 3);
+    let under = [
+        tree.under(&[], SLOT),
+        tree.under(&[0x10, 0x20], SLOT),
+        tree.under(&[0x10, 0x20, 0x40], SLOT),
+        tree.under(&[0x20], SLOT),
+    ];
+    assert_eq!(rt; under, [count(2, 1), count(2, 0), count(1, 0), count(0, 0)]);
+    let at = [tree.at(SLOT, &stack(&X)), tree.at(SLOT, &stack(&X[1..]))];
+    assert_eq!(rt; (at, tree.total()), ([count(1, 0), count(0, 0)], 3));
 }
 
 fn adds_to_its_copy<A: Allocator + Clone>(rt: &impl Abort, tree: &StackTree<A>) {
     let copy = tree.copy().expect(rt, "the memory");
-    assert!(rt; copy.same(tree));
     let sum = plus(rt, tree, &copy);
-    assert_eq!(rt; sum.total(), 6);
-    assert_eq!(rt; sum.at(SLOT, &stack(&X)), count(2, 0));
+    assert_eq!(rt;
+        (copy.same(tree), sum.total(), sum.at(SLOT, &stack(&X))),
+        (true, 6, count(2, 0))
+    );
 }
 
 // Whether the tree that is made in this order is this one.
@@ -121,10 +124,13 @@ fn shared_outer_frames<A: Allocator + Clone + Copy>(rt: &impl Abort, alloc: A) {
     let tree = three(rt, alloc, &[0, 1, 2]);
     has_shared_outer_frames(rt, &tree);
     adds_to_its_copy(rt, &tree);
-    for order in [[2, 1, 0], [1, 0, 2], [0, 2, 1]] {
-        assert!(rt; is_same_in(rt, alloc, &order, &tree));
-    }
-    assert!(rt; !is_same_in(rt, alloc, &[0, 1], &tree));
+    let same = [
+        is_same_in(rt, alloc, &[2, 1, 0], &tree),
+        is_same_in(rt, alloc, &[1, 0, 2], &tree),
+        is_same_in(rt, alloc, &[0, 2, 1], &tree),
+        is_same_in(rt, alloc, &[0, 1], &tree),
+    ];
+    assert_eq!(rt; same, [true, true, true, false]);
 }
 
 #[test]
@@ -163,11 +169,12 @@ fn sums_of_three(rt: HostRuntime) {
         &first_two(&rt, rt.alloc()),
         &with_other(&rt, rt.alloc()),
     );
-    assert_eq!(rt; sum.total(), 8);
     let other = plus(&rt, &one(&rt, rt.alloc()), &last_two(&rt, rt.alloc()));
-    assert!(rt; sum.same(&other));
     let only = plus(&rt, &StackTree::new(rt.alloc()), &sum);
-    assert!(rt; only.same(&sum));
+    assert_eq!(rt;
+        (sum.total(), sum.same(&other), only.same(&sum)),
+        (8, true, true)
+    );
 }
 
 // The three and an open at X.
@@ -179,10 +186,8 @@ fn four(rt: &impl Abort, alloc: Global) -> StackTree<Global> {
 
 fn has_rows(rt: &impl Abort, alloc: Global, tree: &StackTree<Global>, wanted: &[(&[u64], Count)]) {
     let rows = tree.rows(alloc, SLOT).expect(rt, "the memory");
-    assert_eq!(rt; rows.len(), wanted.len());
-    for ((stack, count), (frames, number)) in rows.iter().zip(wanted) {
-        assert_eq!(rt; (stack.frames(), *count), (*frames, *number));
-    }
+    let found = rows.iter().map(|row| (row.0.frames(), row.1));
+    assert!(rt; found.eq(wanted.iter().copied()));
 }
 
 fn has_rows_of(
@@ -193,10 +198,8 @@ fn has_rows_of(
     wanted: &[(Slot, &[u64], Count)],
 ) {
     let rows = tree.rows_of(alloc, slots).expect(rt, "the memory");
-    assert_eq!(rt; rows.len(), wanted.len());
-    for (((slot, stack), count), (of, frames, number)) in rows.iter().zip(wanted) {
-        assert_eq!(rt; (*slot, stack.frames(), *count), (*of, *frames, *number));
-    }
+    let found = rows.iter().map(|row| (row.0.0, row.0.1.frames(), row.1));
+    assert!(rt; found.eq(wanted.iter().copied()));
 }
 
 fn has_sums(rt: &impl Abort, alloc: Global, tree: &StackTree<Global>) {
@@ -255,10 +258,9 @@ fn slots_with_one_mark_are_distinct(rt: HostRuntime) {
             process: 4 * number,
         };
         let times = 1 - number % 2;
-        let opens = count(u64::from(times), 0);
-        assert_eq!(rt; tree.under(&[], slot), opens, "{number}");
         let rows = rows_of(&rt, rt.alloc(), &tree, slot);
-        assert_eq!(rt; rows, times as usize, "{number}");
+        let wanted = (count(u64::from(times), 0), times as usize);
+        assert_eq!(rt; (tree.under(&[], slot), rows), wanted, "{number}");
     }
 }
 

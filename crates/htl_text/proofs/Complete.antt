@@ -1,6 +1,6 @@
 -- What lines encode, or else their first fault, is what reading comes to.
-use Rattle.std.proofs.Common.{◌≡◌, ◌≤◌, ◌<◌, ◌+◌, ℕ, zero, suc, Bool, true, false, List, [], ◌∷◌, ◌++◌, length, refl, arith, ap, sym, ◌∙◌, length-append, add-zero}
-use Rattle.std.specs.Prelude.{Option, Some, None, Result, Ok, Err, All, map, if◌then◌else◌}
+use Rattle.std.proofs.Common.{◌≡◌, ◌+◌, ℕ, suc, Bool, true, false, List, [], ◌∷◌, ◌++◌, length, refl, arith, ap, sym, ◌∙◌, length-append, add-zero}
+use Rattle.std.specs.Prelude.{Option, Some, None, Ok, Err, All, map}
 use Rattle.std.specs.List.{flat_map}
 use Rattle.std.proofs.lemmas.Bool.{false≢true}
 use Rattle.std.proofs.lemmas.List.{append_assoc, append-nil}
@@ -18,10 +18,10 @@ use Rattle.htl_text.specs.declared.item.Item.{Item}
 use Rattle.htl_text.specs.declared.item.Item.TheVariants as item
 use Rattle.htl_text.specs.declared.fault.LineFault.{LineFault}
 use Rattle.htl_text.specs.declared.fault.LineFault.TheVariants.{Form, Order, Segment}
-use Rattle.htl_text.specs.Items.{Draft, LoneEvent, with_stack, without_stack, event_items, draft_items, draft_of, segments_items}
+use Rattle.htl_text.specs.Items.{Draft, with_stack, without_stack, event_items, draft_items, draft_of, segments_items}
 use Rattle.htl_text.specs.Lines.{words_of, is_passed_over, item_in}
-use Rattle.htl_text.specs.Encoded.{draft, draft_fault, content_of, Write, kept, Written, written_items, WrittenFits, IsBad, LinesEncode, LinesFault, IsLineFault, IsSegmentFault, ends_before, begins_segment, is_misplaced, is_none_yet}
-use Rattle.htl_text.proofs.Holding.{Open, opened, all_of, draft_in, contents, checked, ended, renewed, framed, with_frame_in, item_read, form_read, words_read, goes_on, lines_read}
+use Rattle.htl_text.specs.Encoded.{draft, draft_fault, Write, kept, Written, written_items, WrittenFits, IsBad, LinesEncode, LinesFault, IsLineFault, IsSegmentFault, ends_before, begins_segment, is_misplaced, is_none_yet}
+use Rattle.htl_text.proofs.Holding.{Open, opened, all_of, draft_in, checked, ended, renewed, framed, with_frame_in, item_read, words_read, goes_on, lines_read}
 use Rattle.htl_text.proofs.Writing.{kept_one, kept_passed, kept_nil}
 
 -- Reading these lines leads from one state to another, whatever follows.
@@ -145,7 +145,7 @@ begun_draft : (first : List ℕ) (body : List (List ℕ)) (n : ℕ) (o : Option 
 begun_draft first body n o done d closed e h =
     let one = first_of first body (item.Segment d.head) (flat_map event_items d.events) e h in
     let read : words_read (n + 1) (words_of first) o ≡ Ok (Some (opened done (n + 1) d.head None)) =
-        taken (n + 1) first o (item.Segment d.head) e one.found ∙ ap (renewed (n + 1) d.head) closed in
+    taken (n + 1) first o (item.Segment d.head) e one.found ∙ ap (renewed (n + 1) d.head) closed in
     rw (← one_more_line n (length body)) (leads_step first body n (n + 1 + length body) o (Some (opened done (n + 1) d.head None))
     (Some (opened done (n + 1) d.head (with_events None d.events))) read
     (leads_events body (n + 1) done (n + 1) d.head None [] d.events one.rest tt))
@@ -164,7 +164,7 @@ leads_draft (l ∷ ls) n o done d closed h = by_case (leads_draft ls (n + 1) o d
           events = m.events;
           all = m.all;
           leads = rw (← one_more_line n (length ls)) (leads_step l ls n (n + 1 + length ls) o o (Some (opened done m.line d.head m.events))
-          (passed (n + 1) l o e) m.leads);
+              (passed (n + 1) l o e) m.leads);
         }
     by_case more false e = record {
       line = n + 1;
@@ -238,12 +238,12 @@ leads_segments (s ∷ ss) ls n o done closed h fits =
     let d = leads_draft p.front n o done (draft_of s) closed p.first in
     let well = ends_well done d.line s d.events d.all (All-head Fits s ss fits) in
     let q = leads_segments ss p.back (n + length p.front) (Some (opened done d.line (draft_of s).head d.events)) (done ++ s ∷ []) well p.next
-        (All-tail Fits s ss fits) in
+    (All-tail Fits s ss fits) in
     record {
       state = q.state;
       leads = leads_as ls (p.front ++ p.back) n (n + length p.front + length p.back) o q.state p.cut (added_up n p.front p.back)
-      (leads_on p.front p.back n (n + length p.front) (n + length p.front + length p.back) o
-      (Some (opened done d.line (draft_of s).head d.events)) q.state d.leads q.leads);
+          (leads_on p.front p.back n (n + length p.front) (n + length p.front + length p.back) o
+          (Some (opened done d.line (draft_of s).head d.events)) q.state d.leads q.leads);
       closed = rw (← append_assoc done (s ∷ []) ss) q.closed;
     }
 
@@ -267,6 +267,7 @@ breaks (l ∷ ls) m o f end is = by_case (breaks ls (m + 1) o f) (is_passed_over
     by_item (Some (item.Event event)) begins found e = absurd (false≢true begins)
     by_item (Some (item.Frame address)) begins found e = absurd (false≢true begins)
     by_item (Some (item.Segment head)) begins found e = rw (e, found, is) refl
+
     by_case : (ends_before (kept ls) ≡ true → draft_fault (draft_in o) ≡ Some f → lines_read (m + 1) ls (Some o) ≡ Err (o.line, Segment f))
         → (b : Bool) → is_passed_over (words_of l) ≡ b → lines_read m (l ∷ ls) (Some o) ≡ Err (o.line, Segment f)
     by_case more true e = rw e (more (rw (kept_passed l ls e) at end) is)
@@ -307,7 +308,7 @@ written_leads before (Some so_far) fits h =
     record {
       state = state;
       leads = leads_as before (p.front ++ p.back) 0 (0 + length p.front + length p.back) None state p.cut (added_up 0 p.front p.back)
-      (leads_on p.front p.back 0 (0 + length p.front) (0 + length p.front + length p.back) None q.state state q.leads d.leads);
+          (leads_on p.front p.back 0 (0 + length p.front) (0 + length p.front + length p.back) None q.state state q.leads d.leads);
       is = d.all;
     }
 

@@ -1,7 +1,7 @@
 -- A text's lines are its first one, up to the first line feed, and those that follow it; an empty rest changes nothing.
 use Rattle.std.proofs.Common.{◌≡◌, ◌+◌, ◌⊎◌, inl, inr, ℕ, Bool, true, false, List, [], ◌∷◌, length, take, drop, refl, sym, ◌∙◌, ap}
-use Rattle.std.specs.Prelude.{Result, Ok, Err, position, unwrap_or, map}
-use Rattle.std.specs.List.{onto_first, position_or_len, slice_split}
+use Rattle.std.specs.Prelude.{Result, Ok, Err, position, unwrap_or}
+use Rattle.std.specs.List.{slice_split}
 use Rattle.std.specs.Str.Lines.{strip_carriage_return}
 use Rattle.std.proofs.lemmas.List.Recursion.{is_position_or_len}
 use Rattle.htl_text.specs.declared.fault.LineFault.{LineFault}

@@ -1,13 +1,11 @@
 -- Reading with whole stacks: what is held of it goes the same way.
-use Rattle.std.proofs.Common.{◌≡◌, ◌≤◌, ◌<◌, ◌+◌, ℕ, suc, Bool, true, false, List, [], ◌∷◌, ◌++◌, length, take, refl, arith, ap, sym, ◌∙◌, add-zero, zero-add, length-append}
-use Rattle.std.specs.Prelude.{Option, Some, None, Result, Ok, Err, map, nat_lt, option_map, option_to_list, unwrap_or, if◌then◌else◌}
-use Rattle.std.specs.List.{flat_map}
+use Rattle.std.proofs.Common.{◌≡◌, ◌≤◌, ◌<◌, ◌+◌, ℕ, Bool, true, false, List, [], ◌∷◌, ◌++◌, length, refl, arith, ap, sym, ◌∙◌, add-zero, zero-add, length-append}
+use Rattle.std.specs.Prelude.{Option, Some, None, Result, Ok, Err, map, nat_lt, unwrap_or, if◌then◌else◌}
 use Rattle.std.proofs.lemmas.Bool.{ltb-true, ltb-false}
 use Rattle.std.proofs.lemmas.Bool.Decides.{nat_tests}
 use Rattle.std.proofs.lemmas.Grind.{flat_map-append}
 use Rattle.std.proofs.lemmas.List.{map-append, length-take-le, take_all, take-append-le, append-nil}
 use Rattle.htl_event.specs.Events.{Event}
-use Rattle.htl_segment.specs.Building.{build_fault}
 use Rattle.htl_segment.specs.Bundles.{bundle}
 use Rattle.htl_segment.specs.Content.{Content}
 use Rattle.htl_segment.specs.Encoding.{encoding}
@@ -21,8 +19,8 @@ use Rattle.htl_text.specs.declared.fault.LineFault.{LineFault}
 use Rattle.htl_text.specs.declared.fault.LineFault.TheVariants.{Form, Order, Segment}
 use Rattle.htl_text.specs.Items.{Draft, LoneEvent, with_stack}
 use Rattle.htl_text.specs.Lines.{words_of, is_passed_over, item_in}
-use Rattle.htl_text.specs.Encoded.{draft, draft_fault, content_of, fault_in}
-use Rattle.htl_text.specs.Steps.{Held, Progress, held, progress, nothing_read, begun, with_event, with_frame, with_frame_of, overfull_after, settled, with_overfull, held_fault, held_draft, draft_bytes, bytes_or_fault, closed, reopened, after_frame_of, after_item, after_form, after_words, go_on, read}
+use Rattle.htl_text.specs.Encoded.{draft, draft_fault, content_of}
+use Rattle.htl_text.specs.Steps.{Held, Progress, held, progress, nothing_read, begun, with_event, with_frame_of, settled, held_fault, bytes_or_fault, closed, reopened, after_frame_of, after_item, after_form, after_words, go_on, read}
 use Rattle.htl_text.proofs.Overfull.{cut, is_deep, first_deep, length_cut, overfull_draft, whole_draft}
 
 -- The segments that are ended, and the draft that is being read: the line at which it begins, its header, and its
@@ -236,6 +234,7 @@ words_held line ws o = by_case (is_passed_over ws)
     by_form : (i : Option Item) → after_form line i (holding o) ≡ held_in (form_read line i o)
     by_form None = refl
     by_form (Some i) = item_held line i o
+
     by_case : (b : Bool) → (if b then Ok (holding o) else after_form line (item_in ws) (holding o))
         ≡ held_in (if b then Ok o else form_read line (item_in ws) o)
     by_case true = refl

@@ -1,12 +1,11 @@
 -- The numbers of an item that a line has fit their fields.
-use Rattle.std.proofs.Common.{◌≡◌, ◌≤◌, ◌<◌, ◌^◌, ◌-◌, ◌+◌, ℕ, Bool, true, false, List, [], ◌∷◌, length, refl, arith, leb}
+use Rattle.std.proofs.Common.{◌≡◌, ◌≤◌, ◌<◌, ◌^◌, ◌-◌, ◌+◌, ℕ, Bool, true, false, List, [], ◌∷◌, length, refl, arith}
 use Rattle.std.specs.Prelude.{Option, Some, None, codes, if◌then◌else◌, nat_eq, nat_le, nat_lt, option_map, ◌&&◌, ◌==◌}
 use Rattle.std.specs.List.{AllByRecursion, list_all, starts_with}
 use Rattle.std.specs.Char.{is_digit}
 use Rattle.std.specs.Int.{to_be_bytes, w32}
 use Rattle.std.specs.Str.Parse.{digits_value}
 use Rattle.std.proofs.lemmas.Bool.{eqb-true, leb-true}
-use Rattle.std.proofs.lemmas.Bool.Decides.{nat_tests}
 use Rattle.htl_event.specs.declared.event.Event.{Event as EventWith}
 use Rattle.htl_event.specs.declared.kind.Kind.{Kind}
 use Rattle.htl_event.specs.declared.kind.Kind.TheVariants.{Opened, Closed, BadRef, Snapshot, Ref, Deref, Exited}
@@ -108,9 +107,11 @@ tag_on text = by_length (length text == 4) refl
     by_visible : (b : Bool) → list_all is_visible text ≡ b → length text ≡ 4 → OnSome (if b then Some text else None) IsTag
     by_visible true e four = (four, visible_bytes text e)
     by_visible false e four = tt
+
     digits : (v : Option ℕ) → OnSome (option_map (to_be_bytes w32) v) IsTag
     digits None = tt
     digits (Some n) = four_bytes n
+
     by_length : (b : Bool) → (length text == 4) ≡ b
         → OnSome (if b then (if list_all is_visible text then Some text else None)
         else (if length text == 10 then option_map (to_be_bytes w32) (handle_value text) else None)) IsTag

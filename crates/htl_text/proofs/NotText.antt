@@ -1,7 +1,7 @@
 -- Bytes that are no text write no number.
-use Rattle.std.proofs.Common.{◌≡◌, ◌<◌, ◌≤◌, ℕ, Bool, true, false, List, [], ◌∷◌, length, refl, arith, drop, ltb}
+use Rattle.std.proofs.Common.{◌≡◌, ◌<◌, ◌≤◌, ℕ, Bool, true, false, List, [], ◌∷◌, length, refl, arith, drop}
 use Rattle.std.specs.Prelude.{None, ◌&&◌, codes, nat_eq, nat_le}
-use Rattle.std.specs.List.{list_all, starts_with}
+use Rattle.std.specs.List.{starts_with}
 use Rattle.std.specs.Char.{digit_value, is_digit}
 use Rattle.std.specs.Str.{IsAscii, IsUtf8}
 use Rattle.std.proofs.lemmas.Str.{IsUtf8-from_ascii}
@@ -58,6 +58,7 @@ no_hexadecimal most text none = by_case (nat_le (length (without_0x text)) 16) r
   where
     none_here : None ≡ number_of 16 most (without_0x text)
     none_here = none_of 16 most (without_0x text) (λ h. none (IsUtf8-from_ascii text (ascii_after_0x text h)))
+
     by_case : (b : Bool) → nat_le (length (without_0x text)) 16 ≡ b → None ≡ hexadecimal_number most text
     by_case true e = rw e none_here
     by_case false e = rw e refl

@@ -1,6 +1,6 @@
 -- What reading comes to, in the words of the contract: what the text encodes, or its first fault.
 use Rattle.std.proofs.Common.{◌≡◌, ◌⊎◌, inl, inr, ℕ, List, [], refl, ap, subst, sym, ◌∙◌}
-use Rattle.std.specs.Prelude.{Option, None, Result, Ok, Err, IfOk, IfErr, MatchResult}
+use Rattle.std.specs.Prelude.{None, Result, Ok, Err, IfOk, IfErr, MatchResult}
 use Rattle.htl_segment.specs.Bundles.{bundle}
 use Rattle.htl_segment.specs.Content.{Content}
 use Rattle.htl_text.specs.declared.fault.LineFault.{LineFault}

@@ -1,5 +1,5 @@
 -- The fault of a draft is known by what is held of it: the first 64 frames of each stack, and where one had more.
-use Rattle.std.proofs.Common.{◌≡◌, ◌≤◌, ◌<◌, ◌+◌, ℕ, suc, Bool, true, false, List, [], ◌∷◌, ◌++◌, length, take, refl, arith, ap, sym, ◌∙◌}
+use Rattle.std.proofs.Common.{◌≡◌, ◌≤◌, ◌<◌, ◌+◌, ℕ, suc, Bool, true, false, List, [], ◌∷◌, length, take, refl, arith, ap}
 use Rattle.std.specs.Prelude.{Option, Some, None, map, nat_le, nat_lt, not, ◌||◌, ◌==◌, if◌then◌else◌}
 use Rattle.std.specs.List.{AllByRecursion}
 use Rattle.std.proofs.lemmas.Bool.Decides.{nat_tests}
@@ -42,6 +42,7 @@ first_deep_from i (e ∷ es) = by_case (first_deep_from (i + 1) es) (is_deep e)
     later : (o : Option ℕ) → OnSome o (λ j. i + 1 ≤ j) → OnSome o (λ j. i ≤ j)
     later None h = tt
     later (Some j) h = omega arith
+
     by_case : OnSome (first_deep (i + 1) es) (λ j. i + 1 ≤ j) → (b : Bool) → OnSome (if b then Some i else first_deep (i + 1) es) (λ j. i ≤ j)
     by_case h true = omega arith
     by_case h false = later (first_deep (i + 1) es) h
@@ -150,6 +151,7 @@ overfull_events v i last (e ∷ es) = by_case (overfull_events v (i + 1) e.seque
   where
     fault : Bool → Option Fault
     fault c = four i (nat_le e.sequence last) (nat_lt (limits_of v).kinds (kind_code e.kind)) c (not (fields_fit e.kind e.handle e.object e.tag))
+
     by_case : with_overfull (first_deep (i + 1) es) (events_fault v (i + 1) e.sequence (map cut es)) ≡ events_fault v (i + 1) e.sequence es
         → (b : Bool) → is_deep e ≡ b
         → with_overfull (first_deep i (e ∷ es)) (events_fault v i last (map cut (e ∷ es))) ≡ events_fault v i last (e ∷ es)
@@ -203,6 +205,7 @@ overfull_draft head es = by_version (version_of head.version) refl
     any : (o : Option ℕ) → with_overfull o (Some faults.Version) ≡ Some faults.Version
     any None = refl
     any (Some i) = refl
+
     by_version : (o : Option Version) → version_of head.version ≡ o
         → with_overfull (first_deep 0 es) (draft_fault (draft head (map cut es))) ≡ draft_fault (draft head es)
     by_version None is = rw is (any (first_deep 0 es))
@@ -224,8 +227,8 @@ unfolding events_fault event_fault
 whole_events v i last [] h = refl
 whole_events v i last (e ∷ es) h =
     let found = no_four i (nat_le e.sequence last) (nat_lt (limits_of v).kinds (kind_code e.kind))
-        (nat_lt (limits_of v).frames (length e.stack)) (not (fields_fit e.kind e.handle e.object e.tag))
-        (events_fault v (i + 1) e.sequence es) h in
+    (nat_lt (limits_of v).frames (length e.stack)) (not (fields_fit e.kind e.handle e.object e.tag))
+    (events_fault v (i + 1) e.sequence es) h in
     rw (cut_whole e (not_deep v e found.0), whole_events v (i + 1) e.sequence es found.1) refl
 
 low_stack : (e : Event) → is_deep e ≡ false → length e.stack ≤ 64
@@ -236,8 +239,8 @@ unfolding events_fault event_fault
 shallow_events v i last [] h = tt
 shallow_events v i last (e ∷ es) h =
     let found = no_four i (nat_le e.sequence last) (nat_lt (limits_of v).kinds (kind_code e.kind))
-        (nat_lt (limits_of v).frames (length e.stack)) (not (fields_fit e.kind e.handle e.object e.tag))
-        (events_fault v (i + 1) e.sequence es) h in
+    (nat_lt (limits_of v).frames (length e.stack)) (not (fields_fit e.kind e.handle e.object e.tag))
+    (events_fault v (i + 1) e.sequence es) h in
     (low_stack e (not_deep v e found.0), shallow_events v (i + 1) e.sequence es found.1)
 
 no_parts : (p q r s : Bool) (rest : Option Fault) → parts p q r s rest ≡ None → rest ≡ None

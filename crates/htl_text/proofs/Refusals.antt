@@ -3,7 +3,7 @@ use Rattle.std.proofs.Common.{◌≡◌, ℕ, refl, ap, sym}
 use Rattle.std.specs.Prelude.{Option, Some, None, MatchOption}
 use Rattle.htl_segment.specs.declared.fault.Fault.{Fault}
 use Rattle.htl_segment.specs.declared.fault.Fault.TheVariants as faults
-use Rattle.htl_text.specs.Steps.{IsReported, refused_of, with_overfull, overfull_fault}
+use Rattle.htl_text.specs.Steps.{IsReported, refused_of, with_overfull}
 
 pub is_reported : (line : ℕ) (overfull : Option ℕ) (first : Option Fault) (fault : Fault)
     → MatchOption first (fault ≡ faults.NoMemory) (λ f. fault ≡ f) → IsReported line (with_overfull overfull first) (refused_of line overfull fault)

@@ -18,12 +18,12 @@ use Rattle.htl_text.specs.declared.item.Head.{Head}
 use Rattle.htl_text.specs.declared.item.Item.{Item}
 use Rattle.htl_text.specs.declared.item.Item.TheVariants as item
 use Rattle.htl_text.specs.declared.fault.LineFault.{LineFault}
-use Rattle.htl_text.specs.declared.fault.LineFault.TheVariants.{Form, Order, Segment}
+use Rattle.htl_text.specs.declared.fault.LineFault.TheVariants.{Form, Order}
 use Rattle.htl_text.specs.Items.{Draft, LoneEvent, with_stack, draft_items, draft_of, segments_items}
 use Rattle.htl_text.specs.Lines.{words_of, is_passed_over, item_in}
-use Rattle.htl_text.specs.Encoded.{draft, draft_fault, content_of, Write, kept, Written, written_items, WrittenFits, IsBad, LinesEncode, LinesFault, IsLineFault, IsSegmentFault, ends_before, begins_segment}
+use Rattle.htl_text.specs.Encoded.{draft, draft_fault, content_of, Write, kept, Written, written_items, WrittenFits, IsBad, LinesEncode, LinesFault, IsLineFault, IsSegmentFault, ends_before}
 use Rattle.htl_text.proofs.Holding.{Open, opened, all_of, draft_in, contents, checked, ended, renewed, framed, with_frame_in, item_read, form_read, words_read, goes_on, lines_read}
-use Rattle.htl_text.proofs.ItemRanges.{IsTag, PartsInRange, ItemInRange, item_on, OnSome}
+use Rattle.htl_text.proofs.ItemRanges.{PartsInRange, ItemInRange, item_on, OnSome}
 use Rattle.htl_text.proofs.Overfull.{shallow_draft}
 use Rattle.htl_text.proofs.Writing.{write_append, write_passed, write_more, write_one, kept_one, kept_nil, draft_event, draft_frame, segments_more}
 
@@ -132,7 +132,7 @@ closing before n o h none = by_version (version_of o.head.version) refl
         let s : Content = content_of v (draft_in o) in
         let fit : Fits s = parts_fit s h.trace_id (in_range (all_of o.events) (all_in_range o.events h.events) (shallow_draft v (draft_in o) clean)) clean in
         let items : segments_items o.done ++ draft_items (draft_in o) ≡ segments_items (o.done ++ s ∷ []) =
-            sym (segments_more o.done s ∙ ap (λ d. segments_items o.done ++ draft_items d) (same_draft v (draft_in o) is)) in
+        sym (segments_more o.done s ∙ ap (λ d. segments_items o.done ++ draft_items d) (same_draft v (draft_in o) is)) in
         rw is (record {
           written = rw (h.cut, ← items) (write_append h.earlier (h.first ∷ h.body) (segments_items o.done) (draft_items (draft_in o)) h.written h.drafted);
           fits = All-push Fits o.done s h.fits fit;
@@ -265,18 +265,20 @@ event_advances : (before : List (List ℕ)) (l : List ℕ) (ls : List (List ℕ)
     → Advances before l ls n (item_read (n + 1) (item.Event e) o)
 event_advances before l ls n None e h seen found low = line_fails before l ls n None Order h seen (item.Event e, found, refl)
 event_advances before l ls n (Some o) e h seen found low =
-    grows before l n o (Some (all_of o.events, with_stack [] e)) (item.Event e) h seen found (draft_event o.head (all_of o.events) e)
-    (all_in_range o.events h.events, record {
-      parts = record {
-        sequence = low.sequence;
-        process = low.process;
-        thread = low.thread;
-        handle = low.handle;
-        object = low.object;
-        tag = low.tag;
-      };
-      stack = tt;
-    })
+    grows before l n o (Some (all_of o.events, with_stack [] e)) (item.Event e) h seen found (draft_event o.head (all_of o.events) e) (
+      all_in_range o.events h.events,
+      record {
+        parts = record {
+          sequence = low.sequence;
+          process = low.process;
+          thread = low.thread;
+          handle = low.handle;
+          object = low.object;
+          tag = low.tag;
+        };
+        stack = tt;
+      },
+    )
 
 frame_advances : (before : List (List ℕ)) (l : List ℕ) (ls : List (List ℕ)) (n : ℕ) (o : Option Open) (address : ℕ) → StandsAt before n o
     → is_passed_over (words_of l) ≡ false → item_in (words_of l) ≡ Some (item.Frame address) → address < 2 ^ 64
@@ -290,15 +292,20 @@ frame_advances before l ls n (Some o) address h seen found low = by_events o.eve
     by_events (Some events) is =
         let ranges : EventsAre (Some events) = rw is at h.events in
         grows before l n o (Some (events.0, framed address events.1)) (item.Frame address) h seen found
-        (rw is (draft_frame o.head events.0 events.1 address))
-        (ranges.0, record { parts = record {
-          sequence = ranges.1.parts.sequence;
-          process = ranges.1.parts.process;
-          thread = ranges.1.parts.thread;
-          handle = ranges.1.parts.handle;
-          object = ranges.1.parts.object;
-          tag = ranges.1.parts.tag;
-        }; stack = stack_push events.1.stack address ranges.1.stack low })
+        (rw is (draft_frame o.head events.0 events.1 address)) (
+          ranges.0,
+          record {
+            parts = record {
+              sequence = ranges.1.parts.sequence;
+              process = ranges.1.parts.process;
+              thread = ranges.1.parts.thread;
+              handle = ranges.1.parts.handle;
+              object = ranges.1.parts.object;
+              tag = ranges.1.parts.tag;
+            };
+            stack = stack_push events.1.stack address ranges.1.stack low;
+          },
+        )
 
 advances : (before : List (List ℕ)) (l : List ℕ) (ls : List (List ℕ)) (n : ℕ) (o : Option Open) → StandsAt before n o
     → Advances before l ls n (words_read (n + 1) (words_of l) o)
@@ -309,10 +316,12 @@ advances before l ls n o h = by_case (is_passed_over (words_of l)) refl
     by_item (item.Segment head) e found low = header_advances before l ls n o head h e found low
     by_item (item.Event event) e found low = event_advances before l ls n o event h e found low
     by_item (item.Frame address) e found low = frame_advances before l ls n o address h e found low
+
     by_form : (i : Option Item) → is_passed_over (words_of l) ≡ false → item_in (words_of l) ≡ i → OnSome i ItemInRange
         → Advances before l ls n (form_read (n + 1) i o)
     by_form None e found low = line_fails before l ls n o Form h e found
     by_form (Some i) e found low = by_item i e found low
+
     by_case : (b : Bool) → is_passed_over (words_of l) ≡ b
         → Advances before l ls n (if b then Ok o else form_read (n + 1) (item_in (words_of l)) o)
     by_case true e = passes before l n o h e

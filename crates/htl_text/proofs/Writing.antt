@@ -1,6 +1,6 @@
 -- Which items lines have that stand one after the other.
-use Rattle.std.proofs.Common.{◌≡◌, ℕ, Bool, true, false, List, [], ◌∷◌, ◌++◌, refl, ap, sym, ◌∙◌}
-use Rattle.std.specs.Prelude.{Option, Some, None, filter, map, not}
+use Rattle.std.proofs.Common.{◌≡◌, ℕ, true, false, List, [], ◌∷◌, ◌++◌, refl, ap, sym, ◌∙◌}
+use Rattle.std.specs.Prelude.{Some, filter, map, not}
 use Rattle.std.specs.List.{flat_map}
 use Rattle.std.proofs.lemmas.Grind.{flat_map-append}
 use Rattle.std.proofs.lemmas.List.{map-append, append_assoc, append-nil}
@@ -61,9 +61,9 @@ pub draft_frame : (head : Head) (es : List Event) (e : Event) (address : ℕ)
     → draft_items (draft head (es ++ framed address e ∷ [])) ≡ draft_items (draft head (es ++ e ∷ [])) ++ item.Frame address ∷ []
 draft_frame head es e address =
     let all : (f : Event) → flat_map event_items (es ++ f ∷ []) ≡ flat_map event_items es ++ event_items f =
-        λ f. flat_map-append event_items es (f ∷ []) ∙ ap (λ x. flat_map event_items es ++ x) (append-nil (event_items f)) in
+    λ f. flat_map-append event_items es (f ∷ []) ∙ ap (λ x. flat_map event_items es ++ x) (append-nil (event_items f)) in
     let more : event_items (framed address e) ≡ event_items e ++ item.Frame address ∷ [] =
-        ap (λ x. item.Event (without_stack e) ∷ x) (map-append item.Frame e.stack (address ∷ [])) in
+    ap (λ x. item.Event (without_stack e) ∷ x) (map-append item.Frame e.stack (address ∷ [])) in
     ap (λ items. item.Segment head ∷ items) (all (framed address e) ∙ (ap (λ x. flat_map event_items es ++ x) more
     ∙ (sym (append_assoc (flat_map event_items es) (event_items e) (item.Frame address ∷ []))
     ∙ ap (λ x. x ++ item.Frame address ∷ []) (sym (all e)))))

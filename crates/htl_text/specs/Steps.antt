@@ -1,12 +1,11 @@
 -- The steps of reading a text: what is held of a segment whose lines are being read, and what each line does.
-use Rattle.std.specs.Prelude.{◌≡◌, ℕ, ◌+◌, List, [], ◌∷◌, ◌++◌, Bool, Option, Some, None, Result, Ok, Err, length}
+use Rattle.std.specs.Prelude.{◌≡◌, ℕ, ◌+◌, List, [], ◌∷◌, ◌++◌, Option, Some, None, Result, Ok, Err, length}
 use Rattle.std.specs.Prelude.{if◌then◌else◌, nat_le, nat_lt, option_to_list, unwrap_or}
 use Rattle.htl_event.specs.Events.{Event}
 use Rattle.htl_segment.specs.Content.{Content}
 use Rattle.htl_segment.specs.Encoding.{encoding}
 use Rattle.htl_segment.specs.Reading.{version_of}
 use Rattle.htl_segment.specs.declared.version.Version.{Version}
-use Rattle.htl_segment.specs.declared.version.Version.TheVariants.{V1, V2}
 use Rattle.htl_segment.specs.declared.fault.Fault.{Fault}
 use Rattle.htl_segment.specs.declared.fault.Fault.TheVariants as faults
 use Rattle.htl_text.specs.Items.{Draft, LoneEvent, with_stack}

@@ -1,5 +1,4 @@
 -- What reading the text line by line comes to is what the contract says.
-use Rattle.std.proofs.Common.{rules}
 use Rattle.htl_text.proofs.Outcomes.{answer_found, answer_only, answer_cause, answer_fault}
 use Rattle.htl_text.proofs.encoding.encode.Goals as goal
 

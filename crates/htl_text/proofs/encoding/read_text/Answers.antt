@@ -9,5 +9,5 @@ pub returns : goal.returns
 returns c =
     let none : length c.loop-rest.rest.now ≡ 0 = search rules in
     let all : read 0 (lines_of c.args.text.now) nothing_read ≡ closed c.loop-rest.reader =
-        c.loop-rest.invariant.left ∙ read_ended c.loop-rest.number c.loop-rest.rest.now c.loop-rest.reader none in
+    c.loop-rest.invariant.left ∙ read_ended c.loop-rest.number c.loop-rest.rest.now c.loop-rest.reader none in
     rw all c.finish.ensures

@@ -1,5 +1,4 @@
 -- The text is its first line and the rest.
-use Rattle.std.proofs.Common.{rules}
 use Rattle.htl_text.proofs.FirstLine.{line_then_rest, last_line}
 use Rattle.htl_text.proofs.encoding.split_line.Goals as goal
 

@@ -10,3 +10,7 @@ pub mod Writing
 pub mod Sound
 pub mod Complete
 pub mod Outcomes
+pub mod Numerals
+pub mod DumpedLines
+pub mod DumpedFields
+pub mod Dumped

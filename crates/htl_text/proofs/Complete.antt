@@ -20,8 +20,10 @@ use Rattle.htl_text.specs.declared.fault.LineFault.{LineFault}
 use Rattle.htl_text.specs.declared.fault.LineFault.TheVariants.{Form, Order, Segment}
 use Rattle.htl_text.specs.Items.{Draft, with_stack, without_stack, event_items, draft_items, draft_of, segments_items}
 use Rattle.htl_text.specs.Lines.{words_of, is_passed_over, item_in}
-use Rattle.htl_text.specs.Encoded.{draft, draft_fault, Write, kept, Written, written_items, WrittenFits, IsBad, LinesEncode, LinesFault, IsLineFault, IsSegmentFault, ends_before, begins_segment, is_misplaced, is_none_yet}
-use Rattle.htl_text.proofs.Holding.{Open, opened, all_of, draft_in, checked, ended, renewed, framed, with_frame_in, item_read, words_read, goes_on, lines_read}
+use Rattle.htl_text.specs.Encoded.{draft, draft_fault, Write, kept, Written, written_items, WrittenFits, IsBad, LinesEncode, LinesFault, IsLineFault}
+use Rattle.htl_text.specs.Encoded.{IsSegmentFault, ends_before, begins_segment, is_misplaced, is_none_yet}
+use Rattle.htl_text.proofs.Holding.{Open, opened, all_of, draft_in, checked, ended, renewed, framed, with_frame_in, item_read, words_read, goes_on}
+use Rattle.htl_text.proofs.Holding.{lines_read}
 use Rattle.htl_text.proofs.Writing.{kept_one, kept_passed, kept_nil}
 
 -- Reading these lines leads from one state to another, whatever follows.

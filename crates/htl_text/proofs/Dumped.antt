@@ -1,7 +1,7 @@
 -- The text of segments that the format can encode has the items of these segments: each line is read as its item.
-use Rattle.std.proofs.Common.{◌≡◌, ◌≤◌, ◌<◌, ◌+◌, ◌-◌, ◌^◌, ℕ, zero, suc, Bool, true, false, List, [], ◌∷◌, ◌++◌, length, take, drop, get_or, refl, arith, ap, sym, ◌∙◌}
-use Rattle.std.specs.Prelude.{◌==◌, ◌&&◌, All, Option, Some, None, codes, nat_eq, not, if◌then◌else◌, map, option_map}
-use Rattle.std.specs.List.{AllByRecursion, flat_map, list_all, starts_with}
+use Rattle.std.proofs.Common.{◌≡◌, ◌≤◌, ◌<◌, ◌-◌, ◌^◌, ℕ, zero, suc, Bool, true, false, List, [], ◌∷◌, ◌++◌, length, get_or, refl, arith, ap, sym, ◌∙◌}
+use Rattle.std.specs.Prelude.{◌==◌, ◌&&◌, All, Some, codes, nat_eq, not, map}
+use Rattle.std.specs.List.{AllByRecursion, flat_map, list_all}
 use Rattle.std.specs.Cmp.Lexicographic.{pointwise}
 use Rattle.std.specs.Fmt.{decimal}
 use Rattle.std.specs.Int.{from_be_bytes, to_be_bytes, w32}
@@ -17,20 +17,22 @@ use Rattle.htl_numbers.specs.Numbers.{decimal_number}
 use Rattle.htl_numbers.specs.Written.{hex, padded}
 use Rattle.htl_numbers.proofs.Digits.{both}
 use Rattle.htl_segment.specs.Content.{Content, EventFits, EventsFit, Fits, fields_fit, is_no_tag}
-use Rattle.htl_segment.specs.Versions.{version_number}
 use Rattle.htl_segment.specs.declared.version.Version.{Version}
 use Rattle.htl_segment.specs.declared.version.Version.TheVariants.{V1, V2}
 use Rattle.htl_text.specs.declared.item.Head.{Head}
 use Rattle.htl_text.specs.declared.item.Item.{Item}
 use Rattle.htl_text.specs.declared.item.Item.TheVariants as item
 use Rattle.htl_text.specs.Items.{LoneEvent, without_stack, event_items, draft_items, draft_of, head_of, segments_items}
-use Rattle.htl_text.specs.Lines.{address_value, handle_value, tag_value, after_key, keyed, field, no_tag, place_in, head_in, event_in, handle_event_in, object_event_in, bad_reference_in, frame_in, item_in, is_passed_over, lines_of, words_of}
-use Rattle.htl_text.specs.Encoded.{Encodes, Write, kept}
-use Rattle.htl_text.specs.Texts.{event_line, event_text, frame_line, handle_part, head_line, is_visible, line_feed, object_part, origin, place_part, segment_text, subject, tag_text, version_part, word_of}
-use Rattle.htl_text.proofs.DumpedLines.{AllShown, IsShown, continued, continued_end, is_plain, line_first, plain_spaced, words_after_blank, words_spaced}
-use Rattle.htl_text.proofs.Numerals.{Writes, decimal_writes, hex_short, hex_writes, hexadecimal_read, length_padded, number_read, padded_writes, visible_digits}
-use Rattle.htl_text.proofs.Writing.{kept_nil, write_append, write_none, write_one}
-use Rattle.htl_text.proofs.DumpedFields.{Says, says_append, says_line, says_words, field_read, decimal_read, shown_decimal, shown_padded, shown_hex, address_read, handle_read}
+use Rattle.htl_text.specs.Lines.{address_value, handle_value, tag_value, no_tag, place_in, head_in, event_in, handle_event_in, object_event_in}
+use Rattle.htl_text.specs.Lines.{bad_reference_in, frame_in, item_in, is_passed_over, lines_of, words_of}
+use Rattle.htl_text.specs.Encoded.{Encodes, Write}
+use Rattle.htl_text.specs.Texts.{event_line, event_text, frame_line, handle_part, head_line, is_visible, line_feed, object_part, origin, place_part}
+use Rattle.htl_text.specs.Texts.{segment_text, subject, tag_text, version_part, word_of}
+use Rattle.htl_text.proofs.DumpedLines.{AllShown, IsShown, continued, is_plain, plain_spaced, words_after_blank, words_spaced}
+use Rattle.htl_text.proofs.Numerals.{hex_short, hexadecimal_read, length_padded, padded_writes}
+use Rattle.htl_text.proofs.Writing.{write_none}
+use Rattle.htl_text.proofs.DumpedFields.{Says, says_append, says_line, says_words, field_read, decimal_field, shown_decimal, shown_padded, shown_hex}
+use Rattle.htl_text.proofs.DumpedFields.{address_read, handle_read}
 
 -- frames
 
@@ -93,7 +95,7 @@ digits_read n low =
     let eight : length (padded 8 n) ≡ 8 = length_padded 8 n (hex_short 7 n (omega arith)) in
     let ten : length (codes "0x" ++ padded 8 n) ≡ 10 = ap (λ k. suc (suc k)) eight in
     let value : handle_value (codes "0x" ++ padded 8 n) ≡ Some n =
-        hexadecimal_read 8 (2 ^ 32 - 1) n (padded 8 n) (padded_writes 8 n (omega arith)) (omega (arith, eight)) (omega arith) (omega arith) in
+    hexadecimal_read 8 (2 ^ 32 - 1) n (padded 8 n) (padded_writes 8 n (omega arith)) (omega (arith, eight)) (omega arith) (omega arith) in
     rw ten (rw value refl)
 
 tag_read : (tag : List ℕ) → length tag ≡ 4 → AllByRecursion (λ b. b < 256) tag → tag_value (tag_text tag) ≡ Some tag
@@ -146,9 +148,9 @@ module _ (sequence process thread : ℕ) (low_s : sequence < 2 ^ 64) (low_p : pr
       → event_in kind handle object tag (origin_words sequence process thread) ≡ Some (item.Event (lone kind handle object tag sequence process thread))
   unfolding event_in
   origin_read kind handle object tag =
-      rw (field_read (codes "seq=") (decimal_number (2 ^ 64 - 1)) (decimal sequence) _ sequence (decimal_read (2 ^ 64 - 1) sequence (omega arith) low_s))
-      (rw (field_read (codes "process=") (decimal_number (2 ^ 32 - 1)) (decimal process) _ process (decimal_read (2 ^ 32 - 1) process (omega arith) (omega arith)))
-      (rw (field_read (codes "thread=") (decimal_number (2 ^ 32 - 1)) (decimal thread) [] thread (decimal_read (2 ^ 32 - 1) thread (omega arith) (omega arith)))
+      rw (decimal_field (codes "seq=") (2 ^ 64 - 1) sequence _ (omega arith) (omega arith))
+      (rw (decimal_field (codes "process=") (2 ^ 32 - 1) process _ (omega arith) (omega arith))
+      (rw (decimal_field (codes "thread=") (2 ^ 32 - 1) thread [] (omega arith) (omega arith))
       refl))
 
   handle_event_read : (kind : Kind) (handle : ℕ) → handle < 2 ^ 32 → handle_event_in kind (handle_words handle (origin_words sequence process thread))
@@ -183,7 +185,6 @@ module _ (sequence process thread : ℕ) (low_s : sequence < 2 ^ 64) (low_p : pr
   object_text object tag =
       ap (λ x. codes " object=0x" ++ x) (append_assoc (padded 16 object) (codes " tag=" ++ tag_text tag) (origin sequence process thread)
       ∙ ap (λ x. padded 16 object ++ (codes " tag=" ++ (tag_text tag ++ x))) origin_text)
-
 
 -- a line is its words, and these have the item
 record IsLineOf (line : List ℕ) (i : Item) : Type 0 where
@@ -402,9 +403,9 @@ place_read : (h : Head) → HeadLow h → place_in h.version h.trace_id ((codes 
     ∷ (codes "processor=" ++ decimal h.processor) ∷ (codes "number=" ++ decimal h.number) ∷ []) ≡ Some (item.Segment h)
 unfolding place_in
 place_read h low =
-    rw (field_read (codes "processors=") (decimal_number 0xFFFF) (decimal h.processors) _ h.processors (decimal_read 0xFFFF h.processors low.processors (omega (arith, low.processors))))
-    (rw (field_read (codes "processor=") (decimal_number 0xFFFF) (decimal h.processor) _ h.processor (decimal_read 0xFFFF h.processor low.processor (omega (arith, low.processor))))
-    (rw (field_read (codes "number=") (decimal_number 0xFFFFFFFF) (decimal h.number) [] h.number (decimal_read 0xFFFFFFFF h.number low.number (omega (arith, low.number))))
+    rw (decimal_field (codes "processors=") 0xFFFF h.processors _ low.processors (omega arith))
+    (rw (decimal_field (codes "processor=") 0xFFFF h.processor _ low.processor (omega arith))
+    (rw (decimal_field (codes "number=") 0xFFFFFFFF h.number [] low.number (omega arith))
     refl))
 
 head_read : (h : Head) → HeadLow h → head_in ((codes "version=" ++ decimal h.version) ∷ (codes "trace=" ++ (codes "0x" ++ padded 16 h.trace_id))
@@ -412,7 +413,7 @@ head_read : (h : Head) → HeadLow h → head_in ((codes "version=" ++ decimal h
     ≡ Some (item.Segment h)
 unfolding head_in
 head_read h low =
-    rw (field_read (codes "version=") (decimal_number 0xFFFF) (decimal h.version) _ h.version (decimal_read 0xFFFF h.version low.version (omega (arith, low.version))))
+    rw (decimal_field (codes "version=") 0xFFFF h.version _ low.version (omega arith))
     (rw (field_read (codes "trace=") address_value (codes "0x" ++ padded 16 h.trace_id) _ h.trace_id (address_read h.trace_id low.trace_id))
     (place_read h low))
 
@@ -424,9 +425,19 @@ head_line_is h low = record {
       ∷ (codes "processors=" ++ decimal h.processors) ∷ (codes "processor=" ++ decimal h.processor) ∷ (codes "number=" ++ decimal h.number) ∷ [];
   text = head_text h;
   first_shown = (refl, refl);
-  others_shown = ((refl, shown_decimal h.version (omega (arith, low.version))), ((refl, shown_padded 16 h.trace_id low.trace_id),
-      ((refl, shown_decimal h.processors (omega (arith, low.processors))), ((refl, shown_decimal h.processor (omega (arith, low.processor))),
-      ((refl, shown_decimal h.number (omega (arith, low.number))), tt)))));
+  others_shown = (
+    (refl, shown_decimal h.version (omega (arith, low.version))),
+    (
+      (refl, shown_padded 16 h.trace_id low.trace_id),
+      (
+        (refl, shown_decimal h.processors (omega (arith, low.processors))),
+        (
+          (refl, shown_decimal h.processor (omega (arith, low.processor))),
+          ((refl, shown_decimal h.number (omega (arith, low.number))), tt),
+        ),
+      ),
+    ),
+  );
   here = refl;
   says = head_read h low;
 }

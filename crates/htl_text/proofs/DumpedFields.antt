@@ -1,35 +1,20 @@
 -- Texts and the items of their lines, whatever follows them; and the words that have a key and its value.
-use Rattle.std.proofs.Common.{◌≡◌, ◌≤◌, ◌<◌, ◌+◌, ◌-◌, ◌^◌, ℕ, zero, suc, Bool, true, false, List, [], ◌∷◌, ◌++◌, length, take, drop, get_or, refl, arith, ap, sym, ◌∙◌}
-use Rattle.std.specs.Prelude.{◌==◌, ◌&&◌, All, Option, Some, None, codes, nat_eq, not, if◌then◌else◌, map, option_map}
-use Rattle.std.specs.List.{AllByRecursion, flat_map, list_all, starts_with}
+use Rattle.std.proofs.Common.{◌≡◌, ◌≤◌, ◌<◌, ◌-◌, ◌^◌, ℕ, true, false, List, [], ◌∷◌, ◌++◌, length, take, drop, refl, arith, ap, sym, ◌∙◌}
+use Rattle.std.specs.Prelude.{Option, Some, codes, nat_eq}
+use Rattle.std.specs.List.{list_all}
 use Rattle.std.specs.Cmp.Lexicographic.{pointwise}
 use Rattle.std.specs.Fmt.{decimal}
-use Rattle.std.specs.Int.{from_be_bytes, to_be_bytes, w32}
-use Rattle.std.proofs.lemmas.Bool.{eqb-true, eq-eqb}
-use Rattle.std.proofs.lemmas.List.{append_assoc, append-nil}
-use Rattle.std.proofs.lemmas.List.Elements.{All-head, All-tail}
-use Rattle.std.proofs.lemmas.Nat.{be_bytes_4}
-use Rattle.htl_event.specs.Events.{Event}
-use Rattle.htl_event.specs.Slots.{base_of}
-use Rattle.htl_event.specs.declared.kind.Kind.{Kind}
-use Rattle.htl_event.specs.declared.kind.Kind.TheVariants.{Opened, Closed, BadRef, Snapshot, Ref, Deref, Exited}
+use Rattle.std.proofs.lemmas.Bool.{eq-eqb}
+use Rattle.std.proofs.lemmas.List.{append_assoc}
 use Rattle.htl_numbers.specs.Numbers.{decimal_number}
 use Rattle.htl_numbers.specs.Written.{hex, padded}
-use Rattle.htl_numbers.proofs.Digits.{both}
-use Rattle.htl_segment.specs.Content.{Content, EventFits, EventsFit, Fits, fields_fit, is_no_tag}
-use Rattle.htl_segment.specs.Versions.{version_number}
-use Rattle.htl_segment.specs.declared.version.Version.{Version}
-use Rattle.htl_segment.specs.declared.version.Version.TheVariants.{V1, V2}
-use Rattle.htl_text.specs.declared.item.Head.{Head}
 use Rattle.htl_text.specs.declared.item.Item.{Item}
-use Rattle.htl_text.specs.declared.item.Item.TheVariants as item
-use Rattle.htl_text.specs.Items.{LoneEvent, without_stack, event_items, draft_items, draft_of, head_of, segments_items}
-use Rattle.htl_text.specs.Lines.{address_value, handle_value, tag_value, after_key, keyed, field, no_tag, place_in, head_in, event_in, handle_event_in, object_event_in, bad_reference_in, frame_in, item_in, is_passed_over, lines_of, words_of}
-use Rattle.htl_text.specs.Encoded.{Encodes, Write, kept}
-use Rattle.htl_text.specs.Texts.{event_line, event_text, frame_line, handle_part, head_line, is_visible, line_feed, object_part, origin, place_part, segment_text, subject, tag_text, version_part, word_of}
-use Rattle.htl_text.proofs.DumpedLines.{AllShown, IsShown, continued, continued_end, is_plain, line_first, plain_spaced, words_after_blank, words_spaced}
-use Rattle.htl_text.proofs.Numerals.{Writes, decimal_writes, hex_short, hex_writes, hexadecimal_read, length_padded, number_read, padded_writes, visible_digits}
-use Rattle.htl_text.proofs.Writing.{kept_nil, write_append, write_none, write_one}
+use Rattle.htl_text.specs.Lines.{address_value, handle_value, after_key, keyed, field, item_in, is_passed_over, lines_of, words_of}
+use Rattle.htl_text.specs.Encoded.{Write}
+use Rattle.htl_text.specs.Texts.{is_visible, line_feed}
+use Rattle.htl_text.proofs.DumpedLines.{AllShown, IsShown, continued, continued_end, is_plain, line_first, plain_spaced, words_spaced}
+use Rattle.htl_text.proofs.Numerals.{decimal_writes, hex_short, hex_writes, hexadecimal_read, length_padded, number_read, padded_writes, visible_digits}
+use Rattle.htl_text.proofs.Writing.{write_append, write_one}
 
 -- texts and their items, whatever follows them
 
@@ -52,7 +37,7 @@ pub says_words : (w : List ℕ) (ws : List (List ℕ)) (i : Item) → IsShown w 
 says_words w ws i shown more here is =
     let words = words_spaced w ws shown more in
     let line : w ++ continued ws line_feed ≡ (w ++ continued ws []) ++ line_feed =
-        ap (λ x. w ++ x) (continued_end ws line_feed) ∙ sym (append_assoc w (continued ws []) line_feed) in
+    ap (λ x. w ++ x) (continued_end ws line_feed) ∙ sym (append_assoc w (continued ws []) line_feed) in
     rw line (says_line (w ++ continued ws []) i (plain_spaced w ws shown more) (rw words here) (rw words is))
 
 -- fields
@@ -78,8 +63,10 @@ pub field_read : {A : Type 0} (key : List ℕ) (value : List ℕ → Option A) (
 unfolding field keyed
 field_read key value text ws a is = rw (after_key_read key text, is) refl
 
-pub decimal_read : (most n : ℕ) → n ≤ most → n < 2 ^ 64 → decimal_number most (decimal n) ≡ Some n
-decimal_read most n low small = number_read 10 most n (decimal n) (decimal_writes n small) low
+pub decimal_field : (key : List ℕ) (most n : ℕ) (ws : List (List ℕ)) → n ≤ most → most < 2 ^ 64
+    → field key (decimal_number most) ((key ++ decimal n) ∷ ws) ≡ Some (n, ws)
+decimal_field key most n ws low small =
+    field_read key (decimal_number most) (decimal n) ws n (number_read 10 most n (decimal n) (decimal_writes n (omega arith)) low)
 
 pub shown_decimal : (n : ℕ) → n < 2 ^ 64 → list_all is_visible (decimal n) ≡ true
 shown_decimal n low = visible_digits 10 (decimal n) (omega arith) (decimal_writes n low).numeral.1
@@ -98,4 +85,3 @@ address_read a low =
 pub handle_read : (h : ℕ) → h < 2 ^ 32 → handle_value (codes "0x" ++ hex h) ≡ Some h
 handle_read h low =
     hexadecimal_read 8 (2 ^ 32 - 1) h (hex h) (hex_writes h (omega arith)) (hex_short 7 h (omega arith)) (omega arith) (omega arith)
-

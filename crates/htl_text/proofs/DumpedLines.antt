@@ -1,13 +1,13 @@
 -- A line of visible words, each behind the first after a blank, is read as these words, whatever follows it.
-use Rattle.std.proofs.Common.{◌≡◌, ◌+◌, ◌-◌, ℕ, zero, suc, Bool, true, false, List, [], ◌∷◌, ◌++◌, length, refl, arith, ap, sym, ◌∙◌, get_or}
-use Rattle.std.specs.Prelude.{◌==◌, ◌&&◌, nat_le, filter, map, if◌then◌else◌}
+use Rattle.std.proofs.Common.{◌≡◌, ◌-◌, ℕ, suc, Bool, true, false, List, [], ◌∷◌, ◌++◌, length, refl, arith, ap, sym, ◌∙◌, get_or}
+use Rattle.std.specs.Prelude.{◌==◌, nat_le}
 use Rattle.std.specs.List.{list_all, slice_split}
 use Rattle.std.specs.Str.Lines.{strip_carriage_return}
 use Rattle.std.proofs.lemmas.Bool.Decides.{nat_tests}
 use Rattle.std.proofs.lemmas.List.{append_assoc, append-nil}
 use Rattle.std.proofs.lemmas.List.Folds.{list_all-append}
 use Rattle.htl_numbers.proofs.Digits.{both}
-use Rattle.htl_text.specs.Texts.{is_visible, line_feed}
+use Rattle.htl_text.specs.Texts.{is_visible}
 use Rattle.htl_text.specs.Lines.{is_word, lines_of, words_of}
 use Rattle.htl_text.specs.Words.{is_blank, is_feed}
 
@@ -22,11 +22,6 @@ AllShown (w ∷ ws) = IsShown w × AllShown ws
 abbrev pub continued : List (List ℕ) → List ℕ → List ℕ
 continued [] rest = rest
 continued (w ∷ ws) rest = 32 ∷ (w ++ continued ws rest)
-
--- words with blanks between them
-abbrev pub spaced : List (List ℕ) → List ℕ → List ℕ
-spaced [] rest = rest
-spaced (w ∷ ws) rest = w ++ continued ws rest
 
 -- no byte of a line's end
 abbrev pub is_plain : ℕ → Bool

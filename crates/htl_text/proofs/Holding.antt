@@ -1,5 +1,6 @@
 -- Reading with whole stacks: what is held of it goes the same way.
-use Rattle.std.proofs.Common.{◌≡◌, ◌≤◌, ◌<◌, ◌+◌, ℕ, Bool, true, false, List, [], ◌∷◌, ◌++◌, length, refl, arith, ap, sym, ◌∙◌, add-zero, zero-add, length-append}
+use Rattle.std.proofs.Common.{◌≡◌, ◌≤◌, ◌<◌, ◌+◌, ℕ, Bool, true, false, List, [], ◌∷◌, ◌++◌, length, refl, arith, ap, sym, ◌∙◌, add-zero, zero-add}
+use Rattle.std.proofs.Common.{length-append}
 use Rattle.std.specs.Prelude.{Option, Some, None, Result, Ok, Err, map, nat_lt, unwrap_or, if◌then◌else◌}
 use Rattle.std.proofs.lemmas.Bool.{ltb-true, ltb-false}
 use Rattle.std.proofs.lemmas.Bool.Decides.{nat_tests}
@@ -20,7 +21,8 @@ use Rattle.htl_text.specs.declared.fault.LineFault.TheVariants.{Form, Order, Seg
 use Rattle.htl_text.specs.Items.{Draft, LoneEvent, with_stack}
 use Rattle.htl_text.specs.Lines.{words_of, is_passed_over, item_in}
 use Rattle.htl_text.specs.Encoded.{draft, draft_fault, content_of}
-use Rattle.htl_text.specs.Steps.{Held, Progress, held, progress, nothing_read, begun, with_event, with_frame_of, settled, held_fault, bytes_or_fault, closed, reopened, after_frame_of, after_item, after_form, after_words, go_on, read}
+use Rattle.htl_text.specs.Steps.{Held, Progress, held, progress, nothing_read, begun, with_event, with_frame_of, settled, held_fault, bytes_or_fault, closed}
+use Rattle.htl_text.specs.Steps.{reopened, after_frame_of, after_item, after_form, after_words, go_on, read}
 use Rattle.htl_text.proofs.Overfull.{cut, is_deep, first_deep, length_cut, overfull_draft, whole_draft}
 
 -- The segments that are ended, and the draft that is being read: the line at which it begins, its header, and its
@@ -165,9 +167,6 @@ event_held : (line : ℕ) (head : Head) (events : Option (List Event × Event)) 
     → with_event e (hold line head events) ≡ hold line head (Some (all_of events, with_stack [] e))
 event_held line head None e = refl
 event_held line head (Some events) e = rw (map-append cut events.0 (events.1 ∷ []), empty_shallow (events.0 ++ events.1 ∷ []) e) refl
-
-with_stack_of : Event → List ℕ → Event
-with_stack_of e stack = record e { stack = stack }
 
 still_shallow : (before : List Event) (e : Event) (address : ℕ) → length e.stack < 64
     → first_deep 0 (before ++ e ∷ []) ≡ first_deep 0 (before ++ framed address e ∷ [])

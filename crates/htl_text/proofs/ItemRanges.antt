@@ -12,7 +12,8 @@ use Rattle.htl_event.specs.declared.kind.Kind.TheVariants.{Opened, Closed, BadRe
 use Rattle.htl_numbers.specs.Numbers.{number_of, decimal_number, hexadecimal_number, without_0x}
 use Rattle.htl_numbers.proofs.Digits.{both}
 use Rattle.htl_text.specs.Texts.{is_visible}
-use Rattle.htl_text.specs.Lines.{address_value, handle_value, hexadecimal_value, tag_value, keyed, value_first, field, after, ended, no_tag, head_in, place_in, event_in, handle_event_in, object_event_in, bad_reference_in, frame_in, item_in}
+use Rattle.htl_text.specs.Lines.{address_value, handle_value, hexadecimal_value, tag_value, keyed, value_first, field, after, ended, no_tag, head_in}
+use Rattle.htl_text.specs.Lines.{place_in, event_in, handle_event_in, object_event_in, bad_reference_in, frame_in, item_in}
 use Rattle.htl_text.specs.declared.item.Item.{Item}
 use Rattle.htl_text.specs.declared.item.Item.TheVariants as item
 use Rattle.std.specs.Str.{bytes_eq}

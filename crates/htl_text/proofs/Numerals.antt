@@ -1,15 +1,16 @@
 -- The numbers that decimal and hexadecimal digits write, as they are dumped, are read again.
-use Rattle.std.proofs.Common.{◌≡◌, ◌≤◌, ◌<◌, ◌+◌, ◌-◌, ◌/◌, ◌%◌, ◌^◌, ℕ, zero, suc, Bool, true, false, List, [], ◌∷◌, ◌++◌, length, replicate, refl, arith, ap, sym, ◌∙◌, length-append, pow-suc}
-use Rattle.std.specs.Prelude.{Option, Some, None, codes, if◌then◌else◌, nat_le, nat_lt, nat_eq, ◌&&◌, ◌==◌}
+use Rattle.std.proofs.Common.{◌≡◌, ◌≤◌, ◌<◌, ◌+◌, ◌-◌, ◌/◌, ◌%◌, ◌^◌, ℕ, zero, suc, Bool, true, false, List, [], ◌∷◌, ◌++◌, length, replicate, refl, arith}
+use Rattle.std.proofs.Common.{◌∙◌, length-append, pow-suc}
+use Rattle.std.specs.Prelude.{Some, codes, ◌==◌}
 use Rattle.std.specs.List.{list_all}
 use Rattle.std.specs.Fmt.{decimal, digits, digit_glyph, digits_onto}
 use Rattle.std.specs.Char.{digit_value, is_digit}
-use Rattle.std.specs.Str.Parse.{AllDigits, IsNumeral, digits_value, digits_value_after}
+use Rattle.std.specs.Str.Parse.{AllDigits, IsNumeral, digits_value}
 use Rattle.std.proofs.lemmas.Fmt.{digits_is_IsNumeral}
 use Rattle.std.proofs.lemmas.Bool.{lt-ltb, le-leb}
 use Rattle.std.proofs.lemmas.Bool.Decides.{nat_tests}
 use Rattle.std.proofs.lemmas.List.{length-replicate}
-use Rattle.htl_numbers.specs.Numbers.{number_of, decimal_number, hexadecimal_number, without_0x}
+use Rattle.htl_numbers.specs.Numbers.{number_of, hexadecimal_number, without_0x}
 use Rattle.htl_numbers.specs.Written.{hex, padded}
 use Rattle.htl_text.specs.Texts.{is_visible}
 use Rattle.htl_text.specs.Lines.{hexadecimal_value}

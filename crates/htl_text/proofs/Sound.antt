@@ -21,8 +21,10 @@ use Rattle.htl_text.specs.declared.fault.LineFault.{LineFault}
 use Rattle.htl_text.specs.declared.fault.LineFault.TheVariants.{Form, Order}
 use Rattle.htl_text.specs.Items.{Draft, LoneEvent, with_stack, draft_items, draft_of, segments_items}
 use Rattle.htl_text.specs.Lines.{words_of, is_passed_over, item_in}
-use Rattle.htl_text.specs.Encoded.{draft, draft_fault, content_of, Write, kept, Written, written_items, WrittenFits, IsBad, LinesEncode, LinesFault, IsLineFault, IsSegmentFault, ends_before}
-use Rattle.htl_text.proofs.Holding.{Open, opened, all_of, draft_in, contents, checked, ended, renewed, framed, with_frame_in, item_read, form_read, words_read, goes_on, lines_read}
+use Rattle.htl_text.specs.Encoded.{draft, draft_fault, content_of, Write, kept, Written, written_items, WrittenFits, IsBad, LinesEncode, LinesFault}
+use Rattle.htl_text.specs.Encoded.{IsLineFault, IsSegmentFault, ends_before}
+use Rattle.htl_text.proofs.Holding.{Open, opened, all_of, draft_in, contents, checked, ended, renewed, framed, with_frame_in, item_read, form_read}
+use Rattle.htl_text.proofs.Holding.{words_read, goes_on, lines_read}
 use Rattle.htl_text.proofs.ItemRanges.{PartsInRange, ItemInRange, item_on, OnSome}
 use Rattle.htl_text.proofs.Overfull.{shallow_draft}
 use Rattle.htl_text.proofs.Writing.{write_append, write_passed, write_more, write_one, kept_one, kept_nil, draft_event, draft_frame, segments_more}

@@ -4,7 +4,8 @@ ghost use Rattle.std.specs.List.{list_all};
 ghost use Rattle.htl_numbers.specs.Written.{padded};
 ghost use Rattle.htl_text.specs.Items.{head_of};
 ghost use Rattle.htl_text.specs.Texts.{event_line, event_text, frame_line, handle_part, head_line};
-ghost use Rattle.htl_text.specs.Texts.{is_visible, object_part, origin, place_part, segment_text, subject};
+ghost use Rattle.htl_text.specs.Texts.{is_visible, object_part, origin, place_part, segment_text};
+ghost use Rattle.htl_text.specs.Texts.{subject};
 ghost use Rattle.htl_text.specs.Texts.{tag_text, version_part, word_of};
 
 use crate::item::Head;

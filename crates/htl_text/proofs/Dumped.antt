@@ -13,7 +13,6 @@ use Rattle.htl_event.specs.Events.{Event}
 use Rattle.htl_event.specs.Slots.{base_of}
 use Rattle.htl_event.specs.declared.kind.Kind.{Kind}
 use Rattle.htl_event.specs.declared.kind.Kind.TheVariants.{Opened, Closed, BadRef, Snapshot, Ref, Deref, Exited}
-use Rattle.htl_numbers.specs.Numbers.{decimal_number}
 use Rattle.htl_numbers.specs.Written.{hex, padded}
 use Rattle.htl_numbers.proofs.Digits.{both}
 use Rattle.htl_segment.specs.Content.{Content, EventFits, EventsFit, Fits, fields_fit, is_no_tag}

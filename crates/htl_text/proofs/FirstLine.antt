@@ -5,6 +5,7 @@ use Rattle.std.specs.List.{slice_split}
 use Rattle.std.specs.Str.Lines.{strip_carriage_return}
 use Rattle.std.proofs.lemmas.List.Recursion.{is_position_or_len}
 use Rattle.htl_text.specs.declared.fault.LineFault.{LineFault}
+use Rattle.htl_text.specs.Encoded.{kept}
 use Rattle.htl_text.specs.Lines.{lines_of, words_of, is_passed_over}
 use Rattle.htl_text.specs.Steps.{Progress, closed, read, go_on, after_words, StartsWithLine}
 use Rattle.htl_text.specs.Words.{is_feed, line_end}
@@ -57,16 +58,41 @@ pub line_then_rest : (text front back : List ℕ) (len y : ℕ) (ys line : List 
 line_then_rest text front back len y ys line e f b is l =
     rw (l, f, e) (then_rest text y ys (is_cut text) (ap (λ k. drop k text) (sym e) ∙ (sym b ∙ is)))
 
+length_nil : (xs : List ℕ) → length xs ≡ 0 → xs ≡ []
+length_nil [] h = refl
+length_nil (x ∷ xs) h = cc
+
 -- and where none follows
 pub last_line : (text front back : List ℕ) (len : ℕ) (line : List ℕ) → len ≡ line_end text → front ≡ take len text
     → back ≡ drop len text → length back ≡ 0 → line ≡ strip_carriage_return front → StartsWithLine text line back
 last_line text front back len line e f b none l =
     let empty = length_nil back none in
     rw (l, f, e, empty) (no_rest text (is_cut text) (ap (λ k. drop k text) (sym e) ∙ (sym b ∙ empty)))
-  where
-    length_nil : (xs : List ℕ) → length xs ≡ 0 → xs ≡ []
-    length_nil [] h = refl
-    length_nil (x ∷ xs) h = cc
+
+-- the lines that aren't passed over, where a rest follows the first line feed, and where none follows
+
+kept_then_rest : (text : List ℕ) (y : ℕ) (ys : List ℕ) → IsCut text → drop (line_end text) text ≡ y ∷ ys
+    → kept (lines_of text) ≡ kept (strip_carriage_return (take (line_end text) text) ∷ lines_of ys)
+unfolding lines_of
+kept_then_rest text y ys (inl (none, parts)) is = cc
+kept_then_rest text y ys (inr (z, zs, rest, parts)) is = let e : zs ≡ ys = cc in rw (parts, e) refl
+
+kept_no_rest : (text : List ℕ) → IsCut text → drop (line_end text) text ≡ []
+    → kept (lines_of text) ≡ kept (strip_carriage_return (take (line_end text) text) ∷ lines_of [])
+unfolding lines_of kept words_of is_passed_over
+kept_no_rest text (inr (z, zs, rest, parts)) is = cc
+kept_no_rest text (inl (none, parts)) is = rw parts refl
+
+pub kept_line_then_rest : (text front back : List ℕ) (len y : ℕ) (ys line : List ℕ) → len ≡ line_end text → front ≡ take len text
+    → back ≡ drop len text → back ≡ y ∷ ys → line ≡ strip_carriage_return front → kept (lines_of text) ≡ kept (line ∷ lines_of ys)
+kept_line_then_rest text front back len y ys line e f b is l =
+    rw (l, f, e) (kept_then_rest text y ys (is_cut text) (ap (λ k. drop k text) (sym e) ∙ (sym b ∙ is)))
+
+pub kept_last_line : (text front back : List ℕ) (len : ℕ) (line : List ℕ) → len ≡ line_end text → front ≡ take len text
+    → back ≡ drop len text → length back ≡ 0 → line ≡ strip_carriage_return front → kept (lines_of text) ≡ kept (line ∷ lines_of back)
+kept_last_line text front back len line e f b none l =
+    let empty = length_nil back none in
+    rw (l, f, e, empty) (kept_no_rest text (is_cut text) (ap (λ k. drop k text) (sym e) ∙ (sym b ∙ empty)))
 
 -- a text with no byte left is read
 pub read_ended : (n : ℕ) (text : List ℕ) (p : Progress) → length text ≡ 0 → read n (lines_of text) p ≡ closed p

@@ -14,3 +14,4 @@ pub mod Numerals
 pub mod DumpedLines
 pub mod DumpedFields
 pub mod Dumped
+pub mod Beginnings

@@ -8,7 +8,7 @@ use Rattle.htl_text.specs.declared.fault.TextFault.{TextFault}
 use Rattle.htl_text.specs.declared.fault.TextFault.TheVariants as text
 use Rattle.htl_text.specs.Encoded.{Encodes, FirstFault, IsOrNoMemory, IsRefused}
 use Rattle.htl_text.specs.Lines.{lines_of}
-use Rattle.htl_text.specs.Steps.{read, nothing_read, Reports}
+use Rattle.htl_text.specs.Steps.{read, nothing_read, NeedsSegment, Reports}
 use Rattle.htl_text.proofs.Complete.{encoded_is_read, fault_is_read}
 use Rattle.htl_text.proofs.Holding.{bytes_in, lines_read, lines_held}
 use Rattle.htl_text.proofs.Sound.{Concludes, sound}
@@ -73,10 +73,10 @@ answer_only items bytes (Err (text.Line line fault)) is segments h =
 answer_only items bytes (Err text.NoMemory) is segments h = refl
 
 pub answer_cause : {V : Type 0} (items : V → List ℕ) (bytes : List ℕ) (answer : Result V TextFault) → Answers items bytes answer
-    → IfErr answer (λ refused. IsRefused bytes refused)
-answer_cause items bytes (Ok out) is = tt
-answer_cause items bytes (Err (text.Line line fault)) is = outcome_fault bytes line fault is
-answer_cause items bytes (Err text.NoMemory) is = tt
+    → IfErr answer (λ refused. NeedsSegment bytes refused) → IfErr answer (λ refused. IsRefused bytes refused)
+answer_cause items bytes (Ok out) is needs = tt
+answer_cause items bytes (Err (text.Line line fault)) is needs = outcome_fault bytes line fault is
+answer_cause items bytes (Err text.NoMemory) is needs = needs
 
 pub answer_fault : {V : Type 0} (items : V → List ℕ) (bytes : List ℕ) (answer : Result V TextFault) → Answers items bytes answer
     → (line : ℕ) (fault : LineFault) → FirstFault bytes line fault

@@ -145,10 +145,15 @@ LinesFault lines line (Segment fault) = IsSegmentFault lines line fault
 abbrev pub FirstFault : List ℕ → ℕ → LineFault → Type 0
 FirstFault text line fault = LinesFault (lines_of text) line fault
 
--- the refusal has its cause: the first fault, or out of memory
+-- the first of these lines begins a segment
+abbrev pub begins : List (List (List ℕ)) → Bool
+begins [] = false
+begins (ws ∷ more) = begins_segment (item_in ws)
+
+-- the refusal has its cause: the first fault, or out of memory, for a segment that the text begins with
 abbrev pub IsRefused : List ℕ → TextFault → Type 0
 IsRefused bytes (text.Line line fault) = FirstFault bytes line fault
-IsRefused bytes text.NoMemory = Unit {0}
+IsRefused bytes text.NoMemory = begins (kept (lines_of bytes)) ≡ true
 
 -- the refusal is of this line and this fault, or out of memory
 abbrev pub IsOrNoMemory : ℕ → LineFault → TextFault → Type 0

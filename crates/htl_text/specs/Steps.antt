@@ -1,6 +1,7 @@
 -- The steps of reading a text: what is held of a segment whose lines are being read, and what each line does.
 use Rattle.std.specs.Prelude.{◌≡◌, ℕ, ◌+◌, List, [], ◌∷◌, ◌++◌, Option, Some, None, Result, Ok, Err, length}
-use Rattle.std.specs.Prelude.{if◌then◌else◌, nat_le, nat_lt, option_to_list, unwrap_or}
+use Rattle.std.specs.Option.{is_some}
+use Rattle.std.specs.Prelude.{true, if◌then◌else◌, nat_le, nat_lt, option_to_list, unwrap_or}
 use Rattle.htl_event.specs.Events.{Event}
 use Rattle.htl_segment.specs.Content.{Content}
 use Rattle.htl_segment.specs.Encoding.{encoding}
@@ -10,7 +11,7 @@ use Rattle.htl_segment.specs.declared.fault.Fault.{Fault}
 use Rattle.htl_segment.specs.declared.fault.Fault.TheVariants as faults
 use Rattle.htl_text.specs.Items.{Draft, LoneEvent, with_stack}
 use Rattle.htl_text.specs.Lines.{lines_of, words_of, is_passed_over, item_in}
-use Rattle.htl_text.specs.Encoded.{content_of, draft_fault, IsSegmentOf}
+use Rattle.htl_text.specs.Encoded.{begins, content_of, draft_fault, IsSegmentOf, kept}
 use Rattle.htl_text.specs.declared.item.Head.{Head}
 use Rattle.htl_text.specs.declared.item.Item.{Item}
 use Rattle.htl_text.specs.declared.item.Item.TheVariants as item
@@ -150,6 +151,16 @@ go_on (Err fault) next = Err fault
 unfoldable pub read : ℕ → List (List ℕ) → Progress → Result (List ℕ) (ℕ × LineFault)
 read n [] p = closed p
 read n (l ∷ ls) p = go_on (after_words (n + 1) (words_of l) p) (read (n + 1) ls)
+
+-- memory is taken only while a segment's lines are being read
+abbrev pub HasCause : Progress → TextFault → Type 0
+HasCause p (text.Line line fault) = Unit {0}
+HasCause p text.NoMemory = is_some p.draft ≡ true
+
+-- and so only of a text that begins with a segment
+abbrev pub NeedsSegment : List ℕ → TextFault → Type 0
+NeedsSegment bytes (text.Line line fault) = Unit {0}
+NeedsSegment bytes text.NoMemory = begins (kept (lines_of bytes)) ≡ true
 
 -- the text is a line and the others, as far as reading goes
 abbrev pub StartsWithLine : List ℕ → List ℕ → List ℕ → Type 0

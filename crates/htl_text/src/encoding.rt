@@ -1,13 +1,14 @@
 //! The bytes that a text encodes.
-ghost use Rattle.std.specs.Prelude.{◌≡◌, ◌<◌, ◌≤◌, ℕ, List, Ok, length, position};
+ghost use Rattle.std.specs.Prelude.{◌≡◌, ◌<◌, ◌≤◌, ◌∷◌, ℕ, List, Ok, length, position};
 ghost use Rattle.std.specs.Prelude.{IfErr, IfOk, MatchResult};
 ghost use Rattle.std.specs.Str.Lines.{strip_carriage_return};
 ghost use Rattle.htl_segment.specs.Bundles.{bundle};
 ghost use Rattle.htl_segment.specs.Content.{Content};
 ghost use Rattle.htl_text.specs.declared.fault.LineFault.{LineFault};
-ghost use Rattle.htl_text.specs.Encoded.{Encodes, FirstFault, IsOrNoMemory, IsRefused};
+ghost use Rattle.htl_text.specs.Encoded.{Encodes, FirstFault, IsOrNoMemory, IsRefused, kept};
 ghost use Rattle.htl_text.specs.Lines.{lines_of};
-ghost use Rattle.htl_text.specs.Steps.{read, nothing_read, Reports, StartsWithLine};
+ghost use Rattle.htl_text.specs.Steps.{read, nothing_read, NeedsSegment, Reports};
+ghost use Rattle.htl_text.specs.Steps.{StartsWithLine};
 ghost use Rattle.htl_text.specs.Words.{is_feed, line_end};
 
 use crate::draft::Draft;
@@ -23,7 +24,8 @@ use std::marker::Model;
 ///
 /// Of a text that encodes none it reports the first fault. A line that can't be read is a fault at
 /// that line. A segment is tested where it ends, at the next one or at the end of the text, and its
-/// fault is reported at its own line; it is the one that `Segment::build` gives, or `S3`.
+/// fault is reported at its own line; it is the one that `Segment::build` gives, or `S3`. Memory is
+/// taken only where the first line that isn't passed over begins a segment.
 pub fn encode(alloc: Global, text: &[u8]) -> Result<Vec<u8>, TextFault>
     // What comes out are the bytes of segments that the text encodes.
     ensures found { IfOk result (λ bytes. (segments : List Content)
@@ -32,7 +34,7 @@ pub fn encode(alloc: Global, text: &[u8]) -> Result<Vec<u8>, TextFault>
     ensures only { (segments : List Content) → Encodes text.now segments → MatchResult result
         (λ bytes. bytes.items ≡ bundle segments)
         (λ refused. refused ≡ TextFault.NoMemory) }
-    // What is reported is the first fault, or out of memory.
+    // What is reported is the first fault, or out of memory where the text begins with a segment.
     ensures cause { IfErr result (λ refused. IsRefused text.now refused) }
     // The first fault is reported, unless memory runs out.
     ensures fault { (line : ℕ) (fault : LineFault) → FirstFault text.now line fault
@@ -45,9 +47,10 @@ pub fn encode(alloc: Global, text: &[u8]) -> Result<Vec<u8>, TextFault>
 
 /// What the lines of a text come to, one after the other.
 fn read_text(alloc: Global, text: &[u8]) -> Result<Vec<u8>, TextFault>
-    ensures { MatchResult result
+    ensures outcome { MatchResult result
         (λ bytes. read 0 (lines_of text.now) nothing_read ≡ Ok bytes.items)
         (λ fault. Reports (read 0 (lines_of text.now) nothing_read) fault) }
+    ensures memory { IfErr result (λ fault. NeedsSegment text.now fault) }
 {
     let mut reader = Reader::new(alloc);
     let mut rest = text;
@@ -65,6 +68,7 @@ fn read_text(alloc: Global, text: &[u8]) -> Result<Vec<u8>, TextFault>
 fn split_line(text: &[u8]) -> (&[u8], &[u8])
     requires { 0 < length text.now }
     ensures line { StartsWithLine text.now result.0.now result.1.now }
+    ensures kept { kept (lines_of text.now) ≡ kept (result.0.now ∷ lines_of result.1.now) }
     ensures shorter { length result.1.now < length text.now }
 {
     let (line, rest) = text.split_at(line_end(text));
@@ -113,10 +117,10 @@ impl Model for Reader {
 }
 
 impl Reader {
-    ghost use Rattle.std.specs.Prelude.{◌≡◌, None, Ok, MatchResult};
+    ghost use Rattle.std.specs.Prelude.{◌≡◌, None, Ok, IfErr, MatchResult};
     ghost use Rattle.htl_text.specs.Lines.{words_of};
     ghost use Rattle.htl_text.specs.Steps.{after_event, after_frame, after_item, after_words};
-    ghost use Rattle.htl_text.specs.Steps.{closed, nothing_read, Reports};
+    ghost use Rattle.htl_text.specs.Steps.{closed, nothing_read, HasCause, Reports};
 
     fn new(alloc: Global) -> Reader
         ensures { result ≡ nothing_read }
@@ -131,9 +135,10 @@ impl Reader {
     /// Takes in the line of this number.
     #[tactic(auto, unfolding(crate::specs::Steps::after_words))]
     fn read_line(&mut self, number: u64, line: &[u8]) -> Result<(), TextFault>
-        ensures { MatchResult result
+        ensures outcome { MatchResult result
             (λ _. after_words number (words_of line.now) self.old ≡ Ok self.new)
             (λ fault. Reports (after_words number (words_of line.now) self.old) fault) }
+        ensures memory { IfErr result (λ fault. HasCause self.old fault) }
     {
         if is_passed_over(line) {
             return Ok(());
@@ -145,9 +150,10 @@ impl Reader {
     }
 
     fn take(&mut self, number: u64, item: Item) -> Result<(), TextFault>
-        ensures { MatchResult result
+        ensures outcome { MatchResult result
             (λ _. after_item number item self.old ≡ Ok self.new)
             (λ fault. Reports (after_item number item self.old) fault) }
+        ensures memory { IfErr result (λ fault. HasCause self.old fault) }
     {
         match item {
             Item::Segment(head) => {
@@ -161,9 +167,10 @@ impl Reader {
     }
 
     fn add_event(&mut self, number: u64, event: Event<()>) -> Result<(), TextFault>
-        ensures { MatchResult result
+        ensures outcome { MatchResult result
             (λ _. after_event number event self.old.bytes self.old.draft ≡ Ok self.new)
             (λ fault. Reports (after_event number event self.old.bytes self.old.draft) fault) }
+        ensures memory { IfErr result (λ fault. HasCause self.old fault) }
     {
         match &mut self.draft {
             Some(draft) => Ok(draft.add_event(event)?),
@@ -172,9 +179,10 @@ impl Reader {
     }
 
     fn add_frame(&mut self, number: u64, address: u64) -> Result<(), TextFault>
-        ensures { MatchResult result
+        ensures outcome { MatchResult result
             (λ _. after_frame number address self.old.bytes self.old.draft ≡ Ok self.new)
             (λ fault. Reports (after_frame number address self.old.bytes self.old.draft) fault) }
+        ensures memory { IfErr result (λ fault. HasCause self.old fault) }
     {
         if let Some(draft) = &mut self.draft {
             if draft.add_frame(address) {
@@ -187,9 +195,10 @@ impl Reader {
     /// Ends the segment whose lines are being read, if there is one.
     #[tactic(auto, unfolding(crate::specs::Steps::closed))]
     fn close(&mut self) -> Result<(), TextFault>
-        ensures { MatchResult result
+        ensures outcome { MatchResult result
             (λ _. (closed self.old ≡ Ok self.new.bytes) × (self.new.draft ≡ None))
             (λ fault. Reports (closed self.old) fault) }
+        ensures memory { IfErr result (λ fault. HasCause self.old fault) }
     {
         match self.draft.take() {
             Some(draft) => draft.encode(self.alloc, &mut self.bytes),
@@ -199,9 +208,10 @@ impl Reader {
 
     /// The bytes of all segments.
     fn finish(mut self) -> Result<Vec<u8>, TextFault>
-        ensures { MatchResult result
+        ensures outcome { MatchResult result
             (λ bytes. closed self ≡ Ok bytes.items)
             (λ fault. Reports (closed self) fault) }
+        ensures memory { IfErr result (λ fault. HasCause self fault) }
     {
         self.close()?;
         Ok(self.bytes)

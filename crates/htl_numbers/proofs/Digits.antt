@@ -14,7 +14,7 @@ abbrev pub all_digits : ℕ → List ℕ → Bool
 all_digits radix text = list_all (λ c. is_digit c radix) text
 
 -- both parts of a conjunction that holds
-both : (a b : Bool) → (a && b) ≡ true → (a ≡ true) × (b ≡ true)
+pub both : (a b : Bool) → (a && b) ≡ true → (a ≡ true) × (b ≡ true)
 both true b h = (refl, h)
 both false b h = cc
 

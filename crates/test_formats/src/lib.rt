@@ -18,3 +18,5 @@ mod samples;
 mod segments;
 #[cfg(test)]
 mod symbols;
+#[cfg(test)]
+mod texts;

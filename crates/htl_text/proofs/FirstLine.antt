@@ -1,0 +1,101 @@
+-- A text's lines are its first one, up to the first line feed, and those that follow it; an empty rest changes nothing.
+use Rattle.std.proofs.Common.{◌≡◌, ◌+◌, ◌⊎◌, inl, inr, ℕ, Bool, true, false, List, [], ◌∷◌, length, take, drop, refl, sym, ◌∙◌, ap}
+use Rattle.std.specs.Prelude.{Result, Ok, Err, position, unwrap_or}
+use Rattle.std.specs.List.{slice_split}
+use Rattle.std.specs.Str.Lines.{strip_carriage_return}
+use Rattle.std.proofs.lemmas.List.Recursion.{is_position_or_len}
+use Rattle.htl_text.specs.declared.fault.LineFault.{LineFault}
+use Rattle.htl_text.specs.Encoded.{kept}
+use Rattle.htl_text.specs.Lines.{lines_of, words_of, is_passed_over}
+use Rattle.htl_text.specs.Steps.{Progress, closed, read, go_on, after_words, StartsWithLine}
+use Rattle.htl_text.specs.Words.{is_feed, line_end}
+use Rattle.htl_text.proofs.FirstWord.{one_more, position_or_length}
+
+pub line_end_found : (text : List ℕ) → unwrap_or (position is_feed text) (length text) ≡ line_end text
+line_end_found text =
+    position_or_length is_feed text ∙ sym (is_position_or_len line_end is_feed refl (λ x xs. rw (one_more (line_end xs)) refl) text)
+
+-- the first part between line feeds, where nothing or a line feed and a rest follows
+abbrev pub IsCut : List ℕ → Type 0
+IsCut text = ((drop (line_end text) text ≡ []) × (slice_split is_feed text ≡ take (line_end text) text ∷ []))
+    ⊎ ((y : ℕ) × (ys : List ℕ) × (drop (line_end text) text ≡ y ∷ ys)
+    × (slice_split is_feed text ≡ take (line_end text) text ∷ slice_split is_feed ys))
+
+is_cut : (text : List ℕ) → IsCut text
+is_cut [] = inl (refl, refl)
+is_cut (x ∷ xs) = by_case x xs (is_cut xs) (is_feed x) refl
+  where
+    by_case : (x : ℕ) (xs : List ℕ) → IsCut xs → (b : Bool) → is_feed x ≡ b → IsCut (x ∷ xs)
+    by_case x xs more true e = inr (x, xs, rw e refl, rw e refl)
+    by_case x xs (inl (rest, parts)) false e = inl (rw e rest, rw (e, parts) refl)
+    by_case x xs (inr (y, ys, rest, parts)) false e = inr (y, ys, rw e rest, rw (e, parts) refl)
+
+-- an empty line behind all others changes nothing
+read_empty : (n : ℕ) (p : Progress) → read n [] p ≡ read n (lines_of []) p
+unfolding read lines_of words_of is_passed_over after_words
+read_empty n p = refl
+
+go_on_so : (r : Result Progress (ℕ × LineFault)) (f g : Progress → Result (List ℕ) (ℕ × LineFault)) → ((p : Progress) → f p ≡ g p)
+    → go_on r f ≡ go_on r g
+go_on_so (Ok p) f g same = same p
+go_on_so (Err e) f g same = refl
+
+then_rest : (text : List ℕ) (y : ℕ) (ys : List ℕ) → IsCut text → drop (line_end text) text ≡ y ∷ ys
+    → StartsWithLine text (strip_carriage_return (take (line_end text) text)) ys
+unfolding read lines_of
+then_rest text y ys (inl (none, parts)) is n p = cc
+then_rest text y ys (inr (z, zs, rest, parts)) is n p = let e : zs ≡ ys = cc in rw (parts, e) refl
+
+no_rest : (text : List ℕ) → IsCut text → drop (line_end text) text ≡ []
+    → StartsWithLine text (strip_carriage_return (take (line_end text) text)) []
+unfolding read lines_of
+no_rest text (inr (z, zs, rest, parts)) is n p = cc
+no_rest text (inl (none, parts)) is n p = rw parts (go_on_so _ (read (n + 1) []) (read (n + 1) (lines_of [])) (read_empty (n + 1)))
+
+-- the first line, where a rest follows its line feed
+pub line_then_rest : (text front back : List ℕ) (len y : ℕ) (ys line : List ℕ) → len ≡ line_end text → front ≡ take len text
+    → back ≡ drop len text → back ≡ y ∷ ys → line ≡ strip_carriage_return front → StartsWithLine text line ys
+line_then_rest text front back len y ys line e f b is l =
+    rw (l, f, e) (then_rest text y ys (is_cut text) (ap (λ k. drop k text) (sym e) ∙ (sym b ∙ is)))
+
+length_nil : (xs : List ℕ) → length xs ≡ 0 → xs ≡ []
+length_nil [] h = refl
+length_nil (x ∷ xs) h = cc
+
+-- and where none follows
+pub last_line : (text front back : List ℕ) (len : ℕ) (line : List ℕ) → len ≡ line_end text → front ≡ take len text
+    → back ≡ drop len text → length back ≡ 0 → line ≡ strip_carriage_return front → StartsWithLine text line back
+last_line text front back len line e f b none l =
+    let empty = length_nil back none in
+    rw (l, f, e, empty) (no_rest text (is_cut text) (ap (λ k. drop k text) (sym e) ∙ (sym b ∙ empty)))
+
+-- the lines that aren't passed over, where a rest follows the first line feed, and where none follows
+
+kept_then_rest : (text : List ℕ) (y : ℕ) (ys : List ℕ) → IsCut text → drop (line_end text) text ≡ y ∷ ys
+    → kept (lines_of text) ≡ kept (strip_carriage_return (take (line_end text) text) ∷ lines_of ys)
+unfolding lines_of
+kept_then_rest text y ys (inl (none, parts)) is = cc
+kept_then_rest text y ys (inr (z, zs, rest, parts)) is = let e : zs ≡ ys = cc in rw (parts, e) refl
+
+kept_no_rest : (text : List ℕ) → IsCut text → drop (line_end text) text ≡ []
+    → kept (lines_of text) ≡ kept (strip_carriage_return (take (line_end text) text) ∷ lines_of [])
+unfolding lines_of kept words_of is_passed_over
+kept_no_rest text (inr (z, zs, rest, parts)) is = cc
+kept_no_rest text (inl (none, parts)) is = rw parts refl
+
+pub kept_line_then_rest : (text front back : List ℕ) (len y : ℕ) (ys line : List ℕ) → len ≡ line_end text → front ≡ take len text
+    → back ≡ drop len text → back ≡ y ∷ ys → line ≡ strip_carriage_return front → kept (lines_of text) ≡ kept (line ∷ lines_of ys)
+kept_line_then_rest text front back len y ys line e f b is l =
+    rw (l, f, e) (kept_then_rest text y ys (is_cut text) (ap (λ k. drop k text) (sym e) ∙ (sym b ∙ is)))
+
+pub kept_last_line : (text front back : List ℕ) (len : ℕ) (line : List ℕ) → len ≡ line_end text → front ≡ take len text
+    → back ≡ drop len text → length back ≡ 0 → line ≡ strip_carriage_return front → kept (lines_of text) ≡ kept (line ∷ lines_of back)
+kept_last_line text front back len line e f b none l =
+    let empty = length_nil back none in
+    rw (l, f, e, empty) (kept_no_rest text (is_cut text) (ap (λ k. drop k text) (sym e) ∙ (sym b ∙ empty)))
+
+-- a text with no byte left is read
+pub read_ended : (n : ℕ) (text : List ℕ) (p : Progress) → length text ≡ 0 → read n (lines_of text) p ≡ closed p
+unfolding read
+read_ended n [] p none = sym (read_empty n p)
+read_ended n (x ∷ xs) p none = cc

@@ -1,0 +1,17 @@
+pub mod Padding
+pub mod FirstWord
+pub mod NotText
+pub mod FirstLine
+pub mod Refusals
+pub mod Overfull
+pub mod Holding
+pub mod ItemRanges
+pub mod Writing
+pub mod Sound
+pub mod Complete
+pub mod Outcomes
+pub mod Numerals
+pub mod DumpedLines
+pub mod DumpedFields
+pub mod Dumped
+pub mod Beginnings

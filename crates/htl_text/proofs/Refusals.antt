@@ -1,0 +1,14 @@
+-- How the fault of a draft is reported, by the fault of what is held of it.
+use Rattle.std.proofs.Common.{◌≡◌, ℕ, refl, ap, sym}
+use Rattle.std.specs.Prelude.{Option, Some, None, MatchOption}
+use Rattle.htl_segment.specs.declared.fault.Fault.{Fault}
+use Rattle.htl_segment.specs.declared.fault.Fault.TheVariants as faults
+use Rattle.htl_text.specs.Steps.{IsReported, refused_of, with_overfull}
+
+pub is_reported : (line : ℕ) (overfull : Option ℕ) (first : Option Fault) (fault : Fault)
+    → MatchOption first (fault ≡ faults.NoMemory) (λ f. fault ≡ f) → IsReported line (with_overfull overfull first) (refused_of line overfull fault)
+is_reported line (Some i) None fault is = (refl, rw is refl)
+is_reported line (Some i) (Some f) fault is = (refl, rw is refl)
+is_reported line None first faults.NoMemory is = tt
+is_reported line None None fault is = cc
+is_reported line None (Some f) fault is = (refl, ap Some (sym is))

@@ -1,0 +1,160 @@
+-- What a text encodes, or else its first fault (this project's own). A fault of a line is found there, and one of
+-- a segment where the segment ends.
+use Rattle.std.specs.Prelude.{◌≡◌, ◌⊎◌, ◌&&◌, ℕ, ◌+◌, Bool, true, false, not, List, [], ◌∷◌, ◌++◌, Option, Some, None, All, filter}
+use Rattle.std.specs.Prelude.{length, map}
+use Rattle.htl_event.specs.Events.{Event}
+use Rattle.htl_segment.specs.Content.{Content, Fits}
+use Rattle.htl_segment.specs.Building.{build_fault}
+use Rattle.htl_segment.specs.Reading.{version_of}
+use Rattle.htl_segment.specs.declared.version.Version.{Version}
+use Rattle.htl_segment.specs.declared.fault.Fault.{Fault}
+use Rattle.htl_segment.specs.declared.fault.Fault.TheVariants as faults
+use Rattle.htl_text.specs.Items.{Draft, draft_items, segments_items}
+use Rattle.htl_text.specs.Lines.{lines_of, words_of, is_passed_over, item_in}
+use Rattle.htl_text.specs.declared.item.Head.{Head}
+use Rattle.htl_text.specs.declared.item.Item.{Item}
+use Rattle.htl_text.specs.declared.item.Item.TheVariants as item
+use Rattle.htl_text.specs.declared.fault.LineFault.{LineFault}
+use Rattle.htl_text.specs.declared.fault.LineFault.TheVariants.{Form, Order, Segment}
+use Rattle.htl_text.specs.declared.fault.TextFault.{TextFault}
+use Rattle.htl_text.specs.declared.fault.TextFault.TheVariants as text
+
+-- the words of the lines that aren't passed over
+unfoldable pub kept : List (List ℕ) → List (List (List ℕ))
+kept lines = filter (λ ws. not (is_passed_over ws)) (map words_of lines)
+
+-- the lines that aren't passed over have these items
+abbrev pub Write : List (List ℕ) → List Item → Type 0
+Write lines items = map item_in (kept lines) ≡ map Some items
+
+-- the lines encode segments: they have their items, and the format can encode them
+pub record LinesEncode (lines : List (List ℕ)) (segments : List Content) : Type 0 where
+  pub written : Write lines (segments_items segments)
+  pub fits : All Fits segments
+
+abbrev pub Encodes : List ℕ → List Content → Type 0
+Encodes text segments = LinesEncode (lines_of text) segments
+
+-- a draft as a segment of a version
+abbrev pub content_of : Version → Draft → Content
+content_of version d = record {
+  version = version;
+  trace_id = d.head.trace_id;
+  processors = d.head.processors;
+  processor = d.head.processor;
+  number = d.head.number;
+  events = d.events;
+}
+
+abbrev pub fault_in : Option Version → Draft → Option Fault
+fault_in None d = Some faults.Version
+fault_in (Some version) d = build_fault (content_of version d)
+
+abbrev pub draft : Head → List Event → Draft
+draft head events = record { head = head; events = events }
+
+-- the segment says what the draft says
+abbrev pub IsSegmentOf : Draft → Content → Type 0
+IsSegmentOf d s = (version_of d.head.version ≡ Some s.version) × (s ≡ content_of s.version d) × Fits s
+
+-- the first rule of the format that a draft breaks
+abbrev pub draft_fault : Draft → Option Fault
+draft_fault d = fault_in (version_of d.head.version) d
+
+-- What lines write so far: nothing, or segments and the draft of one more, which may go on.
+abbrev pub Written : Type 0
+Written = Option (List Content × Draft)
+
+abbrev pub written_items : Written → List Item
+written_items None = []
+written_items (Some so_far) = segments_items so_far.0 ++ draft_items so_far.1
+
+abbrev pub WrittenFits : Written → Type 0
+WrittenFits None = Unit {0}
+WrittenFits (Some so_far) = All Fits so_far.0
+
+abbrev pub is_frame : Item → Bool
+is_frame (item.Frame address) = true
+is_frame i = false
+
+abbrev pub is_header : Item → Bool
+is_header (item.Segment head) = true
+is_header i = false
+
+abbrev pub is_none_yet : List Event → Bool
+is_none_yet [] = true
+is_none_yet (e ∷ es) = false
+
+-- An item that can't stand here: an event or a frame before any segment, or a frame before any event of its
+-- segment.
+abbrev pub is_misplaced : Written → Item → Bool
+is_misplaced None i = not (is_header i)
+is_misplaced (Some so_far) i = is_frame i && is_none_yet so_far.1.events
+
+-- a line with these words has this fault, behind what was written
+abbrev pub IsBad : Written → List (List ℕ) → LineFault → Type 0
+IsBad written ws Form = item_in ws ≡ None
+IsBad written ws Order = (i : Item) × (item_in ws ≡ Some i) × (is_misplaced written i ≡ true)
+IsBad written ws (Segment fault) = ⊥
+
+-- Lines without a fault, and then one that has a fault.
+pub record IsLineFault (lines : List (List ℕ)) (line : ℕ) (fault : LineFault) : Type 0 where
+  pub before : List (List ℕ)
+  pub bad : List ℕ
+  pub later : List (List ℕ)
+  pub cut : lines ≡ before ++ bad ∷ later
+  pub line_is : line ≡ length before + 1
+  pub so_far : Written
+  pub fits : WrittenFits so_far
+  pub written : Write before (written_items so_far)
+  pub read : is_passed_over (words_of bad) ≡ false
+  pub is_bad : IsBad so_far (words_of bad) fault
+
+abbrev pub begins_segment : Option Item → Bool
+begins_segment (Some i) = is_header i
+begins_segment None = false
+
+-- a segment ends before these lines: no line is left that isn't passed over, or the first of them begins another
+abbrev pub ends_before : List (List (List ℕ)) → Bool
+ends_before [] = true
+ends_before (ws ∷ more) = begins_segment (item_in ws)
+
+-- Lines of segments, and then those of one that the format can't encode, up to its end.
+pub record IsSegmentFault (lines : List (List ℕ)) (line : ℕ) (fault : Fault) : Type 0 where
+  pub before : List (List ℕ)
+  pub first : List ℕ
+  pub body : List (List ℕ)
+  pub later : List (List ℕ)
+  pub cut : lines ≡ before ++ (first ∷ body ++ later)
+  pub line_is : line ≡ length before + 1
+  pub segments : List Content
+  pub fits : All Fits segments
+  pub written : Write before (segments_items segments)
+  pub begun : is_passed_over (words_of first) ≡ false
+  pub draft : Draft
+  pub drafted : Write (first ∷ body) (draft_items draft)
+  pub ended : ends_before (kept later) ≡ true
+  pub fault_is : draft_fault draft ≡ Some fault
+
+-- the first fault of lines, and the line at which it is reported, from 1
+abbrev pub LinesFault : List (List ℕ) → ℕ → LineFault → Type 0
+LinesFault lines line Form = IsLineFault lines line Form
+LinesFault lines line Order = IsLineFault lines line Order
+LinesFault lines line (Segment fault) = IsSegmentFault lines line fault
+
+abbrev pub FirstFault : List ℕ → ℕ → LineFault → Type 0
+FirstFault text line fault = LinesFault (lines_of text) line fault
+
+-- the first of these lines begins a segment
+abbrev pub begins : List (List (List ℕ)) → Bool
+begins [] = false
+begins (ws ∷ more) = begins_segment (item_in ws)
+
+-- the refusal has its cause: the first fault, or out of memory, for a segment that the text begins with
+abbrev pub IsRefused : List ℕ → TextFault → Type 0
+IsRefused bytes (text.Line line fault) = FirstFault bytes line fault
+IsRefused bytes text.NoMemory = begins (kept (lines_of bytes)) ≡ true
+
+-- the refusal is of this line and this fault, or out of memory
+abbrev pub IsOrNoMemory : ℕ → LineFault → TextFault → Type 0
+IsOrNoMemory line fault refused = (refused ≡ text.Line line fault) ⊎ (refused ≡ text.NoMemory)

@@ -1,0 +1,57 @@
+//! Why a text encodes no segments.
+ghost use Rattle.std.specs.Prelude.{◌≡◌};
+ghost use Rattle.htl_text.specs.declared.fault.TextFault.TheVariants.{NoMemory as no_memory};
+
+use htl_event::NoMemory;
+use htl_segment::Fault;
+use std::alloc::{AllocError, AllocFailed};
+use thiserror::Error;
+
+/// What is wrong with a line. The text is the fault's code.
+#[derive(Clone, Copy, Debug, PartialEq, Eq, Error)]
+pub enum LineFault {
+    /// The line has none of the forms, or a number that doesn't fit its field.
+    #[error("E1")]
+    Form,
+    /// An event or a frame before any segment, or a frame before any event of its segment.
+    #[error("E2")]
+    Order,
+    /// The format can't encode the segment that begins at the line.
+    #[error("{0}")]
+    Segment(Fault),
+}
+
+/// Why a text encodes no segments: its first fault, and the line at which it is reported.
+#[derive(Clone, Copy, Debug, PartialEq, Eq, Error)]
+pub enum TextFault {
+    /// Lines are counted from 1.
+    #[error("line {0}: {1}")]
+    Line(u64, LineFault),
+    /// Memory for a growth was refused.
+    #[error("out of memory")]
+    NoMemory,
+}
+
+impl From<NoMemory> for TextFault {
+    ghost from_gives = { λ _ fault. fault ≡ no_memory };
+
+    fn from(_refused: NoMemory) -> TextFault {
+        TextFault::NoMemory
+    }
+}
+
+impl From<AllocError> for TextFault {
+    ghost from_gives = { λ _ fault. fault ≡ no_memory };
+
+    fn from(_refused: AllocError) -> TextFault {
+        TextFault::NoMemory
+    }
+}
+
+impl<T: Drop> From<AllocFailed<T>> for TextFault {
+    ghost from_gives = { λ _ fault. fault ≡ no_memory };
+
+    fn from(_refused: AllocFailed<T>) -> TextFault {
+        TextFault::NoMemory
+    }
+}

@@ -1,0 +1,136 @@
+//! The values of words, and words that are a key and its value.
+ghost use Rattle.std.specs.Prelude.{◌≡◌, ◌≤◌, codes, IfSome, IsUtf8, MatchOption, None, Some};
+ghost use Rattle.htl_numbers.specs.Numbers.{decimal_number, hexadecimal_number};
+ghost use Rattle.htl_text.specs.Lines.{field, hexadecimal_value, address_value, handle_value, keyed};
+ghost use Rattle.htl_text.specs.Lines.{tag_value, words_of};
+
+use crate::dumping::all_visible;
+use crate::words::{after_key, first_word};
+use htl_numbers::{decimal, hexadecimal};
+use std::str;
+
+/// The number that decimal digits write, if it is at most `most`.
+fn decimal_value(text: &[u8], most: u64) -> Option<u64>
+    ensures value { result ≡ decimal_number most text.now }
+    ensures bound { IfSome result (λ n. n ≤ most) }
+{
+    decimal(as_text(text)?, most)
+}
+
+/// The number that hexadecimal digits write, with or without `0x` before them.
+fn hexadecimal_number(text: &[u8], most: u64) -> Option<u64>
+    ensures value { result ≡ hexadecimal_number most text.now }
+    ensures bound { IfSome result (λ n. n ≤ most) }
+{
+    hexadecimal(as_text(text)?, most)
+}
+
+fn as_text(bytes: &[u8]) -> Option<&str>
+    ensures { MatchOption result (¬ (IsUtf8 bytes.now)) (λ text. text.now ≡ bytes.now) }
+{
+    str::from_utf8(bytes).ok()
+}
+
+/// The number that `0x` and up to `most_digits` hexadecimal digits write, if it is at most `most`.
+#[tactic(auto, unfolding(crate::specs::Lines::hexadecimal_value))]
+fn hexadecimal_value(text: &[u8], most_digits: usize, most: u64) -> Option<u64>
+    requires { most_digits ≤ 16 }
+    ensures value { result ≡ hexadecimal_value most_digits most text.now }
+    ensures bound { IfSome result (λ n. n ≤ most) }
+{
+    if text.starts_with(b"0x") && text.len() <= 2 + most_digits {
+        hexadecimal_number(text, most)
+    } else {
+        None
+    }
+}
+
+/// An object, an address or a trace.
+pub(crate) fn address_value(text: &[u8]) -> Option<u64>
+    ensures { result ≡ address_value text.now }
+{
+    hexadecimal_value(text, 16, u64::MAX)
+}
+
+fn handle_value(text: &[u8]) -> Option<u32>
+    ensures { result ≡ handle_value text.now }
+{
+    let handle = hexadecimal_value(text, 8, u64::from(u32::MAX))?;
+    Some(handle as u32)
+}
+
+/// A tag's bytes, in the order in which they are shown.
+#[tactic(auto, unfolding(crate::specs::Lines::tag_value))]
+fn tag_value(text: &[u8]) -> Option<[u8; 4]>
+    ensures { result ≡ tag_value text.now }
+{
+    if let Ok(tag) = <[u8; 4]>::try_from(text) {
+        return if all_visible(text) { Some(tag) } else { None };
+    }
+    if text.len() == 10 {
+        let in_order = handle_value(text)?;
+        return Some(in_order.to_be_bytes());
+    }
+    None
+}
+
+/// What stands after the key in the first word, and the words that follow it.
+#[tactic(auto, unfolding(crate::specs::Lines::keyed))]
+fn keyed<'a>(words: &'a [u8], key: &[u8]) -> Option<(&'a [u8], &'a [u8])>
+    ensures { MatchOption result
+        (keyed key.now (words_of words.entry.now) ≡ None)
+        (λ found. keyed key.now (words_of words.entry.now)
+        ≡ Some (found.0.now, words_of found.1.now)) }
+{
+    let (word, words) = first_word(words)?;
+    Some((after_key(word, key)?, words))
+}
+
+/// A decimal number after its key, at most `most`, and the words that follow.
+#[tactic(auto, unfolding(crate::specs::Lines::field))]
+pub(crate) fn number<'a>(words: &'a [u8], key: &[u8], most: u64) -> Option<(u64, &'a [u8])>
+    ensures value { MatchOption result
+        (field key.now (decimal_number most) (words_of words.entry.now) ≡ None)
+        (λ found. field key.now (decimal_number most) (words_of words.entry.now)
+        ≡ Some (found.0, words_of found.1.now)) }
+    ensures bound { IfSome result (λ found. found.0 ≤ most) }
+{
+    let (value, words) = keyed(words, key)?;
+    Some((decimal_value(value, most)?, words))
+}
+
+/// An object, an address or a trace after its key, and the words that follow.
+#[tactic(auto, unfolding(crate::specs::Lines::field))]
+pub(crate) fn address<'a>(words: &'a [u8], key: &[u8]) -> Option<(u64, &'a [u8])>
+    ensures { MatchOption result
+        (field key.now address_value (words_of words.entry.now) ≡ None)
+        (λ found. field key.now address_value (words_of words.entry.now)
+        ≡ Some (found.0, words_of found.1.now)) }
+{
+    let (value, words) = keyed(words, key)?;
+    Some((address_value(value)?, words))
+}
+
+/// A handle after its key, and the words that follow.
+#[tactic(auto, unfolding(crate::specs::Lines::field))]
+pub(crate) fn handle(words: &[u8]) -> Option<(u32, &[u8])>
+    ensures { MatchOption result
+        (field (codes "handle=") handle_value (words_of words.entry.now) ≡ None)
+        (λ found. field (codes "handle=") handle_value (words_of words.entry.now)
+        ≡ Some (found.0, words_of found.1.now)) }
+{
+    let (value, words) = keyed(words, b"handle=")?;
+    Some((handle_value(value)?, words))
+}
+
+/// A tag after its key, and the words that follow.
+#[tactic(auto, unfolding(crate::specs::Lines::field))]
+pub(crate) fn tag(words: &[u8]) -> Option<([u8; 4], &[u8])>
+    ensures { MatchOption result
+        (field (codes "tag=") tag_value (words_of words.entry.now) ≡ None)
+        (λ found. field (codes "tag=") tag_value (words_of words.entry.now)
+        ≡ Some (found.0, words_of found.1.now)) }
+{
+    let (value, words) = keyed(words, b"tag=")?;
+    Some((tag_value(value)?, words))
+}

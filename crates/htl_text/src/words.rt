@@ -1,0 +1,75 @@
+//! The words of a line.
+ghost use Rattle.std.specs.Prelude.{◌≡◌, ◌≤◌, ◌∷◌, [], length, not, position, MatchOption};
+ghost use Rattle.std.specs.Prelude.{option_map};
+ghost use Rattle.std.specs.Str.{bytes_eq};
+ghost use Rattle.htl_text.specs.Lines.{after_key, is_passed_over, words_of};
+ghost use Rattle.htl_text.specs.Words.{is_blank, word_end, word_start};
+
+/// The first word of a line and what follows it.
+pub(crate) fn first_word(line: &[u8]) -> Option<(&[u8], &[u8])>
+    ensures { MatchOption result
+        (words_of line.now ≡ [])
+        (λ first. words_of line.now ≡ first.0.now ∷ words_of first.1.now) }
+{
+    let (_, rest) = line.split_at(word_start(line));
+    if rest.is_empty() {
+        return None;
+    }
+    Some(rest.split_at(word_end(rest)))
+}
+
+/// How many blanks stand first.
+#[tactic(auto, using(crate::proofs::FirstWord::word_start_found))]
+fn word_start(line: &[u8]) -> usize
+    ensures value { result ≡ word_start line.now }
+    ensures bound { result ≤ length line.now }
+{
+    first_visible(line).unwrap_or(line.len())
+}
+
+fn first_visible(line: &[u8]) -> Option<usize>
+    ensures { result ≡ position (λ b. not (is_blank b)) line.now }
+{
+    line.iter().position(|byte| *byte != b' ')
+}
+
+/// The place of the first blank, or the length.
+#[tactic(auto, using(crate::proofs::FirstWord::word_end_found))]
+fn word_end(line: &[u8]) -> usize
+    ensures value { result ≡ word_end line.now }
+    ensures bound { result ≤ length line.now }
+{
+    first_blank(line).unwrap_or(line.len())
+}
+
+fn first_blank(line: &[u8]) -> Option<usize>
+    ensures { result ≡ position is_blank line.now }
+{
+    line.iter().position(|byte| *byte == b' ')
+}
+
+/// Whether a line says nothing.
+#[tactic(auto, unfolding(crate::specs::Lines::is_passed_over))]
+pub(crate) fn is_passed_over(line: &[u8]) -> bool
+    ensures { result ≡ is_passed_over (words_of line.now) }
+{
+    match first_word(line) {
+        Some((word, _)) => word.starts_with(b"#"),
+        None => true,
+    }
+}
+
+/// Whether a word is the other.
+pub(crate) fn is_word(word: &[u8], other: &[u8]) -> bool
+    ensures { result ≡ bytes_eq word.now other.now }
+{
+    word == other
+}
+
+/// What follows the key in a word that begins with it.
+#[tactic(auto, unfolding(crate::specs::Lines::after_key))]
+pub(crate) fn after_key<'a>(word: &'a [u8], key: &[u8]) -> Option<&'a [u8]>
+    ensures { option_map (λ value. value.now) result ≡ after_key key.now word.entry.now }
+{
+    word.strip_prefix(key)
+}

@@ -1,0 +1,290 @@
+//! Segments as text, and texts as segments.
+
+use htl_samples::RandomTrace;
+use htl_segment::{Fault, decode_bundle, from_hex};
+use htl_text::{LineFault, TextFault, dump, encode};
+use std::alloc::Global;
+use std::process::Abort;
+
+/// A segment with an event of each kind of version 1, and the only segment of a processor's last
+/// number, with an exit.
+const TEXT: &str = "\
+segment version=1 trace=0x0000000000000007 processors=1 processor=0 number=0
+OPEN handle=0x44 seq=1 process=4 thread=12
+  0x0000000000001010
+  0x0000000000002000
+CLOSE handle=0x47 seq=2 process=4 thread=12
+BAD REF handle=0x7 seq=3 process=5 thread=12
+SNAPSHOT seq=4 process=4 thread=12
+REF object=0xffffa00000001000 tag=Lky8 seq=5 process=4 thread=12
+DEREF object=0x0000000000001000 tag=0x20616220 seq=6 process=4 thread=12
+REF object=0xffffffffffffffff tag=0x017f80ff seq=18446744073709551615 process=4 thread=12
+  0x0000000000000000
+  0xffffffffffffffff
+segment version=2 trace=0xffffffffffffffff processors=256 processor=255 number=4294967294
+EXIT seq=9 process=4294967295 thread=12
+";
+
+/// The same, as people write it.
+const WRITTEN: &str = "# the first segment
+segment  version=1 trace=0x7 processors=01 processor=0 number=0 \r
+   # an event, and its frames
+OPEN   handle=0x00000044 seq=1  process=4 thread=12\r
+
+0x1010
+0x0000000000002000
+CLOSE handle=0x47 seq=2 process=4 thread=12
+BAD   REF handle=0x7 seq=3 process=5 thread=12
+SNAPSHOT seq=0004 process=4 thread=12
+REF object=0xFFFFa00000001000 tag=Lky8 seq=5 process=4 thread=12
+DEREF object=0x1000 tag=0x20616220 seq=6 process=4 thread=12
+ REF object=0xffffffffffffffff tag=0x017F80fF seq=18446744073709551615 process=4 thread=12
+    0x0
+  0xFFFFFFFFFFFFFFFF
+  \r
+segment version=2 trace=0xffffffffffffffff processors=256 processor=255 number=4294967294
+EXIT seq=9 process=4294967295 thread=12";
+
+/// The bytes of both.
+const BYTES: &str = "
+484c5331 0100 0100 0000 0000 00000000 0700000000000000 07000000 3c010000
+0100000000000000 01 02 0000 04000000 0c000000 44000000 0000000000000000 00000000
+    1010000000000000 0020000000000000
+0200000000000000 02 00 0000 04000000 0c000000 47000000 0000000000000000 00000000
+0300000000000000 03 00 0000 05000000 0c000000 07000000 0000000000000000 00000000
+0400000000000000 04 00 0000 04000000 0c000000 00000000 0000000000000000 00000000
+0500000000000000 05 00 0000 04000000 0c000000 00000000 0010000000a0ffff 4c6b7938
+0600000000000000 06 00 0000 04000000 0c000000 00000000 0010000000000000 20616220
+ffffffffffffffff 05 02 0000 04000000 0c000000 00000000 ffffffffffffffff 017f80ff
+    0000000000000000 ffffffffffffffff
+484c5331 0200 0001 ff00 0000 feffffff ffffffffffffffff 01000000 44000000
+0900000000000000 07 00 0000 ffffffff 0c000000 00000000 0000000000000000 00000000";
+
+const SEGMENT: &str = "segment version=1 trace=0x7 processors=1 processor=0 number=0\n";
+
+const DEEP: &str = "segment version=2 trace=0x7 processors=1 processor=0 number=0\n";
+
+const OPEN: &str = "OPEN handle=0x44 seq=1 process=4 thread=12\n";
+
+/// The bytes that these texts encode, one after another.
+fn encoded(rt: &impl Abort, alloc: Global, text: &[u8]) -> Vec<u8> {
+    encode(alloc, text).expect(rt, "a text of segments")
+}
+
+/// The text of a bundle's segments.
+fn dumped(rt: &impl Abort, alloc: Global, bundle: &[u8]) -> Vec<u8> {
+    let segments = decode_bundle(alloc, bundle).ok().expect(rt, "a bundle");
+    let mut text = Vec::new(alloc);
+    for segment in &segments {
+        let lines = dump(alloc, segment).expect(rt, "the memory");
+        text.extend_from_slice(&lines).expect(rt, "the memory");
+    }
+    text
+}
+
+#[test]
+fn each_kind_in_both_versions(rt: HostRuntime) {
+    let bytes = from_hex(rt.alloc(), BYTES.as_bytes()).expect(&rt, "the bytes");
+    assert!(rt; encoded(&rt, rt.alloc(), TEXT.as_bytes()) == bytes);
+    assert!(rt; dumped(&rt, rt.alloc(), &bytes).as_slice() == TEXT.as_bytes());
+}
+
+#[test]
+fn a_text_as_people_write_it(rt: HostRuntime) {
+    let bytes = from_hex(rt.alloc(), BYTES.as_bytes()).expect(&rt, "the bytes");
+    assert!(rt; encoded(&rt, rt.alloc(), WRITTEN.as_bytes()) == bytes);
+}
+
+/// So many lines behind a first one.
+fn repeated(rt: &impl Abort, alloc: Global, first: &str, line: &str, count: usize) -> Vec<u8> {
+    let mut text = Vec::new(alloc);
+    text.extend_from_slice(first.as_bytes())
+        .expect(rt, "the memory");
+    for _ in 0..count {
+        text.extend_from_slice(line.as_bytes())
+            .expect(rt, "the memory");
+    }
+    text
+}
+
+#[test]
+fn texts_without_an_event(rt: HostRuntime) {
+    assert!(rt; encoded(&rt, rt.alloc(), b"").is_empty());
+    assert!(rt; encoded(&rt, rt.alloc(), b" \r\n# nothing\n").is_empty());
+    assert_eq!(rt; encoded(&rt, rt.alloc(), SEGMENT.as_bytes()).len(), 32);
+    let three = repeated(&rt, rt.alloc(), SEGMENT, SEGMENT, 2);
+    assert_eq!(rt; encoded(&rt, rt.alloc(), &three).len(), 96);
+}
+
+/// Events of one line behind the first line of a segment, with so many frames.
+fn deep_text(rt: &impl Abort, alloc: Global, head: &str, frames: usize) -> Vec<u8> {
+    let mut text = Vec::new(alloc);
+    for line in [head, OPEN] {
+        text.extend_from_slice(line.as_bytes())
+            .expect(rt, "the memory");
+    }
+    for _ in 0..frames {
+        text.extend_from_slice(b"  0x10\n").expect(rt, "the memory");
+    }
+    text
+}
+
+#[test]
+fn the_deepest_stack(rt: HostRuntime) {
+    let bytes = encoded(&rt, rt.alloc(), &deep_text(&rt, rt.alloc(), DEEP, 64));
+    assert_eq!(rt; bytes.len(), 580);
+    assert_eq!(rt; dumped(&rt, rt.alloc(), &bytes).len(), 77 + 43 + 64 * 21);
+    for (head, frames) in [(SEGMENT, 33), (SEGMENT, 70), (DEEP, 65), (DEEP, 200)] {
+        let fault = encode(rt.alloc(), &deep_text(&rt, rt.alloc(), head, frames)).err();
+        let wanted = TextFault::Line(1, LineFault::Segment(Fault::Frames(0)));
+        assert_eq!(rt; fault, Some(wanted), "{frames}");
+    }
+}
+
+#[test]
+fn the_first_fault_and_its_line(rt: HostRuntime) {
+    let table: [(&[&str], &str); 24] = [
+        (&["segment\n"], "line 1: E1"),
+        (&["\n", SEGMENT, OPEN, "  0x1 0x2"], "line 4: E1"),
+        (&[SEGMENT, OPEN, "0x11111111111111111\n"], "line 3: E1"),
+        (&[SEGMENT, OPEN, "1010\n"], "line 3: E1"),
+        (
+            &[SEGMENT, "open handle=0x44 seq=1 process=4 thread=12\n"],
+            "line 2: E1",
+        ),
+        (
+            &[SEGMENT, "OPEN seq=1 handle=0x44 process=4 thread=12\n"],
+            "line 2: E1",
+        ),
+        (
+            &[SEGMENT, "OPEN handle=0x44 seq=1 process=4 thread=12 #\n"],
+            "line 2: E1",
+        ),
+        (
+            &[
+                SEGMENT,
+                "OPEN handle=0x123456789 seq=1 process=4 thread=12\n",
+            ],
+            "line 2: E1",
+        ),
+        (
+            &[SEGMENT, "OPEN handle=0x44 seq=0x1 process=4 thread=12\n"],
+            "line 2: E1",
+        ),
+        (
+            &[
+                SEGMENT,
+                "OPEN handle=0x44 seq=1 process=4294967296 thread=12\n",
+            ],
+            "line 2: E1",
+        ),
+        (
+            &[
+                SEGMENT,
+                "SNAPSHOT seq=18446744073709551616 process=4 thread=12\n",
+            ],
+            "line 2: E1",
+        ),
+        (
+            &[
+                SEGMENT,
+                "REF object=0x1 tag=abc seq=1 process=4 thread=12\n",
+            ],
+            "line 2: E1",
+        ),
+        (
+            &[
+                SEGMENT,
+                "REF object=0x1 tag=0x1234567 seq=1 process=4 thread=12\n",
+            ],
+            "line 2: E1",
+        ),
+        (
+            &["segment version=65537 trace=0x7 processors=1 processor=0 number=0\n"],
+            "line 1: E1",
+        ),
+        (&[OPEN], "line 1: E2"),
+        (&["# a story\n", "\r\n", "  0x10"], "line 3: E2"),
+        (&[SEGMENT, "  0x10\n"], "line 2: E2"),
+        (&[SEGMENT, OPEN, SEGMENT, "  0x10"], "line 4: E2"),
+        (
+            &["segment version=3 trace=0x7 processors=1 processor=0 number=0\n"],
+            "line 1: S3",
+        ),
+        (
+            &[
+                "\n",
+                "segment version=1 trace=0x7 processors=65 processor=0 number=0\n",
+            ],
+            "line 2: S4",
+        ),
+        (
+            &[SEGMENT, OPEN, SEGMENT, "# a story\n", OPEN, OPEN, "x"],
+            "line 7: E1",
+        ),
+        (
+            &[
+                SEGMENT,
+                OPEN,
+                SEGMENT,
+                "# a story\n",
+                OPEN,
+                OPEN,
+                SEGMENT,
+                "x",
+            ],
+            "line 3: S12(1)",
+        ),
+        (&[SEGMENT, OPEN, OPEN], "line 1: S12(1)"),
+        (
+            &[SEGMENT, "OPEN handle=0x3 seq=1 process=4 thread=12\n"],
+            "line 1: S15(0)",
+        ),
+    ];
+    for (lines, wanted) in table {
+        let fault = fault_of(&rt, rt.alloc(), lines).expect(&rt, "a fault");
+        let line = format!(in rt.alloc(); "{fault}").expect(&rt, "the line");
+        assert_eq!(rt; line.as_str(), wanted, "{lines:?}");
+    }
+}
+
+/// The fault of a text of these parts, if it has one.
+fn fault_of(rt: &impl Abort, alloc: Global, parts: &[&str]) -> Option<TextFault> {
+    let mut text = Vec::new(alloc);
+    for part in parts {
+        text.extend_from_slice(part.as_bytes())
+            .expect(rt, "the memory");
+    }
+    encode(alloc, &text).err()
+}
+
+#[test]
+fn more_events_than_a_segment_holds(rt: HostRuntime) {
+    let text = repeated(&rt, rt.alloc(), SEGMENT, OPEN, 4097);
+    let wanted = TextFault::Line(1, LineFault::Segment(Fault::Count));
+    assert_eq!(rt; encode(rt.alloc(), &text).err(), Some(wanted));
+}
+
+#[test]
+fn random_bundles(rt: HostRuntime) {
+    for seed in 0..300 {
+        let bytes = random_bundle(&rt, rt.alloc(), seed);
+        let text = dumped(&rt, rt.alloc(), &bytes);
+        assert!(rt; encoded(&rt, rt.alloc(), &text) == bytes, "{seed}");
+    }
+}
+
+fn random_bundle(rt: &impl Abort, alloc: Global, seed: u64) -> Vec<u8> {
+    let trace = RandomTrace {
+        seed,
+        processors: 1 + (seed % 3) as u16,
+        segments: (seed % 4) as u32,
+        events: (seed % 7) as u32,
+        processes: 3,
+        handles: 8,
+        stacks: 12,
+        least_frames: 0,
+        most_frames: 8,
+    };
+    trace.bundle(alloc).ok().expect(rt, "a bundle")
+}

@@ -13,7 +13,8 @@ use Rattle.htl_text.specs.declared.item.Item.{Item}
 use Rattle.htl_text.specs.declared.item.Item.TheVariants as item
 use Rattle.htl_text.specs.Encoded.{begins, begins_segment, is_header, kept}
 use Rattle.htl_text.specs.Lines.{is_passed_over, item_in, lines_of, words_of}
-use Rattle.htl_text.specs.Steps.{Held, Progress, after_event, after_form, after_frame, after_frame_of, after_item, after_words, begun, closed, progress, reopened, with_event}
+use Rattle.htl_text.specs.Steps.{Held, Progress, after_event, after_form, after_frame, after_frame_of, after_item}
+use Rattle.htl_text.specs.Steps.{after_words, begun, closed, progress, reopened, with_event}
 use Rattle.htl_text.specs.Steps.{HasCause, NeedsSegment, with_frame_of}
 use Rattle.htl_text.proofs.Writing.{kept_one, kept_passed}
 

@@ -4,8 +4,9 @@ ghost use Rattle.std.specs.Prelude.{◌≡◌};
 ghost use Rattle.hleak.specs.Subjects.{input_name, subject_of, symbols_name};
 
 use crate::meaning::{Meaning, NO_MEMORY};
+use crate::shown::Shown;
 use htl_command::Asked;
-use htl_main::RunFault;
+use htl_main::{Job, Question, RunFault};
 use std::fmt;
 
 /// What to do where a file can't be read.
@@ -21,7 +22,7 @@ pub struct Explanation<'a> {
 
 impl fmt::Display for Explanation<'_> {
     fn fmt<W: fmt::Write>(&self, f: &mut fmt::Formatter<W>) -> fmt::Result {
-        write!(f, "{}: ", self.subject())?;
+        write!(f, "{}: ", Shown::name(self.subject()))?;
         match self.fault {
             RunFault::Workers => write!(f, "give 1 to 8 workers"),
             RunFault::Segment { fault, .. } => write!(f, "{}", Meaning(fault)),
@@ -33,12 +34,35 @@ impl fmt::Display for Explanation<'_> {
                 f,
                 "it didn't take the whole answer: is a disk full, or its reader gone?"
             ),
-            RunFault::Memory => write!(f, "{NO_MEMORY}"),
+            RunFault::Memory => write!(f, "{NO_MEMORY}{}", memory_advice(&self.asked.job)),
             RunFault::NoThread => write!(
                 f,
-                "the system started no thread: ask for fewer workers, or raise its limit"
+                "the system started no thread: {}",
+                thread_advice(&self.asked.job)
             ),
         }
+    }
+}
+
+/// What helps where memory is refused. A summary alone has workers, and takes twice as much as a
+/// question about one process or object.
+fn memory_advice(job: &Job) -> &'static str {
+    match (job.question, job.workers) {
+        (Question::Summary, 0..=1) =>
+            "; or ask about one process or object, which takes less than a summary",
+        (Question::Summary, _) => {
+            "; or ask for fewer workers, or about one process or object, which takes less"
+        }
+        _ => "",
+    }
+}
+
+/// What helps where no thread is started.
+fn thread_advice(job: &Job) -> &'static str {
+    if job.workers > 1 {
+        "ask for fewer workers, or raise the limit of threads"
+    } else {
+        "raise the limit of threads, or end some other program"
     }
 }
 

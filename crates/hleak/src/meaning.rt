@@ -12,8 +12,7 @@ use std::fmt;
 const DAMAGED: &str = "was the file changed, or is its writer at fault?";
 
 /// What to do where memory was refused.
-pub const NO_MEMORY: &str =
-    "the system refused memory, of which a run takes up to about the size of its inputs: free some";
+pub const NO_MEMORY: &str = "the system refused memory: free some, or raise its limit";
 
 /// A fault's meaning.
 #[derive(Clone, Copy)]
@@ -22,15 +21,15 @@ pub struct Meaning<F>(pub F);
 impl fmt::Display for Meaning<Fault> {
     fn fmt<W: fmt::Write>(&self, f: &mut fmt::Formatter<W>) -> fmt::Result {
         match self.0 {
-            Fault::Short | Fault::Cut => {
-                write!(
-                    f,
-                    "the file ends before its last segment does: was it copied whole?"
-                )
-            }
+            Fault::Short => write!(
+                f,
+                "a segment has at least 32 bytes and begins with HLS1, and fewer are left: \
+                 is it a trace, and copied whole?"
+            ),
             Fault::Magic => write!(
                 f,
-                "no segment begins there: is it a trace, in bytes and not in digits (--hex)?"
+                "a segment begins with HLS1 (48 4c 53 31), and these bytes do not: \
+                 is it a trace, in bytes and not in digits (--hex)?"
             ),
             Fault::Version => write!(
                 f,
@@ -50,6 +49,10 @@ impl fmt::Display for Meaning<Fault> {
             Fault::Length => write!(
                 f,
                 "the segment's version allows no such length of a segment: {DAMAGED}"
+            ),
+            Fault::Cut => write!(
+                f,
+                "the file ends before its last segment does: was it copied whole?"
             ),
             Fault::RecordShort(record) => write!(
                 f,

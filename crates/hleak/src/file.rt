@@ -60,7 +60,7 @@ impl<'a> InputFile<'a> {
     /// Opens the file, where that wasn't done.
     fn begin(&mut self) -> io::Result<()>
         ensures begun { OnOk result (IsBegun self.old.stage self.new.stage) }
-        ensures refused { OnErr result (self.new ≡ self.old) }
+        ensures refused { OnErr result ((self.new ≡ self.old) × (self.old.stage ≡ Stage.Found)) }
         ensures name { self.new.name ≡ self.old.name }
     {
         if let Stage::Found = self.stage {

@@ -189,7 +189,7 @@ fn read_and_run<'a>(
         ⟦<Reading<Input<'a, Device<'a>>> as Source>⟧.has_failed input ≡ false) inputs.old }
 {
     let symbols = symbols(host, asked.symbols.as_ref())?;
-    let symbols = symbols.as_ref().map(|bytes| bytes.as_slice());
+    let symbols = symbols.as_deref();
     let mut out = Writing::new(io::writer(host));
     run_from(rt, host.alloc(), &asked.job, inputs, symbols, &mut out)
 }

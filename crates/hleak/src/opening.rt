@@ -55,7 +55,8 @@ fn attempts<'a>(
     rt: &HostRuntime,
     names: &'a [String],
 ) -> Result<Vec<io::Result<InputFile<'a>>>, AllocError>
-    ensures { IfOk result (λ attempts. AllZip IsFoundBy names.now attempts.items) }
+    ensures count { IfOk result (λ attempts. length attempts.items ≡ length names.now) }
+    ensures named { IfOk result (λ attempts. AllZip IsFoundBy names.now attempts.items) }
 {
     let mut attempts = Vec::new(rt.alloc());
     for name in names {

@@ -1,6 +1,7 @@
 """Bundles of segments from lines, and the built program asked about them: what the scripts beside this file share."""
 
 import os
+import pty
 import struct
 import subprocess
 import sys
@@ -83,6 +84,23 @@ class Asking:
             env={**os.environ, "MALLOC_ARENA_MAX": "1"},
         )
         return ended.returncode, ended.stdout.decode(), ended.stderr.decode()
+
+    def at_terminal(self, words, files, most=None):
+        """The same with a terminal as the standard error, with the line ends that the program wrote."""
+        limit = f"ulimit -v {most // 1024} && " if most else ""
+        master, terminal = pty.openpty()
+        command = ["sh", "-c", limit + 'exec "$0" "$@"', PROGRAM, *words.split(), *files]
+        program = subprocess.Popen(command, stdin=subprocess.DEVNULL, stdout=subprocess.PIPE, stderr=terminal)
+        os.close(terminal)
+        lines = b""
+        while True:
+            try:
+                lines += os.read(master, 4096)
+            except OSError:  # the terminal has no user any more
+                break
+        os.close(master)
+        text = program.communicate(timeout=60)[0]
+        return program.returncode, text.decode(), lines.decode().replace("\r\n", "\n")
 
     def least(self, words, files):
         """The least bytes of addresses, to 4 KB, in which the answer is what it is with room."""

@@ -1,1 +1,2 @@
 pub mod FirstRefused
+pub mod PlaceByPlace

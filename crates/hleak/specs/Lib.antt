@@ -1,4 +1,6 @@
+pub mod Arguments
 pub mod Endings
 pub mod Notes
 pub mod Openings
+pub mod Stages
 pub mod Subjects

@@ -1,7 +1,12 @@
--- Which file could not be opened.
-use Rattle.std.specs.Prelude.{◌≡◌, ◌⊎◌, ◌<◌, ⊤, ℕ, Bool, true, List, Result, Ok, Err, Some, map, slice_get, take}
+-- Which files are read, and which could not be opened.
+use Rattle.std.specs.Prelude.{◌≡◌, ◌<◌, ⊤, ℕ, Bool, true, List, Result, Ok, Err, IfOk, Some, String, map, slice_get, string_bytes, take}
+use Rattle.hleak.specs.declared.file.InputFile.{InputFile}
 use Rattle.htl_main.specs.declared.fault.RunFault.{RunFault}
 use Rattle.htl_main.specs.declared.fault.RunFault.TheVariants.{Memory, Read, SymbolsRead}
+
+-- a file that was found is that of the name
+abbrev pub IsFoundBy : {A E : Type 0} → String A → Result InputFile E → Type 0
+IsFoundBy name attempt = IfOk attempt (λ found. found.name.now ≡ string_bytes name)
 
 -- the attempt at the place was refused, and none before it
 pub record IsFirstRefused {D E : Type 0} (attempts : List (Result D E)) (place : ℕ) : Type 0 where

@@ -3,14 +3,11 @@
 ghost use Rattle.std.specs.Prelude.{◌≡◌};
 ghost use Rattle.hleak.specs.Subjects.{input_name, subject_of, symbols_name};
 
-use crate::meaning::{Meaning, NO_MEMORY};
+use crate::meaning::{FREE_MEMORY, Meaning};
+use crate::shown::Shown;
 use htl_command::Asked;
-use htl_main::RunFault;
+use htl_main::{Job, Question, RunFault};
 use std::fmt;
-
-/// What to do where a file can't be read.
-const UNREADABLE: &str =
-    "it can't be opened or read: is it a file, is it there, and may you read it?";
 
 /// A fault in words: the file that it is about, what its code means, and what to do.
 #[derive(Clone, Copy)]
@@ -21,28 +18,61 @@ pub struct Explanation<'a> {
 
 impl fmt::Display for Explanation<'_> {
     fn fmt<W: fmt::Write>(&self, f: &mut fmt::Formatter<W>) -> fmt::Result {
-        write!(f, "{}: ", self.subject())?;
-        match self.fault {
-            RunFault::Workers => write!(f, "give 1 to 8 workers"),
-            RunFault::Segment { fault, .. } => write!(f, "{}", Meaning(fault)),
-            RunFault::Hex { fault, .. } => write!(f, "{}", Meaning(fault)),
-            RunFault::Case(fault) => write!(f, "{}", Meaning(fault)),
-            RunFault::Symbols(fault) => write!(f, "{}", Meaning(fault)),
-            RunFault::Read { .. } | RunFault::SymbolsRead => write!(f, "{UNREADABLE}"),
-            RunFault::Write => write!(
-                f,
-                "it didn't take the whole answer: is a disk full, or its reader gone?"
-            ),
-            RunFault::Memory => write!(f, "{NO_MEMORY}"),
-            RunFault::NoThread => write!(
-                f,
-                "the system started no thread: ask for fewer workers, or raise its limit"
-            ),
+        write!(f, "{}: {}", Shown::name(self.subject()), self.meaning())
+    }
+}
+
+/// What helps where memory is refused. A summary takes more of it than other questions do, and alone
+/// has workers.
+fn memory_advice(job: &Job) -> &'static str {
+    match (job.question, job.workers) {
+        (Question::Summary, 0..=1) => {
+            "free some, raise its limit, or ask about one process or object, which takes less"
         }
+        (Question::Summary, _) => {
+            "free some, raise its limit, ask for fewer workers, or about one process or object"
+        }
+        _ => FREE_MEMORY,
+    }
+}
+
+/// What helps where no thread is started.
+fn thread_advice(job: &Job) -> &'static str {
+    if job.workers > 1 {
+        "ask for fewer workers, or raise the limit of threads"
+    } else {
+        "raise the limit of threads, or end some other program"
     }
 }
 
 impl<'a> Explanation<'a> {
+    /// What is wrong, and what to do.
+    fn meaning(&self) -> Meaning {
+        match self.fault {
+            RunFault::Workers => Meaning::new("so many workers there can't be", "give 1 to 8"),
+            RunFault::Segment { fault, .. } => Meaning::of_segment(fault),
+            RunFault::Hex { fault, .. } => Meaning::of_hex(fault),
+            RunFault::Case(fault) => Meaning::of_case(fault),
+            RunFault::Symbols(fault) => Meaning::of_symbols(fault),
+            RunFault::Read { .. } | RunFault::SymbolsRead => Meaning::new(
+                "it can't be opened or read",
+                "is it a file, is it there, and may you read it?",
+            ),
+            RunFault::Write => Meaning::new(
+                "it didn't take the whole answer",
+                "is a disk full, or its reader gone?",
+            ),
+            RunFault::Memory => Meaning::new(
+                "the system refused memory",
+                memory_advice(&self.asked.job),
+            ),
+            RunFault::NoThread => Meaning::new(
+                "the system started no thread",
+                thread_advice(&self.asked.job),
+            ),
+        }
+    }
+
     /// What the fault is about.
     fn subject(&self) -> &'a str
         ensures { result.now ≡ subject_of self.now.asked.now self.now.fault }

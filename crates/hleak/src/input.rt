@@ -2,8 +2,8 @@
 
 ghost use Rattle.std.specs.Prelude.{◌≡◌, ◌⊎◌, None};
 
+use crate::file::{InputFile, known_len};
 use crate::progress::Progress;
-use std::fs::{File, Metadata};
 use std::io::{IsTerminal, Read, Stdin};
 use std::{fs, io};
 
@@ -26,27 +26,27 @@ impl<'a, D: Read> Input<'a, D> {
     }
 }
 
-impl<'a> Input<'a, Device> {
+impl<'a> Input<'a, Device<'a>> {
     /// A file, of which nothing was read.
-    pub fn file(file: File, progress: Option<&'a Progress>) -> Input<'a, Device>
-        ensures device { result.device ≡ Device.File file }
+    pub fn file(file: InputFile<'a>, progress: Option<&'a Progress>) -> Input<'a, Device<'a>>
+        ensures device { result.device ≡ Device.File file.entry }
         ensures watched { result.progress ≡ progress.entry }
     {
         if let Some(progress) = progress {
-            progress.open(known_len(file.metadata()));
+            progress.open(file.len());
         }
         Input::new(Device::File(file), progress)
     }
 
     /// Standard input. What a person types is not counted.
-    pub fn standard(rt: &HostRuntime, progress: Option<&'a Progress>) -> Input<'a, Device>
+    pub fn standard(rt: &HostRuntime, progress: Option<&'a Progress>) -> Input<'a, Device<'a>>
         ensures device { (standard : Stdin) × (result.device ≡ Device.Standard standard) }
         ensures watched { (result.progress ≡ None) ⊎ (result.progress ≡ progress.entry) }
     {
         let standard = rt.stdin();
         let progress = progress.filter(|_| !standard.is_terminal());
         if let Some(progress) = progress {
-            progress.open(known_len(fs::metadata(rt, "/dev/stdin")));
+            progress.open(known_len(&fs::metadata(rt, "/dev/stdin")));
         }
         Input::new(Device::Standard(standard), progress)
     }
@@ -69,24 +69,16 @@ impl<D: Read> Read for Input<'_, D> {
 
 /// A file, or standard input.
 #[derive(Drop)]
-pub enum Device {
-    File(File),
+pub enum Device<'a> {
+    File(InputFile<'a>),
     Standard(Stdin),
 }
 
-impl Read for Device {
+impl Read for Device<'_> {
     fn read(&mut self, buffer: &mut [u8]) -> io::Result<usize> {
         match self {
             Device::File(file) => file.read(buffer),
             Device::Standard(standard) => standard.read(buffer),
         }
-    }
-}
-
-/// How many bytes a file has. A pipe, a terminal or the like doesn't say.
-fn known_len(metadata: io::Result<Metadata>) -> Option<u64> {
-    match metadata {
-        Ok(metadata) if metadata.is_file() => Some(metadata.len()),
-        _ => None,
     }
 }

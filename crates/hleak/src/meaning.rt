@@ -1,4 +1,5 @@
-//! What the code of a fault means, in words, and what to do about it.
+//! What the code of a fault means, in words, and what to do about it. docs/FORMAT.md has the same
+//! words.
 //!
 //! "The segment" is the one at the offset in the fault's line. Records, rows and segments count
 //! from 0.
@@ -11,150 +12,210 @@ use std::fmt;
 /// What to do where bytes of a segment break a rule that each writer keeps.
 const DAMAGED: &str = "was the file changed, or is its writer at fault?";
 
+/// What to do where segments were not written as those of one trace.
+const MIXED: &str = "are they of one trace? If so, its writer is at fault";
+
 /// What to do where memory was refused.
-pub const NO_MEMORY: &str =
-    "the system refused memory, of which a run takes up to about the size of its inputs: free some";
+pub const FREE_MEMORY: &str = "free some, or raise its limit";
 
-/// A fault's meaning.
+/// A fault's meaning: what is wrong with what, and what to do.
 #[derive(Clone, Copy)]
-pub struct Meaning<F>(pub F);
+pub struct Meaning {
+    part: Part,
+    what: &'static str,
+    advice: &'static str,
+}
 
-impl fmt::Display for Meaning<Fault> {
-    fn fmt<W: fmt::Write>(&self, f: &mut fmt::Formatter<W>) -> fmt::Result {
-        match self.0 {
-            Fault::Short | Fault::Cut => {
-                write!(
-                    f,
-                    "the file ends before its last segment does: was it copied whole?"
-                )
+/// What the words of a meaning begin with.
+#[derive(Clone, Copy)]
+enum Part {
+    /// Nothing: they say it themselves.
+    Whole,
+    /// What is so called and has this number.
+    Nth(&'static str, u64),
+    /// The segment of a processor that has this number.
+    Segment(u16, u32),
+}
+
+impl Meaning {
+    pub fn new(what: &'static str, advice: &'static str) -> Meaning {
+        Meaning::of(Part::Whole, what, advice)
+    }
+
+    fn of(part: Part, what: &'static str, advice: &'static str) -> Meaning {
+        Meaning { part, what, advice }
+    }
+
+    fn no_memory() -> Meaning {
+        Meaning::new("the system refused memory", FREE_MEMORY)
+    }
+
+    fn of_record(record: u64, what: &'static str) -> Meaning {
+        Meaning::of(Part::Nth("record", record), what, DAMAGED)
+    }
+
+    /// That of a fault of a segment.
+    pub fn of_segment(fault: Fault) -> Meaning {
+        match fault {
+            Fault::Short => Meaning::new(
+                "a segment has at least 32 bytes and begins with HLS1, and fewer are left",
+                "is it a trace, and copied whole?",
+            ),
+            Fault::Magic => Meaning::new(
+                "a segment begins with HLS1 (48 4c 53 31), and these bytes do not",
+                "is it a trace, in bytes and not in digits (--hex)?",
+            ),
+            Fault::Version => Meaning::new(
+                "the segment's version is neither 1 nor 2",
+                "was it written for a newer hleak?",
+            ),
+            Fault::Processors => Meaning::new(
+                "the segment's version allows no such number of processors",
+                DAMAGED,
+            ),
+            Fault::Processor => Meaning::new(
+                "the segment's processor isn't below their number",
+                DAMAGED,
+            ),
+            Fault::Reserved => Meaning::new("the header's reserved field isn't 0", DAMAGED),
+            Fault::Number => Meaning::new("no segment has the number 0xffffffff", DAMAGED),
+            Fault::Count => Meaning::new("a segment has at most 4096 records", DAMAGED),
+            Fault::Length => Meaning::new(
+                "the segment's version allows no such length of a segment",
+                DAMAGED,
+            ),
+            Fault::Cut => Meaning::new(
+                "the file ends before its last segment does",
+                "was it copied whole?",
+            ),
+            Fault::RecordShort(record) => {
+                Meaning::of_record(record, "is cut by the end of the segment's length")
             }
-            Fault::Magic => write!(
-                f,
-                "no segment begins there: is it a trace, in bytes and not in digits (--hex)?"
+            Fault::Sequence(record) => Meaning::of_record(
+                record,
+                "has sequence 0, or one not above that of the record before",
             ),
-            Fault::Version => write!(
-                f,
-                "the segment's version is neither 1 nor 2: was it written for a newer hleak?"
+            Fault::Kind(record) => {
+                Meaning::of_record(record, "is of no kind of the segment's version")
+            }
+            Fault::Frames(record) => Meaning::of_record(
+                record,
+                "has more frames than its version allows, or than fit in",
             ),
-            Fault::Processors => write!(
-                f,
-                "the segment's version allows no such number of processors: {DAMAGED}"
+            Fault::Field(record) => Meaning::of_record(
+                record,
+                "has a reserved field, handle, object or tag that its kind doesn't allow",
             ),
-            Fault::Processor => write!(
-                f,
-                "the segment's processor isn't below their number: {DAMAGED}"
+            Fault::Excess => Meaning::new(
+                "bytes are left in the segment after its last record",
+                DAMAGED,
             ),
-            Fault::Reserved => write!(f, "the header's reserved field isn't 0: {DAMAGED}"),
-            Fault::Number => write!(f, "no segment has the number 0xffffffff: {DAMAGED}"),
-            Fault::Count => write!(f, "a segment has at most 4096 records: {DAMAGED}"),
-            Fault::Length => write!(
-                f,
-                "the segment's version allows no such length of a segment: {DAMAGED}"
+            Fault::NoMemory => Meaning::no_memory(),
+        }
+    }
+
+    /// That of a fault of a text in hexadecimal.
+    pub fn of_hex(fault: HexFault) -> Meaning {
+        match fault {
+            HexFault::BadDigit(place) => Meaning::of(
+                Part::Nth("byte", place),
+                "is no digit and no blank",
+                "is it a trace in bytes, without --hex?",
             ),
-            Fault::RecordShort(record) => write!(
-                f,
-                "the segment's length ends amid its record {record}: {DAMAGED}"
+            HexFault::Odd => {
+                Meaning::new("the last byte has only one digit", "was it copied whole?")
+            }
+            HexFault::NoMemory => Meaning::no_memory(),
+        }
+    }
+
+    /// That of a fault of all segments.
+    pub fn of_case(fault: CaseFault) -> Meaning {
+        match fault {
+            CaseFault::Empty => Meaning::new(
+                "the inputs have no segments",
+                "are these the files of a trace?",
             ),
-            Fault::Sequence(record) => write!(
-                f,
-                "record {record}'s sequence is 0, or not above that of the record before: {DAMAGED}"
+            CaseFault::OtherTrace(place) => Meaning::of(
+                Part::Nth("segment", place),
+                "of all inputs is of another trace than segment 0",
+                "give the files of one trace",
             ),
-            Fault::Kind(record) => write!(
-                f,
-                "the segment's version has no such kind as that of record {record}: {DAMAGED}"
+            CaseFault::OtherProcessors(place) => Meaning::of(
+                Part::Nth("segment", place),
+                "of all inputs has another number of processors than segment 0",
+                "give the files of one trace",
             ),
-            Fault::Frames(record) => write!(
-                f,
-                "record {record} has more frames than its version allows, or than fit in: {DAMAGED}"
+            CaseFault::TwoContents(processor, number) => Meaning::of(
+                Part::Segment(processor, number),
+                "is there with two different contents",
+                "give the files of one trace, as they were written",
             ),
-            Fault::Field(record) => write!(
-                f,
-                "record {record} has a handle, object or tag that its kind doesn't allow: {DAMAGED}"
+            CaseFault::SequenceTwice(sequence) => Meaning::of(
+                Part::Nth("sequence", sequence),
+                "is that of an event in each of two different segments",
+                MIXED,
             ),
-            Fault::Excess => write!(
-                f,
-                "bytes are left in the segment after its last record: {DAMAGED}"
+            CaseFault::NoMemory => Meaning::no_memory(),
+            CaseFault::Falling(processor, number) => Meaning::of(
+                Part::Segment(processor, number),
+                "has an event that isn't above all in the processor's segments before",
+                MIXED,
             ),
-            Fault::NoMemory => write!(f, "{NO_MEMORY}"),
+        }
+    }
+
+    /// That of a fault of a symbol table.
+    pub fn of_symbols(fault: SymbolFault) -> Meaning {
+        match fault {
+            SymbolFault::Header => Meaning::new(
+                "the first line isn't start,end,module,name",
+                "is it a table of symbols?",
+            ),
+            SymbolFault::Fields(row) => Meaning::of(
+                Part::Nth("row", row),
+                "hasn't four fields",
+                "is a name with a comma in quotes, and is each quote ended?",
+            ),
+            SymbolFault::Number(row) => Meaning::of(
+                Part::Nth("row", row),
+                "has a start or an end that is no number",
+                "each is 1 to 16 hexadecimal digits, with or without 0x",
+            ),
+            SymbolFault::EmptyRange(row) => Meaning::of(
+                Part::Nth("row", row),
+                "ends at or below its start",
+                "an end is the first address after the range",
+            ),
+            SymbolFault::Overlap(row) => Meaning::of(
+                Part::Nth("row", row),
+                "has an address of an earlier row",
+                "are all rows of one moment?",
+            ),
+            SymbolFault::Csv(row) => Meaning::of(
+                Part::Nth("row", row),
+                "can't be read",
+                "is the file in UTF-8?",
+            ),
+            SymbolFault::NoMemory => Meaning::no_memory(),
         }
     }
 }
 
-impl fmt::Display for Meaning<HexFault> {
+impl fmt::Display for Meaning {
     fn fmt<W: fmt::Write>(&self, f: &mut fmt::Formatter<W>) -> fmt::Result {
-        match self.0 {
-            HexFault::BadDigit(place) => write!(
-                f,
-                "byte {place} is no digit and no blank: is it a trace in bytes, without --hex?"
-            ),
-            HexFault::Odd => write!(f, "the last byte has only one digit: was it copied whole?"),
-            HexFault::NoMemory => write!(f, "{NO_MEMORY}"),
-        }
+        write!(f, "{}{}: {}", self.part, self.what, self.advice)
     }
 }
 
-impl fmt::Display for Meaning<CaseFault> {
+impl fmt::Display for Part {
     fn fmt<W: fmt::Write>(&self, f: &mut fmt::Formatter<W>) -> fmt::Result {
-        match self.0 {
-            CaseFault::Empty => write!(
-                f,
-                "the inputs have no segments: are these the files of a trace?"
-            ),
-            CaseFault::OtherTrace(place) => write!(
-                f,
-                "segment {place} of all inputs is of another trace than segment 0: \
-                 give the files of one trace"
-            ),
-            CaseFault::OtherProcessors(place) => write!(
-                f,
-                "segment {place} of all inputs has another number of processors than segment 0: \
-                 give the files of one trace"
-            ),
-            CaseFault::TwoContents(processor, number) => write!(
-                f,
-                "two different segments are number {number} of processor {processor}: \
-                 give the files of one trace, as they were written"
-            ),
-            CaseFault::SequenceTwice(sequence) => write!(
-                f,
-                "two different segments have an event of sequence {sequence}: \
-                 are they of one trace? If so, its writer is at fault"
-            ),
-            CaseFault::NoMemory => write!(f, "{NO_MEMORY}"),
-            CaseFault::Falling(processor, number) => write!(
-                f,
-                "segment {number} of processor {processor} has an event that isn't above all in \
-                 its segments before: are they of one trace? If so, its writer is at fault"
-            ),
-        }
-    }
-}
-
-impl fmt::Display for Meaning<SymbolFault> {
-    fn fmt<W: fmt::Write>(&self, f: &mut fmt::Formatter<W>) -> fmt::Result {
-        match self.0 {
-            SymbolFault::Header => write!(
-                f,
-                "the first line isn't start,end,module,name: is it a table of symbols?"
-            ),
-            SymbolFault::Fields(row) => write!(
-                f,
-                "row {row} hasn't four fields: is a name with a comma in quotes?"
-            ),
-            SymbolFault::Number(row) => write!(
-                f,
-                "the start or end of row {row} isn't 1 to 16 hexadecimal digits, with or without 0x"
-            ),
-            SymbolFault::EmptyRange(row) => write!(
-                f,
-                "row {row} ends at or below its start: an end is the first address after the range"
-            ),
-            SymbolFault::Overlap(row) => write!(
-                f,
-                "row {row} has an address of an earlier row: are all rows of one moment?"
-            ),
-            SymbolFault::Csv(row) => write!(f, "row {row} can't be read: is the file in UTF-8?"),
-            SymbolFault::NoMemory => write!(f, "{NO_MEMORY}"),
+        match *self {
+            Part::Whole => Ok(()),
+            Part::Nth(name, number) => write!(f, "{name} {number} "),
+            Part::Segment(processor, number) => {
+                write!(f, "segment {number} of processor {processor} ")
+            }
         }
     }
 }

@@ -1,24 +1,26 @@
-//! The files that are read, each opened before any is read.
+//! The files that are read, each looked for before any is read.
 
 ghost use Rattle.std.specs.Prelude.{◌≡◌, ◌⊎◌, ℕ, All, IfErr, IfOk, Ok, false, is_some, length, map};
 ghost use Rattle.std.specs.Prelude.{max};
-ghost use Rattle.hleak.specs.Openings.{IsFirstRefused, IsOpenFault, IsSymbolsFault};
+ghost use Rattle.std.specs.List.{AllZip};
+ghost use Rattle.hleak.specs.Openings.{IsFirstRefused, IsFoundBy, IsOpenFault, IsSymbolsFault};
 
+use crate::file::InputFile;
 use crate::input::{Device, Input};
 use crate::progress::Progress;
 use htl_main::{Reading, RunFault, Source};
 use std::alloc::{AllocError, Global};
-use std::fs::File;
 use std::{fs, io};
 
 /// The files in order, or standard input where there is none.
 pub fn opened<'a>(
     rt: &HostRuntime,
-    files: &[String],
+    files: &'a [String],
     progress: Option<&'a Progress>,
-) -> Result<Vec<Reading<Input<'a, Device>>>, RunFault>
+) -> Result<Vec<Reading<Input<'a, Device<'a>>>>, RunFault>
     ensures fresh { IfOk result (λ inputs. All
-        (λ input. ⟦<Reading<Input<'a, Device>> as Source>⟧.has_failed input ≡ false) inputs.items) }
+        (λ input. ⟦<Reading<Input<'a, Device<'a>>> as Source>⟧.has_failed input ≡ false)
+        inputs.items) }
     ensures count { IfOk result (λ inputs. length inputs.items ≡ max 1 (length files.now)) }
     ensures place { IfErr result (IsOpenFault (length files.now)) }
 {
@@ -26,19 +28,20 @@ pub fn opened<'a>(
         let standard = Reading::new(Input::standard(rt, progress));
         return Ok(vec![in rt.alloc(); standard]?);
     }
-    let files = all_opened(rt.alloc(), attempts(rt, files)?)?;
-    Ok(file_inputs(rt.alloc(), files, progress)?)
+    let found = all_found(rt.alloc(), attempts(rt, files)?)?;
+    Ok(file_inputs(rt.alloc(), found, progress)?)
 }
 
 /// The files as inputs, in order.
 fn file_inputs<'a>(
     alloc: Global,
-    files: Vec<File>,
+    files: Vec<InputFile<'a>>,
     progress: Option<&'a Progress>,
-) -> Result<Vec<Reading<Input<'a, Device>>>, AllocError>
+) -> Result<Vec<Reading<Input<'a, Device<'a>>>>, AllocError>
     ensures fresh { IfOk result (λ inputs. All
-        (λ input. ⟦<Reading<Input<'a, Device>> as Source>⟧.has_failed input ≡ false) inputs.items) }
-    ensures count { IfOk result (λ inputs. length inputs.items ≡ length files.items) }
+        (λ input. ⟦<Reading<Input<'a, Device<'a>>> as Source>⟧.has_failed input ≡ false)
+        inputs.items) }
+    ensures count { IfOk result (λ inputs. length inputs.items ≡ length files.entry.items) }
 {
     let mut inputs = Vec::new(alloc);
     for file in files {
@@ -47,33 +50,37 @@ fn file_inputs<'a>(
     Ok(inputs)
 }
 
-/// What came of opening each file.
-fn attempts(rt: &HostRuntime, files: &[String]) -> Result<Vec<io::Result<File>>, AllocError>
-    ensures { IfOk result (λ attempts. length attempts.items ≡ length files.now) }
+/// What came of looking for each file, in order.
+fn attempts<'a>(
+    rt: &HostRuntime,
+    names: &'a [String],
+) -> Result<Vec<io::Result<InputFile<'a>>>, AllocError>
+    ensures count { IfOk result (λ attempts. length attempts.items ≡ length names.now) }
+    ensures named { IfOk result (λ attempts. AllZip IsFoundBy names.now attempts.items) }
 {
     let mut attempts = Vec::new(rt.alloc());
-    for name in files {
-        attempts.push(File::open(rt, name))?;
+    for name in names {
+        attempts.push(InputFile::find(rt, name))?;
     }
     Ok(attempts)
 }
 
-/// What was opened, where each file could be, or else the place of the first that could not.
-fn all_opened<D: Drop>(alloc: Global, attempts: Vec<io::Result<D>>) -> Result<Vec<D>, RunFault>
-    ensures ok { IfOk result (λ opened. map (λ d. Ok d) opened.items ≡ attempts.items) }
+/// What was found, where each file was, or else the place of the first that was not.
+fn all_found<D: Drop>(alloc: Global, attempts: Vec<io::Result<D>>) -> Result<Vec<D>, RunFault>
+    ensures ok { IfOk result (λ found. map (λ d. Ok d) found.items ≡ attempts.items) }
     ensures err { IfErr result (λ fault. (fault ≡ RunFault.Memory)
         ⊎ ((place : ℕ) × (fault ≡ RunFault.Read place) × IsFirstRefused attempts.items place)) }
 {
-    let mut opened = Vec::new(alloc);
+    let mut found = Vec::new(alloc);
     for attempt in attempts {
         let Ok(device) = attempt else {
             return Err(RunFault::Read {
-                input: opened.len() as u64,
+                input: found.len() as u64,
             });
         };
-        opened.push(device)?;
+        found.push(device)?;
     }
-    Ok(opened)
+    Ok(found)
 }
 
 /// The bytes of the file with the symbol table, where one is named.

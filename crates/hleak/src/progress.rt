@@ -1,9 +1,11 @@
 //! How much of the inputs was read, for a person at a terminal.
 //!
 //! Nothing is shown of reading that ends within a second. After that a line on standard error says
-//! how many megabytes were read, and of how many where each input is a file. It is written over
-//! from time to time and goes away when the last input has ended. A line that can't be written is
-//! left out.
+//! how much was read, and of how much where each input is a file. It is written over from time to
+//! time and goes away when the last input has ended. A line that can't be written is left out.
+//!
+//! The system's answer to how wide a terminal is can't be had here, so the line is short: it has
+//! `WIDTH` characters, whatever it says, and as many blanks are written over it.
 
 ghost use Rattle.std.specs.Prelude.{◌≡◌, ◌+◌, ◌-◌, ◌*◌, ◌^◌, ◌<◌, ◌≤◌, ◌↔◌, ℕ, None, Some};
 ghost use Rattle.std.specs.Prelude.{IsTrue, IfSome, IfNone, min};
@@ -18,6 +20,9 @@ const PATIENCE: u64 = 1;
 
 /// How long the line stands before it is written over, in milliseconds.
 const PERIOD: u64 = 200;
+
+/// How many characters the line has.
+const WIDTH: usize = 24;
 
 /// How much of the inputs was read.
 #[derive(Clone, Copy)]
@@ -96,26 +101,73 @@ impl Meter {
 
 impl fmt::Display for Meter {
     fn fmt<W: fmt::Write>(&self, f: &mut fmt::Formatter<W>) -> fmt::Result {
+        let unit = Unit::for_bytes(self.total.unwrap_or(0).max(self.read));
+        let read = unit.amount(self.read);
         match self.total {
-            Some(total) => write!(
-                f,
-                "hleak: {} of {} MB read",
-                Megabytes(self.read),
-                Megabytes(total)
-            ),
-            None => write!(f, "hleak: {} MB read", Megabytes(self.read)),
+            Some(total) => write!(f, "hleak: {read} of {} {unit}", unit.amount(total)),
+            None => write!(f, "hleak: reading, {read} {unit}"),
         }
     }
 }
 
-/// A number of bytes, which prints as megabytes.
+/// In what a number of bytes is shown.
 #[derive(Clone, Copy)]
-struct Megabytes(u64);
+enum Unit {
+    Megabyte,
+    Gigabyte,
+    Terabyte,
+    Petabyte,
+    Exabyte,
+}
 
-impl fmt::Display for Megabytes {
+impl Unit {
+    /// The least one of which so many bytes are less than 1,000. No number of 64 bits has as many
+    /// exabytes.
+    fn for_bytes(bytes: u64) -> Unit {
+        match bytes / 1_000_000_000 {
+            0 => Unit::Megabyte,
+            1..=999 => Unit::Gigabyte,
+            1_000..=999_999 => Unit::Terabyte,
+            1_000_000..=999_999_999 => Unit::Petabyte,
+            _ => Unit::Exabyte,
+        }
+    }
+
+    /// The number of bytes in this unit.
+    fn amount(self, bytes: u64) -> Amount {
+        let tenths = match self {
+            Unit::Megabyte => bytes / 100_000,
+            Unit::Gigabyte => bytes / 100_000_000,
+            Unit::Terabyte => bytes / 100_000_000_000,
+            Unit::Petabyte => bytes / 100_000_000_000_000,
+            Unit::Exabyte => bytes / 100_000_000_000_000_000,
+        };
+        Amount { tenths }
+    }
+}
+
+impl fmt::Display for Unit {
     fn fmt<W: fmt::Write>(&self, f: &mut fmt::Formatter<W>) -> fmt::Result {
-        let tenths = self.0 / 100_000;
-        write!(f, "{}.{}", tenths / 10, tenths % 10)
+        f.write_str(match self {
+            Unit::Megabyte => "MB",
+            Unit::Gigabyte => "GB",
+            Unit::Terabyte => "TB",
+            Unit::Petabyte => "PB",
+            Unit::Exabyte => "EB",
+        })
+    }
+}
+
+/// A number with one digit after its point, which prints in five characters where it is less than
+/// 1,000.
+#[derive(Clone, Copy)]
+struct Amount {
+    tenths: u64,
+}
+
+impl fmt::Display for Amount {
+    fn fmt<W: fmt::Write>(&self, f: &mut fmt::Formatter<W>) -> fmt::Result {
+        write!(f, "{:>3}.{}", self.tenths / 10, self.tenths % 10)
     }
 }
 
@@ -169,7 +221,7 @@ impl Progress {
     pub fn clear(&self) {
         let mut meter = self.meter.get();
         if meter.shown.is_some() {
-            let _ = eprint!(self.rt; "\r{:56}\r", "");
+            let _ = eprint!(self.rt; "\r{:WIDTH$}\r", "");
             meter.shown = None;
             self.meter.set(meter);
         }

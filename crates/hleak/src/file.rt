@@ -1,0 +1,113 @@
+//! A file that is open only while it is read.
+
+ghost use Rattle.std.specs.Prelude.{◌≡◌, ◌≤◌, IfOk, OnErr, OnOk, Ok, length};
+ghost use Rattle.hleak.specs.Stages.{IsBegun, IsStageAfter, IsUnread};
+
+use std::fs::{File, Metadata};
+use std::io;
+use std::io::Read;
+
+/// How far the reading of a file has come.
+#[derive(Drop)]
+pub enum Stage {
+    /// Nothing was read, and the file isn't open.
+    Found,
+    Open(File),
+    /// The end was found, and the file isn't open any more.
+    Ended,
+}
+
+/// A file of a name, which is opened at its first read and closed once its end is found.
+#[derive(Drop)]
+pub struct InputFile<'a> {
+    rt: HostRuntime,
+    name: &'a str,
+    len: Option<u64>,
+    stage: Stage,
+}
+
+impl<'a> InputFile<'a> {
+    /// The file of this name, where it can be opened. It is closed again until it is read, so that
+    /// there may be more files than may be open at once. What gives other bytes each time that it is
+    /// opened, as a pipe or a terminal, stays open.
+    pub fn find(rt: &HostRuntime, name: &'a str) -> io::Result<InputFile<'a>>
+        ensures name { IfOk result (λ found. found.name ≡ name.entry) }
+        ensures unread { IfOk result (λ found. IsUnread found.stage) }
+    {
+        let file = File::open(rt, name)?;
+        let metadata = file.metadata();
+        let len = known_len(&metadata);
+        let stage = if stays_open(&metadata) {
+            Stage::Open(file)
+        } else {
+            Stage::Found
+        };
+        Ok(InputFile {
+            rt: *rt,
+            name,
+            len,
+            stage,
+        })
+    }
+
+    /// How many bytes the file had when it was found, where that is known.
+    pub fn len(&self) -> Option<u64>
+        ensures { result ≡ self.now.len }
+    {
+        self.len
+    }
+
+    /// Opens the file, where that wasn't done.
+    fn begin(&mut self) -> io::Result<()>
+        ensures begun { OnOk result (IsBegun self.old.stage self.new.stage) }
+        ensures refused { OnErr result ((self.new ≡ self.old) × (self.old.stage ≡ Stage.Found)) }
+        ensures name { self.new.name ≡ self.old.name }
+    {
+        if let Stage::Found = self.stage {
+            self.stage = Stage::Open(File::open(&self.rt, self.name)?);
+        }
+        Ok(())
+    }
+
+    /// Reads on. The first read opens the file, and the one that finds its end closes it: from then on
+    /// there are no bytes, and the file isn't opened again.
+    fn read_on(&mut self, buffer: &mut [u8]) -> io::Result<usize>
+        ensures bound { IfOk result (λ count. count ≤ length buffer.new) }
+        ensures stage { IfOk result (λ count.
+            IsStageAfter self.old.stage (length buffer.old) count self.new.stage) }
+        ensures ended { self.old.stage ≡ Stage.Ended → (result ≡ Ok 0) }
+        ensures name { self.new.name ≡ self.old.name }
+    {
+        self.begin()?;
+        let Stage::Open(file) = &mut self.stage else {
+            return Ok(0);
+        };
+        let count = file.read(buffer)?;
+        if count == 0 && !buffer.is_empty() {
+            self.stage = Stage::Ended;
+        }
+        Ok(count)
+    }
+}
+
+impl Read for InputFile<'_> {
+    fn read(&mut self, buffer: &mut [u8]) -> io::Result<usize> {
+        self.read_on(buffer)
+    }
+}
+
+/// How many bytes a file has. A pipe, a terminal or the like doesn't say.
+pub fn known_len(metadata: &io::Result<Metadata>) -> Option<u64> {
+    match metadata {
+        Ok(metadata) if metadata.is_file() => Some(metadata.len()),
+        _ => None,
+    }
+}
+
+/// Whether a file can't be opened once more in its place. A folder can, and can't be read.
+fn stays_open(metadata: &io::Result<Metadata>) -> bool {
+    match metadata {
+        Ok(metadata) => !metadata.is_file() && !metadata.is_dir(),
+        Err(_) => true,
+    }
+}

@@ -13,8 +13,16 @@ fn written(rt: &impl Abort, line: &str) -> Event {
 #[test]
 fn lines_of_events(rt: HostRuntime) {
     let open = written(&rt, "O 1 0x44 process=5 [0x50 0x20]");
-    assert_eq!(rt; (open.sequence, open.kind), (1, Kind::Opened));
-    assert_eq!(rt; (open.process, open.thread, open.handle), (5, 12, 0x44));
+    assert_eq!(rt;
+        (
+            open.sequence,
+            open.kind,
+            open.process,
+            open.thread,
+            open.handle
+        ),
+        (1, Kind::Opened, 5, 12, 0x44)
+    );
     assert_eq!(rt; open.stack.frames(), [0x50, 0x20].as_slice());
     let last = written(&rt, "D 6 0x1000 0x01414243");
     assert_eq!(rt; (last.kind, last.object), (Kind::Deref, 0x1000));
@@ -55,13 +63,20 @@ fn lines_of_segments(rt: HostRuntime) {
     let segments = two
         .segments(rt.alloc(), &["0/1:", "1/3: O 1 0x44, exit 2"])
         .expect(&rt, "the lines are segments");
-    assert_eq!(rt; segments.len(), 2);
-    assert_eq!(rt; (segments[0].version(), segments[0].number()), (1, 1));
-    assert_eq!(rt; segments[0].events().len(), 0);
-    assert_eq!(rt; (segments[1].version(), segments[1].processor()), (2, 1));
-    assert_eq!(rt; segments[1].events().len(), 2);
+    let places = segments.iter().map(place);
+    assert!(rt; places.eq([(1, 0, 1, 0), (2, 1, 3, 2)]));
     assert!(rt; TRACE.segment(rt.alloc(), "1/0:").is_err());
     agree(&rt, rt.alloc(), "C 9 0x44, O 4 0x44 [0x10]");
+}
+
+/// A segment's version, processor and number, and how many events it has.
+fn place(segment: &Segment) -> (u16, u16, u32, usize) {
+    (
+        segment.version(),
+        segment.processor(),
+        segment.number(),
+        segment.events().len(),
+    )
 }
 
 /// The two events of the lines are the same, whether they share stacks or not.
@@ -69,10 +84,24 @@ fn agree(rt: &impl Abort, alloc: Global, lines: &str) {
     let alone = events(alloc, lines).expect(rt, "the lines are events");
     let shared = shared_events(alloc, lines).expect(rt, "the lines are events");
     assert_eq!(rt; (alone.len(), shared.len()), (2, 2));
-    for (event, other) in alone.iter().zip(&shared) {
-        assert_eq!(rt; event.sequence, other.sequence);
-        assert_eq!(rt; event.stack.frames(), other.stack.frames());
-    }
+    let alone = alone
+        .iter()
+        .map(|event| (event.sequence, event.stack.frames()));
+    assert!(rt;
+        alone.eq(
+            shared
+                .iter()
+                .map(|event| (event.sequence, event.stack.frames()))
+        )
+    );
+}
+
+/// Whether some event has more than one frame.
+fn has_frames(segment: &Segment) -> bool {
+    segment
+        .events()
+        .iter()
+        .any(|event| event.stack.frames().len() > 1)
 }
 
 /// The segments of the small trace's bundle.
@@ -87,11 +116,6 @@ fn generated_traces(rt: HostRuntime) {
     let read = bundled(&rt, rt.alloc());
     assert_eq!(rt; (segments.len(), read.len()), (6, 6));
     for (made, read) in segments.iter().zip(&read) {
-        assert!(rt; made.same(read));
-        assert!(rt;
-            made.events()
-                .iter()
-                .any(|event| event.stack.frames().len() > 1)
-        );
+        assert!(rt; made.same(read) && has_frames(made));
     }
 }

@@ -152,14 +152,18 @@ fn cut_bytes(rt: HostRuntime) {
     let bytes = changed(&rt, alloc, &[STORED], &[]);
     for len in 0..bytes.len() {
         let fault = if len < 32 { Fault::Short } else { Fault::Cut };
+        let ended = if len == 0 { Ok(()) } else { Err((0, fault)) };
         let cut = &bytes[..len];
         assert_eq!(rt; decode(alloc, cut).err(), Some(fault), "{len}");
-        let mut splitter = Splitter::new(alloc);
-        let segments = splitter.feed(alloc, cut).expect(&rt, "no fault yet");
-        assert!(rt; segments.is_empty(), "{len}");
-        let ended = if len == 0 { Ok(()) } else { Err((0, fault)) };
-        assert_eq!(rt; splitter.finish(), ended, "{len}");
+        assert_eq!(rt; split(&rt, alloc, cut), (0, ended), "{len}");
     }
+}
+
+/// How many segments bytes without a fault have, and what ends them.
+fn split(rt: &impl Abort, alloc: Global, bytes: &[u8]) -> (usize, Result<(), (u64, Fault)>) {
+    let mut splitter = Splitter::new(alloc);
+    let segments = fed(rt, alloc, &mut splitter, bytes);
+    (segments.len(), splitter.finish())
 }
 
 #[test]
@@ -175,18 +179,45 @@ fn encoded_segments(rt: HostRuntime) {
     ];
     for (texts, changes, version, processor, number, count) in table {
         let bytes = changed(&rt, alloc, texts, changes);
-        let (segment, used) = decode(alloc, &bytes).expect(&rt, "a segment");
-        assert_eq!(rt; used, bytes.len(), "{texts:?}");
-        assert_eq!(rt; segment.version(), version, "{texts:?}");
-        assert_eq!(rt; segment.trace_id(), 7, "{texts:?}");
-        assert_eq!(rt; segment.processor(), processor, "{texts:?}");
-        assert_eq!(rt; segment.number(), number, "{texts:?}");
         let events = &stored[..count.min(stored.len())];
-        assert!(rt; same_events(segment.events(), events), "{texts:?}");
-        assert!(rt; is_encoded(&rt, alloc, &segment, &bytes), "{texts:?}");
-        assert!(rt; is_copied(&rt, &segment), "{texts:?}");
-        assert!(rt; is_checked(&rt, alloc, &segment, &bytes), "{texts:?}");
+        is_segment(&rt, alloc, &bytes, (version, 7, processor, number), events);
     }
+}
+
+/// The bytes are those of a segment of this version, trace, processor and number, with these events.
+fn is_segment(
+    rt: &impl Abort,
+    alloc: Global,
+    bytes: &[u8],
+    place: (u16, u64, u16, u32),
+    events: &[Event],
+) {
+    let segment = whole(rt, alloc, bytes);
+    assert_eq!(rt;
+        (
+            segment.version(),
+            segment.trace_id(),
+            segment.processor(),
+            segment.number()
+        ),
+        place
+    );
+    assert_eq!(rt;
+        [
+            same_events(segment.events(), events),
+            is_encoded(rt, alloc, &segment, bytes),
+            is_copied(rt, &segment),
+            is_checked(rt, alloc, &segment, bytes)
+        ],
+        [true; 4]
+    );
+}
+
+/// The segment that ends with the bytes.
+fn whole(rt: &impl Abort, alloc: Global, bytes: &[u8]) -> Segment {
+    let (segment, used) = decode(alloc, bytes).expect(rt, "a segment");
+    assert_eq!(rt; used, bytes.len());
+    segment
 }
 
 /// Whether the segment is written as these bytes.
@@ -313,14 +344,11 @@ fn deepest_stack(rt: HostRuntime) {
     let segment = Segment::build2(alloc, 7, 1, 0, 0, events)
         .ok()
         .expect(&rt, "a segment");
+    assert!(rt; is_copied(&rt, &segment) && !deep_event().stack.push(64));
     let bytes = encode(alloc, &segment).expect(&rt, "the memory");
     assert_eq!(rt; bytes.len(), 580);
     assert!(rt; bytes[28..32] == [0x44, 2, 0, 0]);
-    let copy = segment.copy().expect(&rt, "the memory");
-    assert!(rt; copy.same(&segment));
-    let (read, used) = decode(alloc, &bytes).expect(&rt, "a segment");
-    assert!(rt; used == 580 && read.same(&segment));
-    assert!(rt; !deep_event().stack.push(64));
+    assert!(rt; whole(&rt, alloc, &bytes).same(&segment));
 }
 
 /// Opens of stacks that come again and again, so many of them.
@@ -347,13 +375,18 @@ fn stacks_through_two_cells(rt: HostRuntime) {
         let segment = Segment::build(alloc, 7, 1, 0, 0, repeating(&rt, alloc, stacks))
             .ok()
             .expect(&rt, "a segment");
+        let read = read_back(&rt, alloc, &segment);
         assert!(rt; same_events(segment.events(), &events), "{stacks}");
-        let bytes = encode(alloc, &segment).expect(&rt, "the memory");
-        let found = SegmentBytes::check(&bytes).expect(&rt, "a segment");
-        let read = found.to_segment(alloc).expect(&rt, "the memory");
         assert!(rt; read.same(&segment), "{stacks}");
         assert!(rt; same_events(read.events(), &events), "{stacks}");
     }
+}
+
+/// The segment that is read from this one's bytes.
+fn read_back(rt: &impl Abort, alloc: Global, segment: &Segment) -> Segment {
+    let bytes = encode(alloc, segment).expect(rt, "the memory");
+    let found = SegmentBytes::check(&bytes).expect(rt, "a segment");
+    found.to_segment(alloc).expect(rt, "the memory")
 }
 
 /// The bytes of an empty segment, which ends at 32, and of the stored run after it.

@@ -15,6 +15,7 @@ mod stopwatch;
 mod summaries;
 mod surveys;
 mod tables;
+mod texts;
 mod trees;
 
 use anyhow::{Context, Result};
@@ -39,6 +40,7 @@ fn measure<R: Threads + Wait + Sync>(
         Measurement::Cases => cases::measure(rt, size),
         Measurement::Surveys => surveys::measure(rt, threads, size),
         Measurement::Reports => reports::measure(rt, size),
+        Measurement::Texts => texts::measure(rt, size),
     }
 }
 

@@ -11,10 +11,11 @@ pub enum Measurement {
     Cases,
     Surveys,
     Reports,
+    Texts,
 }
 
 impl Measurement {
-    pub const ALL: [Measurement; 8] = [
+    pub const ALL: [Measurement; 9] = [
         Measurement::Segments,
         Measurement::Trees,
         Measurement::Tables,
@@ -23,6 +24,7 @@ impl Measurement {
         Measurement::Cases,
         Measurement::Surveys,
         Measurement::Reports,
+        Measurement::Texts,
     ];
 
     /// The measurement that has this word.
@@ -43,6 +45,7 @@ impl Measurement {
             Measurement::Cases => "cases",
             Measurement::Surveys => "surveys",
             Measurement::Reports => "reports",
+            Measurement::Texts => "texts",
         }
     }
 
@@ -57,6 +60,7 @@ impl Measurement {
             Measurement::Cases => 64,
             Measurement::Surveys => 16,
             Measurement::Reports => 1000,
+            Measurement::Texts => 1,
         }
     }
 }

@@ -23,7 +23,7 @@ pub fn measure(rt: &HostRuntime, size: u32) -> Result<()> {
     let mut watch = Stopwatch::start(rt)?;
     let symbols = Symbols::read(alloc, table.as_bytes())?;
     watch.lap("bytes of a symbol table", table.len() as u64)?;
-    let printed = text(alloc, &answer, &symbols)?;
+    let printed = text(alloc, &answer, &symbols, None)?;
     watch.lap("bytes of text", printed.len() as u64)?;
     Ok(())
 }

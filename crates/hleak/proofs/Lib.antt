@@ -1,2 +1,4 @@
 pub mod FirstRefused
 pub mod PlaceByPlace
+pub mod Padding
+pub mod ShownTags

@@ -3,17 +3,25 @@
 ghost use Rattle.std.specs.Prelude.{◌≡◌};
 ghost use Rattle.hleak.specs.Subjects.{input_name, subject_of, symbols_name};
 
-use crate::meaning::{FREE_MEMORY, Meaning};
+use crate::meaning::Meaning;
 use crate::shown::Shown;
-use htl_command::Asked;
-use htl_main::{Job, Question, RunFault};
+use crate::words::FREE_MEMORY;
+use htl_command::{Asked, Conversion};
+use htl_main::{Question, RunFault};
 use std::fmt;
 
 /// A fault in words: the file that it is about, what its code means, and what to do.
 #[derive(Clone, Copy)]
 pub struct Explanation<'a> {
     pub fault: RunFault,
-    pub asked: &'a Asked,
+    pub task: Task<'a>,
+}
+
+/// What was being done.
+#[derive(Clone, Copy)]
+pub enum Task<'a> {
+    Answer(&'a Asked),
+    Convert(&'a Conversion),
 }
 
 impl fmt::Display for Explanation<'_> {
@@ -24,8 +32,11 @@ impl fmt::Display for Explanation<'_> {
 
 /// What helps where memory is refused. A summary takes more of it than other questions do, and alone
 /// has workers.
-fn memory_advice(job: &Job) -> &'static str {
-    match (job.question, job.workers) {
+fn memory_advice(task: Task) -> &'static str {
+    let Task::Answer(asked) = task else {
+        return FREE_MEMORY;
+    };
+    match (asked.job.question, asked.job.workers) {
         (Question::Summary, 0..=1) => {
             "free some, raise its limit, or ask about one process or object, which takes less"
         }
@@ -37,11 +48,12 @@ fn memory_advice(job: &Job) -> &'static str {
 }
 
 /// What helps where no thread is started.
-fn thread_advice(job: &Job) -> &'static str {
-    if job.workers > 1 {
-        "ask for fewer workers, or raise the limit of threads"
-    } else {
-        "raise the limit of threads, or end some other program"
+fn thread_advice(task: Task) -> &'static str {
+    match task {
+        Task::Answer(asked) if asked.job.workers > 1 => {
+            "ask for fewer workers, or raise the limit of threads"
+        }
+        _ => "raise the limit of threads, or end some other program",
     }
 }
 
@@ -52,6 +64,7 @@ impl<'a> Explanation<'a> {
             RunFault::Workers => Meaning::new("so many workers there can't be", "give 1 to 8"),
             RunFault::Segment { fault, .. } => Meaning::of_segment(fault),
             RunFault::Hex { fault, .. } => Meaning::of_hex(fault),
+            RunFault::Text { fault, .. } => Meaning::of_line(fault),
             RunFault::Case(fault) => Meaning::of_case(fault),
             RunFault::Symbols(fault) => Meaning::of_symbols(fault),
             RunFault::Read { .. } | RunFault::SymbolsRead => Meaning::new(
@@ -62,24 +75,22 @@ impl<'a> Explanation<'a> {
                 "it didn't take the whole answer",
                 "is a disk full, or its reader gone?",
             ),
-            RunFault::Memory => Meaning::new(
-                "the system refused memory",
-                memory_advice(&self.asked.job),
-            ),
+            RunFault::Memory => Meaning::new("the system refused memory", memory_advice(self.task)),
             RunFault::NoThread => Meaning::new(
                 "the system started no thread",
-                thread_advice(&self.asked.job),
+                thread_advice(self.task),
             ),
         }
     }
 
     /// What the fault is about.
     fn subject(&self) -> &'a str
-        ensures { result.now ≡ subject_of self.now.asked.now self.now.fault }
+        ensures { result.now ≡ subject_of self.now.task self.now.fault }
     {
         match self.fault {
             RunFault::Segment { input, .. } => self.input(input),
             RunFault::Hex { input, .. } => self.input(input),
+            RunFault::Text { input, .. } => self.input(input),
             RunFault::Read { input } => self.input(input),
             RunFault::Symbols(_) | RunFault::SymbolsRead => self.symbols(),
             RunFault::Write => "standard output",
@@ -91,9 +102,13 @@ impl<'a> Explanation<'a> {
 
     /// What a person calls the input at a place.
     fn input(&self, place: u64) -> &'a str
-        ensures { result.now ≡ input_name self.now.asked.now place }
+        ensures { result.now ≡ input_name self.now.task place }
     {
-        match self.asked.files.get(place as usize) {
+        let files = match self.task {
+            Task::Answer(asked) => &asked.files,
+            Task::Convert(of) => &of.files,
+        };
+        match files.get(place as usize) {
             Some(name) => name.as_str(),
             None => "standard input",
         }
@@ -101,11 +116,16 @@ impl<'a> Explanation<'a> {
 
     /// What a person calls the table of symbols.
     fn symbols(&self) -> &'a str
-        ensures { result.now ≡ symbols_name self.now.asked.now }
+        ensures { result.now ≡ symbols_name self.now.task }
     {
-        match &self.asked.symbols {
-            Some(name) => name.as_str(),
-            None => "the table of symbols",
+        match self.task {
+            Task::Answer(
+                Asked {
+                    symbols: Some(name),
+                    ..
+                },
+            ) => name.as_str(),
+            _ => "the table of symbols",
         }
     }
 }

@@ -1,4 +1,5 @@
-//! The program: answers one question over trace segments in files, or from standard input.
+//! The program: answers one question over trace segments in files or from standard input, prints
+//! segments as text or makes them of text (`conversion.rt`), or explains a code (`explained.rt`).
 //!
 //! The arguments ask for a job (`htl_command`). The files are looked for in order (`opening.rt`), the
 //! symbol table is read, and the job is run (`htl_main`), which opens each file (`file.rt`, `input.rt`)
@@ -6,17 +7,21 @@
 //! (`ending.rt`).
 //!
 //! Where standard error is a terminal, a person reads more: `progress.rt` shows how much was read,
-//! `note.rt` says that segments are missing, and `explanation.rt` and `meaning.rt` say a fault in
-//! words. `shown.rt` keeps control characters of names from the terminal.
+//! `absence.rt` says that what was asked about has no event, `note.rt` that segments are missing, and
+//! `explanation.rt` and `meaning.rt` say a fault in words, those that `words.rt` has for its code.
+//! `shown.rt` keeps control characters of names from the terminal.
 #![tactic(auto)]
 
 ghost use Rattle.std.specs.Prelude.{◌≡◌, ⊤, All, IfErr, IfOk, false};
 ghost use Rattle.std.specs.Process.{exit_status};
 ghost use Rattle.htl_command.specs.Refusals.{IsUsageWith};
 ghost use Rattle.hleak.specs.Arguments.{AreArguments};
-ghost use Rattle.hleak.specs.Endings.{EndsRefusal, end_status};
+ghost use Rattle.hleak.specs.Endings.{EndsRefusal, IsTextStatus, end_status};
 
+mod absence;
+mod conversion;
 mod ending;
+mod explained;
 mod explanation;
 mod file;
 mod input;
@@ -25,17 +30,22 @@ mod note;
 mod opening;
 mod progress;
 mod shown;
+mod words;
 
+use absence::Absence;
+use conversion::{Direction, converted};
 use ending::Ending;
-use explanation::Explanation;
-use htl_command::{Asked, ParseFault, parse};
-use htl_main::{Coverage, Reading, RunFault, Source, Writing, run_from};
+use explained::Explained;
+use explanation::{Explanation, Task};
+use htl_command::{Asked, Command, Conversion, ParseFault, parse};
+use htl_main::{Completed, Reading, RunFault, Source, Writing, run_from};
 use input::{Device, Input};
 use note::Note;
 use opening::{opened, symbols};
 use progress::Progress;
 use shown::Shown;
 use std::alloc::AllocError;
+use std::fmt::Display;
 use std::io::IsTerminal;
 use std::process::ExitCode;
 use std::sync::Wait;
@@ -43,27 +53,52 @@ use std::thread::Threads;
 use std::{env, io};
 
 fn main(rt: HostRuntime) -> ExitCode {
-    let asked = match asked(&rt) {
-        Ok(asked) => asked,
-        Err(fault) => return refused(&rt, &fault),
-    };
-    let is_watched = rt.stderr().is_terminal();
-    if is_watched && asked.files.is_empty() {
-        await_typing(&rt);
+    match wanted(&rt) {
+        Ok(Command::Answer(asked)) => answer(&rt, &rt, &asked),
+        Ok(Command::Explain(code)) => written(&rt, &Explained { code }),
+        Ok(Command::Dump(of)) => convert(&rt, Direction::Dump, &of),
+        Ok(Command::Encode(of)) => encode(&rt, &of),
+        Err(fault) => refused(&rt, &fault),
     }
-    let ended = answered(&rt, &rt, &asked, is_watched);
-    end(&rt, &asked, is_watched, ended)
+}
+
+/// Answers what is asked, with workers in threads of the runtime, and ends the program.
+fn answer(host: &HostRuntime, rt: &(impl Threads + Wait + Sync), asked: &Asked) -> ExitCode {
+    let is_watched = host.stderr().is_terminal();
+    if is_watched && asked.files.is_empty() {
+        await_typing(host, "segments are");
+    }
+    let ended = answered(host, rt, asked, is_watched);
+    end(host, asked, is_watched, ended)
+}
+
+/// Makes segments of text, and ends the program. Their bytes are of no use at a terminal.
+fn encode(rt: &HostRuntime, of: &Conversion) -> ExitCode {
+    if !of.hex && rt.stdout().is_terminal() {
+        return refused(rt, &ParseFault::bytes_at_terminal(rt.alloc()));
+    }
+    convert(rt, Direction::Encode, of)
+}
+
+/// Converts files, and ends the program.
+fn convert(rt: &HostRuntime, direction: Direction, of: &Conversion) -> ExitCode {
+    let is_watched = rt.stderr().is_terminal();
+    if is_watched && of.files.is_empty() {
+        await_typing(rt, direction.expected());
+    }
+    let ended = converted(rt, direction, of, is_watched);
+    end_conversion(rt, of, is_watched, ended)
 }
 
 /// Says to a person at a terminal that the program waits for what is typed there.
-fn await_typing(rt: &HostRuntime) {
+fn await_typing(rt: &HostRuntime, what: &str) {
     if rt.stdin().is_terminal() {
-        let _ = eprintln!(rt; "hleak: no file is named: segments are expected at this terminal");
+        let _ = eprintln!(rt; "hleak: no file is named: {what} expected at this terminal");
     }
 }
 
 /// What the arguments after the program's name ask for.
-fn asked(rt: &HostRuntime) -> Result<Asked, ParseFault> {
+fn wanted(rt: &HostRuntime) -> Result<Command, ParseFault> {
     parse(rt.alloc(), arguments(rt)?)
 }
 
@@ -92,18 +127,13 @@ fn or_help(rt: &HostRuntime, mut given: Vec<String>) -> Result<Vec<String>, Allo
 }
 
 /// Ends the program where the arguments give no job: help goes to standard output, and all else to
-/// standard error. Help alone is an answer, so help that can't be written is a failed write; the
-/// status of every other fault stands whether its line can be written or not.
+/// standard error. Help alone is an answer; the status of every other fault stands whether its line
+/// can be written or not.
 fn refused(rt: &HostRuntime, fault: &ParseFault) -> ExitCode
     ensures { EndsRefusal fault.now (exit_status result) }
 {
     match fault {
-        ParseFault::Help(text) => {
-            if print!(rt; "{text}").is_err() {
-                let _ = eprintln!(rt; "{}", RunFault::Write);
-                return ExitCode::from(RunFault::Write.status());
-            }
-        }
+        ParseFault::Help(text) => return written(rt, text),
         ParseFault::Usage(text) => {
             let _ = eprint!(rt; "{}", Shown::lines(text));
         }
@@ -114,12 +144,24 @@ fn refused(rt: &HostRuntime, fault: &ParseFault) -> ExitCode
     ExitCode::from(fault.status())
 }
 
+/// Writes a text that was asked for to standard output, and ends the program. A text that can't be
+/// written is a failed write.
+fn written(rt: &HostRuntime, text: &impl Display) -> ExitCode
+    ensures { IsTextStatus (exit_status result) }
+{
+    if print!(rt; "{text}").is_err() {
+        let _ = eprintln!(rt; "{}", RunFault::Write);
+        return ExitCode::from(RunFault::Write.status());
+    }
+    ExitCode::SUCCESS
+}
+
 /// Ends the program after a run.
 fn end(
     rt: &HostRuntime,
     asked: &Asked,
     is_watched: bool,
-    ended: Result<Coverage, RunFault>,
+    ended: Result<Completed, RunFault>,
 ) -> ExitCode
     ensures { exit_status result ≡ end_status ended }
 {
@@ -133,17 +175,41 @@ fn end(
     ExitCode::from(ending.status)
 }
 
-/// Writes what a person at a terminal reads after a run: what its fault means, or that segments
-/// are missing.
-fn explain(rt: &HostRuntime, asked: &Asked, ended: Result<Coverage, RunFault>) {
+/// Ends the program after a conversion.
+fn end_conversion(
+    rt: &HostRuntime,
+    of: &Conversion,
+    is_watched: bool,
+    ended: Result<(), RunFault>,
+) -> ExitCode
+    ensures { exit_status result ≡ end_status ended }
+{
+    let Err(fault) = ended else {
+        return ExitCode::SUCCESS;
+    };
+    let _ = eprintln!(rt; "{fault}");
+    if is_watched {
+        let task = Task::Convert(of);
+        let _ = eprintln!(rt; "{}", Explanation { fault, task });
+    }
+    ExitCode::from(fault.status())
+}
+
+/// Writes what a person at a terminal reads after a run: what its fault means, or that what was asked
+/// about has no event, and that segments are missing.
+fn explain(rt: &HostRuntime, asked: &Asked, ended: Result<Completed, RunFault>) {
     match ended {
-        Ok(coverage) => {
-            if let Some(note) = Note::on(coverage) {
+        Ok(completed) => {
+            if let Some(absence) = Absence::after(asked.job.question, completed) {
+                let _ = eprintln!(rt; "{absence}");
+            }
+            if let Some(note) = Note::on(completed.coverage) {
                 let _ = eprintln!(rt; "{note}");
             }
         }
         Err(fault) => {
-            let _ = eprintln!(rt; "{}", Explanation { fault, asked });
+            let task = Task::Answer(asked);
+            let _ = eprintln!(rt; "{}", Explanation { fault, task });
         }
     }
 }
@@ -154,7 +220,7 @@ fn answered(
     rt: &(impl Threads + Wait + Sync),
     asked: &Asked,
     is_watched: bool,
-) -> Result<Coverage, RunFault> {
+) -> Result<Completed, RunFault> {
     let progress = if is_watched {
         Progress::begin(*host).ok()
     } else {
@@ -173,7 +239,7 @@ fn opened_and_run(
     rt: &(impl Threads + Wait + Sync),
     asked: &Asked,
     progress: Option<&Progress>,
-) -> Result<Coverage, RunFault> {
+) -> Result<Completed, RunFault> {
     let mut inputs = opened(host, &asked.files, progress)?;
     read_and_run(host, rt, asked, &mut inputs)
 }
@@ -184,7 +250,7 @@ fn read_and_run<'a>(
     rt: &(impl Threads + Wait + Sync),
     asked: &Asked,
     inputs: &mut [Reading<Input<'a, Device<'a>>>],
-) -> Result<Coverage, RunFault>
+) -> Result<Completed, RunFault>
     requires { All (λ input.
         ⟦<Reading<Input<'a, Device<'a>>> as Source>⟧.has_failed input ≡ false) inputs.old }
 {

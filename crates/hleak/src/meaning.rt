@@ -1,221 +1,153 @@
-//! What the code of a fault means, in words, and what to do about it. docs/FORMAT.md has the same
-//! words.
-//!
-//! "The segment" is the one at the offset in the fault's line. Records, rows and segments count
-//! from 0.
+//! What a fault means, in words: those of its code, with its numbers.
 
+use crate::words::{advice, meaning};
 use htl_case::CaseFault;
+use htl_command::Code;
 use htl_segment::{Fault, HexFault};
 use htl_symbols::SymbolFault;
+use htl_text::LineFault;
 use std::fmt;
-
-/// What to do where bytes of a segment break a rule that each writer keeps.
-const DAMAGED: &str = "was the file changed, or is its writer at fault?";
-
-/// What to do where segments were not written as those of one trace.
-const MIXED: &str = "are they of one trace? If so, its writer is at fault";
-
-/// What to do where memory was refused.
-pub const FREE_MEMORY: &str = "free some, or raise its limit";
 
 /// A fault's meaning: what is wrong with what, and what to do.
 #[derive(Clone, Copy)]
 pub struct Meaning {
-    part: Part,
     what: &'static str,
+    numbers: Numbers,
     advice: &'static str,
 }
 
-/// What the words of a meaning begin with.
+/// The numbers of a fault, in the order in which the words of its code name them.
 #[derive(Clone, Copy)]
-enum Part {
-    /// Nothing: they say it themselves.
-    Whole,
-    /// What is so called and has this number.
-    Nth(&'static str, u64),
-    /// The segment of a processor that has this number.
-    Segment(u16, u32),
+enum Numbers {
+    None,
+    One(u64),
+    Two(u64, u64),
 }
 
 impl Meaning {
+    /// That of a fault without a code.
     pub fn new(what: &'static str, advice: &'static str) -> Meaning {
-        Meaning::of(Part::Whole, what, advice)
+        Meaning {
+            what,
+            numbers: Numbers::None,
+            advice,
+        }
     }
 
-    fn of(part: Part, what: &'static str, advice: &'static str) -> Meaning {
-        Meaning { part, what, advice }
-    }
-
-    fn no_memory() -> Meaning {
-        Meaning::new("the system refused memory", FREE_MEMORY)
-    }
-
-    fn of_record(record: u64, what: &'static str) -> Meaning {
-        Meaning::of(Part::Nth("record", record), what, DAMAGED)
+    fn of_code(code: Code, numbers: Numbers) -> Meaning {
+        Meaning {
+            what: meaning(code),
+            numbers,
+            advice: advice(code),
+        }
     }
 
     /// That of a fault of a segment.
     pub fn of_segment(fault: Fault) -> Meaning {
-        match fault {
-            Fault::Short => Meaning::new(
-                "a segment has at least 32 bytes and begins with HLS1, and fewer are left",
-                "is it a trace, and copied whole?",
-            ),
-            Fault::Magic => Meaning::new(
-                "a segment begins with HLS1 (48 4c 53 31), and these bytes do not",
-                "is it a trace, in bytes and not in digits (--hex)?",
-            ),
-            Fault::Version => Meaning::new(
-                "the segment's version is neither 1 nor 2",
-                "was it written for a newer hleak?",
-            ),
-            Fault::Processors => Meaning::new(
-                "the segment's version allows no such number of processors",
-                DAMAGED,
-            ),
-            Fault::Processor => Meaning::new(
-                "the segment's processor isn't below their number",
-                DAMAGED,
-            ),
-            Fault::Reserved => Meaning::new("the header's reserved field isn't 0", DAMAGED),
-            Fault::Number => Meaning::new("no segment has the number 0xffffffff", DAMAGED),
-            Fault::Count => Meaning::new("a segment has at most 4096 records", DAMAGED),
-            Fault::Length => Meaning::new(
-                "the segment's version allows no such length of a segment",
-                DAMAGED,
-            ),
-            Fault::Cut => Meaning::new(
-                "the file ends before its last segment does",
-                "was it copied whole?",
-            ),
-            Fault::RecordShort(record) => {
-                Meaning::of_record(record, "is cut by the end of the segment's length")
-            }
-            Fault::Sequence(record) => Meaning::of_record(
-                record,
-                "has sequence 0, or one not above that of the record before",
-            ),
-            Fault::Kind(record) => {
-                Meaning::of_record(record, "is of no kind of the segment's version")
-            }
-            Fault::Frames(record) => Meaning::of_record(
-                record,
-                "has more frames than its version allows, or than fit in",
-            ),
-            Fault::Field(record) => Meaning::of_record(
-                record,
-                "has a reserved field, handle, object or tag that its kind doesn't allow",
-            ),
-            Fault::Excess => Meaning::new(
-                "bytes are left in the segment after its last record",
-                DAMAGED,
-            ),
-            Fault::NoMemory => Meaning::no_memory(),
-        }
+        let (code, numbers) = match fault {
+            Fault::Short => (Code::S1, Numbers::None),
+            Fault::Magic => (Code::S2, Numbers::None),
+            Fault::Version => (Code::S3, Numbers::None),
+            Fault::Processors => (Code::S4, Numbers::None),
+            Fault::Processor => (Code::S5, Numbers::None),
+            Fault::Reserved => (Code::S6, Numbers::None),
+            Fault::Number => (Code::S7, Numbers::None),
+            Fault::Count => (Code::S8, Numbers::None),
+            Fault::Length => (Code::S9, Numbers::None),
+            Fault::Cut => (Code::S10, Numbers::None),
+            Fault::RecordShort(record) => (Code::S11, Numbers::One(record)),
+            Fault::Sequence(record) => (Code::S12, Numbers::One(record)),
+            Fault::Kind(record) => (Code::S13, Numbers::One(record)),
+            Fault::Frames(record) => (Code::S14, Numbers::One(record)),
+            Fault::Field(record) => (Code::S15, Numbers::One(record)),
+            Fault::Excess => (Code::S16, Numbers::None),
+            Fault::NoMemory => (Code::S17, Numbers::None),
+        };
+        Meaning::of_code(code, numbers)
     }
 
     /// That of a fault of a text in hexadecimal.
     pub fn of_hex(fault: HexFault) -> Meaning {
+        let (code, numbers) = match fault {
+            HexFault::BadDigit(place) => (Code::H1, Numbers::One(place)),
+            HexFault::Odd => (Code::H2, Numbers::None),
+            HexFault::NoMemory => (Code::H3, Numbers::None),
+        };
+        Meaning::of_code(code, numbers)
+    }
+
+    /// That of a fault of a line of text.
+    pub fn of_line(fault: LineFault) -> Meaning {
         match fault {
-            HexFault::BadDigit(place) => Meaning::of(
-                Part::Nth("byte", place),
-                "is no digit and no blank",
-                "is it a trace in bytes, without --hex?",
-            ),
-            HexFault::Odd => {
-                Meaning::new("the last byte has only one digit", "was it copied whole?")
-            }
-            HexFault::NoMemory => Meaning::no_memory(),
+            LineFault::Form => Meaning::of_code(Code::E1, Numbers::None),
+            LineFault::Order => Meaning::of_code(Code::E2, Numbers::None),
+            LineFault::Segment(fault) => Meaning::of_segment(fault),
         }
     }
 
     /// That of a fault of all segments.
     pub fn of_case(fault: CaseFault) -> Meaning {
-        match fault {
-            CaseFault::Empty => Meaning::new(
-                "the inputs have no segments",
-                "are these the files of a trace?",
-            ),
-            CaseFault::OtherTrace(place) => Meaning::of(
-                Part::Nth("segment", place),
-                "of all inputs is of another trace than segment 0",
-                "give the files of one trace",
-            ),
-            CaseFault::OtherProcessors(place) => Meaning::of(
-                Part::Nth("segment", place),
-                "of all inputs has another number of processors than segment 0",
-                "give the files of one trace",
-            ),
-            CaseFault::TwoContents(processor, number) => Meaning::of(
-                Part::Segment(processor, number),
-                "is there with two different contents",
-                "give the files of one trace, as they were written",
-            ),
-            CaseFault::SequenceTwice(sequence) => Meaning::of(
-                Part::Nth("sequence", sequence),
-                "is that of an event in each of two different segments",
-                MIXED,
-            ),
-            CaseFault::NoMemory => Meaning::no_memory(),
-            CaseFault::Falling(processor, number) => Meaning::of(
-                Part::Segment(processor, number),
-                "has an event that isn't above all in the processor's segments before",
-                MIXED,
-            ),
-        }
+        let (code, numbers) = match fault {
+            CaseFault::Empty => (Code::C1, Numbers::None),
+            CaseFault::OtherTrace(place) => (Code::C2, Numbers::One(place)),
+            CaseFault::OtherProcessors(place) => (Code::C3, Numbers::One(place)),
+            CaseFault::TwoContents(processor, number) => {
+                (Code::C4, Numbers::of_key(processor, number))
+            }
+            CaseFault::SequenceTwice(sequence) => (Code::C5, Numbers::One(sequence)),
+            CaseFault::NoMemory => (Code::C6, Numbers::None),
+            CaseFault::Falling(processor, number) => {
+                (Code::C7, Numbers::of_key(processor, number))
+            }
+        };
+        Meaning::of_code(code, numbers)
     }
 
     /// That of a fault of a symbol table.
     pub fn of_symbols(fault: SymbolFault) -> Meaning {
-        match fault {
-            SymbolFault::Header => Meaning::new(
-                "the first line isn't start,end,module,name",
-                "is it a table of symbols?",
-            ),
-            SymbolFault::Fields(row) => Meaning::of(
-                Part::Nth("row", row),
-                "hasn't four fields",
-                "is a name with a comma in quotes, and is each quote ended?",
-            ),
-            SymbolFault::Number(row) => Meaning::of(
-                Part::Nth("row", row),
-                "has a start or an end that is no number",
-                "each is 1 to 16 hexadecimal digits, with or without 0x",
-            ),
-            SymbolFault::EmptyRange(row) => Meaning::of(
-                Part::Nth("row", row),
-                "ends at or below its start",
-                "an end is the first address after the range",
-            ),
-            SymbolFault::Overlap(row) => Meaning::of(
-                Part::Nth("row", row),
-                "has an address of an earlier row",
-                "are all rows of one moment?",
-            ),
-            SymbolFault::Csv(row) => Meaning::of(
-                Part::Nth("row", row),
-                "can't be read",
-                "is the file in UTF-8?",
-            ),
-            SymbolFault::NoMemory => Meaning::no_memory(),
-        }
+        let (code, numbers) = match fault {
+            SymbolFault::Header => (Code::Y1, Numbers::None),
+            SymbolFault::Fields(row) => (Code::Y2, Numbers::One(row)),
+            SymbolFault::Number(row) => (Code::Y3, Numbers::One(row)),
+            SymbolFault::EmptyRange(row) => (Code::Y4, Numbers::One(row)),
+            SymbolFault::Overlap(row) => (Code::Y5, Numbers::One(row)),
+            SymbolFault::Csv(row) => (Code::Y6, Numbers::One(row)),
+            SymbolFault::NoMemory => (Code::Y7, Numbers::None),
+        };
+        Meaning::of_code(code, numbers)
+    }
+}
+
+impl Numbers {
+    /// Those of a segment: its number and its processor.
+    fn of_key(processor: u16, number: u32) -> Numbers {
+        Numbers::Two(u64::from(number), u64::from(processor))
     }
 }
 
 impl fmt::Display for Meaning {
     fn fmt<W: fmt::Write>(&self, f: &mut fmt::Formatter<W>) -> fmt::Result {
-        write!(f, "{}{}: {}", self.part, self.what, self.advice)
+        match self.numbers {
+            Numbers::None => f.write_str(self.what)?,
+            Numbers::One(number) => write_with(f, self.what, &[number])?,
+            Numbers::Two(first, second) => write_with(f, self.what, &[first, second])?,
+        }
+        write!(f, ": {}", self.advice)
     }
 }
 
-impl fmt::Display for Part {
-    fn fmt<W: fmt::Write>(&self, f: &mut fmt::Formatter<W>) -> fmt::Result {
-        match *self {
-            Part::Whole => Ok(()),
-            Part::Nth(name, number) => write!(f, "{name} {number} "),
-            Part::Segment(processor, number) => {
-                write!(f, "segment {number} of processor {processor} ")
-            }
-        }
+/// Writes words with numbers in the place of what stands in angle brackets.
+fn write_with<W: fmt::Write>(
+    f: &mut fmt::Formatter<W>,
+    words: &str,
+    numbers: &[u64],
+) -> fmt::Result {
+    let mut rest = words;
+    for number in numbers {
+        let (before, named) = rest.split_once('<').unwrap_or((rest, ""));
+        let (_name, after) = named.split_once('>').unwrap_or((named, ""));
+        write!(f, "{before}{number}")?;
+        rest = after;
     }
+    f.write_str(rest)
 }

@@ -7,7 +7,7 @@ use Rattle.clap.specs.declared.error.ErrorKind.{ErrorKind}
 use Rattle.htl_command.specs.Entries.{entries, refusals}
 use Rattle.htl_command.specs.Refusals.{IsUsageWith, RefusesArguments, is_mistake, is_wish}
 use Rattle.htl_command.specs.Steps.{IsRefused}
-use Rattle.htl_command.specs.Requests.{is_nothing, request_met, requested, stored}
+use Rattle.htl_command.specs.Requests.{is_nothing, request_met, answers, requested, stored}
 use Rattle.htl_command.specs.declared.fault.ParseFault.{ParseFault}
 use Rattle.htl_command.specs.declared.fault.ParseFault.TheVariants.{Help, Usage, Memory}
 
@@ -17,7 +17,7 @@ map-some f [] some none = some refl
 map-some f (x ∷ xs) some none = cc
 
 -- no arguments ask for the stored job
-pub no_arguments : {X : Type 0} (text_of : X → Text) (arguments : List X) → length arguments ≡ 0 → requested (map text_of arguments) ≡ Some stored
+pub no_arguments : {X : Type 0} (text_of : X → Text) (arguments : List X) → length arguments ≡ 0 → requested (map text_of arguments) ≡ Some (answers stored)
 unfolding requested
 no_arguments text_of [] none = refl
 no_arguments text_of (argument ∷ more) none = absurd (omega arith)

@@ -2,23 +2,27 @@
 use Rattle.std.specs.Prelude.{ℕ, Bool, true, false, List, [], ◌∷◌, Option, codes, find}
 use Rattle.std.specs.Str.{bytes_eq}
 use Rattle.htl_command.specs.declared.commands.CommandName.{CommandName}
-use Rattle.htl_command.specs.declared.commands.CommandName.TheVariants.{Summary, Outstanding, Diff, Tags, Bad, Leaks, Stacks, Trace}
+use Rattle.htl_command.specs.declared.commands.CommandName.TheVariants.{Ask, Explain, Dump, Encode}
 use Rattle.htl_command.specs.declared.commands.CommandOption.{CommandOption}
-use Rattle.htl_command.specs.declared.commands.CommandOption.TheVariants.{Process, Since, Object, Tag, Handle, Symbols, Workers}
+use Rattle.htl_command.specs.declared.commands.CommandOption.TheVariants.{Process, Since, Object, Tag, Handle, Top, Symbols, Workers}
+use Rattle.htl_command.specs.declared.commands.QuestionName.{QuestionName}
+use Rattle.htl_command.specs.declared.commands.QuestionName.TheVariants.{Summary, Outstanding, Diff, Tags, Bad, Leaks, Stacks, Trace}
 
 abbrev pub commands : List CommandName
-commands = Summary ∷ Outstanding ∷ Diff ∷ Tags ∷ Bad ∷ Leaks ∷ Stacks ∷ Trace ∷ []
+commands =
+    Ask Summary ∷ Ask Outstanding ∷ Ask Diff ∷ Ask Tags ∷ Ask Bad ∷ Ask Leaks ∷ Ask Stacks ∷ Ask Trace ∷ Explain
+    ∷ Dump ∷ Encode ∷ []
 
--- each command: its name, and the options that not every command has
-abbrev pub command_row : CommandName → List ℕ × List CommandOption
-command_row Summary = (codes "summary", [])
-command_row Outstanding = (codes "outstanding", Process ∷ [])
-command_row Diff = (codes "diff", Process ∷ Since ∷ [])
-command_row Tags = (codes "tags", Object ∷ [])
-command_row Bad = (codes "bad", Process ∷ [])
-command_row Leaks = (codes "leaks", Process ∷ [])
-command_row Stacks = (codes "stacks", Object ∷ Tag ∷ [])
-command_row Trace = (codes "trace", Process ∷ Handle ∷ [])
+-- each question: the name of its command, and the options that not every question has
+abbrev pub question_row : QuestionName → List ℕ × List CommandOption
+question_row Summary = (codes "summary", Top ∷ [])
+question_row Outstanding = (codes "outstanding", Process ∷ Top ∷ [])
+question_row Diff = (codes "diff", Process ∷ Since ∷ Top ∷ [])
+question_row Tags = (codes "tags", Object ∷ [])
+question_row Bad = (codes "bad", Process ∷ Top ∷ [])
+question_row Leaks = (codes "leaks", Process ∷ Top ∷ [])
+question_row Stacks = (codes "stacks", Object ∷ Tag ∷ Top ∷ [])
+question_row Trace = (codes "trace", Process ∷ Handle ∷ Top ∷ [])
 
 -- each option that takes a value: its name without the dashes, and whether it has to be given
 abbrev pub option_row : CommandOption → List ℕ × Bool
@@ -27,14 +31,21 @@ option_row Since = (codes "since", false)
 option_row Object = (codes "object", true)
 option_row Tag = (codes "tag", true)
 option_row Handle = (codes "handle", true)
+option_row Top = (codes "top", false)
 option_row Symbols = (codes "symbols", false)
 option_row Workers = (codes "workers", false)
 
-abbrev pub name_of : CommandName → List ℕ
-name_of command = (command_row command).0
+abbrev pub question_name : QuestionName → List ℕ
+question_name question = (question_row question).0
 
-abbrev pub own_options : CommandName → List CommandOption
-own_options command = (command_row command).1
+abbrev pub own_options : QuestionName → List CommandOption
+own_options question = (question_row question).1
+
+abbrev pub name_of : CommandName → List ℕ
+name_of (Ask question) = question_name question
+name_of Explain = codes "explain"
+name_of Dump = codes "dump"
+name_of Encode = codes "encode"
 
 abbrev pub option_name : CommandOption → List ℕ
 option_name option = (option_row option).0

@@ -6,6 +6,7 @@ use Rattle.clap.specs.Words.{App, Kinds, Row, Rule, Text, fault_of, new_app, new
 use Rattle.clap.specs.declared.builder.ArgAction.TheVariants.{SetTrue}
 use Rattle.htl_command.specs.Commands.{commands, is_required, name_of, option_name, own_options}
 use Rattle.htl_command.specs.declared.commands.CommandName.{CommandName}
+use Rattle.htl_command.specs.declared.commands.CommandName.TheVariants.{Ask, Explain, Dump, Encode}
 use Rattle.htl_command.specs.declared.commands.CommandOption.{CommandOption}
 use Rattle.htl_command.specs.declared.commands.CommandOption.TheVariants.{Symbols, Workers}
 
@@ -27,7 +28,7 @@ files_rule = record (new_rule (codes "files")) {
   range = Some (record { start_inclusive = 1; end_inclusive = usize_max });
 }
 
--- what every command has
+-- what every question has
 abbrev pub common_rules : List Rule
 common_rules = option_rule Symbols ∷ option_rule Workers ∷ hex_rule ∷ files_rule ∷ []
 
@@ -36,8 +37,22 @@ abbrev pub with_rules : App → List Rule → App
 with_rules a [] = a
 with_rules a (rule ∷ more) = with_rules (with_rule a rule) more
 
+-- what the two commands on texts of segments have
+abbrev pub text_rules : List Rule
+text_rules = hex_rule ∷ files_rule ∷ []
+
+-- a code is one argument
+abbrev pub code_rule : Rule
+code_rule = record (new_rule (codes "code")) { value_names = 1; required = true }
+
+abbrev pub rules_of : CommandName → App → App
+rules_of (Ask question) a = with_rules (with_rules a (map option_rule (own_options question))) common_rules
+rules_of Explain a = with_rules a (code_rule ∷ [])
+rules_of Dump a = with_rules a text_rules
+rules_of Encode a = with_rules a text_rules
+
 abbrev pub command_app : CommandName → App
-command_app command = with_rules (with_rules (new_app (name_of command)) (map option_rule (own_options command))) common_rules
+command_app command = rules_of command (new_app (name_of command))
 
 -- with these commands, in order
 abbrev pub with_commands : App → List CommandName → App

@@ -1,5 +1,6 @@
 pub mod Commands
 pub mod Values
+pub mod Codes
 pub mod Entries
 pub mod Requests
 pub mod Refusals

@@ -4,14 +4,20 @@ use Rattle.std.specs.Prelude.{option_map, string_bytes, unwrap_or}
 use Rattle.std.specs.Option.{option_map_or}
 use Rattle.std.specs.Str.{bytes_eq}
 use Rattle.clap.specs.Words.{Kinds, Row, Text, all_of, first_of}
+use Rattle.htl_command.specs.Codes.{code_named}
 use Rattle.htl_command.specs.Commands.{command_named, option_name}
 use Rattle.htl_command.specs.Entries.{entries, refusals}
-use Rattle.htl_command.specs.Values.{handle_in, object_in, process_in, sequence_in, tag_in, workers_in}
+use Rattle.htl_command.specs.Values.{handle_in, object_in, process_in, sequence_in, tag_in, top_in, workers_in}
 use Rattle.htl_command.specs.declared.asked.Asked.{Asked}
+use Rattle.htl_command.specs.declared.asked.Command.{Command}
+use Rattle.htl_command.specs.declared.asked.Command.TheVariants as wish
+use Rattle.htl_command.specs.declared.code.Code.{Code}
 use Rattle.htl_command.specs.declared.commands.CommandName.{CommandName}
 use Rattle.htl_command.specs.declared.commands.CommandName.TheVariants as command
+use Rattle.htl_command.specs.declared.commands.QuestionName.{QuestionName}
+use Rattle.htl_command.specs.declared.commands.QuestionName.TheVariants as name
 use Rattle.htl_command.specs.declared.commands.CommandOption.{CommandOption}
-use Rattle.htl_command.specs.declared.commands.CommandOption.TheVariants.{Process, Since, Object, Tag, Handle, Symbols, Workers}
+use Rattle.htl_command.specs.declared.commands.CommandOption.TheVariants.{Process, Since, Object, Tag, Handle, Top, Symbols, Workers}
 use Rattle.htl_command.specs.declared.question.Job.{Job}
 use Rattle.htl_command.specs.declared.question.Question.{Question}
 use Rattle.htl_command.specs.declared.question.Question.TheVariants.{Summary, Outstanding, Diff, Tags, Bad, Leaks, Stacks, Trace}
@@ -32,16 +38,16 @@ optional rule option rows = option_map_or (λ text. option_map (λ x. Some x) (r
 abbrev pub both : {X Y Z : Type 0} → (X → Y → Z) → Option X → Option Y → Option Z
 both make x y = option_and_then (λ a. option_map (make a) y) x
 
--- the question of each command
-unfoldable pub question_of : CommandName → List Row → Option Question
-question_of command.Summary rows = Some Summary
-question_of command.Outstanding rows = option_map (λ p. Outstanding p) (value process_in Process rows)
-question_of command.Diff rows = both (λ p s. Diff p s) (value process_in Process rows) (optional sequence_in Since rows)
-question_of command.Tags rows = option_map (λ o. Tags o) (value object_in Object rows)
-question_of command.Bad rows = option_map (λ p. Bad p) (value process_in Process rows)
-question_of command.Leaks rows = option_map (λ p. Leaks p) (value process_in Process rows)
-question_of command.Stacks rows = both (λ o t. Stacks o t) (value object_in Object rows) (value tag_in Tag rows)
-question_of command.Trace rows = both (λ p h. Trace p h) (value process_in Process rows) (value handle_in Handle rows)
+-- the question of each name
+unfoldable pub question_of : QuestionName → List Row → Option Question
+question_of name.Summary rows = Some Summary
+question_of name.Outstanding rows = option_map (λ p. Outstanding p) (value process_in Process rows)
+question_of name.Diff rows = both (λ p s. Diff p s) (value process_in Process rows) (optional sequence_in Since rows)
+question_of name.Tags rows = option_map (λ o. Tags o) (value object_in Object rows)
+question_of name.Bad rows = option_map (λ p. Bad p) (value process_in Process rows)
+question_of name.Leaks rows = option_map (λ p. Leaks p) (value process_in Process rows)
+question_of name.Stacks rows = both (λ o t. Stacks o t) (value object_in Object rows) (value tag_in Tag rows)
+question_of name.Trace rows = both (λ p h. Trace p h) (value process_in Process rows) (value handle_in Handle rows)
 
 -- one where it is left out
 abbrev pub workers : List Row → Option ℕ
@@ -51,33 +57,48 @@ workers rows = option_map (λ n. unwrap_or n 1) (optional workers_in Workers row
 abbrev pub is_hex : List Row → Bool
 is_hex rows = option_map_or (λ text. bytes_eq text (codes "true")) (first_of (codes "hex") rows) false
 
-unfoldable pub job_of : CommandName → List Row → Option Job
-job_of command rows =
-    both (λ question n. record { question = question; hex = is_hex rows; workers = n }) (question_of command rows) (workers rows)
+unfoldable pub job_of : QuestionName → List Row → Option Job
+job_of name rows =
+    option_and_then (λ question. both (λ n t. record { question = question; hex = is_hex rows; workers = n; top = t })
+    (workers rows) (optional top_in Top rows)) (question_of name rows)
 
--- what is asked for: a job, with the names of its files
-pub record Request : Type 0 where
+-- the code that is to be explained
+abbrev pub code_of : List Row → Option Code
+code_of rows = option_and_then code_named (first_of (codes "code") rows)
+
+-- a job, with the names of its files
+pub record Work : Type 0 where
   pub job : Job
   pub files : List Text
   pub symbols : Option Text
 
+-- what is asked for
+pub data Request : Type 0 where
+  answers : Work → Request
+  explains : Code → Request
+  dumps : Bool → List Text → Request
+  encodes : Bool → List Text → Request
+
 abbrev pub file_names : List Row → List Text
 file_names rows = unwrap_or (all_of (codes "files") rows) []
 
-abbrev pub with_files : List Row → Job → Request
+abbrev pub with_files : List Row → Job → Work
 with_files rows job = record { job = job; files = file_names rows; symbols = given Symbols rows }
 
 -- what a command asks for
 abbrev pub request_of : CommandName → List Row → Option Request
-request_of command rows = option_map (with_files rows) (job_of command rows)
+request_of (command.Ask name) rows = option_map (λ job. answers (with_files rows job)) (job_of name rows)
+request_of command.Explain rows = option_map (λ code. explains code) (code_of rows)
+request_of command.Dump rows = Some (dumps (is_hex rows) (file_names rows))
+request_of command.Encode rows = Some (encodes (is_hex rows) (file_names rows))
 
 -- what a command's name and its entries ask for
 abbrev pub request_met : Option (Text × List Row) → Option Request
 request_met met = option_and_then (λ p. option_and_then (λ command. request_of command p.1) (command_named p.0)) met
 
 -- what no arguments ask for
-abbrev pub stored : Request
-stored = record { job = record { question = Outstanding 4; hex = true; workers = 1 }; files = []; symbols = None }
+abbrev pub stored : Work
+stored = record { job = record { question = Outstanding 4; hex = true; workers = 1; top = None }; files = []; symbols = None }
 
 abbrev pub is_nothing : Kinds → Bool
 is_nothing [] = true
@@ -85,13 +106,19 @@ is_nothing (kind ∷ more) = false
 
 -- what arguments ask for, where `clap` refuses nothing
 unfoldable pub requested : List Text → Option Request
-requested [] = Some stored
+requested [] = Some (answers stored)
 requested (argument ∷ more) = if is_nothing (refusals (argument ∷ more)) then request_met (entries (argument ∷ more)) else None
 
--- the same of the program's own type
-abbrev pub request : Asked → Request
-request asked = record {
+-- the same of the program's own types
+abbrev pub work : Asked → Work
+work asked = record {
   job = asked.job;
   files = map string_bytes asked.files.items;
   symbols = option_map string_bytes asked.symbols;
 }
+
+abbrev pub request : Command → Request
+request (wish.Answer asked) = answers (work asked)
+request (wish.Explain code) = explains code
+request (wish.Dump of) = dumps of.hex (map string_bytes of.files.items)
+request (wish.Encode of) = encodes of.hex (map string_bytes of.files.items)

@@ -29,6 +29,14 @@ tag_in text =
     else (if length text == 10 && starts_with nat_eq text (codes "0x")
     then option_map (to_be_bytes w32) (hexadecimal_number (2 ^ 32 - 1) text) else None)
 
+-- a decimal number that isn't 0, at most `most`
+abbrev pub positive_in : ℕ → List ℕ → Option ℕ
+positive_in most text = option_and_then (λ n. if n == 0 then None else Some n) (decimal_number most text)
+
 -- how many threads take in segments: 1 to 8
 abbrev pub workers_in : List ℕ → Option ℕ
-workers_in text = option_and_then (λ n. if n == 0 then None else Some n) (decimal_number 8 text)
+workers_in = positive_in 8
+
+-- how many rows are printed at most: 1 to 4294967295
+abbrev pub top_in : List ℕ → Option ℕ
+top_in = positive_in (2 ^ 32 - 1)

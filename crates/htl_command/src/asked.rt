@@ -1,21 +1,38 @@
 //! What a command line asks for.
-ghost use Rattle.std.specs.Prelude.{◌≡◌, ◌≢◌, [], IfErr, IfOk, IsOk, None, Some, map, string_bytes};
+ghost use Rattle.std.specs.Prelude.{◌≡◌, ◌≢◌, [], IfErr, IfOk, IsOk, None, Some, map, option_map};
+ghost use Rattle.std.specs.Prelude.{string_bytes};
 ghost use Rattle.clap.specs.Words.{subcommand_rows_of};
 ghost use Rattle.htl_command.specs.Entries.{entries as entries_in, refusals};
 ghost use Rattle.htl_command.specs.Refusals.{IsUsageWith, RefusesArguments};
-ghost use Rattle.htl_command.specs.Requests.{request, request_met, request_of, requested};
-ghost use Rattle.htl_command.specs.Requests.{stored as stored_request, with_files as with_files_in};
+ghost use Rattle.htl_command.specs.Requests.{file_names, is_hex as is_hex_in};
+ghost use Rattle.htl_command.specs.Requests.{job_of, request, request_met, request_of};
+ghost use Rattle.htl_command.specs.Requests.{requested, stored as stored_work, work};
+ghost use Rattle.htl_command.specs.Requests.{with_files as with_files_in};
 ghost use Rattle.htl_command.specs.Steps.{IsRefused, entries_of};
 
 use crate::builder::program;
-use crate::commands::CommandName;
-use crate::fault::{ParseFault, no_command, of_clap, of_value};
+use crate::code::Code;
+use crate::commands::{CommandName, QuestionName};
+use crate::fault::{ParseFault, no_command, of_clap, of_code, of_value};
 use crate::question::{Job, Question};
-use crate::reading::{files, job, symbols};
+use crate::reading::{code, files, is_hex, job, symbols};
 use clap::ArgMatches;
 use std::alloc::{AllocError, Global};
 
 /// What a command line asks for.
+#[derive(Debug, PartialEq, Eq, Drop)]
+pub enum Command {
+    /// The answer to a question.
+    Answer(Asked),
+    /// What a code means, and what to do.
+    Explain(Code),
+    /// The text of segments.
+    Dump(Conversion),
+    /// The segments of a text.
+    Encode(Conversion),
+}
+
+/// A question, and what it is asked of.
 #[derive(Debug, PartialEq, Eq, Drop)]
 pub struct Asked {
     pub job: Job,
@@ -25,8 +42,17 @@ pub struct Asked {
     pub symbols: Option<String>,
 }
 
-/// The job that the arguments after the program's name ask for. No arguments ask for the stored
-/// job: the outstanding handles of process 4, from standard input in hexadecimal.
+/// What is made of files.
+#[derive(Debug, PartialEq, Eq, Drop)]
+pub struct Conversion {
+    /// Whether the segments, which are read or written, are digits in hexadecimal.
+    pub hex: bool,
+    /// The names of the inputs, in order. Where there is none, standard input is read.
+    pub files: Vec<String>,
+}
+
+/// What the arguments after the program's name ask for. No arguments ask for the stored job: the
+/// outstanding handles of process 4, from standard input in hexadecimal.
 ///
 /// A command, its options and its files are arguments as `clap` takes them: `--process 4` or
 /// `--process=4`, options and files in any order, and only files after `--`. No option may be given
@@ -35,37 +61,38 @@ pub struct Asked {
 /// Where several things are wrong, what `clap` refuses is reported first, and then the first value
 /// that breaks its rule.
 #[tactic(auto, using(crate::proofs::Arguments::no_arguments))]
-pub fn parse(alloc: Global, arguments: Vec<String>) -> Result<Asked, ParseFault>
-    ensures ok { IfOk result (λ asked.
-        requested (map string_bytes arguments.items) ≡ Some (request asked)) }
+pub fn parse(alloc: Global, arguments: Vec<String>) -> Result<Command, ParseFault>
+    ensures ok { IfOk result (λ command.
+        requested (map string_bytes arguments.items) ≡ Some (request command)) }
     ensures err { IfErr result (RefusesArguments (map string_bytes arguments.items)) }
     ensures none { arguments.items ≡ [] → IsOk result }
 {
     if arguments.is_empty() {
-        Ok(stored(alloc))
+        Ok(Command::Answer(stored(alloc)))
     } else {
         read_arguments(alloc, &arguments)
     }
 }
 
 fn stored(alloc: Global) -> Asked
-    ensures { request result ≡ stored_request }
+    ensures { work result ≡ stored_work }
 {
     Asked {
         job: Job {
             question: Question::Outstanding { process: 4 },
             hex: true,
             workers: 1,
+            top: None,
         },
         files: Vec::new(alloc),
         symbols: None,
     }
 }
 
-fn read_arguments(alloc: Global, arguments: &[String]) -> Result<Asked, ParseFault>
+fn read_arguments(alloc: Global, arguments: &[String]) -> Result<Command, ParseFault>
     requires some { arguments.now ≢ [] }
-    ensures ok { IfOk result (λ asked.
-        requested (map string_bytes arguments.now) ≡ Some (request asked)) }
+    ensures ok { IfOk result (λ command.
+        requested (map string_bytes arguments.now) ≡ Some (request command)) }
     ensures err { IfErr result (RefusesArguments (map string_bytes arguments.now)) }
 {
     match matches(alloc, arguments) {
@@ -107,9 +134,9 @@ fn is_parted(option: &str, value: &str) -> bool {
     matches!(option, "--tag" | "--symbols") && value.starts_with('-')
 }
 
-fn read_matches(alloc: Global, matches: &ArgMatches) -> Result<Asked, ParseFault>
-    ensures ok { IfOk result (λ asked.
-        request_met (subcommand_rows_of matches.now) ≡ Some (request asked)) }
+fn read_matches(alloc: Global, matches: &ArgMatches) -> Result<Command, ParseFault>
+    ensures ok { IfOk result (λ command.
+        request_met (subcommand_rows_of matches.now) ≡ Some (request command)) }
     ensures err { IfErr result (IsUsageWith (request_met (subcommand_rows_of matches.now) ≡ None)) }
 {
     let Some((name, entries)) = matches.subcommand() else {
@@ -123,27 +150,62 @@ fn read_matches(alloc: Global, matches: &ArgMatches) -> Result<Asked, ParseFault
 
 fn read_command(
     alloc: Global,
-    command: CommandName,
+    name: CommandName,
+    entries: &ArgMatches,
+) -> Result<Command, ParseFault>
+    ensures ok { IfOk result (λ command.
+        request_of name (entries_of entries.now) ≡ Some (request command)) }
+    ensures err { IfErr result
+        (IsUsageWith (request_of name (entries_of entries.now) ≡ None)) }
+{
+    match name {
+        CommandName::Ask(question) => {
+            let asked = read_question(alloc, question, entries)?;
+            Ok(Command::Answer(asked))
+        }
+        CommandName::Explain => match code(entries) {
+            Ok(code) => Ok(Command::Explain(code)),
+            Err(given) => Err(of_code(alloc, given)),
+        },
+        CommandName::Dump => Ok(Command::Dump(read_conversion(alloc, entries)?)),
+        CommandName::Encode => Ok(Command::Encode(read_conversion(alloc, entries)?)),
+    }
+}
+
+fn read_question(
+    alloc: Global,
+    name: QuestionName,
     entries: &ArgMatches,
 ) -> Result<Asked, ParseFault>
     ensures ok { IfOk result (λ asked.
-        request_of command (entries_of entries.now) ≡ Some (request asked)) }
-    ensures err { IfErr result
-        (IsUsageWith (request_of command (entries_of entries.now) ≡ None)) }
+        option_map (with_files_in (entries_of entries.now)) (job_of name (entries_of entries.now))
+        ≡ Some (work asked)) }
+    ensures err { IfErr result (IsUsageWith (job_of name (entries_of entries.now) ≡ None)) }
 {
-    match job(command, entries) {
+    match job(name, entries) {
         Ok(job) => Ok(with_files(alloc, job, entries)?),
-        Err(refused) => Err(of_value(alloc, command, refused)),
+        Err(refused) => Err(of_value(alloc, name, refused)),
     }
 }
 
 fn with_files(alloc: Global, job: Job, entries: &ArgMatches) -> Result<Asked, AllocError>
     ensures { IfOk result (λ asked.
-        request asked ≡ with_files_in (entries_of entries.now) job) }
+        work asked ≡ with_files_in (entries_of entries.now) job) }
 {
     Ok(Asked {
         job,
         files: files(alloc, entries)?,
         symbols: symbols(alloc, entries)?,
+    })
+}
+
+fn read_conversion(alloc: Global, entries: &ArgMatches) -> Result<Conversion, AllocError>
+    ensures hex { IfOk result (λ of. of.hex ≡ is_hex_in (entries_of entries.now)) }
+    ensures files { IfOk result (λ of.
+        map string_bytes of.files.items ≡ file_names (entries_of entries.now)) }
+{
+    Ok(Conversion {
+        hex: is_hex(entries),
+        files: files(alloc, entries)?,
     })
 }

@@ -3,12 +3,15 @@ ghost use Rattle.std.specs.Prelude.{◌≡◌, IfOk, false, map};
 ghost use Rattle.clap.specs.Words.{app_of, rule_of, with_subcommand};
 ghost use Rattle.clap.specs.declared.builder.Command.TheViews.{out-Command as fields_of};
 ghost use Rattle.htl_command.specs.Steps.{Describes};
-ghost use Rattle.htl_command.specs.Entries.{common_rules, command_app, files_rule, hex_rule};
-ghost use Rattle.htl_command.specs.Entries.{hleak_app, option_rule, program_app};
+ghost use Rattle.htl_command.specs.Entries.{code_rule, common_rules, command_app, files_rule};
+ghost use Rattle.htl_command.specs.Entries.{hex_rule, hleak_app, option_rule, program_app};
+ghost use Rattle.htl_command.specs.Entries.{text_rules};
 ghost use Rattle.htl_command.specs.Entries.{with_commands as with_commands_of, with_rules};
 
 use crate::commands::{COMMANDS, CommandName, CommandOption};
-use crate::help::{ABOUT, AFTER_HELP, FILES_HELP, HEX_HELP, VERSION};
+use crate::help::{
+    ABOUT, AFTER_HELP, CODE_HELP, FILES_HELP, HEX_HELP, HEX_TEXT_HELP, TEXTS_HELP, VERSION,
+};
 use clap::{Arg, ArgAction, Command};
 use std::alloc::{AllocError, Global};
 
@@ -23,24 +26,34 @@ fn option<'a>(alloc: Global, option: CommandOption) -> Arg<'a>
         .required(option.is_required())
 }
 
-fn hex_flag<'a>(alloc: Global) -> Arg<'a>
+fn hex_flag<'a>(alloc: Global, help: &'a str) -> Arg<'a>
     ensures rule { rule_of result ≡ hex_rule }
     ensures local { result.global ≡ false }
 {
     Arg::new(alloc, "hex")
         .long("hex")
         .action(ArgAction::SetTrue)
-        .help(HEX_HELP)
+        .help(help)
 }
 
-fn files<'a>(alloc: Global) -> Arg<'a>
+fn files<'a>(alloc: Global, help: &'a str) -> Arg<'a>
     ensures rule { rule_of result ≡ files_rule }
     ensures local { result.global ≡ false }
 {
     Arg::new(alloc, "files")
         .value_name("FILES")
         .num_args(1..)
-        .help(FILES_HELP)
+        .help(help)
+}
+
+fn code<'a>(alloc: Global) -> Arg<'a>
+    ensures rule { rule_of result ≡ code_rule }
+    ensures local { result.global ≡ false }
+{
+    Arg::new(alloc, "code")
+        .value_name("CODE")
+        .help(CODE_HELP)
+        .required(true)
 }
 
 fn with_own_options<'a>(
@@ -66,8 +79,22 @@ fn with_common_options<'a>(alloc: Global, command: Command<'a>) -> Result<Comman
     command
         .arg(option(alloc, CommandOption::Symbols))?
         .arg(option(alloc, CommandOption::Workers))?
-        .arg(hex_flag(alloc))?
-        .arg(files(alloc))
+        .arg(hex_flag(alloc, HEX_HELP))?
+        .arg(files(alloc, FILES_HELP))
+}
+
+fn with_text_options<'a>(
+    alloc: Global,
+    command: Command<'a>,
+    hex_help: &'a str,
+    files_help: &'a str,
+) -> Result<Command<'a>, AllocError>
+    requires { (fields_of command).has_globals ≡ false }
+    ensures { IfOk result (Describes (with_rules (app_of command.entry) text_rules)) }
+{
+    command
+        .arg(hex_flag(alloc, hex_help))?
+        .arg(files(alloc, files_help))
 }
 
 fn command<'a>(alloc: Global, name: CommandName) -> Result<Command<'a>, AllocError>
@@ -76,8 +103,15 @@ fn command<'a>(alloc: Global, name: CommandName) -> Result<Command<'a>, AllocErr
     let bare = Command::new(alloc, name.as_str())
         .about(name.about())
         .after_help(name.example());
-    let command = with_own_options(alloc, bare, name.own_options())?;
-    with_common_options(alloc, command)
+    match name {
+        CommandName::Ask(question) => {
+            let command = with_own_options(alloc, bare, question.own_options())?;
+            with_common_options(alloc, command)
+        }
+        CommandName::Explain => bare.arg(code(alloc)),
+        CommandName::Dump => with_text_options(alloc, bare, HEX_HELP, FILES_HELP),
+        CommandName::Encode => with_text_options(alloc, bare, HEX_TEXT_HELP, TEXTS_HELP),
+    }
 }
 
 fn bare_program<'a>(alloc: Global) -> Result<Command<'a>, AllocError>

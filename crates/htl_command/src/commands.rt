@@ -1,12 +1,25 @@
 //! The commands of the program and their options, by name.
 ghost use Rattle.std.specs.Prelude.{◌≡◌, find};
 ghost use Rattle.std.specs.Str.{bytes_eq};
-ghost use Rattle.htl_command.specs.Commands.{command_named, name_of, option_name, own_options};
-ghost use Rattle.htl_command.specs.Commands.{is_required};
+ghost use Rattle.htl_command.specs.Commands.{command_named, is_required, name_of, option_name};
+ghost use Rattle.htl_command.specs.Commands.{own_options, question_name};
 
-/// A command: the question that it asks.
-#[derive(Clone, Copy, Debug, PartialEq, Eq)]
+/// A command.
+#[derive(Clone, Copy)]
 pub(crate) enum CommandName {
+    /// Answers a question over segments.
+    Ask(QuestionName),
+    /// Says what a code means.
+    Explain,
+    /// Prints segments as text.
+    Dump,
+    /// Makes segments of text.
+    Encode,
+}
+
+/// A question, by the name of its command.
+#[derive(Clone, Copy)]
+pub(crate) enum QuestionName {
     Summary,
     Outstanding,
     Diff,
@@ -18,27 +31,31 @@ pub(crate) enum CommandName {
 }
 
 /// An option that takes a value.
-#[derive(Clone, Copy, Debug, PartialEq, Eq)]
+#[derive(Clone, Copy)]
 pub(crate) enum CommandOption {
     Process,
     Since,
     Object,
     Tag,
     Handle,
+    Top,
     Symbols,
     Workers,
 }
 
 /// All commands, as help lists them.
-pub(crate) const COMMANDS: [CommandName; 8] = [
-    CommandName::Summary,
-    CommandName::Outstanding,
-    CommandName::Diff,
-    CommandName::Tags,
-    CommandName::Bad,
-    CommandName::Leaks,
-    CommandName::Stacks,
-    CommandName::Trace,
+pub(crate) const COMMANDS: [CommandName; 11] = [
+    CommandName::Ask(QuestionName::Summary),
+    CommandName::Ask(QuestionName::Outstanding),
+    CommandName::Ask(QuestionName::Diff),
+    CommandName::Ask(QuestionName::Tags),
+    CommandName::Ask(QuestionName::Bad),
+    CommandName::Ask(QuestionName::Leaks),
+    CommandName::Ask(QuestionName::Stacks),
+    CommandName::Ask(QuestionName::Trace),
+    CommandName::Explain,
+    CommandName::Dump,
+    CommandName::Encode,
 ];
 
 // The names live as long as the caller wants, since `clap`'s builders take no text of a longer
@@ -49,14 +66,10 @@ impl CommandName {
         ensures { result.now ≡ name_of self }
     {
         match self {
-            CommandName::Summary => "summary",
-            CommandName::Outstanding => "outstanding",
-            CommandName::Diff => "diff",
-            CommandName::Tags => "tags",
-            CommandName::Bad => "bad",
-            CommandName::Leaks => "leaks",
-            CommandName::Stacks => "stacks",
-            CommandName::Trace => "trace",
+            CommandName::Ask(question) => question.as_str(),
+            CommandName::Explain => "explain",
+            CommandName::Dump => "dump",
+            CommandName::Encode => "encode",
         }
     }
 
@@ -66,20 +79,50 @@ impl CommandName {
     {
         named_among(&COMMANDS, name)
     }
+}
 
-    /// The options that take a value and that not every command has.
+impl QuestionName {
+    pub(crate) fn as_str<'a>(self) -> &'a str
+        ensures { result.now ≡ question_name self }
+    {
+        match self {
+            QuestionName::Summary => "summary",
+            QuestionName::Outstanding => "outstanding",
+            QuestionName::Diff => "diff",
+            QuestionName::Tags => "tags",
+            QuestionName::Bad => "bad",
+            QuestionName::Leaks => "leaks",
+            QuestionName::Stacks => "stacks",
+            QuestionName::Trace => "trace",
+        }
+    }
+
+    /// The options that take a value and that not every question has.
     pub(crate) fn own_options(self) -> &'static [CommandOption]
         ensures { result.now ≡ own_options self }
     {
         match self {
-            CommandName::Summary => &[],
-            CommandName::Outstanding | CommandName::Bad | CommandName::Leaks => &[
+            QuestionName::Summary => &[CommandOption::Top],
+            QuestionName::Outstanding | QuestionName::Bad | QuestionName::Leaks => &[
                 CommandOption::Process,
+                CommandOption::Top,
             ],
-            CommandName::Diff => &[CommandOption::Process, CommandOption::Since],
-            CommandName::Tags => &[CommandOption::Object],
-            CommandName::Stacks => &[CommandOption::Object, CommandOption::Tag],
-            CommandName::Trace => &[CommandOption::Process, CommandOption::Handle],
+            QuestionName::Diff => &[
+                CommandOption::Process,
+                CommandOption::Since,
+                CommandOption::Top,
+            ],
+            QuestionName::Tags => &[CommandOption::Object],
+            QuestionName::Stacks => &[
+                CommandOption::Object,
+                CommandOption::Tag,
+                CommandOption::Top,
+            ],
+            QuestionName::Trace => &[
+                CommandOption::Process,
+                CommandOption::Handle,
+                CommandOption::Top,
+            ],
         }
     }
 }
@@ -104,6 +147,7 @@ impl CommandOption {
             CommandOption::Object => "object",
             CommandOption::Tag => "tag",
             CommandOption::Handle => "handle",
+            CommandOption::Top => "top",
             CommandOption::Symbols => "symbols",
             CommandOption::Workers => "workers",
         }
@@ -115,7 +159,10 @@ impl CommandOption {
     {
         !matches!(
             self,
-            CommandOption::Since | CommandOption::Symbols | CommandOption::Workers
+            CommandOption::Since
+                | CommandOption::Top
+                | CommandOption::Symbols
+                | CommandOption::Workers
         )
     }
 }

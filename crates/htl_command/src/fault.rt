@@ -4,7 +4,8 @@ ghost use Rattle.clap.specs.Words.{kind_of};
 ghost use Rattle.htl_command.specs.Refusals.{IsUsageWith};
 ghost use Rattle.htl_command.specs.Steps.{Reports};
 
-use crate::commands::CommandName;
+use crate::commands::QuestionName;
+use crate::help::CODE_EXPECTED;
 use crate::reading::Refused;
 use clap::error::ErrorKind;
 use std::alloc::{AllocError, Global};
@@ -36,6 +37,19 @@ impl ParseFault {
         ensures { IsUsageWith ⊤ result }
     {
         let why = "an argument is no text in UTF-8\n\nFor more information, try 'hleak --help'.";
+        usage(alloc, why, "")
+    }
+
+    /// The fault of bytes that would be written to a terminal.
+    pub fn bytes_at_terminal(alloc: Global) -> ParseFault
+        ensures { IsUsageWith ⊤ result }
+    {
+        let why = "\
+bytes are not written to a terminal
+
+  tip: send them to a file, as in 'hleak encode a.txt > a.hls', or add --hex
+
+For more information, try 'hleak encode --help'.";
         usage(alloc, why, "")
     }
 
@@ -78,12 +92,26 @@ pub(crate) fn of_clap(alloc: Global, error: &clap::Error, tip: &str) -> ParseFau
 }
 
 /// The fault of a value that breaks its rule, in the form of `clap`'s texts.
-pub(crate) fn of_value(alloc: Global, command: CommandName, refused: Refused) -> ParseFault
+pub(crate) fn of_value(alloc: Global, name: QuestionName, refused: Refused) -> ParseFault
     ensures { IsUsageWith ⊤ result }
 {
     let why = format!(in alloc;
         "{refused}\n\nFor more information, try 'hleak {} --help'.",
-        command.as_str()
+        name.as_str()
+    );
+    match why {
+        Ok(why) => usage(alloc, &why, ""),
+        Err(_) => ParseFault::Memory,
+    }
+}
+
+/// The fault of a text that is no code.
+pub(crate) fn of_code(alloc: Global, given: &str) -> ParseFault
+    ensures { IsUsageWith ⊤ result }
+{
+    let why = format!(in alloc;
+        "invalid value '{given}' for '<CODE>'\n  [expected: {CODE_EXPECTED}]\n\n\
+        For more information, try 'hleak explain --help'."
     );
     match why {
         Ok(why) => usage(alloc, &why, ""),

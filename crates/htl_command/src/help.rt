@@ -1,6 +1,6 @@
 //! What a person reads of the commands and their options: the texts of help.
 
-use crate::commands::{CommandName, CommandOption};
+use crate::commands::{CommandName, CommandOption, QuestionName};
 
 pub(crate) const VERSION: &str = "0.1.0";
 
@@ -10,7 +10,7 @@ were never dropped, in trace segments. Its questions are those of the Windows
 debugger's !htrace and !obtrace.";
 
 pub(crate) const AFTER_HELP: &str = "\
-Options of every command:
+Options of every question, from summary to trace:
       --symbols <FILE>  Names for addresses: CSV of start,end,module,name
       --workers <N>     How many threads take in segments: 1 to 8 [default: 1]
       --hex             The files hold hexadecimal digits, not bytes
@@ -19,7 +19,7 @@ Options of every command:
 Exit status:
   0  done                        4  the segments are not of one trace
   2  wrong command line          5  a read or a write failed
-  3  not a segment               6  out of memory or of threads
+  3  not a segment or its text   6  out of memory or of threads
                                  7  not a symbol table
 
 Examples:
@@ -34,60 +34,109 @@ pub(crate) const HEX_HELP: &str = "The files hold hexadecimal digits, not bytes"
 
 pub(crate) const FILES_HELP: &str = "Trace segments; standard input where no file is given";
 
+pub(crate) const HEX_TEXT_HELP: &str = "Write hexadecimal digits, not bytes";
+
+pub(crate) const TEXTS_HELP: &str = "Texts of segments; standard input where no file is given";
+
+pub(crate) const CODE_HELP: &str = "\
+The code of a fault, as S10, without the numbers that
+may follow it";
+
+/// Which codes there are, as a refusal reports it.
+pub(crate) const CODE_EXPECTED: &str = "S1 to S17, H1 to H3, C1 to C7, Y1 to Y7, E1 or E2";
+
 impl CommandName {
-    /// What the command answers, in one line.
+    /// What the command is for, in one line.
     pub(crate) fn about<'a>(self) -> &'a str {
         match self {
-            CommandName::Summary => "What leaks at all: processes, objects, and missing segments",
-            CommandName::Outstanding => "Handles that are open, each with the stack that opened it",
-            CommandName::Diff => "Handles opened since a snapshot and still open (!htrace -diff)",
-            CommandName::Tags => "References and dereferences of an object, by tag (!obtrace)",
-            CommandName::Bad => "References to invalid handles, by stack (BAD REF of !htrace)",
-            CommandName::Leaks => "Stacks by how many of their handles are still open, most first",
-            CommandName::Stacks => "Stacks behind one tag of an object (!obtrace)",
-            CommandName::Trace => "Each open, close and bad reference of a handle (!htrace HANDLE)",
+            CommandName::Ask(question) => question.about(),
+            CommandName::Explain => "What the code of a fault means, and what to do",
+            CommandName::Dump => "Segments as text, to read, compare and change",
+            CommandName::Encode => "The bytes of segments that are given as text",
         }
     }
 
     /// A command line to begin with, after what else is to be known.
     pub(crate) fn example<'a>(self) -> &'a str {
         match self {
-            CommandName::Summary => {
+            CommandName::Ask(question) => question.example(),
+            CommandName::Explain => {
+                "\
+Example:
+  hleak explain S10"
+            }
+            CommandName::Dump => {
+                "\
+Example:
+  hleak dump cpu0.hls > cpu0.txt"
+            }
+            CommandName::Encode => {
+                "\
+Bytes are not written to a terminal.
+
+Example:
+  hleak encode cpu0.txt > cpu0.hls"
+            }
+        }
+    }
+}
+
+impl QuestionName {
+    /// What the command answers, in one line.
+    pub(crate) fn about<'a>(self) -> &'a str {
+        match self {
+            QuestionName::Summary => "What leaks at all: processes, objects, and missing segments",
+            QuestionName::Outstanding =>
+                "Handles that are open, each with the stack that opened it",
+            QuestionName::Diff => "Handles opened since a snapshot and still open (!htrace -diff)",
+            QuestionName::Tags => "References and dereferences of an object, by tag (!obtrace)",
+            QuestionName::Bad => "References to invalid handles, by stack (BAD REF of !htrace)",
+            QuestionName::Leaks => "Stacks by how many of their handles are still open, most first",
+            QuestionName::Stacks => "Stacks behind one tag of an object (!obtrace)",
+            QuestionName::Trace =>
+                "Each open, close and bad reference of a handle (!htrace HANDLE)",
+        }
+    }
+
+    /// A command line to begin with, after what else is to be known.
+    pub(crate) fn example<'a>(self) -> &'a str {
+        match self {
+            QuestionName::Summary => {
                 "\
 Example:
   hleak summary cpu0.hls cpu1.hls"
             }
-            CommandName::Outstanding => {
+            QuestionName::Outstanding => {
                 "\
 Example:
   hleak outstanding --process 4 --symbols names.csv cpu0.hls cpu1.hls"
             }
-            CommandName::Diff => {
+            QuestionName::Diff => {
                 "\
 Example:
   hleak diff --process 4 --since 1200 cpu0.hls cpu1.hls"
             }
-            CommandName::Tags => {
+            QuestionName::Tags => {
                 "\
 Example:
   hleak tags --object 0xffffa00000001000 cpu0.hls cpu1.hls"
             }
-            CommandName::Bad => {
+            QuestionName::Bad => {
                 "\
 Example:
   hleak bad --process 4 --symbols names.csv cpu0.hls cpu1.hls"
             }
-            CommandName::Leaks => {
+            QuestionName::Leaks => {
                 "\
 Example:
   hleak leaks --process 4 --workers 4 cpu0.hls cpu1.hls"
             }
-            CommandName::Stacks => {
+            QuestionName::Stacks => {
                 "\
 Example:
   hleak stacks --object 0xffffa00000001000 --tag Lky8 cpu0.hls cpu1.hls"
             }
-            CommandName::Trace => {
+            QuestionName::Trace => {
                 "\
 The low two bits of a handle are ignored.
 
@@ -102,7 +151,10 @@ impl CommandOption {
     /// What help calls the value.
     pub(crate) fn value_name<'a>(self) -> &'a str {
         match self {
-            CommandOption::Process | CommandOption::Since | CommandOption::Workers => "N",
+            CommandOption::Process
+            | CommandOption::Since
+            | CommandOption::Top
+            | CommandOption::Workers => "N",
             CommandOption::Object | CommandOption::Handle => "HEX",
             CommandOption::Tag => "TAG",
             CommandOption::Symbols => "FILE",
@@ -132,6 +184,7 @@ hexadecimal digits, as 0x4c6b7938"
 The handle: 1 to 16 hexadecimal digits, with or without
 0x, at most 0xffffffff"
             }
+            CommandOption::Top => "At most N rows: decimal, 1 to 4294967295",
             CommandOption::Symbols => "Names for addresses: CSV of start,end,module,name",
             CommandOption::Workers => "How many threads take in segments: 1 to 8 [default: 1]",
         }
@@ -147,6 +200,7 @@ The handle: 1 to 16 hexadecimal digits, with or without
             CommandOption::Handle => {
                 "1 to 16 hexadecimal digits, with or without 0x, at most 0xffffffff"
             }
+            CommandOption::Top => "1 to 4294967295",
             CommandOption::Symbols => "the name of a file",
             CommandOption::Workers => "1 to 8",
         }

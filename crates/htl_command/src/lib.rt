@@ -1,18 +1,19 @@
-//! The command line of `hleak`: from the arguments after the program's name to the job that they
-//! ask for.
+//! The command line of `hleak`: from the arguments after the program's name to what they ask for.
 //!
 //! `specs/Commands` is the table of the commands with their options, `specs/Values` has one rule
 //! for each kind of value, and `specs/Requests` says what arguments ask for. `parse` gives just
 //! that, and refuses exactly the other arguments. How arguments are taken apart is `clap`'s
 //! matter: `specs/Entries` says what it is given.
 //!
-//! Files, in reading order: `question.rt` (what can be asked), `commands.rt` (the table of
-//! commands), `builder.rt` (the commands as `clap` gets them), `asked.rt` (`parse`), `reading.rt`
-//! and `values.rt` (entries and values), `help.rt` and `fault.rt` (what a person reads).
+//! Files, in reading order: `question.rt` (what can be asked), `code.rt` (the codes of faults),
+//! `commands.rt` (the table of commands), `builder.rt` (the commands as `clap` gets them),
+//! `asked.rt` (`parse`), `reading.rt` and `values.rt` (entries and values), `help.rt` and `fault.rt`
+//! (what a person reads).
 #![tactic(auto)]
 
 mod asked;
 mod builder;
+mod code;
 mod commands;
 mod fault;
 mod help;
@@ -20,6 +21,7 @@ mod question;
 mod reading;
 mod values;
 
-pub use asked::{Asked, parse};
+pub use asked::{Asked, Command, Conversion, parse};
+pub use code::Code;
 pub use fault::ParseFault;
 pub use question::{Job, Question};

@@ -32,4 +32,7 @@ pub struct Job {
     pub hex: bool,
     /// How many threads take in segments, 1 to 8.
     pub workers: u32,
+    /// How many rows are printed at most, 1 or more, and of a summary how many of each kind. `None`
+    /// stands for all.
+    pub top: Option<u32>,
 }

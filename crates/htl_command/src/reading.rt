@@ -3,13 +3,15 @@ ghost use Rattle.std.specs.Prelude.{◌≡◌, IfErr, IfOk, map, option_map, str
 ghost use Rattle.std.specs.Result.{result_ok};
 ghost use Rattle.clap.specs.Words.{all_of, first_of};
 ghost use Rattle.htl_command.specs.Steps.{Names, entries_of};
-ghost use Rattle.htl_command.specs.Requests.{file_names, given as given_in, is_hex as is_hex_in};
-ghost use Rattle.htl_command.specs.Requests.{job_of, optional, question_of, value};
+ghost use Rattle.htl_command.specs.Requests.{code_of, file_names, given as given_in};
+ghost use Rattle.htl_command.specs.Requests.{is_hex as is_hex_in, job_of, optional, question_of, value};
 ghost use Rattle.htl_command.specs.Requests.{workers as workers_given};
 ghost use Rattle.htl_command.specs.Values.{handle_in, object_in, process_in, sequence_in, tag_in};
+ghost use Rattle.htl_command.specs.Values.{top_in};
 ghost use Rattle.htl_command.specs.declared.commands.CommandOption.TheVariants as option;
 
-use crate::commands::{CommandName, CommandOption};
+use crate::code::Code;
+use crate::commands::{CommandOption, QuestionName};
 use crate::question::{Job, Question};
 use crate::values;
 use clap::ArgMatches;
@@ -114,6 +116,20 @@ fn handle<'a>(entries: &ArgMatches<'a>) -> Result<u32, Refused<'a>>
     values::handle(given).ok_or(Refused { option, given })
 }
 
+fn top<'a>(entries: &ArgMatches<'a>) -> Result<Option<u32>, Refused<'a>>
+    ensures ok { result_ok result ≡ optional top_in option.Top (entries_of entries.now) }
+    ensures err { IfErr result (Names option.Top (entries_of entries.now)) }
+{
+    let option = CommandOption::Top;
+    match given(entries, option) {
+        None => Ok(None),
+        Some(given) => match values::top(given) {
+            Some(top) => Ok(Some(top)),
+            None => Err(Refused { option, given }),
+        },
+    }
+}
+
 fn workers<'a>(entries: &ArgMatches<'a>) -> Result<u32, Refused<'a>>
     ensures ok { result_ok result ≡ workers_given (entries_of entries.now) }
     ensures err { IfErr result (Names option.Workers (entries_of entries.now)) }
@@ -126,33 +142,33 @@ fn workers<'a>(entries: &ArgMatches<'a>) -> Result<u32, Refused<'a>>
 }
 
 #[tactic(auto, unfolding(crate::specs::Requests::question_of))]
-fn question<'a>(command: CommandName, entries: &ArgMatches<'a>) -> Result<Question, Refused<'a>>
-    ensures ok { result_ok result ≡ question_of command (entries_of entries.now) }
+fn question<'a>(name: QuestionName, entries: &ArgMatches<'a>) -> Result<Question, Refused<'a>>
+    ensures ok { result_ok result ≡ question_of name (entries_of entries.now) }
     ensures err { IfErr result (λ refused. Names refused.option (entries_of entries.now) refused) }
 {
-    Ok(match command {
-        CommandName::Summary => Question::Summary,
-        CommandName::Outstanding => Question::Outstanding {
+    Ok(match name {
+        QuestionName::Summary => Question::Summary,
+        QuestionName::Outstanding => Question::Outstanding {
             process: process(entries)?,
         },
-        CommandName::Diff => Question::Diff {
+        QuestionName::Diff => Question::Diff {
             process: process(entries)?,
             since: since(entries)?,
         },
-        CommandName::Tags => Question::Tags {
+        QuestionName::Tags => Question::Tags {
             object: object(entries)?,
         },
-        CommandName::Bad => Question::Bad {
+        QuestionName::Bad => Question::Bad {
             process: process(entries)?,
         },
-        CommandName::Leaks => Question::Leaks {
+        QuestionName::Leaks => Question::Leaks {
             process: process(entries)?,
         },
-        CommandName::Stacks => Question::Stacks {
+        QuestionName::Stacks => Question::Stacks {
             object: object(entries)?,
             tag: tag(entries)?,
         },
-        CommandName::Trace => Question::Trace {
+        QuestionName::Trace => Question::Trace {
             process: process(entries)?,
             handle: handle(entries)?,
         },
@@ -160,7 +176,7 @@ fn question<'a>(command: CommandName, entries: &ArgMatches<'a>) -> Result<Questi
 }
 
 /// `clap` gives a flag the text `true` or `false`.
-fn is_hex(entries: &ArgMatches) -> bool
+pub(crate) fn is_hex(entries: &ArgMatches) -> bool
     ensures { result ≡ is_hex_in (entries_of entries.now) }
 {
     match entry(entries, "hex") {
@@ -169,17 +185,28 @@ fn is_hex(entries: &ArgMatches) -> bool
     }
 }
 
-/// The job of the command with these entries.
+/// The job of the question with these entries.
 #[tactic(auto, unfolding(crate::specs::Requests::job_of))]
-pub(crate) fn job<'a>(command: CommandName, entries: &ArgMatches<'a>) -> Result<Job, Refused<'a>>
-    ensures ok { result_ok result ≡ job_of command (entries_of entries.now) }
+pub(crate) fn job<'a>(name: QuestionName, entries: &ArgMatches<'a>) -> Result<Job, Refused<'a>>
+    ensures ok { result_ok result ≡ job_of name (entries_of entries.now) }
     ensures err { IfErr result (λ refused. Names refused.option (entries_of entries.now) refused) }
 {
     Ok(Job {
-        question: question(command, entries)?,
+        question: question(name, entries)?,
         hex: is_hex(entries),
         workers: workers(entries)?,
+        top: top(entries)?,
     })
+}
+
+/// The code that is to be explained, or else what was given for one.
+pub(crate) fn code<'a>(entries: &ArgMatches<'a>) -> Result<Code, &'a str>
+    ensures { result_ok result ≡ code_of (entries_of entries.now) }
+{
+    let Some(given) = entry(entries, "code") else {
+        return Err("");
+    };
+    Code::from_text(given).ok_or(given)
 }
 
 fn copies(alloc: Global, texts: &[&str]) -> Result<Vec<String>, AllocError>

@@ -1,12 +1,12 @@
 //! The values of options, read from their texts. Each kind of value has one rule.
 ghost use Rattle.std.specs.Prelude.{◌≡◌};
 ghost use Rattle.htl_command.specs.Values.{handle_in, object_in, process_in, sequence_in, tag_in};
-ghost use Rattle.htl_command.specs.Values.{workers_in};
+ghost use Rattle.htl_command.specs.Values.{positive_in, top_in, workers_in};
 
 use htl_numbers::{decimal, hexadecimal};
 
 /// How many threads take in segments at most.
-const MOST_WORKERS: u64 = 8;
+const MOST_WORKERS: u32 = 8;
 
 pub(crate) fn process(text: &str) -> Option<u32>
     ensures { result ≡ process_in text.now }
@@ -53,7 +53,20 @@ pub(crate) fn tag(text: &str) -> Option<[u8; 4]>
 pub(crate) fn workers(text: &str) -> Option<u32>
     ensures { result ≡ workers_in text.now }
 {
-    let number = decimal(text, MOST_WORKERS)?;
+    positive(text, MOST_WORKERS)
+}
+
+/// How many rows are printed at most.
+pub(crate) fn top(text: &str) -> Option<u32>
+    ensures { result ≡ top_in text.now }
+{
+    positive(text, u32::MAX)
+}
+
+fn positive(text: &str, most: u32) -> Option<u32>
+    ensures { result ≡ positive_in most text.now }
+{
+    let number = decimal(text, u64::from(most))?;
     if number == 0 {
         None
     } else {

@@ -1,6 +1,9 @@
 pub mod InputLaws
 pub mod SplitLaws
 pub mod SourceLaws
+pub mod ReadingLaws
+pub mod DumpLaws
+pub mod EncodeLaws
 pub mod FewSegments
 pub mod OfProcessor
 pub mod Covered
@@ -9,3 +12,4 @@ pub mod OneSummary
 pub mod OneOutcome
 pub mod OneCoverage
 pub mod UnfoldedLaws
+pub mod AnyEvents

@@ -171,39 +171,39 @@ handles events = handles_are_determined events events (λ e. ((λ h. h), (λ h. 
 counts : (events : List Event) → CountsAreDetermined events events
 counts events = counts_are_determined events events (IsPermutation-refl events)
 
-one_text : (events : List Event) (table : List Range) (question : Question) (a b : List ℕ) → IsTextOver events table question a
-    → IsTextOver events table question b → a ≡ b
-one_text events table (asked.Outstanding process) a b p q =
-    p.2 ∙ ap (outstanding_text table process) ((handles events).outstanding process p.0 q.0 p.1 q.1) ∙ sym q.2
-one_text events table (asked.Diff process (Some since)) a b p q =
-    p.2 ∙ ap (diff_text table process since) ((handles events).diff process since p.0 q.0 p.1 q.1) ∙ sym q.2
-one_text events table (asked.Diff process None) a b p q =
+one_text : (events : List Event) (table : List Range) (question : Question) (top : Option ℕ) (a b : List ℕ) → IsTextOver events table question top a
+    → IsTextOver events table question top b → a ≡ b
+one_text events table (asked.Outstanding process) top a b p q =
+    p.2 ∙ ap (outstanding_text table top process) ((handles events).outstanding process p.0 q.0 p.1 q.1) ∙ sym q.2
+one_text events table (asked.Diff process (Some since)) top a b p q =
+    p.2 ∙ ap (diff_text table top process since) ((handles events).diff process since p.0 q.0 p.1 q.1) ∙ sym q.2
+one_text events table (asked.Diff process None) top a b p q =
     let mark : p.0 ≡ q.0 = (handles events).mark process p.0 q.0 p.2 q.2 in
     let rows = (handles events).diff process q.0 p.1 q.1
     (subst (λ (n : ℕ). IsDiff (Contains events) process n p.1) mark p.3) q.3 in
-    p.4 ∙ ap (λ (n : ℕ). diff_text table process n p.1) mark ∙ ap (diff_text table process q.0) rows ∙ sym q.4
-one_text events table (asked.Tags object) a b p q =
-    p.2 ∙ ap (tags_text object) ((counts events).tags object p.0 q.0 p.1 q.1) ∙ sym q.2
-one_text events table (asked.Bad process) a b p q =
-    p.2 ∙ ap (bad_text table process) ((counts events).bad process p.0 q.0 p.1 q.1) ∙ sym q.2
-one_text events table (asked.Leaks process) a b p q =
-    p.2 ∙ ap (leaks_text table process) ((handles events).leaks process p.0 q.0 p.1 q.1) ∙ sym q.2
-one_text events table (asked.Stacks object tag) a b p q =
-    p.2 ∙ ap (stacks_text table object tag) ((counts events).stacks object tag p.0 q.0 p.1 q.1) ∙ sym q.2
-one_text events table (asked.Trace process handle) a b p q =
-    p.2 ∙ ap (trace_text table process handle) ((handles events).listing process handle p.0 q.0 p.1 q.1) ∙ sym q.2
-one_text events table asked.Summary a b p q = absurd p
+    p.4 ∙ ap (λ (n : ℕ). diff_text table top process n p.1) mark ∙ ap (diff_text table top process q.0) rows ∙ sym q.4
+one_text events table (asked.Tags object) top a b p q =
+    p.2 ∙ ap (tags_text top object) ((counts events).tags object p.0 q.0 p.1 q.1) ∙ sym q.2
+one_text events table (asked.Bad process) top a b p q =
+    p.2 ∙ ap (bad_text table top process) ((counts events).bad process p.0 q.0 p.1 q.1) ∙ sym q.2
+one_text events table (asked.Leaks process) top a b p q =
+    p.2 ∙ ap (leaks_text table top process) ((handles events).leaks process p.0 q.0 p.1 q.1) ∙ sym q.2
+one_text events table (asked.Stacks object tag) top a b p q =
+    p.2 ∙ ap (stacks_text table top object tag) ((counts events).stacks object tag p.0 q.0 p.1 q.1) ∙ sym q.2
+one_text events table (asked.Trace process handle) top a b p q =
+    p.2 ∙ ap (trace_text table top process handle) ((handles events).listing process handle p.0 q.0 p.1 q.1) ∙ sym q.2
+one_text events table asked.Summary top a b p q = absurd p
 
-one_answer_over : (T : Trace) (table : List Range) (question : Question) (a b : List ℕ) → IsText T table question a
-    → IsText T table question b → a ≡ b
-one_answer_over T table asked.Summary a b p q = one_summary T a b p q
-one_answer_over T table (asked.Outstanding process) a b p q = one_text (all_events T.segments) table (asked.Outstanding process) a b p q
-one_answer_over T table (asked.Diff process since) a b p q = one_text (all_events T.segments) table (asked.Diff process since) a b p q
-one_answer_over T table (asked.Tags object) a b p q = one_text (all_events T.segments) table (asked.Tags object) a b p q
-one_answer_over T table (asked.Bad process) a b p q = one_text (all_events T.segments) table (asked.Bad process) a b p q
-one_answer_over T table (asked.Leaks process) a b p q = one_text (all_events T.segments) table (asked.Leaks process) a b p q
-one_answer_over T table (asked.Stacks object tag) a b p q = one_text (all_events T.segments) table (asked.Stacks object tag) a b p q
-one_answer_over T table (asked.Trace process handle) a b p q = one_text (all_events T.segments) table (asked.Trace process handle) a b p q
+one_answer_over : (T : Trace) (table : List Range) (question : Question) (top : Option ℕ) (a b : List ℕ) → IsText T table question top a
+    → IsText T table question top b → a ≡ b
+one_answer_over T table asked.Summary top a b p q = one_summary T top a b p q
+one_answer_over T table (asked.Outstanding process) top a b p q = one_text (all_events T.segments) table (asked.Outstanding process) top a b p q
+one_answer_over T table (asked.Diff process since) top a b p q = one_text (all_events T.segments) table (asked.Diff process since) top a b p q
+one_answer_over T table (asked.Tags object) top a b p q = one_text (all_events T.segments) table (asked.Tags object) top a b p q
+one_answer_over T table (asked.Bad process) top a b p q = one_text (all_events T.segments) table (asked.Bad process) top a b p q
+one_answer_over T table (asked.Leaks process) top a b p q = one_text (all_events T.segments) table (asked.Leaks process) top a b p q
+one_answer_over T table (asked.Stacks object tag) top a b p q = one_text (all_events T.segments) table (asked.Stacks object tag) top a b p q
+one_answer_over T table (asked.Trace process handle) top a b p q = one_text (all_events T.segments) table (asked.Trace process handle) top a b p q
 
 -- ---- what decoded segments come to
 
@@ -232,13 +232,13 @@ one_case_fault segments f g p q = elim (exact_fault segments f (Err g) p.1 q) [
     fault_is : (x y : CaseFault) → ◌≡◌ {A = Result Trace CaseFault} (Err x) (Err y) → x ≡ y
     fault_is x y e = cc
 
-one_answer : (segments : List Content) (symbols : Option (List ℕ)) (question : Question) (a b : List ℕ)
-    → AreAnswerLines segments symbols question a → AreAnswerLines segments symbols question b → a ≡ b
-one_answer segments symbols question a b p q =
+one_answer : (segments : List Content) (symbols : Option (List ℕ)) (question : Question) (top : Option ℕ) (a b : List ℕ)
+    → AreAnswerLines segments symbols question top a → AreAnswerLines segments symbols question top b → a ≡ b
+one_answer segments symbols question top a b p q =
     let trace = one_case segments p.trace q.trace p.of_case q.of_case in
     let table = one_symbols symbols p.table q.table p.named q.named in
-    one_answer_over q.trace q.table question a b (subst (λ (t : List Range). IsText q.trace t question a) table
-    (subst (λ (T : Trace). IsText T p.table question a) trace p.is)) q.is
+    one_answer_over q.trace q.table question top a b (subst (λ (t : List Range). IsText q.trace t question top a) table
+    (subst (λ (T : Trace). IsText T p.table question top a) trace p.is)) q.is
 
 abbrev done : List ℕ → Result (List ℕ) RunFault
 done lines = Ok lines
@@ -246,46 +246,46 @@ done lines = Ok lines
 abbrev failed : RunFault → Result (List ℕ) RunFault
 failed fault = Err fault
 
-one_printed : (segments : List Content) (symbols : Option (List ℕ)) (question : Question) (a b : Result (List ℕ) RunFault)
-    → IsPrinted segments symbols question a → IsPrinted segments symbols question b → a ≡ b
-one_printed segments symbols question (Ok a) (Ok b) p q = ap done (one_answer segments symbols question a b p q)
-one_printed segments symbols question (Ok a) (Err (Case f)) p q = absurd (case_or_fault segments p.trace f p.of_case q)
-one_printed segments symbols question (Ok a) (Err (Symbols f)) p q = absurd (symbols_or_fault symbols p.table f p.named q.2)
-one_printed segments symbols question (Ok a) (Err other) p q = absurd q
-one_printed segments symbols question (Err (Case f)) (Ok b) p q = absurd (case_or_fault segments q.trace f q.of_case p)
-one_printed segments symbols question (Err (Case f)) (Err (Case g)) p q =
+one_printed : (segments : List Content) (symbols : Option (List ℕ)) (question : Question) (top : Option ℕ) (a b : Result (List ℕ) RunFault)
+    → IsPrinted segments symbols question top a → IsPrinted segments symbols question top b → a ≡ b
+one_printed segments symbols question top (Ok a) (Ok b) p q = ap done (one_answer segments symbols question top a b p q)
+one_printed segments symbols question top (Ok a) (Err (Case f)) p q = absurd (case_or_fault segments p.trace f p.of_case q)
+one_printed segments symbols question top (Ok a) (Err (Symbols f)) p q = absurd (symbols_or_fault symbols p.table f p.named q.2)
+one_printed segments symbols question top (Ok a) (Err other) p q = absurd q
+one_printed segments symbols question top (Err (Case f)) (Ok b) p q = absurd (case_or_fault segments q.trace f q.of_case p)
+one_printed segments symbols question top (Err (Case f)) (Err (Case g)) p q =
     ap (λ (x : CaseFault). failed (Case x)) (one_case_fault segments f g p q)
-one_printed segments symbols question (Err (Case f)) (Err (Symbols g)) p q = absurd (case_or_fault segments q.0 f q.1 p)
-one_printed segments symbols question (Err (Case f)) (Err other) p q = absurd q
-one_printed segments symbols question (Err (Symbols f)) (Ok b) p q = absurd (symbols_or_fault symbols q.table f q.named p.2)
-one_printed segments symbols question (Err (Symbols f)) (Err (Case g)) p q = absurd (case_or_fault segments p.0 g p.1 q)
-one_printed segments symbols question (Err (Symbols f)) (Err (Symbols g)) p q =
+one_printed segments symbols question top (Err (Case f)) (Err (Symbols g)) p q = absurd (case_or_fault segments q.0 f q.1 p)
+one_printed segments symbols question top (Err (Case f)) (Err other) p q = absurd q
+one_printed segments symbols question top (Err (Symbols f)) (Ok b) p q = absurd (symbols_or_fault symbols q.table f q.named p.2)
+one_printed segments symbols question top (Err (Symbols f)) (Err (Case g)) p q = absurd (case_or_fault segments p.0 g p.1 q)
+one_printed segments symbols question top (Err (Symbols f)) (Err (Symbols g)) p q =
     ap (λ (x : SymbolFault). failed (Symbols x)) (one_fault_of_symbols symbols f g p.2 q.2)
-one_printed segments symbols question (Err (Symbols f)) (Err other) p q = absurd q
-one_printed segments symbols question (Err other) b p q = absurd p
+one_printed segments symbols question top (Err (Symbols f)) (Err other) p q = absurd q
+one_printed segments symbols question top (Err other) b p q = absurd p
 
 -- ---- the outcome
 
 -- what a run comes to where the number of workers is allowed
-abbrev Comes : Bool → Question → List (List ℕ) → Option (List ℕ) → Result (List ℕ) RunFault → Type 0
-Comes hex question inputs symbols outcome =
+abbrev Comes : Bool → Question → Option ℕ → List (List ℕ) → Option (List ℕ) → Result (List ℕ) RunFault → Type 0
+Comes hex question top inputs symbols outcome =
     ((fault : RunFault) × (outcome ≡ failed fault) × (fault ≢ Memory) × Stops hex inputs fault)
-    ⊎ ((segments : List Content) × DecodeAll hex inputs segments × IsPrinted segments symbols question outcome)
+    ⊎ ((segments : List Content) × DecodeAll hex inputs segments × IsPrinted segments symbols question top outcome)
 
-one_coming : (hex : Bool) (question : Question) (inputs : List (List ℕ)) (symbols : Option (List ℕ)) (a b : Result (List ℕ) RunFault)
-    → Comes hex question inputs symbols a → Comes hex question inputs symbols b → a ≡ b
-one_coming hex question inputs symbols a b (inl p) (inl q) =
+one_coming : (hex : Bool) (question : Question) (top : Option ℕ) (inputs : List (List ℕ)) (symbols : Option (List ℕ)) (a b : Result (List ℕ) RunFault)
+    → Comes hex question top inputs symbols a → Comes hex question top inputs symbols b → a ≡ b
+one_coming hex question top inputs symbols a b (inl p) (inl q) =
     p.1 ∙ ap failed (one_stop hex inputs p.0 q.0 p.3 q.3 p.2 q.2) ∙ sym q.1
-one_coming hex question inputs symbols a b (inl p) (inr q) = absurd (not_decoded hex inputs p.0 q.0 p.3 p.2 q.1)
-one_coming hex question inputs symbols a b (inr p) (inl q) = absurd (not_decoded hex inputs q.0 p.0 q.3 q.2 p.1)
-one_coming hex question inputs symbols a b (inr p) (inr q) =
+one_coming hex question top inputs symbols a b (inl p) (inr q) = absurd (not_decoded hex inputs p.0 q.0 p.3 p.2 q.1)
+one_coming hex question top inputs symbols a b (inr p) (inl q) = absurd (not_decoded hex inputs q.0 p.0 q.3 q.2 p.1)
+one_coming hex question top inputs symbols a b (inr p) (inr q) =
     let same = one_decoding hex inputs p.0 q.0 p.1 q.1 in
-    one_printed q.0 symbols question a b (subst (λ (ss : List Content). IsPrinted ss symbols question a) same p.2) q.2
+    one_printed q.0 symbols question top a b (subst (λ (ss : List Content). IsPrinted ss symbols question top a) same p.2) q.2
 
 cases_printed : (job : Job) (inputs : List (List ℕ)) (symbols : Option (List ℕ)) (outcome : Result (List ℕ) RunFault)
     → Printed job inputs symbols outcome
     → ((outcome ≡ failed Workers) × (WorkersFit job.workers → ⊥))
-    ⊎ (WorkersFit job.workers × Comes job.hex job.question inputs symbols outcome)
+    ⊎ (WorkersFit job.workers × Comes job.hex job.question job.top inputs symbols outcome)
 cases_printed job inputs symbols (Err Workers) is = inl (refl, is)
 cases_printed job inputs symbols (Err (Segment at offset fault)) is =
     inr (is.0, inl (Segment at offset fault, refl, (λ same. cc), is.1))
@@ -299,21 +299,22 @@ one_outcome job inputs symbols a b p q =
       | inl x ↦ elim (cases_printed job inputs symbols b q) [ inl y ↦ x.0 ∙ sym y.0 | inr y ↦ absurd (x.1 y.0) ]
       | inr x ↦ elim (cases_printed job inputs symbols b q) [
         | inl y ↦ absurd (y.1 x.0)
-        | inr y ↦ one_coming job.hex job.question inputs symbols a b x.1 y.1
+        | inr y ↦ one_coming job.hex job.question job.top inputs symbols a b x.1 y.1
       ]
     ]
 
 -- and the number of workers is no part of it
 pub for_all_workers : (job other : Job) (inputs : List (List ℕ)) (symbols : Option (List ℕ)) (a b : Result (List ℕ) RunFault)
-    → job.hex ≡ other.hex → job.question ≡ other.question → WorkersFit job.workers → WorkersFit other.workers
+    → job.hex ≡ other.hex → job.question ≡ other.question → job.top ≡ other.top → WorkersFit job.workers → WorkersFit other.workers
     → Printed job inputs symbols a → Printed other inputs symbols b → a ≡ b
-for_all_workers job other inputs symbols a b hex question few few_too p q =
+for_all_workers job other inputs symbols a b hex question top few few_too p q =
     elim (cases_printed job inputs symbols a p) [
       | inl x ↦ absurd (x.1 few)
       | inr x ↦ elim (cases_printed other inputs symbols b q) [
         | inl y ↦ absurd (y.1 few_too)
-        | inr y ↦ one_coming other.hex other.question inputs symbols a b
-            (subst (λ (asked_too : Question). Comes other.hex asked_too inputs symbols a) question
-            (subst (λ (h : Bool). Comes h job.question inputs symbols a) hex x.1)) y.1
+        | inr y ↦ one_coming other.hex other.question other.top inputs symbols a b
+            (subst (λ (t : Option ℕ). Comes other.hex other.question t inputs symbols a) top
+            (subst (λ (asked_too : Question). Comes other.hex asked_too job.top inputs symbols a) question
+            (subst (λ (h : Bool). Comes h job.question job.top inputs symbols a) hex x.1))) y.1
       ]
     ]

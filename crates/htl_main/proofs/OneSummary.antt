@@ -1,5 +1,5 @@
 -- A trace has one summary.
-use Rattle.std.proofs.Common.{◌≡◌, ℕ, List, ap, sym, ◌∙◌, arith}
+use Rattle.std.proofs.Common.{◌≡◌, ℕ, List, Option, ap, sym, ◌∙◌, arith}
 use Rattle.std.proofs.lemmas.List.Sorted.{IsPermutation-refl}
 use Rattle.htl_event.specs.Summaries.{SummariesAreDetermined}
 use Rattle.htl_event.proofs.Members.{Lists-same}
@@ -47,8 +47,8 @@ one_gaps T a b =
     Lists-same IsGapBefore IsGapBefore-strict (IsGap (HasKey T) T.processors) (IsGap (HasKey T) T.processors) a b
     (λ gap. ((λ h. h), (λ h. h)))
 
-pub one_summary : (T : Trace) (a b : List ℕ) → IsSummaryText T a → IsSummaryText T b → a ≡ b
-one_summary T a b p q =
+pub one_summary : (T : Trace) (top : Option ℕ) (a b : List ℕ) → IsSummaryText T top a → IsSummaryText T top b → a ≡ b
+one_summary T top a b p q =
     let totals : p.0 ≡ q.0 = one_totals T p.0 q.0 p.4 q.4 in
     let gaps : p.1 ≡ q.1 = one_gaps T p.1 q.1 p.5 q.5 in
     let processes : p.2 ≡ q.2 = (determined T).processes p.2 q.2 p.6 q.6 in

@@ -24,10 +24,10 @@ PrintsPart job inputs symbols old new =
     (lines : List ℕ) × Printed job inputs symbols (Ok lines) × AppendsPrefix old new lines
 
 -- Why nothing is printed of decoded segments. Memory is asked for where the rules of a case that take none hold.
-abbrev pub IsCauseAfter : List Content → Option (List ℕ) → Question → RunFault → Type 0
-IsCauseAfter segments symbols question Memory =
+abbrev pub IsCauseAfter : List Content → Option (List ℕ) → Question → Option ℕ → RunFault → Type 0
+IsCauseAfter segments symbols question top Memory =
     IsRefusal segments case_faults.NoMemory ⊎ ((T : Trace) × IsCaseOf segments T)
-IsCauseAfter segments symbols question fault = IsPrinted segments symbols question (Err fault)
+IsCauseAfter segments symbols question top fault = IsPrinted segments symbols question top (Err fault)
 
 -- Why a run ends: the first fault of what was given; or memory was refused where no fault came before, or the lines
 -- could not be written. No run needs a thread, so none ends because one was refused.
@@ -35,6 +35,7 @@ abbrev pub IsCause : Job → List (List ℕ) → Option (List ℕ) → RunFault 
 IsCause job inputs symbols Memory =
     WorkersFit job.workers
     × (StopsAt job.hex (IsReported job.hex) inputs Memory
-    ⊎ ((segments : List Content) × DecodeAll job.hex inputs segments × IsCauseAfter segments symbols job.question Memory))
+    ⊎ ((segments : List Content) × DecodeAll job.hex inputs segments
+    × IsCauseAfter segments symbols job.question job.top Memory))
 IsCause job inputs symbols Write = (lines : List ℕ) × Printed job inputs symbols (Ok lines)
 IsCause job inputs symbols fault = Printed job inputs symbols (Err fault)

@@ -11,8 +11,10 @@ use Rattle.htl_case.specs.declared.fault.CaseFault.{CaseFault}
 use Rattle.htl_case.specs.declared.fault.CaseFault.TheVariants as cases
 use Rattle.htl_symbols.specs.declared.fault.SymbolFault.{SymbolFault}
 use Rattle.htl_symbols.specs.declared.fault.SymbolFault.TheVariants as tables
+use Rattle.htl_text.specs.declared.fault.TextFault.{TextFault}
+use Rattle.htl_text.specs.declared.fault.TextFault.TheVariants as texts
 use Rattle.htl_main.specs.declared.fault.RunFault.{RunFault}
-use Rattle.htl_main.specs.declared.fault.RunFault.TheVariants.{Segment, Hex, Case, Symbols, Read, Memory}
+use Rattle.htl_main.specs.declared.fault.RunFault.TheVariants.{Segment, Hex, Text, Case, Symbols, Read, Memory}
 
 -- of the bytes at an offset of an input
 abbrev pub of_segment : ℕ → ℕ → Fault → RunFault
@@ -38,6 +40,11 @@ of_case fault = Case fault
 abbrev pub of_symbols : SymbolFault → RunFault
 of_symbols tables.NoMemory = Memory
 of_symbols fault = Symbols fault
+
+-- of the text of an input
+abbrev pub of_text : ℕ → TextFault → RunFault
+of_text input texts.NoMemory = Memory
+of_text input (texts.Line line fault) = Text input line fault
 
 -- out of memory, whatever reports it
 abbrev pub IsMemory : RunFault → Type 0

@@ -2,13 +2,18 @@
 pub mod Inputs
 pub mod Summaries
 pub mod Coverages
+pub mod Subjects
 pub mod Printed
 pub mod Causes
 pub mod Sources
+pub mod Readings
+pub mod Dumps
+pub mod Encodings
 pub mod Statuses
 -- What only private contracts cite.
 pub mod Faults
 pub mod Questions
 pub mod Reads
+pub mod Dumping
 pub mod Unfolded
 pub mod Numbers

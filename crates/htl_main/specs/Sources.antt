@@ -10,7 +10,7 @@ use Rattle.htl_main.specs.Inputs.{AsksMemory, DecodeAll, IsReported, StopsAt}
 use Rattle.htl_main.specs.Printed.{WorkersFit}
 use Rattle.htl_main.specs.Causes.{IsCause, IsCauseAfter}
 use Rattle.htl_main.specs.declared.fault.RunFault.{RunFault}
-use Rattle.htl_main.specs.declared.fault.RunFault.TheVariants.{Workers, Segment, Hex, Read, Memory}
+use Rattle.htl_main.specs.declared.fault.RunFault.TheVariants.{Workers, Segment, Hex, Text, Read, Memory}
 
 -- Memory is asked for to keep what was read: a text in hexadecimal, and of bytes the last, which more may make a segment of.
 abbrev pub KeepsSome : Bool → List ℕ → Type 0
@@ -39,7 +39,8 @@ IsSourcesCause job inputs lefts ends symbols (Read at) =
 IsSourcesCause job inputs lefts ends symbols Memory =
     WorkersFit job.workers
     × (StopsAt job.hex (IsReportedAt job.hex lefts ends) inputs Memory
-    ⊎ ((segments : List Content) × DecodeAll job.hex inputs segments × IsCauseAfter segments symbols job.question Memory))
+    ⊎ ((segments : List Content) × DecodeAll job.hex inputs segments
+    × IsCauseAfter segments symbols job.question job.top Memory))
 IsSourcesCause job inputs lefts ends symbols fault = IsCause job inputs symbols fault
 
 -- the test is true of the element at the place
@@ -57,6 +58,7 @@ abbrev pub EndsBefore : RunFault → ℕ → Type 0
 EndsBefore Workers place = ⊤
 EndsBefore (Segment input offset fault) place = input < place
 EndsBefore (Hex input fault) place = input < place
+EndsBefore (Text input line fault) place = input < place
 EndsBefore (Read input) place = input < place
 EndsBefore fault place = ⊥
 

@@ -1,13 +1,14 @@
 -- The exit statuses of the program (this project's own).
 use Rattle.std.specs.Prelude.{ℕ}
 use Rattle.htl_main.specs.declared.fault.RunFault.{RunFault}
-use Rattle.htl_main.specs.declared.fault.RunFault.TheVariants.{Workers, Segment, Hex, Case, Symbols, Read}
+use Rattle.htl_main.specs.declared.fault.RunFault.TheVariants.{Workers, Segment, Hex, Text, Case, Symbols, Read}
 use Rattle.htl_main.specs.declared.fault.RunFault.TheVariants.{SymbolsRead, Write, Memory, NoThread}
 
 abbrev pub status_of : RunFault → ℕ
 status_of Workers = 2
 status_of (Segment input offset fault) = 3
 status_of (Hex input fault) = 3
+status_of (Text input line fault) = 3
 status_of (Case fault) = 4
 status_of (Read input) = 5
 status_of SymbolsRead = 5

@@ -1,5 +1,5 @@
 -- The summary of a trace (this project's own): what there is, which segments are missing, and what leaks at all.
-use Rattle.std.specs.Prelude.{◌≡◌, ℕ, ◌<◌, ◌≤◌, List, length, Contains}
+use Rattle.std.specs.Prelude.{◌≡◌, ℕ, ◌<◌, ◌≤◌, List, length, Contains, Option}
 use Rattle.htl_event.specs.Handles.{IsGreatestSequence}
 use Rattle.htl_event.specs.Summaries.{IsNumberOfObjects, IsProcesses, IsUnbalanced}
 use Rattle.htl_event.specs.declared.summary.ObjectRow.{ObjectRow}
@@ -36,9 +36,9 @@ pub record AreTotals (T : Trace) (totals : Totals) : Type 0 where
   pub objects : IsNumberOfObjects (all_events T.segments) totals.objects
 
 -- Summary: the totals, the missing segments of all processors, the processes, and the objects with an unbalanced tag.
-abbrev pub IsSummaryText : Trace → List ℕ → Type 0
-IsSummaryText T lines =
+abbrev pub IsSummaryText : Trace → Option ℕ → List ℕ → Type 0
+IsSummaryText T top lines =
     (totals : Totals) × (gaps : List Gap) × (processes : List ProcessRow) × (objects : List ObjectRow)
     × AreTotals T totals × IsGaps (HasKey T) T.processors gaps
     × IsProcesses (all_events T.segments) processes × IsUnbalanced (all_events T.segments) objects
-    × (lines ≡ summary_text totals gaps processes objects)
+    × (lines ≡ summary_text top totals gaps processes objects)

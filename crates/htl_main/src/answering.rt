@@ -1,6 +1,6 @@
 //! The answer to a question over a case.
 
-ghost use Rattle.std.specs.Prelude.{◌≡◌, ◌<◌, ◌^◌, List, map};
+ghost use Rattle.std.specs.Prelude.{◌≡◌, ◌<◌, ◌^◌, ℕ, List, Option, map};
 ghost use Rattle.std.specs.Prelude.{IfOk, IfSome, IfNone, Contains};
 ghost use Rattle.htl_event.specs.Events.{Event};
 ghost use Rattle.htl_event.specs.Handles.{HaveOwnSequences, IsMark};
@@ -32,8 +32,8 @@ pub(crate) fn answer(
     coverage: Coverage,
 ) -> Result<Answer, NoMemory>
     requires { IsCoverage case.now coverage }
-    ensures { IfOk result (λ answer. (table : List Range)
-        → IsText case.now table question (text_of table answer)) }
+    ensures { IfOk result (λ answer. (table : List Range) (top : Option ℕ)
+        → IsText case.now table question top (text_of table top answer)) }
 {
     match question {
         Question::Trace { process, handle } => Ok(Answer::Trace {
@@ -55,8 +55,9 @@ pub(crate) fn answer(
 /// The answer to a question about events, by one part that holds all segments of the case.
 fn answer_over(alloc: Global, case: &Case, question: Question) -> Result<Answer, NoMemory>
     requires { IsOfParts question }
-    ensures { IfOk result (λ answer. (table : List Range)
-        → IsTextOver (all_events case.now.segments) table question (text_of table answer)) }
+    ensures { IfOk result (λ answer. (table : List Range) (top : Option ℕ)
+        → IsTextOver (all_events case.now.segments) table question top
+        (text_of table top answer)) }
 {
     let part = Unfolded::new(alloc, case.segments());
     let answer = answer_of(alloc, &[part], question)?;
@@ -69,7 +70,8 @@ fn answer_of(alloc: Global, parts: &[Unfolded<'_>], question: Question) -> Resul
     requires few { size_of_all (map contents_of parts.now) < 2 ^ 64 }
     ensures { IfOk result (λ answer. (events : List Event)
         → AreEventsOf (map contents_of parts.now) events → HaveOwnSequences events
-        → (table : List Range) → IsTextOver events table question (text_of table answer)) }
+        → (table : List Range) (top : Option ℕ)
+        → IsTextOver events table question top (text_of table top answer)) }
 {
     Ok(match question {
         Question::Outstanding { process } => Answer::Outstanding {

@@ -5,6 +5,7 @@ use htl_device::ReadFault;
 use htl_event::NoMemory;
 use htl_segment::{Fault, HexFault};
 use htl_symbols::SymbolFault;
+use htl_text::{LineFault, TextFault};
 use std::alloc::{AllocError, AllocFailed};
 use thiserror::Error;
 
@@ -29,6 +30,13 @@ pub enum RunFault {
     Hex {
         input: u64,
         fault: HexFault,
+    },
+    /// This line of an input, counted from 1, has this fault, as a text that is to be encoded.
+    #[error("hleak: input {input}, line {line}: {fault}")]
+    Text {
+        input: u64,
+        line: u64,
+        fault: LineFault,
     },
     /// The segments of all inputs are no case.
     #[error("hleak: case: {0}")]
@@ -57,7 +65,7 @@ pub enum RunFault {
 
 impl RunFault {
     ghost use Rattle.std.specs.Prelude.{◌≡◌};
-    ghost use Rattle.htl_main.specs.Faults.{of_hex, of_read, of_segment};
+    ghost use Rattle.htl_main.specs.Faults.{of_hex, of_read, of_segment, of_text};
     ghost use Rattle.htl_main.specs.Statuses.{status_of};
 
     /// The exit status of the program: 2 for a wrong command, 3 where an input says something else
@@ -69,7 +77,7 @@ impl RunFault {
     {
         match self {
             RunFault::Workers => 2,
-            RunFault::Segment { .. } | RunFault::Hex { .. } => 3,
+            RunFault::Segment { .. } | RunFault::Hex { .. } | RunFault::Text { .. } => 3,
             RunFault::Case(_) => 4,
             RunFault::Read { .. } | RunFault::SymbolsRead | RunFault::Write => 5,
             RunFault::Memory | RunFault::NoThread => 6,
@@ -108,6 +116,16 @@ impl RunFault {
         match fault {
             ReadFault::NoMemory => RunFault::Memory,
             ReadFault::Failed => RunFault::Read { input },
+        }
+    }
+
+    /// The fault of the text of an input.
+    pub(crate) fn of_text(input: u64, fault: TextFault) -> RunFault
+        ensures { result ≡ of_text input fault }
+    {
+        match fault {
+            TextFault::NoMemory => RunFault::Memory,
+            TextFault::Line(line, fault) => RunFault::Text { input, line, fault },
         }
     }
 }

@@ -22,7 +22,7 @@ pub fn one_outcome()
         → Printed job inputs symbols a → Printed job inputs symbols b → a ≡ b }
     ensures workers { (job other : Job) (inputs : List (List ℕ)) (symbols : Option (List ℕ))
         (a b : Result (List ℕ) RunFault)
-        → job.hex ≡ other.hex → job.question ≡ other.question
+        → job.hex ≡ other.hex → job.question ≡ other.question → job.top ≡ other.top
         → WorkersFit job.workers → WorkersFit other.workers
         → Printed job inputs symbols a → Printed other inputs symbols b → a ≡ b }
 {}

@@ -7,8 +7,10 @@ ghost use Rattle.htl_device.specs.Devices.{AppendsPrefix};
 ghost use Rattle.htl_main.specs.Coverages.{Covers, CoversSegments};
 ghost use Rattle.htl_main.specs.Printed.{AreAnswerLines, HasSymbols, HasSymbolFault, WorkersFit};
 ghost use Rattle.htl_main.specs.Causes.{Prints, PrintsPart, IsCause, IsCauseAfter};
+ghost use Rattle.htl_main.specs.Subjects.{ReportsSubject, has_subject as has_subject_of};
 
 use crate::answering::answer;
+use crate::completed::{Completed, has_subject};
 use crate::coverage::Coverage;
 use crate::fault::RunFault;
 use crate::inputs::decode_all;
@@ -29,7 +31,7 @@ use std::thread::Threads;
 /// made a case, the symbols are read, and the answer is made. The first fault ends the run. Nothing
 /// is written before the whole text is made; after a failed write some first part of it went out.
 /// What is printed is the same for every number of workers. A run that ends well reports how much
-/// of its trace the case of all segments has.
+/// of its trace the case of all segments has, and whether it has an event of what was asked about.
 pub fn run<Rt: Threads + Wait + Sync, W: Sink>(
     _rt: &Rt,
     alloc: Global,
@@ -37,12 +39,14 @@ pub fn run<Rt: Threads + Wait + Sync, W: Sink>(
     inputs: &[Vec<u8>],
     symbols: Option<&[u8]>,
     out: &mut W,
-) -> Result<Coverage, RunFault>
+) -> Result<Completed, RunFault>
     requires { W.has_failed out.old ≡ false }
     ensures ok { OnOk result (Prints job.now (map (λ input. input.items) inputs.now)
         (option_copied symbols.entry) (W.contents out.old) (W.contents out.new)) }
-    ensures coverage { IfOk result
-        (Covers job.now.hex (map (λ input. input.items) inputs.now)) }
+    ensures coverage { IfOk result (λ completed.
+        Covers job.now.hex (map (λ input. input.items) inputs.now) completed.coverage) }
+    ensures subject { IfOk result (λ completed. ReportsSubject job.now.hex
+        (map (λ input. input.items) inputs.now) job.now.question completed.has_subject) }
     ensures fine { OnOk result (W.has_failed out.new ≡ false) }
     ensures cause { IfErr result (IsCause job.now (map (λ input. input.items) inputs.now)
         (option_copied symbols.entry)) }
@@ -54,9 +58,9 @@ pub fn run<Rt: Threads + Wait + Sync, W: Sink>(
 {
     check_workers(job.workers)?;
     let segments = decode_all(alloc, job.hex, inputs)?;
-    let (lines, coverage) = answered(alloc, job, segments, symbols)?;
+    let (lines, completed) = answered(alloc, job, segments, symbols)?;
     write_lines(out, &lines)?;
-    Ok(coverage)
+    Ok(completed)
 }
 
 /// Tests the number of workers.
@@ -71,26 +75,37 @@ pub(crate) fn check_workers(workers: u32) -> Result<(), RunFault>
     }
 }
 
-/// The lines of the answer to the job's question over the decoded segments, and how much of its
-/// trace their case has.
+/// The lines of the answer to the job's question over the decoded segments, and what is reported
+/// beside them.
 pub(crate) fn answered(
     alloc: Global,
     job: &Job,
     segments: Vec<Segment>,
     symbols: Option<&[u8]>,
-) -> Result<(Vec<u8>, Coverage), RunFault>
+) -> Result<(Vec<u8>, Completed), RunFault>
     requires { WorkersFit job.now.workers }
     ensures ok { IfOk result (λ answered.
-        AreAnswerLines segments.items (option_copied symbols.entry) job.now.question answered.0.items) }
-    ensures coverage { IfOk result (λ answered. CoversSegments segments.items answered.1) }
+        AreAnswerLines segments.items (option_copied symbols.entry) job.now.question job.now.top
+        answered.0.items) }
+    ensures coverage { IfOk result (λ answered. CoversSegments segments.items answered.1.coverage) }
+    ensures subject { IfOk result (λ answered.
+        answered.1.has_subject ≡ has_subject_of job.now.question segments.items) }
     ensures err { IfErr result
-        (IsCauseAfter segments.items (option_copied symbols.entry) job.now.question) }
+        (IsCauseAfter segments.items (option_copied symbols.entry) job.now.question job.now.top) }
 {
     let case = Case::of(alloc, segments)?;
     let symbols = read_symbols(alloc, symbols)?;
     let coverage = Coverage::of(&case);
     let answer = answer(alloc, job.question, &case, coverage)?;
-    Ok((text(alloc, &answer, &symbols)?, coverage))
+    let lines = text(alloc, &answer, &symbols, job.top)?;
+    let has_subject = has_subject(job.question, &case);
+    Ok((
+        lines,
+        Completed {
+            coverage,
+            has_subject,
+        },
+    ))
 }
 
 /// The symbols of a table's bytes, or none where no table is given.

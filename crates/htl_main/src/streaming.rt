@@ -7,8 +7,9 @@ ghost use Rattle.htl_main.specs.Causes.{Prints, PrintsPart};
 ghost use Rattle.htl_main.specs.Coverages.{Covers};
 ghost use Rattle.htl_main.specs.Sources.{AreReadInOrder, AreReadToFault, AreReadWithin};
 ghost use Rattle.htl_main.specs.Sources.{EndsBefore, IsEndless, IsSourcesCause, IsTrueAt};
+ghost use Rattle.htl_main.specs.Subjects.{ReportsSubject};
 
-use crate::coverage::Coverage;
+use crate::completed::Completed;
 use crate::fault::RunFault;
 use crate::printing::{answered, check_workers, write_lines};
 use crate::sources::read_all;
@@ -31,7 +32,7 @@ pub fn run_from<Rt: Threads + Wait + Sync, R: Source, W: Sink>(
     inputs: &mut [R],
     symbols: Option<&[u8]>,
     out: &mut W,
-) -> Result<Coverage, RunFault>
+) -> Result<Completed, RunFault>
     requires inputs { All (λ source. R.has_failed source ≡ false) inputs.old }
     requires out { W.has_failed out.old ≡ false }
     // What the sources' bytes come to is printed, or reported.
@@ -39,7 +40,10 @@ pub fn run_from<Rt: Threads + Wait + Sync, R: Source, W: Sink>(
         → OnOk result (Prints job.now texts (option_copied symbols.entry)
         (W.contents out.old) (W.contents out.new)) }
     ensures coverage { (texts : List (List ℕ)) → map R.remaining inputs.old ≡ map Some texts
-        → IfOk result (Covers job.now.hex texts) }
+        → IfOk result (λ completed. Covers job.now.hex texts completed.coverage) }
+    ensures subject { (texts : List (List ℕ)) → map R.remaining inputs.old ≡ map Some texts
+        → IfOk result (λ completed.
+        ReportsSubject job.now.hex texts job.now.question completed.has_subject) }
     ensures fine { OnOk result (W.has_failed out.new ≡ false) }
     ensures cause { (texts : List (List ℕ)) → map R.remaining inputs.old ≡ map Some texts
         → IfErr result (IsSourcesCause job.now texts (map R.remaining inputs.new)
@@ -68,7 +72,7 @@ pub fn run_from<Rt: Threads + Wait + Sync, R: Source, W: Sink>(
 {
     check_workers(job.workers)?;
     let segments = read_all(alloc, job.hex, inputs)?;
-    let (lines, coverage) = answered(alloc, job, segments, symbols)?;
+    let (lines, completed) = answered(alloc, job, segments, symbols)?;
     write_lines(out, &lines)?;
-    Ok(coverage)
+    Ok(completed)
 }

@@ -1,6 +1,6 @@
 //! The summary of a case.
 
-ghost use Rattle.std.specs.Prelude.{◌≡◌, ◌<◌, ◌^◌, List, IfOk, length};
+ghost use Rattle.std.specs.Prelude.{◌≡◌, ◌<◌, ◌^◌, ℕ, List, Option, IfOk, length};
 ghost use Rattle.htl_segment.specs.Traces.{all_events};
 ghost use Rattle.htl_symbols.specs.Ranges.{Range};
 ghost use Rattle.htl_event.specs.Summaries.{IsNumberOfObjects};
@@ -22,8 +22,8 @@ use std::alloc::Global;
 /// The summary of a case of this coverage, by one part that holds all its segments.
 pub(crate) fn summary(alloc: Global, case: &Case, coverage: Coverage) -> Result<Answer, NoMemory>
     requires { IsCoverage case.now coverage }
-    ensures { IfOk result (λ answer. (table : List Range)
-        → IsText case.now table asked.Summary (text_of table answer)) }
+    ensures { IfOk result (λ answer. (table : List Range) (top : Option ℕ)
+        → IsText case.now table asked.Summary top (text_of table top answer)) }
 {
     let part = Unfolded::new(alloc, case.segments());
     let Summary { objects, processes } = summarize(alloc, &alloc, &[part])?;

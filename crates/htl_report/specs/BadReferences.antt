@@ -1,9 +1,10 @@
 -- The text of a process's bad references, as bytes.
-use Rattle.std.specs.Prelude.{◌++◌, ℕ, List, codes, flat_map, length}
+use Rattle.std.specs.Prelude.{◌++◌, ℕ, List, Option, codes, flat_map, length}
 use Rattle.std.specs.Fmt.{decimal}
 use Rattle.htl_symbols.specs.Ranges.{Range}
 use Rattle.htl_report.specs.Addresses.{hex, line_feed, stack_lines}
 use Rattle.htl_report.specs.Parts.{process_head}
+use Rattle.htl_report.specs.Rows.{first_rows}
 
 -- a handle as it was written, and how often it was named
 unfoldable pub bad_line : ℕ → ℕ → List ℕ
@@ -14,6 +15,6 @@ abbrev pub bad_lines : List Range → ℕ × List ℕ × ℕ → List ℕ
 bad_lines symbols row = bad_line row.0 row.2 ++ stack_lines symbols row.1
 
 -- the bad references of a process
-unfoldable pub bad_text : List Range → ℕ → List (ℕ × List ℕ × ℕ) → List ℕ
-bad_text symbols process rows =
-    process_head (codes "bad") process (length rows) ++ flat_map (bad_lines symbols) rows
+unfoldable pub bad_text : List Range → Option ℕ → ℕ → List (ℕ × List ℕ × ℕ) → List ℕ
+bad_text symbols top process rows =
+    process_head (codes "bad") process (length rows) ++ flat_map (bad_lines symbols) (first_rows top rows)

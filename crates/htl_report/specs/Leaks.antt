@@ -1,9 +1,10 @@
 -- The text of the stacks that opened outstanding handles, as bytes.
-use Rattle.std.specs.Prelude.{◌++◌, ℕ, List, codes, flat_map, length}
+use Rattle.std.specs.Prelude.{◌++◌, ℕ, List, Option, codes, flat_map, length}
 use Rattle.std.specs.Fmt.{decimal}
 use Rattle.htl_symbols.specs.Ranges.{Range}
 use Rattle.htl_report.specs.Addresses.{line_feed, stack_lines}
 use Rattle.htl_report.specs.Parts.{process_head}
+use Rattle.htl_report.specs.Rows.{first_rows}
 
 -- how many handles
 unfoldable pub leak_line : ℕ → List ℕ
@@ -14,6 +15,6 @@ abbrev pub leak_lines : List Range → List ℕ × ℕ → List ℕ
 leak_lines symbols row = leak_line row.1 ++ stack_lines symbols row.0
 
 -- the leaking stacks of a process
-unfoldable pub leaks_text : List Range → ℕ → List (List ℕ × ℕ) → List ℕ
-leaks_text symbols process rows =
-    process_head (codes "leaks") process (length rows) ++ flat_map (leak_lines symbols) rows
+unfoldable pub leaks_text : List Range → Option ℕ → ℕ → List (List ℕ × ℕ) → List ℕ
+leaks_text symbols top process rows =
+    process_head (codes "leaks") process (length rows) ++ flat_map (leak_lines symbols) (first_rows top rows)

@@ -1,5 +1,5 @@
 -- The text of the listing of a handle's events, as bytes.
-use Rattle.std.specs.Prelude.{◌++◌, ℕ, List, codes, flat_map, length}
+use Rattle.std.specs.Prelude.{◌++◌, ℕ, List, Option, codes, flat_map, length}
 use Rattle.std.specs.Fmt.{decimal}
 use Rattle.htl_event.specs.Events.{Event}
 use Rattle.htl_event.specs.Slots.{base_of}
@@ -8,6 +8,7 @@ use Rattle.htl_event.specs.declared.kind.Kind.TheVariants.{Opened, Closed, BadRe
 use Rattle.htl_symbols.specs.Ranges.{Range}
 use Rattle.htl_report.specs.Addresses.{hex, line_feed, stack_lines}
 use Rattle.htl_report.specs.Parts.{event_line}
+use Rattle.htl_report.specs.Rows.{first_rows}
 
 -- `!htrace` prints the first three; a listing has no other kind, but any event can be printed
 abbrev pub word_of : Kind → List ℕ
@@ -29,6 +30,6 @@ trace_head process base count =
     ++ (codes " count=" ++ (decimal count ++ line_feed)))))
 
 -- the events of a handle of a process, with the base handle first
-unfoldable pub trace_text : List Range → ℕ → ℕ → List Event → List ℕ
-trace_text symbols process handle rows =
-    trace_head process (base_of handle) (length rows) ++ flat_map (listed_lines symbols) rows
+unfoldable pub trace_text : List Range → Option ℕ → ℕ → ℕ → List Event → List ℕ
+trace_text symbols top process handle rows =
+    trace_head process (base_of handle) (length rows) ++ flat_map (listed_lines symbols) (first_rows top rows)

@@ -1,9 +1,10 @@
 -- The text of the stacks of an object's references and dereferences under a tag, as bytes.
-use Rattle.std.specs.Prelude.{◌++◌, ℕ, List, codes, flat_map, length}
+use Rattle.std.specs.Prelude.{◌++◌, ℕ, List, Option, codes, flat_map, length}
 use Rattle.htl_event.specs.declared.slot.Count.{Count}
 use Rattle.htl_symbols.specs.Ranges.{Range}
 use Rattle.htl_report.specs.Addresses.{line_feed, stack_lines}
 use Rattle.htl_report.specs.Parts.{count_part, counts, object_part, shown_tag}
+use Rattle.htl_report.specs.Rows.{first_rows}
 
 abbrev pub stack_line : Count → List ℕ
 stack_line c = codes "STACK " ++ (counts c ++ line_feed)
@@ -16,6 +17,6 @@ abbrev pub stacks_head : ℕ → List ℕ → ℕ → List ℕ
 stacks_head object tag count = object_part (codes "stacks") object ++ (codes " tag=" ++ (shown_tag tag ++ count_part count))
 
 -- the stacks of an object's references and dereferences under a tag
-unfoldable pub stacks_text : List Range → ℕ → List ℕ → List (List ℕ × Count) → List ℕ
-stacks_text symbols object tag rows =
-    stacks_head object tag (length rows) ++ flat_map (stacks_lines symbols) rows
+unfoldable pub stacks_text : List Range → Option ℕ → ℕ → List ℕ → List (List ℕ × Count) → List ℕ
+stacks_text symbols top object tag rows =
+    stacks_head object tag (length rows) ++ flat_map (stacks_lines symbols) (first_rows top rows)

@@ -1,5 +1,5 @@
 -- The text of a summary, as bytes: what there is, which segments are missing, and what leaks.
-use Rattle.std.specs.Prelude.{◌++◌, ℕ, List, codes, flat_map, length}
+use Rattle.std.specs.Prelude.{◌++◌, ℕ, List, Option, codes, flat_map, length}
 use Rattle.std.specs.Fmt.{decimal}
 use Rattle.htl_event.specs.declared.summary.ObjectRow.{ObjectRow}
 use Rattle.htl_event.specs.declared.summary.ProcessRow.{ProcessRow}
@@ -7,6 +7,7 @@ use Rattle.htl_taken.specs.declared.gap.Gap.{Gap}
 use Rattle.htl_taken.specs.declared.gap.Gap.TheVariants.{Between, Absent}
 use Rattle.htl_report.specs.Addresses.{line_feed}
 use Rattle.htl_report.specs.Parts.{object_part}
+use Rattle.htl_report.specs.Rows.{first_rows}
 use Rattle.htl_report.specs.declared.summary.Totals.{Totals}
 
 -- what there is
@@ -63,8 +64,9 @@ tags_part row =
 abbrev pub object_line : ObjectRow → List ℕ
 object_line row = object_part (codes "OBJECT") row.object ++ tags_part row
 
--- what leaks at all
-unfoldable pub summary_text : Totals → List Gap → List ProcessRow → List ObjectRow → List ℕ
-summary_text t gaps processes objects =
+-- what leaks at all: all gaps, and the first processes and the first objects
+unfoldable pub summary_text : Option ℕ → Totals → List Gap → List ProcessRow → List ObjectRow → List ℕ
+summary_text top t gaps processes objects =
     summary_head t (length gaps) (length processes) (length objects)
-    ++ (flat_map gap_line gaps ++ (flat_map process_line processes ++ flat_map object_line objects))
+    ++ (flat_map gap_line gaps
+    ++ (flat_map process_line (first_rows top processes) ++ flat_map object_line (first_rows top objects)))

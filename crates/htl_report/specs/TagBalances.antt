@@ -1,9 +1,10 @@
 -- The text of an object's tags, as bytes.
-use Rattle.std.specs.Prelude.{◌-◌, ◌++◌, ℕ, List, codes, flat_map, if◌then◌else◌, length, nat_lt}
+use Rattle.std.specs.Prelude.{◌-◌, ◌++◌, ℕ, List, Option, codes, flat_map, if◌then◌else◌, length, nat_lt}
 use Rattle.std.specs.Fmt.{decimal}
 use Rattle.htl_event.specs.declared.slot.Count.{Count}
 use Rattle.htl_report.specs.Addresses.{line_feed}
 use Rattle.htl_report.specs.Parts.{count_part, counts, object_part, shown_tag}
+use Rattle.htl_report.specs.Rows.{first_rows}
 
 -- by how much references are above dereferences, or the other way round
 abbrev pub balance : Count → List ℕ
@@ -21,5 +22,5 @@ abbrev pub tags_head : ℕ → ℕ → List ℕ
 tags_head object count = object_part (codes "tags") object ++ count_part count
 
 -- the tags of an object
-unfoldable pub tags_text : ℕ → List (List ℕ × Count) → List ℕ
-tags_text object rows = tags_head object (length rows) ++ flat_map tag_row rows
+unfoldable pub tags_text : Option ℕ → ℕ → List (List ℕ × Count) → List ℕ
+tags_text top object rows = tags_head object (length rows) ++ flat_map tag_row (first_rows top rows)

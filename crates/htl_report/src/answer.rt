@@ -69,39 +69,54 @@ pub enum Answer {
 
 /// The lines of an answer, each ended by a line feed, with the addresses of its stacks by name
 /// where the symbols have them. Names are printed as they are.
-pub fn text(alloc: Global, answer: &Answer, symbols: &Symbols) -> Result<Vec<u8>, NoMemory>
-    ensures { IfOk result (λ bytes. bytes.items ≡ text_of symbols.now answer.now) }
+///
+/// Of the rows at most `top` are printed, the first ones, where it is given; of a summary so many
+/// processes and so many objects, and all gaps. The first line counts all rows.
+pub fn text(
+    alloc: Global,
+    answer: &Answer,
+    symbols: &Symbols,
+    top: Option<u32>,
+) -> Result<Vec<u8>, NoMemory>
+    ensures { IfOk result (λ bytes. bytes.items ≡ text_of symbols.now top answer.now) }
 {
     let mut out = String::new(alloc);
-    write_answer(&mut out, answer, symbols)?;
+    write_answer(&mut out, answer, symbols, top)?;
     Ok(out.into_bytes())
 }
 
-fn write_answer(out: &mut String, answer: &Answer, symbols: &Symbols) -> Result<(), AllocError>
+fn write_answer(
+    out: &mut String,
+    answer: &Answer,
+    symbols: &Symbols,
+    top: Option<u32>,
+) -> Result<(), AllocError>
     ensures { OnOk result (string_bytes out.new
-        ≡ string_bytes out.old ++ text_of symbols.now answer.now) }
+        ≡ string_bytes out.old ++ text_of symbols.now top answer.now) }
 {
     match answer {
-        Answer::Outstanding { process, rows } => write_outstanding(out, symbols, *process, rows),
+        Answer::Outstanding { process, rows } => write_outstanding(
+            out, symbols, top, *process, rows,
+        ),
         Answer::Diff {
             process,
             since,
             rows,
-        } => write_diff(out, symbols, *process, *since, rows),
-        Answer::Tags { object, rows } => write_tags(out, *object, rows),
-        Answer::Bad { process, rows } => write_bad(out, symbols, *process, rows),
-        Answer::Leaks { process, rows } => write_leaks(out, symbols, *process, rows),
-        Answer::Stacks { object, tag, rows } => write_stacks(out, symbols, *object, tag, rows),
+        } => write_diff(out, symbols, top, *process, *since, rows),
+        Answer::Tags { object, rows } => write_tags(out, top, *object, rows),
+        Answer::Bad { process, rows } => write_bad(out, symbols, top, *process, rows),
+        Answer::Leaks { process, rows } => write_leaks(out, symbols, top, *process, rows),
+        Answer::Stacks { object, tag, rows } => write_stacks(out, symbols, top, *object, tag, rows),
         Answer::Trace {
             process,
             handle,
             rows,
-        } => write_trace(out, symbols, *process, *handle, rows),
+        } => write_trace(out, symbols, top, *process, *handle, rows),
         Answer::Summary {
             totals,
             gaps,
             processes,
             objects,
-        } => write_summary(out, totals, gaps, processes, objects),
+        } => write_summary(out, top, totals, gaps, processes, objects),
     }
 }

@@ -5,6 +5,7 @@ ghost use Rattle.htl_report.specs.BadReferences.{bad_line, bad_lines, bad_text};
 
 use crate::address::write_stack;
 use crate::parts::write_process_head;
+use crate::rows::first_rows;
 use htl_event::SharedStack;
 use htl_symbols::Symbols;
 use std::alloc::AllocError;
@@ -13,14 +14,15 @@ use std::alloc::AllocError;
 pub(crate) fn write_bad(
     out: &mut String,
     symbols: &Symbols,
+    top: Option<u32>,
     process: u32,
     rows: &[(u32, SharedStack, u64)],
 ) -> Result<(), AllocError>
     ensures { OnOk result (string_bytes out.new
-        ≡ string_bytes out.old ++ bad_text symbols.now process rows.now) }
+        ≡ string_bytes out.old ++ bad_text symbols.now top process rows.now) }
 {
     write_process_head(out, "bad", process, rows.len())?;
-    write_rows(out, symbols, rows)
+    write_rows(out, symbols, first_rows(top, rows))
 }
 
 fn write_rows(

@@ -6,7 +6,7 @@
 //! Files, in reading order: `answer.rt` (the eight answers and their text); one file for each kind
 //! of answer, here and in `specs/`, with its first line, the line of a row, and the whole:
 //! `opens.rt`, `tags.rt`, `bad.rt`, `leaks.rt`, `stacks.rt`, `listing.rt`, `summary.rt`; and what
-//! several kinds print: `address.rt`, `parts.rt`.
+//! several kinds print: `address.rt`, `parts.rt`, and how many rows (`rows.rt`).
 #![tactic(auto)]
 
 mod address;
@@ -16,6 +16,7 @@ mod leaks;
 mod listing;
 mod opens;
 mod parts;
+mod rows;
 mod stacks;
 mod summary;
 mod tags;

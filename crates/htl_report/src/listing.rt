@@ -5,6 +5,7 @@ ghost use Rattle.htl_report.specs.Listings.{listed_lines, trace_head, trace_text
 
 use crate::address::write_stack;
 use crate::parts::write_event;
+use crate::rows::first_rows;
 use htl_event::{Kind, SharedEvent, base};
 use htl_symbols::Symbols;
 use std::alloc::AllocError;
@@ -13,15 +14,16 @@ use std::alloc::AllocError;
 pub(crate) fn write_trace(
     out: &mut String,
     symbols: &Symbols,
+    top: Option<u32>,
     process: u32,
     handle: u32,
     rows: &[SharedEvent],
 ) -> Result<(), AllocError>
     ensures { OnOk result (string_bytes out.new
-        ≡ string_bytes out.old ++ trace_text symbols.now process handle rows.now) }
+        ≡ string_bytes out.old ++ trace_text symbols.now top process handle rows.now) }
 {
     write_trace_head(out, process, base(handle), rows.len())?;
-    write_listing(out, symbols, rows)
+    write_listing(out, symbols, first_rows(top, rows))
 }
 
 #[tactic(auto, unfolding(crate::specs::Listings::trace_head))]

@@ -6,6 +6,7 @@ ghost use Rattle.htl_report.specs.Opens.{outstanding_head, outstanding_text};
 
 use crate::address::write_stack;
 use crate::parts::{write_event, write_process_head};
+use crate::rows::first_rows;
 use htl_event::{SharedEvent, base};
 use htl_symbols::Symbols;
 use std::alloc::AllocError;
@@ -14,14 +15,15 @@ use std::alloc::AllocError;
 pub(crate) fn write_outstanding(
     out: &mut String,
     symbols: &Symbols,
+    top: Option<u32>,
     process: u32,
     rows: &[SharedEvent],
 ) -> Result<(), AllocError>
     ensures { OnOk result (string_bytes out.new
-        ≡ string_bytes out.old ++ outstanding_text symbols.now process rows.now) }
+        ≡ string_bytes out.old ++ outstanding_text symbols.now top process rows.now) }
 {
     write_outstanding_head(out, process, rows.len())?;
-    write_opens(out, symbols, rows)
+    write_opens(out, symbols, first_rows(top, rows))
 }
 
 #[tactic(auto, unfolding(crate::specs::Opens::outstanding_head))]
@@ -36,15 +38,16 @@ fn write_outstanding_head(out: &mut String, process: u32, count: usize) -> Resul
 pub(crate) fn write_diff(
     out: &mut String,
     symbols: &Symbols,
+    top: Option<u32>,
     process: u32,
     since: u64,
     rows: &[SharedEvent],
 ) -> Result<(), AllocError>
     ensures { OnOk result (string_bytes out.new
-        ≡ string_bytes out.old ++ diff_text symbols.now process since rows.now) }
+        ≡ string_bytes out.old ++ diff_text symbols.now top process since rows.now) }
 {
     write_diff_head(out, process, since, rows.len())?;
-    write_opens(out, symbols, rows)
+    write_opens(out, symbols, first_rows(top, rows))
 }
 
 #[tactic(auto, unfolding(crate::specs::Opens::diff_head))]

@@ -6,6 +6,7 @@ ghost use Rattle.htl_report.specs.ReferenceStacks.{stacks_text, stacks_lines};
 
 use crate::address::write_stack;
 use crate::parts::{write_count, write_counts, write_object, write_tag};
+use crate::rows::first_rows;
 use htl_event::{Count, SharedStack};
 use htl_symbols::Symbols;
 use std::alloc::AllocError;
@@ -14,15 +15,16 @@ use std::alloc::AllocError;
 pub(crate) fn write_stacks(
     out: &mut String,
     symbols: &Symbols,
+    top: Option<u32>,
     object: u64,
     tag: &[u8],
     rows: &[(SharedStack, Count)],
 ) -> Result<(), AllocError>
     ensures { OnOk result (string_bytes out.new
-        ≡ string_bytes out.old ++ stacks_text symbols.now object tag.now rows.now) }
+        ≡ string_bytes out.old ++ stacks_text symbols.now top object tag.now rows.now) }
 {
     write_head(out, object, tag, rows.len())?;
-    write_rows(out, symbols, rows)
+    write_rows(out, symbols, first_rows(top, rows))
 }
 
 fn write_head(out: &mut String, object: u64, tag: &[u8], count: usize) -> Result<(), AllocError>

@@ -7,6 +7,7 @@ ghost use Rattle.htl_report.specs.Summaries.{object_line, process_line, summary_
 ghost use Rattle.htl_report.specs.Summaries.{summary_text, tags_part, totals_part};
 
 use crate::parts::write_object;
+use crate::rows::first_rows;
 use htl_event::{ObjectRow, ProcessRow};
 use htl_taken::Gap;
 use std::alloc::AllocError;
@@ -25,18 +26,19 @@ pub struct Totals {
 #[tactic(auto, unfolding(crate::specs::Summaries::summary_text))]
 pub(crate) fn write_summary(
     out: &mut String,
+    top: Option<u32>,
     totals: &Totals,
     gaps: &[Gap],
     processes: &[ProcessRow],
     objects: &[ObjectRow],
 ) -> Result<(), AllocError>
     ensures { OnOk result (string_bytes out.new
-        ≡ string_bytes out.old ++ summary_text totals.now gaps.now processes.now objects.now) }
+        ≡ string_bytes out.old ++ summary_text top totals.now gaps.now processes.now objects.now) }
 {
     write_head(out, totals, gaps.len(), processes.len(), objects.len())?;
     write_gaps(out, gaps)?;
-    write_processes(out, processes)?;
-    write_objects(out, objects)
+    write_processes(out, first_rows(top, processes))?;
+    write_objects(out, first_rows(top, objects))
 }
 
 fn write_head(

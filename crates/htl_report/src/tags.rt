@@ -4,20 +4,22 @@ ghost use Rattle.std.specs.Prelude.{◌≡◌, ◌++◌, OnOk, flat_map, string_
 ghost use Rattle.htl_report.specs.TagBalances.{balance, tag_line, tag_row, tags_head, tags_text};
 
 use crate::parts::{write_count, write_counts, write_object, write_tag};
+use crate::rows::first_rows;
 use htl_event::Count;
 use std::alloc::AllocError;
 
 #[tactic(auto, unfolding(crate::specs::TagBalances::tags_text))]
 pub(crate) fn write_tags(
     out: &mut String,
+    top: Option<u32>,
     object: u64,
     rows: &[([u8; 4], Count)],
 ) -> Result<(), AllocError>
     ensures { OnOk result (string_bytes out.new
-        ≡ string_bytes out.old ++ tags_text object rows.now) }
+        ≡ string_bytes out.old ++ tags_text top object rows.now) }
 {
     write_head(out, object, rows.len())?;
-    write_rows(out, rows)
+    write_rows(out, first_rows(top, rows))
 }
 
 fn write_head(out: &mut String, object: u64, count: usize) -> Result<(), AllocError>

@@ -59,7 +59,7 @@ boundary_after a b ss offset first here = record {
   offset_is = offset_after a b here.rest ss here.before offset first here.splits here.offset_is;
 }
 
-fault_after : (a b : List ℕ) (ss : List Content) (offset : ℕ) (fault : Fault) → Splits a ss [] → BundleFault b offset fault
+pub fault_after : (a b : List ℕ) (ss : List Content) (offset : ℕ) (fault : Fault) → Splits a ss [] → BundleFault b offset fault
     → BundleFault (a ++ b) (length a + offset) fault
 fault_after a b ss offset fault first found = record {
   before = ss ++ found.before;
@@ -90,7 +90,7 @@ rest_after a b ss offset first at = record {
   is_rest = at.is_rest;
 }
 
-refused_after : (a b : List ℕ) (ss : List Content) (offset : ℕ) (fault : Fault) → Splits a ss [] → IsRefused b offset fault
+pub refused_after : (a b : List ℕ) (ss : List Content) (offset : ℕ) (fault : Fault) → Splits a ss [] → IsRefused b offset fault
     → IsRefused (a ++ b) (length a + offset) fault
 refused_after a b ss offset fault first refused =
     elim refused [
@@ -264,7 +264,7 @@ pub splits_next : (a piece rest new : List ℕ) (ss ts : List Content) → Split
 splits_next a piece rest new ss ts split next =
     rw (regroup a rest piece ss split) (splits_after (bundle ss) (rest ++ piece) new ss ts (front_split a rest ss split) next)
 
-fault_more : (b more : List ℕ) (offset : ℕ) (fault : Fault) → is_early_end fault ≡ false → BundleFault b offset fault
+pub fault_more : (b more : List ℕ) (offset : ℕ) (fault : Fault) → is_early_end fault ≡ false → BundleFault b offset fault
     → BundleFault (b ++ more) offset fault
 fault_more b more offset fault late found = record {
   before = found.before;

@@ -1,5 +1,6 @@
 //! The header of a segment: where its fields lie, and what they may say.
-ghost use Rattle.std.specs.Prelude.{◌≡◌, ◌≤◌, length, None, Some, OnOk, IfOk, MatchResult};
+ghost use Rattle.std.specs.Prelude.{◌≡◌, ◌≤◌, length, None, Some, OnOk, IfOk, IfSome, IfNone};
+ghost use Rattle.std.specs.Prelude.{◌<◌, MatchResult};
 ghost use Rattle.htl_segment.specs.Reading.{length_in};
 ghost use Rattle.htl_segment.specs.InPlace.{header_in};
 ghost use Rattle.htl_segment.specs.Faults.{header_fault};
@@ -103,4 +104,20 @@ pub fn len_at(bytes: &[u8]) -> usize
     ensures { result ≡ length_in bytes.now }
 {
     u32_at(bytes, LEN) as usize
+}
+
+/// How many bytes the segment has that `bytes` begin with, as its header tells. None: the header
+/// has a fault, or the bytes end too early.
+#[tactic(auto, unfolding(crate::specs::InPlace::header_in))]
+pub fn whole_len(bytes: &[u8]) -> Option<usize>
+    ensures header { IfSome result (λ len. (header_fault bytes.now ≡ None)
+        × (len ≡ length_in bytes.now)) }
+    ensures inside { IfSome result (λ len. (HEADER_LEN ≤ len) × (len ≤ length bytes.now)) }
+    ensures none { IfNone result (header_fault bytes.now ≡ None
+        → length bytes.now < length_in bytes.now) }
+{
+    match read_header(bytes) {
+        Ok(header) if header.len as usize <= bytes.len() => Some(header.len as usize),
+        _ => None,
+    }
 }

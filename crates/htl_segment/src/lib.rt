@@ -38,10 +38,11 @@ mod splitter;
 mod stack_cache;
 mod version;
 
-pub use bundle::decode_bundle;
+pub use bundle::{cut_off, decode_bundle, split};
 pub use decoding::decode;
 pub use encoding::encode;
 pub use fault::Fault;
+pub use header::whole_len;
 pub use hexadecimal::{HexFault, from_hex};
 pub use record::Record;
 pub use records::Records;

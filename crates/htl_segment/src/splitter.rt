@@ -63,6 +63,13 @@ impl Splitter {
         self.fed
     }
 
+    /// The bytes fed that make no segment yet.
+    pub fn rest(&self) -> &[u8]
+        ensures { result.now ≡ self.now.rest }
+    {
+        &self.rest
+    }
+
     /// Where the bytes that make no segment yet begin among all bytes fed.
     fn start(&self) -> u64
         ensures { result ≡ start_of self.now }

@@ -1,6 +1,5 @@
 pub mod Padding
 pub mod FirstWord
-pub mod NotText
 pub mod FirstLine
 pub mod Refusals
 pub mod Overfull
@@ -11,6 +10,7 @@ pub mod Sound
 pub mod Complete
 pub mod Outcomes
 pub mod Numerals
+pub mod DigitLoop
 pub mod DumpedLines
 pub mod DumpedFields
 pub mod Dumped

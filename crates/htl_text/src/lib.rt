@@ -9,11 +9,12 @@
 //! first fault (`Encoded`).
 //!
 //! Files, in reading order: `item.rt` (what a line says), `dumping.rt` (segments to text),
-//! `words.rt`, `values.rt` and `lines.rt` (from a line to its item), `fault.rt`, `draft.rt` (a
-//! segment whose lines are being read), `encoding.rt` (a text to bytes), `laws.rt` (a text is
-//! read in one way, and dumped text as the segments that it was made of).
+//! `digits.rt`, `words.rt`, `values.rt` and `lines.rt` (from a line to its item), `fault.rt`,
+//! `draft.rt` (a segment whose lines are being read), `encoding.rt` (a text to bytes), `laws.rt` (a
+//! text is read in one way, and dumped text as the segments that it was made of).
 #![tactic(auto)]
 
+mod digits;
 mod draft;
 mod dumping;
 mod encoding;

@@ -1,34 +1,19 @@
 //! The values of words, and words that are a key and its value.
-ghost use Rattle.std.specs.Prelude.{◌≡◌, ◌≤◌, codes, IfSome, IsUtf8, MatchOption, None, Some};
-ghost use Rattle.htl_numbers.specs.Numbers.{decimal_number, hexadecimal_number};
+ghost use Rattle.std.specs.Prelude.{◌≡◌, ◌≤◌, codes, IfSome, MatchOption, None, Some};
+ghost use Rattle.htl_numbers.specs.Numbers.{decimal_number};
 ghost use Rattle.htl_text.specs.Lines.{field, hexadecimal_value, address_value, handle_value, keyed};
 ghost use Rattle.htl_text.specs.Lines.{tag_value, words_of};
 
+use crate::digits;
 use crate::dumping::all_visible;
 use crate::words::{after_key, first_word};
-use htl_numbers::{decimal, hexadecimal};
-use std::str;
 
 /// The number that decimal digits write, if it is at most `most`.
 fn decimal_value(text: &[u8], most: u64) -> Option<u64>
     ensures value { result ≡ decimal_number most text.now }
     ensures bound { IfSome result (λ n. n ≤ most) }
 {
-    decimal(as_text(text)?, most)
-}
-
-/// The number that hexadecimal digits write, with or without `0x` before them.
-fn hexadecimal_number(text: &[u8], most: u64) -> Option<u64>
-    ensures value { result ≡ hexadecimal_number most text.now }
-    ensures bound { IfSome result (λ n. n ≤ most) }
-{
-    hexadecimal(as_text(text)?, most)
-}
-
-fn as_text(bytes: &[u8]) -> Option<&str>
-    ensures { MatchOption result (¬ (IsUtf8 bytes.now)) (λ text. text.now ≡ bytes.now) }
-{
-    str::from_utf8(bytes).ok()
+    digits::number(text, 10, most)
 }
 
 /// The number that `0x` and up to `most_digits` hexadecimal digits write, if it is at most `most`.
@@ -38,8 +23,9 @@ fn hexadecimal_value(text: &[u8], most_digits: usize, most: u64) -> Option<u64>
     ensures value { result ≡ hexadecimal_value most_digits most text.now }
     ensures bound { IfSome result (λ n. n ≤ most) }
 {
-    if text.starts_with(b"0x") && text.len() <= 2 + most_digits {
-        hexadecimal_number(text, most)
+    let digits = after_key(text, b"0x")?;
+    if digits.len() <= most_digits {
+        digits::number(digits, 16, most)
     } else {
         None
     }

@@ -33,6 +33,7 @@ pub fn try_all<R: Threads + Wait + Sync>(
             question,
             hex: false,
             workers,
+            top: None,
         };
         trials.changes(name, unread, |alloc, running: &mut Running| {
             printed(rt, alloc, &job, running)

@@ -5,7 +5,7 @@ use crate::cases::case;
 use allocation_trials::{Equal, Refusal, Spent, Trials};
 use anyhow::Result;
 use htl_analyst::Analyst;
-use htl_command::{Asked, Question, parse};
+use htl_command::{Command, Question, parse};
 use htl_report::{Answer, Totals, text};
 use htl_symbols::Symbols;
 use std::alloc::Global;
@@ -140,7 +140,7 @@ fn summary(alloc: Global, analyst: &Analyst<Global>) -> Result<Answer, Refusal> 
 }
 
 fn text_of(alloc: Global, (answer, symbols): &Shown) -> Result<Equal<Vec<u8>>, Refusal> {
-    Ok(Equal(text(alloc, answer, symbols)?))
+    Ok(Equal(text(alloc, answer, symbols, None)?))
 }
 
 /// A command line for each time that it is read.
@@ -157,7 +157,7 @@ fn words(alloc: Global) -> Result<Spent<Vec<String>>, Refusal> {
     Ok(Spent(lists))
 }
 
-fn parsed(alloc: Global, lists: &mut Spent<Vec<String>>) -> Result<Equal<Asked>, Refusal> {
+fn parsed(alloc: Global, lists: &mut Spent<Vec<String>>) -> Result<Equal<Command>, Refusal> {
     let words = lists.0.pop().ok_or(Refusal::Other)?;
     Ok(Equal(parse(alloc, words)?))
 }

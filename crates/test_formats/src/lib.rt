@@ -17,6 +17,8 @@ mod samples;
 #[cfg(test)]
 mod segments;
 #[cfg(test)]
+mod sharing;
+#[cfg(test)]
 mod symbols;
 #[cfg(test)]
 mod texts;

@@ -228,7 +228,7 @@ OBJECT object=0xffffa00000001000 tags=3 unbalanced=2 refs=6 derefs=5
 
 /// The answer's text, without symbols, is the one beside it.
 fn assert_text(rt: &impl Abort, alloc: Global, (answer, wanted): &(Answer, &'static str)) {
-    let bytes = text(alloc, answer, &Symbols::none(alloc)).expect(rt, "the text");
+    let bytes = text(alloc, answer, &Symbols::none(alloc), None).expect(rt, "the text");
     assert_eq!(rt; bytes.as_slice(), wanted.as_bytes(), "instead of {wanted}");
 }
 
@@ -268,7 +268,7 @@ fn leak_of(rt: &impl Abort, alloc: Global, addresses: &[u64]) -> Answer {
 /// What each address prints under these rows of a table.
 fn names_of(rt: &impl Abort, alloc: Global, rows: &[u8], addresses: &[u64]) -> Vec<u8> {
     let symbols = symbols_of(rt, alloc, rows);
-    text(alloc, &leak_of(rt, alloc, addresses), &symbols).expect(rt, "the text")
+    text(alloc, &leak_of(rt, alloc, addresses), &symbols, None).expect(rt, "the text")
 }
 
 #[test]

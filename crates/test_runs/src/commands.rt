@@ -1,7 +1,7 @@
 //! Each command's text over one trace.
 
 use htl_command::Question;
-use htl_main::Coverage;
+use htl_main::{Completed, Coverage};
 use htl_samples::{SampleFault, TRACE};
 use htl_segment::encode;
 use std::alloc::Global;
@@ -12,10 +12,13 @@ pub const INPUTS: [&str; 2] = [
     "0/1: C 4 0x44, B 5 0x45 [0x30], R 6 0x1000 Lky8 [0x1004], D 7 0x1000 Dflt",
 ];
 
-/// No segment of it is missing.
-pub const COVERAGE: Coverage = Coverage {
-    gaps: 0,
-    complete_to: 7,
+/// No segment of it is missing, and it has events of what each command asks about.
+pub const COMPLETED: Completed = Completed {
+    coverage: Coverage {
+        gaps: 0,
+        complete_to: 7,
+    },
+    has_subject: true,
 };
 
 pub const SYMBOLS: &str = "start,end,module,name\n1000,1010,app,main\n";

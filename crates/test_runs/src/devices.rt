@@ -4,9 +4,9 @@ ghost use Rattle.std.specs.Prelude.{◌≡◌, All, false};
 
 use crate::pieces::Pieces;
 use crate::printed::{OUTSTANDING, bundles, over_bytes, refusal};
-use crate::rows::{PRINTED, Printed, STORED, STORED_COVERAGE, STORED_TEXT};
+use crate::rows::{PRINTED, Printed, STORED, STORED_COMPLETED, STORED_TEXT};
 use htl_command::Job;
-use htl_main::{Coverage, Reading, RunFault, Source, Writing, run_from};
+use htl_main::{Completed, Reading, RunFault, Source, Writing, run_from};
 use htl_segment::{Fault, from_hex};
 use std::alloc::Global;
 use std::io;
@@ -18,10 +18,10 @@ use std::thread::Threads;
 /// A writer that takes a few bytes a write into memory, and fails when it holds `most`. The next
 /// call would succeed, so that a write that is tried again silently shows.
 #[derive(Drop)]
-struct Narrow {
-    held: Vec<u8>,
-    piece: usize,
-    most: usize,
+pub struct Narrow {
+    pub held: Vec<u8>,
+    pub piece: usize,
+    pub most: usize,
 }
 
 impl Write for Narrow {
@@ -52,7 +52,7 @@ fn printed_from<'a>(
     job: &Job,
     sources: &mut [Reading<Pieces<'a>>],
     symbols: Option<&str>,
-) -> (Vec<u8>, Result<Coverage, RunFault>)
+) -> (Vec<u8>, Result<Completed, RunFault>)
     requires { All (λ source. ⟦<Reading<Pieces<'a>> as Source>⟧.has_failed source ≡ false)
         sources.old }
 {
@@ -108,7 +108,7 @@ fn gathers_hexadecimal(rt: HostRuntime) {
     };
     let mut sources = [Reading::new(Pieces::new(STORED.as_bytes(), 7, 10_000))];
     let (written, ended) = printed_from(&rt, rt.alloc(), &job, &mut sources, None);
-    assert_eq!(rt; ended, Ok(STORED_COVERAGE));
+    assert_eq!(rt; ended, Ok(STORED_COMPLETED));
     assert_eq!(rt; written.as_slice(), STORED_TEXT.as_bytes());
 }
 
@@ -210,7 +210,7 @@ fn printed_into(
     alloc: Global,
     piece: usize,
     most: usize,
-) -> Result<(Vec<u8>, Result<Coverage, RunFault>), Fail> {
+) -> Result<(Vec<u8>, Result<Completed, RunFault>), Fail> {
     let bytes = stored(alloc)?;
     let mut sources = [Reading::new(Pieces::new(&bytes, 7, 10_000))];
     let mut narrow = Narrow {
@@ -243,7 +243,7 @@ fn reports_failed_writes(rt: HostRuntime) -> Result<(), Fail> {
 fn writes_pieces(rt: HostRuntime) -> Result<(), Fail> {
     for piece in [1, 7] {
         let (held, ended) = printed_into(&rt, rt.alloc(), piece, 10_000)?;
-        assert_eq!(rt; ended, Ok(STORED_COVERAGE));
+        assert_eq!(rt; ended, Ok(STORED_COMPLETED));
         assert_eq!(rt; held.as_slice(), STORED_TEXT.as_bytes());
     }
     Ok(())

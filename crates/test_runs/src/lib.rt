@@ -3,9 +3,10 @@
 //! `printed` has runs over whole inputs (`rows`) and `summaries` those for a summary. In `devices`
 //! sources and sinks give or take a few bytes, or fail. `commands` has a trace in two inputs and
 //! each command's text over it: in `reads` and `writes` the devices of such a run fail at each of
-//! their calls in turn. In `changes` each bit of generated bundles (`bundles`) is turned, and they
-//! are cut at each byte: what the readers of the format answer is compared with `plain`, a reader
-//! that was written from the description of the format alone.
+//! their calls in turn, and in `texts` those of runs that dump and encode. In `changes` each bit of
+//! generated bundles (`bundles`) is turned, and they are cut at each byte: what the readers of the
+//! format answer is compared with `plain`, a reader that was written from the description of the
+//! format alone.
 #![tactic(auto)]
 
 #[cfg(test)]
@@ -28,5 +29,7 @@ mod reads;
 mod rows;
 #[cfg(test)]
 mod summaries;
+#[cfg(test)]
+mod texts;
 #[cfg(test)]
 mod writes;

@@ -1,8 +1,8 @@
 //! What a run prints, and why it is refused, for whole inputs.
 
-use crate::rows::{PRINTED, Printed, REFUSED, Refused, STORED, STORED_COVERAGE, STORED_TEXT};
+use crate::rows::{PRINTED, Printed, REFUSED, Refused, STORED, STORED_COMPLETED, STORED_TEXT};
 use htl_command::{Job, Question};
-use htl_main::{Coverage, RunFault, Writing, run};
+use htl_main::{Completed, RunFault, Writing, run};
 use htl_samples::TRACE;
 use htl_segment::encode;
 use std::alloc::Global;
@@ -19,6 +19,7 @@ pub fn over_bytes(question: Question) -> Job {
         question,
         hex: false,
         workers: 1,
+        top: None,
     }
 }
 
@@ -49,7 +50,7 @@ pub fn printed(
     job: &Job,
     inputs: &[Vec<u8>],
     symbols: Option<&str>,
-) -> (Vec<u8>, Result<Coverage, RunFault>) {
+) -> (Vec<u8>, Result<Completed, RunFault>) {
     let mut written = Vec::new(alloc);
     let symbols = symbols.map(|text| text.as_bytes());
     let ended = run(
@@ -81,7 +82,7 @@ fn printed_row(
 }
 
 /// The fault of a run that writes nothing.
-pub fn refusal(written: &[u8], ended: Result<Coverage, RunFault>) -> Result<RunFault, Fail> {
+pub fn refusal(written: &[u8], ended: Result<Completed, RunFault>) -> Result<RunFault, Fail> {
     if !written.is_empty() {
         return Err("something was written".into());
     }
@@ -107,7 +108,7 @@ fn prints_the_stored_run(rt: HostRuntime) -> Result<(), Fail> {
     };
     let inputs = vec![in rt.alloc(); Vec::from_slice(rt.alloc(), STORED.as_bytes())?]?;
     let (written, ended) = printed(&rt, rt.alloc(), &job, &inputs, None);
-    assert_eq!(rt; ended, Ok(STORED_COVERAGE));
+    assert_eq!(rt; ended, Ok(STORED_COMPLETED));
     assert_eq!(rt; written.as_slice(), STORED_TEXT.as_bytes());
     Ok(())
 }
@@ -126,6 +127,7 @@ fn refused_row(
         question: OUTSTANDING,
         hex: true,
         workers: row.workers,
+        top: None,
     };
     let (written, ended) = printed(rt, alloc, &job, &inputs, row.symbols);
     refusal(&written, ended)

@@ -1,9 +1,9 @@
 //! Sources that give a few bytes a read, and that fail at each of their reads in turn.
 
-use crate::commands::{COMMANDS, COVERAGE, Command, INPUTS, SYMBOLS, bytes_of};
+use crate::commands::{COMMANDS, COMPLETED, Command, INPUTS, SYMBOLS, bytes_of};
 use crate::pieces::Pieces;
 use htl_command::Job;
-use htl_main::{Coverage, Reading, RunFault, Writing, run_from};
+use htl_main::{Completed, Reading, RunFault, Writing, run_from};
 use htl_samples::SampleFault;
 use std::alloc::Global;
 use std::process::Abort;
@@ -36,7 +36,7 @@ impl<'a> Sources<'a> {
         alloc: Global,
         job: &Job,
         reads: usize,
-    ) -> (Vec<u8>, Result<Coverage, RunFault>) {
+    ) -> (Vec<u8>, Result<Completed, RunFault>) {
         let reads_left = reads.saturating_sub(self.reads_of(self.first));
         let mut sources = [
             Reading::new(self.source(self.first, reads)),
@@ -73,7 +73,7 @@ fn fail_reads(
         assert!(rt; written.is_empty(), "read {read}");
     }
     let (written, ended) = sources.run(rt, alloc, job, reads);
-    assert_eq!(rt; ended, Ok(COVERAGE));
+    assert_eq!(rt; ended, Ok(COMPLETED));
     assert_eq!(rt; written.as_slice(), text.as_bytes());
     reads
 }
@@ -102,6 +102,7 @@ fn fail_reads_of(
         question: command.question,
         hex,
         workers: 1,
+        top: None,
     };
     let mut failed: usize = 0;
     for piece in [1, 7, 65_536] {

@@ -1,7 +1,7 @@
 //! Inputs with what is printed for them, and inputs that are refused.
 
 use htl_command::Question;
-use htl_main::Coverage;
+use htl_main::{Completed, Coverage};
 
 /// The stored run: two opens and a close of process 4.
 pub const STORED: &str = "\
@@ -19,10 +19,13 @@ OPEN handle=0x48 seq=3 thread=12
   0x0000000000002000
 ";
 
-/// Of its one processor it has the first segment.
-pub const STORED_COVERAGE: Coverage = Coverage {
-    gaps: 0,
-    complete_to: 3,
+/// Of its one processor it has the first segment, with events of process 4.
+pub const STORED_COMPLETED: Completed = Completed {
+    coverage: Coverage {
+        gaps: 0,
+        complete_to: 3,
+    },
+    has_subject: true,
 };
 
 /// A segment with no events.

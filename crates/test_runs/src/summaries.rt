@@ -104,7 +104,7 @@ fn prints_summaries(rt: HostRuntime) -> Result<(), Fail> {
                 ..over_bytes(Question::Summary)
             };
             let (written, ended) = printed(&rt, rt.alloc(), &job, &inputs, None);
-            assert_eq!(rt; ended, Ok(row.coverage));
+            assert_eq!(rt; ended?.coverage, row.coverage);
             assert_eq!(rt; written.as_slice(), row.text.as_bytes());
         }
     }
@@ -121,7 +121,7 @@ fn each_command_reports_the_coverage(rt: HostRuntime) -> Result<(), Fail> {
         let inputs = input(rt.alloc(), &row)?;
         for question in [listing, Question::Bad { process: 4 }] {
             let (_, ended) = printed(&rt, rt.alloc(), &over_bytes(question), &inputs, None);
-            assert_eq!(rt; ended, Ok(row.coverage));
+            assert_eq!(rt; ended?.coverage, row.coverage);
         }
     }
     Ok(())

@@ -1,8 +1,8 @@
 //! Sinks that take a few bytes a write, and that fail at each of their writes in turn.
 
-use crate::commands::{COMMANDS, COVERAGE, Command, INPUTS, SYMBOLS, bytes_of};
+use crate::commands::{COMMANDS, COMPLETED, Command, INPUTS, SYMBOLS, bytes_of};
 use htl_command::Job;
-use htl_main::{Coverage, RunFault, Writing, run};
+use htl_main::{Completed, RunFault, Writing, run};
 use std::alloc::Global;
 use std::io;
 use std::io::Write;
@@ -55,11 +55,12 @@ fn run_into(
     command: Command,
     inputs: &[Vec<u8>],
     mut narrow: Narrow,
-) -> (Vec<u8>, Result<Coverage, RunFault>) {
+) -> (Vec<u8>, Result<Completed, RunFault>) {
     let job = Job {
         question: command.question,
         hex: false,
         workers: 1,
+        top: None,
     };
     let ended = run(
         rt,
@@ -104,7 +105,7 @@ fn fail_writes(
         failure,
     };
     let (held, ended) = run_into(rt, alloc, command, inputs, narrow);
-    assert_eq!(rt; ended, Ok(COVERAGE));
+    assert_eq!(rt; ended, Ok(COMPLETED));
     assert_eq!(rt; held.as_slice(), text);
     writes
 }

@@ -1,6 +1,6 @@
-// Which job a line asks for, and which lines are refused.
+// What a line asks for, and which lines are refused.
 use super::{fault_of, text_of, words};
-use htl_command::{Asked, Job, ParseFault, Question, parse};
+use htl_command::{Asked, Code, Command, Conversion, Job, ParseFault, Question, parse};
 use std::alloc::Global;
 use std::process::Abort;
 
@@ -149,7 +149,7 @@ const QUESTIONS: [(&str, Question); 29] = [
     ),
 ];
 
-/// Lines with the options that every command has.
+/// Lines with the options that every question has.
 const OPTIONS: [(&str, bool, u32, &[&str], Option<&str>); 9] = [
     ("summary|--workers|4|a.hls", false, 4, &["a.hls"], None),
     ("bad|--process|4", false, 1, &[], None),
@@ -186,8 +186,37 @@ const OPTIONS: [(&str, bool, u32, &[&str], Option<&str>); 9] = [
     ),
 ];
 
+/// Lines that want so many rows at most.
+const TOPS: [(&str, Option<u32>); 9] = [
+    ("summary", None),
+    ("tags|--object|1", None),
+    ("summary|--top|1", Some(1)),
+    ("outstanding|--process|4|--top|4294967295", Some(u32::MAX)),
+    ("diff|--process|4|--since|5|--top|10", Some(10)),
+    ("bad|--top|10|--process|4", Some(10)),
+    ("leaks|--process|4|--top=005", Some(5)),
+    ("stacks|--object|1|--tag|Lky8|--top|2", Some(2)),
+    ("trace|--process|4|--handle|44|--top|3|a.hls", Some(3)),
+];
+
+/// Lines that ask what a code means.
+const EXPLAINED: [(&str, Code); 4] = [
+    ("explain|S1", Code::S1),
+    ("explain|C7", Code::C7),
+    ("explain|--|S17", Code::S17),
+    ("explain|E2", Code::E2),
+];
+
+/// Lines that convert files: whether segments are digits, and the files.
+const CONVERTED: [(&str, bool, &[&str]); 4] = [
+    ("dump", false, &[]),
+    ("dump|--hex|a.hls|b.hls", true, &["a.hls", "b.hls"]),
+    ("encode|a.txt", false, &["a.txt"]),
+    ("encode|a.txt|--hex|--|-b.txt", true, &["a.txt", "-b.txt"]),
+];
+
 /// Lines that are refused, and what their text names.
-const REFUSED: [(&str, &str); 51] = [
+const REFUSED: [(&str, &str); 68] = [
     // values
     (
         "bad|--process|4294967296",
@@ -249,7 +278,25 @@ const REFUSED: [(&str, &str); 51] = [
     ("bad|--process|4|--workers|0", "'0' for '--workers <N>'"),
     ("bad|--process|4|--workers|9", "'9' for '--workers <N>'"),
     ("bad|--process|4|--workers|", "'' for '--workers <N>'"),
+    ("summary|--top|0", "'0' for '--top <N>'"),
+    (
+        "leaks|--process|4|--top|4294967296",
+        "'4294967296' for '--top <N>'",
+    ),
+    ("trace|--process|4|--handle|44|--top|", "'' for '--top <N>'"),
+    ("explain|S0", "'S0' for '<CODE>'"),
+    ("explain|S18", "'S18' for '<CODE>'"),
+    ("explain|S01", "'S01' for '<CODE>'"),
+    ("explain|s1", "'s1' for '<CODE>'"),
+    ("explain|S12(1)", "'S12(1)' for '<CODE>'"),
+    ("explain|", "'' for '<CODE>'"),
     // options
+    ("explain", "<CODE>"),
+    ("explain|S1|S2", "'S2'"),
+    ("explain|S1|--hex", "'--hex'"),
+    ("dump|--workers|2", "'--workers'"),
+    ("encode|--symbols|names.csv", "'--symbols'"),
+    ("encode|--hex|--hex", "'--hex'"),
     ("outstanding", "--process <N>"),
     ("diff|--since|1", "--process <N>"),
     ("tags", "--object <HEX>"),
@@ -264,6 +311,8 @@ const REFUSED: [(&str, &str); 51] = [
     ("summary|--workers|9", "'9' for '--workers <N>'"),
     ("bad|--process|4|--process|4", "'--process <N>'"),
     ("bad|--process|4|--hex|--hex", "'--hex'"),
+    ("tags|--object|1|--top|5", "'--top'"),
+    ("leaks|--process|4|--top|5|--top|5", "'--top <N>'"),
     ("summary|--hex|--hex", "'--hex'"),
     ("bad|--process|4|--workers", "'--workers <N>'"),
     // commands
@@ -272,8 +321,16 @@ const REFUSED: [(&str, &str); 51] = [
 ];
 
 /// What a line asks for.
+fn command(rt: &impl Abort, alloc: Global, line: &str) -> Command {
+    parse(alloc, words(rt, alloc, line)).expect(rt, "a command")
+}
+
+/// The question that a line asks.
 fn asked(rt: &impl Abort, alloc: Global, line: &str) -> Asked {
-    parse(alloc, words(rt, alloc, line)).expect(rt, "a job")
+    match command(rt, alloc, line) {
+        Command::Answer(asked) => asked,
+        _ => panic!(rt; "no question: {line}"),
+    }
 }
 
 /// The text of the usage fault that a line is refused with.
@@ -298,6 +355,7 @@ fn lines_ask_questions(rt: HostRuntime) {
             question,
             hex: false,
             workers: 1,
+            top: None,
         };
         assert_eq!(rt; asked(&rt, rt.alloc(), line).job, job, "of {line}");
     }
@@ -315,12 +373,49 @@ fn lines_have_options(rt: HostRuntime) {
 }
 
 #[test]
+fn lines_limit_rows(rt: HostRuntime) {
+    for (line, top) in TOPS {
+        assert_eq!(rt; asked(&rt, rt.alloc(), line).job.top, top, "of {line}");
+    }
+}
+
+#[test]
+fn lines_ask_for_codes(rt: HostRuntime) {
+    for (line, code) in EXPLAINED {
+        assert_eq!(rt;
+            command(&rt, rt.alloc(), line),
+            Command::Explain(code),
+            "of {line}"
+        );
+    }
+}
+
+/// Whether a line converts files, which way, and how.
+fn conversion(command: Command) -> Option<(bool, Conversion)> {
+    match command {
+        Command::Dump(of) => Some((true, of)),
+        Command::Encode(of) => Some((false, of)),
+        _ => None,
+    }
+}
+
+#[test]
+fn lines_convert_files(rt: HostRuntime) {
+    for (line, hex, files) in CONVERTED {
+        let (dumps, of) = conversion(command(&rt, rt.alloc(), line)).expect(&rt, line);
+        assert_eq!(rt; dumps, line.starts_with("dump"), "of {line}");
+        assert_eq!(rt; of.hex, hex, "of {line}");
+        assert!(rt; are_files(files, &of.files), "the files of {line}");
+    }
+}
+
+#[test]
 fn no_words_ask_for_the_stored_job(rt: HostRuntime) {
-    let stored = parse(rt.alloc(), Vec::new(rt.alloc())).expect(&rt, "a job");
+    let stored = parse(rt.alloc(), Vec::new(rt.alloc())).expect(&rt, "a command");
     let written = asked(&rt, rt.alloc(), "outstanding|--process|4|--hex");
-    assert_eq!(rt; stored, written);
-    assert_eq!(rt; stored.job.workers, 1);
-    assert!(rt; stored.files.is_empty());
+    assert_eq!(rt; written.job.workers, 1);
+    assert!(rt; written.files.is_empty());
+    assert_eq!(rt; stored, Command::Answer(written));
 }
 
 #[test]

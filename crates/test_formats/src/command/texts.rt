@@ -20,13 +20,16 @@ Commands:
   leaks        Stacks by how many of their handles are still open, most first
   stacks       Stacks behind one tag of an object (!obtrace)
   trace        Each open, close and bad reference of a handle (!htrace HANDLE)
+  explain      What the code of a fault means, and what to do
+  dump         Segments as text, to read, compare and change
+  encode       The bytes of segments that are given as text
   help         Print this message or the help of the given subcommand(s)
 
 Options:
   -h, --help     Print help
   -V, --version  Print version
 
-Options of every command:
+Options of every question, from summary to trace:
       --symbols <FILE>  Names for addresses: CSV of start,end,module,name
       --workers <N>     How many threads take in segments: 1 to 8 [default: 1]
       --hex             The files hold hexadecimal digits, not bytes
@@ -35,7 +38,7 @@ Options of every command:
 Exit status:
   0  done                        4  the segments are not of one trace
   2  wrong command line          5  a read or a write failed
-  3  not a segment               6  out of memory or of threads
+  3  not a segment or its text   6  out of memory or of threads
                                  7  not a symbol table
 
 Examples:
@@ -60,6 +63,7 @@ Arguments:
   [FILES]...  Trace segments; standard input where no file is given
 
 Options:
+      --top <N>         At most N rows: decimal, 1 to 4294967295
       --symbols <FILE>  Names for addresses: CSV of start,end,module,name
       --workers <N>     How many threads take in segments: 1 to 8 [default: 1]
       --hex             The files hold hexadecimal digits, not bytes
@@ -79,6 +83,7 @@ Arguments:
 
 Options:
       --process <N>     The process: decimal, at most 4294967295
+      --top <N>         At most N rows: decimal, 1 to 4294967295
       --symbols <FILE>  Names for addresses: CSV of start,end,module,name
       --workers <N>     How many threads take in segments: 1 to 8 [default: 1]
       --hex             The files hold hexadecimal digits, not bytes
@@ -100,6 +105,7 @@ Options:
       --process <N>     The process: decimal, at most 4294967295
       --since <N>       Handles opened after this sequence: decimal, at most
                         18446744073709551615 [default: the last snapshot's]
+      --top <N>         At most N rows: decimal, 1 to 4294967295
       --symbols <FILE>  Names for addresses: CSV of start,end,module,name
       --workers <N>     How many threads take in segments: 1 to 8 [default: 1]
       --hex             The files hold hexadecimal digits, not bytes
@@ -139,6 +145,7 @@ Arguments:
 
 Options:
       --process <N>     The process: decimal, at most 4294967295
+      --top <N>         At most N rows: decimal, 1 to 4294967295
       --symbols <FILE>  Names for addresses: CSV of start,end,module,name
       --workers <N>     How many threads take in segments: 1 to 8 [default: 1]
       --hex             The files hold hexadecimal digits, not bytes
@@ -158,6 +165,7 @@ Arguments:
 
 Options:
       --process <N>     The process: decimal, at most 4294967295
+      --top <N>         At most N rows: decimal, 1 to 4294967295
       --symbols <FILE>  Names for addresses: CSV of start,end,module,name
       --workers <N>     How many threads take in segments: 1 to 8 [default: 1]
       --hex             The files hold hexadecimal digits, not bytes
@@ -180,6 +188,7 @@ Options:
                         or without 0x
       --tag <TAG>       The tag: four bytes of text, as Lky8, or 0x and eight
                         hexadecimal digits, as 0x4c6b7938
+      --top <N>         At most N rows: decimal, 1 to 4294967295
       --symbols <FILE>  Names for addresses: CSV of start,end,module,name
       --workers <N>     How many threads take in segments: 1 to 8 [default: 1]
       --hex             The files hold hexadecimal digits, not bytes
@@ -201,6 +210,7 @@ Options:
       --process <N>     The process: decimal, at most 4294967295
       --handle <HEX>    The handle: 1 to 16 hexadecimal digits, with or without
                         0x, at most 0xffffffff
+      --top <N>         At most N rows: decimal, 1 to 4294967295
       --symbols <FILE>  Names for addresses: CSV of start,end,module,name
       --workers <N>     How many threads take in segments: 1 to 8 [default: 1]
       --hex             The files hold hexadecimal digits, not bytes
@@ -210,6 +220,63 @@ The low two bits of a handle are ignored.
 
 Example:
   hleak trace --process 4 --handle 0x44 cpu0.hls cpu1.hls
+";
+
+const EXPLAIN: &str = "\
+What the code of a fault means, and what to do
+
+Usage: hleak explain <CODE>
+
+Arguments:
+  <CODE>  The code of a fault, as S10, without the numbers that
+          may follow it
+
+Options:
+  -h, --help  Print help
+
+Example:
+  hleak explain S10
+";
+
+const DUMP: &str = "\
+Segments as text, to read, compare and change
+
+Usage: hleak dump [OPTIONS] [FILES]...
+
+Arguments:
+  [FILES]...  Trace segments; standard input where no file is given
+
+Options:
+      --hex   The files hold hexadecimal digits, not bytes
+  -h, --help  Print help
+
+Example:
+  hleak dump cpu0.hls > cpu0.txt
+";
+
+const ENCODE: &str = "\
+The bytes of segments that are given as text
+
+Usage: hleak encode [OPTIONS] [FILES]...
+
+Arguments:
+  [FILES]...  Texts of segments; standard input where no file is given
+
+Options:
+      --hex   Write hexadecimal digits, not bytes
+  -h, --help  Print help
+
+Bytes are not written to a terminal.
+
+Example:
+  hleak encode cpu0.txt > cpu0.hls
+";
+
+const CODE: &str = "\
+error: invalid value 'S18' for '<CODE>'
+  [expected: S1 to S17, H1 to H3, C1 to C7, Y1 to Y7, E1 or E2]
+
+For more information, try 'hleak explain --help'.
 ";
 
 const VALUE: &str = "\
@@ -261,7 +328,7 @@ For more information, try '--help'.
 ";
 
 /// Lines that ask for help, and what they are answered.
-const HELP: [(&str, &str); 13] = [
+const HELP: [(&str, &str); 16] = [
     ("--help", PROGRAM),
     ("--version", VERSION),
     ("summary|--help", SUMMARY),
@@ -272,14 +339,18 @@ const HELP: [(&str, &str); 13] = [
     ("leaks|--help", LEAKS),
     ("stacks|--help", STACKS),
     ("trace|--help", TRACE),
+    ("explain|--help", EXPLAIN),
+    ("dump|--help", DUMP),
+    ("encode|--help", ENCODE),
     ("-h", PROGRAM),
     ("help|diff", DIFF),
     ("diff|--process|4|--help", DIFF),
 ];
 
 /// Lines that are refused, and what they are answered.
-const USAGE: [(&str, &str); 5] = [
+const USAGE: [(&str, &str); 6] = [
     ("trace|--process|4|--handle|100000000", VALUE),
+    ("explain|S18", CODE),
     ("outstandin", MISSPELT_COMMAND),
     ("bad|--proces|4", MISSPELT_OPTION),
     ("diff", MISSING_OPTION),

@@ -10,4 +10,4 @@ returns-in_ok-answer-in_default c =
     let question = c.args.question in
     let answer = c.in_ok-answer-in_default.answer in
     let of : IsOfParts question = search (rules, c.in_default.not-Summary, c.in_default.not-Trace) in
-    λ table. over_events c.args.case.now table question (text_of table answer) of (c.in_ok-answer-in_default.ensures table)
+    λ table top. over_events c.args.case.now table question top (text_of table top answer) of (c.in_ok-answer-in_default.ensures table top)

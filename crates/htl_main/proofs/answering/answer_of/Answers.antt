@@ -14,28 +14,28 @@ use Rattle.htl_main.proofs.answering.answer_of.Goals.{in-Tags+in_ok-tags-in-Tags
 use Rattle.htl_main.proofs.answering.answer_of.Goals.{in-Leaks+in_ok-leaks-in-Leaks, in-Stacks+in_ok-stacks-in-Stacks}
 
 -- since the moment that was given, or else since the mark
-diff_over : (parts : List Contents) (events : List Event) (table : List Range) (process moment : ℕ) (since : Option ℕ) (rows : List Event)
+diff_over : (parts : List Contents) (events : List Event) (table : List Range) (top : Option ℕ) (process moment : ℕ) (since : Option ℕ) (rows : List Event)
     → AreEventsOf parts events
     → IfSome since (λ given. moment ≡ given)
     → IfNone since ((events : List Event) → AreEventsOf parts events → IsMark (Contains events) process moment)
     → IsDiff (Contains events) process moment rows
-    → IsTextOver events table (asked.Diff process since) (diff_text table process moment rows)
-diff_over parts events table process moment None rows are given mark is = (moment, rows, mark events are, is, refl)
-diff_over parts events table process moment (Some since) rows are given mark is = (
+    → IsTextOver events table (asked.Diff process since) top (diff_text table top process moment rows)
+diff_over parts events table top process moment None rows are given mark is = (moment, rows, mark events are, is, refl)
+diff_over parts events table top process moment (Some since) rows are given mark is = (
   rows,
   subst (λ (n : ℕ). IsDiff (Contains events) process n rows) given is,
-  ap (λ (n : ℕ). diff_text table process n rows) given,
+  ap (λ (n : ℕ). diff_text table top process n rows) given,
 )
 
 pub returns : goal.returns
-returns c = λ events are own table.
+returns c = λ events are own table top.
     let parts = map contents_of c.args.parts.now in
     elim c.match-question.branch [
       | in-Outstanding+in_ok-outstanding-in-Outstanding w ↦
           let rows = w.in_ok-outstanding-in-Outstanding.ensures events are own in search (rules, w, rows)
       | in-Diff+in_ok-diff-in-Diff w ↦
           let rows = w.in_ok-diff-in-Diff.ensures events are own in
-          let over = diff_over parts events table w.in-Diff.process w.moment-since.result w.in-Diff.since w.in_ok-diff-in-Diff.field-0.items are
+          let over = diff_over parts events table top w.in-Diff.process w.moment-since.result w.in-Diff.since w.in_ok-diff-in-Diff.field-0.items are
           w.moment-since.ensures.given w.moment-since.ensures.mark rows in
           search (rules, w, over)
       | in-Tags+in_ok-tags-in-Tags w ↦ let rows = w.in_ok-tags-in-Tags.ensures events are in search (rules, w, rows)

@@ -21,7 +21,7 @@ returns c =
     let T = c.args.case.now in
     let events = all_events T.segments in
     let are = are_events T (contents_of c.new-part.result) c.segments.result.now c.new-part.ensures c.segments.ensures.value in
-    λ table. (
+    λ table top. (
       c.totals.result,
       c.in_ok-gaps.gaps.items,
       c.in_ok-objects.field-0.processes.items,

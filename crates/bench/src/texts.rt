@@ -1,0 +1,45 @@
+//! How fast segments are dumped as text, and text is encoded. The size is the number of segments
+//! that each of four processors has; the text of a segment has some 1.9 MB.
+
+use crate::stopwatch::Stopwatch;
+use anyhow::Result;
+use htl_samples::{RandomTrace, SMALL};
+use htl_segment::Segment;
+use htl_text::{dump, encode};
+use std::alloc::Global;
+
+/// A trace with stacks of a usual depth.
+fn trace_of(segments: u32) -> RandomTrace {
+    RandomTrace {
+        processors: 4,
+        segments,
+        events: 4096,
+        processes: 16,
+        handles: 100_000,
+        stacks: 2_000,
+        least_frames: 8,
+        most_frames: 32,
+        ..SMALL
+    }
+}
+
+/// The text of all segments.
+fn text_of(alloc: Global, segments: &[Segment]) -> Result<Vec<u8>> {
+    let mut text = Vec::new(alloc);
+    for segment in segments {
+        text.extend_from_slice(&dump(alloc, segment)?)?;
+    }
+    Ok(text)
+}
+
+pub fn measure(rt: &HostRuntime, per_processor: u32) -> Result<()> {
+    let alloc = rt.alloc();
+    let segments = trace_of(per_processor).segments(alloc)?;
+    let mut watch = Stopwatch::start(rt)?;
+    let text = text_of(alloc, &segments)?;
+    watch.lap("bytes of text dumped", text.len() as u64)?;
+    let bytes = encode(alloc, &text)?;
+    watch.lap("bytes of text encoded", text.len() as u64)?;
+    println!(rt; "bytes: {}", bytes.len())?;
+    Ok(())
+}

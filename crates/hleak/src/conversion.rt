@@ -1,0 +1,60 @@
+//! The runs that print segments as text and make segments of text.
+
+use crate::opening::opened;
+use crate::progress::Progress;
+use htl_command::Conversion;
+use htl_main::{RunFault, Writing, dump_from, encode_from};
+use std::io;
+
+/// Which way files are converted.
+#[derive(Clone, Copy)]
+pub enum Direction {
+    /// From segments to text.
+    Dump,
+    /// From text to segments.
+    Encode,
+}
+
+impl Direction {
+    /// What the inputs hold, as a person at a terminal reads it.
+    pub fn expected(self) -> &'static str {
+        match self {
+            Direction::Dump => "segments are",
+            Direction::Encode => "text is",
+        }
+    }
+}
+
+/// Looks for the files, and writes to standard output what is made of them. Shows how much was read
+/// where a person watches.
+pub fn converted(
+    rt: &HostRuntime,
+    direction: Direction,
+    of: &Conversion,
+    is_watched: bool,
+) -> Result<(), RunFault> {
+    let progress = if is_watched {
+        Progress::begin(*rt).ok()
+    } else {
+        None
+    };
+    let ended = opened_and_converted(rt, direction, of, progress.as_ref());
+    if let Some(progress) = &progress {
+        progress.clear();
+    }
+    ended
+}
+
+fn opened_and_converted(
+    rt: &HostRuntime,
+    direction: Direction,
+    of: &Conversion,
+    progress: Option<&Progress>,
+) -> Result<(), RunFault> {
+    let mut inputs = opened(rt, &of.files, progress)?;
+    let mut out = Writing::new(io::writer(rt));
+    match direction {
+        Direction::Dump => dump_from(rt.alloc(), of.hex, &mut inputs, &mut out),
+        Direction::Encode => encode_from(rt.alloc(), of.hex, &mut inputs, &mut out),
+    }
+}

@@ -1,0 +1,146 @@
+//! The codes of faults.
+ghost use Rattle.std.specs.Prelude.{◌≡◌, find};
+ghost use Rattle.std.specs.Str.{bytes_eq};
+ghost use Rattle.htl_command.specs.Codes.{code_name, code_named};
+
+/// The code of a fault, without the numbers that may follow it: of a segment (S), of its digits in
+/// hexadecimal (H), of all segments (C), of a symbol table (Y), or of a line of text (E).
+#[derive(Clone, Copy, Debug, PartialEq, Eq)]
+pub enum Code {
+    S1,
+    S2,
+    S3,
+    S4,
+    S5,
+    S6,
+    S7,
+    S8,
+    S9,
+    S10,
+    S11,
+    S12,
+    S13,
+    S14,
+    S15,
+    S16,
+    S17,
+    H1,
+    H2,
+    H3,
+    C1,
+    C2,
+    C3,
+    C4,
+    C5,
+    C6,
+    C7,
+    Y1,
+    Y2,
+    Y3,
+    Y4,
+    Y5,
+    Y6,
+    Y7,
+    E1,
+    E2,
+}
+
+/// All codes.
+const CODES: [Code; 36] = [
+    Code::S1,
+    Code::S2,
+    Code::S3,
+    Code::S4,
+    Code::S5,
+    Code::S6,
+    Code::S7,
+    Code::S8,
+    Code::S9,
+    Code::S10,
+    Code::S11,
+    Code::S12,
+    Code::S13,
+    Code::S14,
+    Code::S15,
+    Code::S16,
+    Code::S17,
+    Code::H1,
+    Code::H2,
+    Code::H3,
+    Code::C1,
+    Code::C2,
+    Code::C3,
+    Code::C4,
+    Code::C5,
+    Code::C6,
+    Code::C7,
+    Code::Y1,
+    Code::Y2,
+    Code::Y3,
+    Code::Y4,
+    Code::Y5,
+    Code::Y6,
+    Code::Y7,
+    Code::E1,
+    Code::E2,
+];
+
+impl Code {
+    /// The code as a fault's line has it.
+    pub fn as_str(self) -> &'static str
+        ensures { result.now ≡ code_name self }
+    {
+        match self {
+            Code::S1 => "S1",
+            Code::S2 => "S2",
+            Code::S3 => "S3",
+            Code::S4 => "S4",
+            Code::S5 => "S5",
+            Code::S6 => "S6",
+            Code::S7 => "S7",
+            Code::S8 => "S8",
+            Code::S9 => "S9",
+            Code::S10 => "S10",
+            Code::S11 => "S11",
+            Code::S12 => "S12",
+            Code::S13 => "S13",
+            Code::S14 => "S14",
+            Code::S15 => "S15",
+            Code::S16 => "S16",
+            Code::S17 => "S17",
+            Code::H1 => "H1",
+            Code::H2 => "H2",
+            Code::H3 => "H3",
+            Code::C1 => "C1",
+            Code::C2 => "C2",
+            Code::C3 => "C3",
+            Code::C4 => "C4",
+            Code::C5 => "C5",
+            Code::C6 => "C6",
+            Code::C7 => "C7",
+            Code::Y1 => "Y1",
+            Code::Y2 => "Y2",
+            Code::Y3 => "Y3",
+            Code::Y4 => "Y4",
+            Code::Y5 => "Y5",
+            Code::Y6 => "Y6",
+            Code::Y7 => "Y7",
+            Code::E1 => "E1",
+            Code::E2 => "E2",
+        }
+    }
+
+    /// The code of this text.
+    #[tactic(auto, unfolding(crate::specs::Codes::code_named))]
+    pub(crate) fn from_text(text: &str) -> Option<Code>
+        ensures { result ≡ code_named text.now }
+    {
+        code_among(&CODES, text)
+    }
+}
+
+fn code_among(codes: &[Code], text: &str) -> Option<Code>
+    ensures { result ≡ find (λ code. bytes_eq (code_name code) text.now) codes.now }
+{
+    codes.iter().copied().find(|code| code.as_str() == text)
+}

@@ -1,0 +1,396 @@
+-- What was dumped of some bytes, and what is reported where no more of them is a segment.
+use Rattle.std.proofs.Common.{◌≡◌, ◌+◌, ◌-◌, ◌<◌, ◌≤◌, ℕ, Bool, true, false, List, [], ◌∷◌, ◌++◌, length, drop, take, refl, sym, ap, ◌∙◌}
+use Rattle.std.proofs.Common.{arith, inl, inr, subst, append_assoc, append-nil, Option, Some, None, IfSome, Result, Ok, Err}
+use Rattle.std.specs.Prelude.{is_err, slice_get, IfErr, OnOk}
+use Rattle.std.specs.Io.KnownBytes.{Appends, Consumes, IsAtEnd, ReadConsumes}
+use Rattle.std.proofs.KnownBytes.{Appends-trans, Consumes-kept, Consumes-trans}
+use Rattle.std.proofs.Math.Seq.{drop-append_seam, take-append_seam, take-append-add}
+use Rattle.std.proofs.lemmas.Bool.{cases_lt}
+use Rattle.std.proofs.lemmas.Grind.{flat_map-append}
+use Rattle.std.proofs.lemmas.List.{flat_map_more, length-append, take_all, take-append-le}
+use Rattle.std.proofs.lemmas.List.Elements.{All-append}
+use Rattle.htl_device.specs.Devices.{AppendsPrefix}
+use Rattle.htl_device.specs.declared.source.TheConstants.{MAX_READ_LEN}
+use Rattle.htl_segment.specs.Content.{Content, Fits}
+use Rattle.htl_segment.specs.Encoding.{encoding, BeginsWith}
+use Rattle.htl_segment.specs.Faults.{first_fault}
+use Rattle.htl_segment.specs.Bundles.{bundle, is_early_end, IsRest, SegmentAt, Splits}
+use Rattle.htl_segment.specs.declared.fault.Fault.{Fault}
+use Rattle.htl_segment.specs.declared.fault.Fault.TheVariants as faults
+use Rattle.htl_segment.proofs.BundleLaws.{late_stays, no_fault_stays, nothing_short, splits_one}
+use Rattle.htl_segment.proofs.PassedTests.{some_is}
+use Rattle.htl_text.specs.Texts.{segment_text}
+use Rattle.htl_main.specs.Inputs.{AsksMemory, HasBytes}
+use Rattle.htl_main.specs.Sources.{EndsBefore, IsReadToFault}
+use Rattle.htl_main.specs.Dumps.{AreWritten, Dumps, DumpsInput, InputStops, texts_of}
+use Rattle.htl_main.specs.Dumping.{DumpedSoFar, EndsAt, FrontDumped, FrontStops, WholeStops}
+use Rattle.htl_main.specs.declared.fault.RunFault.{RunFault}
+use Rattle.htl_main.specs.declared.fault.RunFault.TheVariants.{Segment, Read, Memory, Write}
+use Rattle.htl_main.proofs.InputLaws.{decode_next}
+use Rattle.htl_main.proofs.SplitLaws.{ended_whole, read_once_more, read_without_fault, taken, taken_splits}
+
+-- ---- what was written
+
+-- one part, and then some first bytes of another
+pub prefix_after : (a b c : Option (List ℕ)) (xs ys : List ℕ) → Appends a b xs → AppendsPrefix b c ys → AppendsPrefix a c (xs ++ ys)
+prefix_after a b c xs ys first part = (
+  length xs + part.0,
+  subst (Appends a c) (sym (take-append-add xs ys part.0)) (Appends-trans a b c xs (take part.0 ys) first part.1),
+)
+
+-- some first bytes of a part are some of the whole
+pub prefix_more : (a b : Option (List ℕ)) (xs ys : List ℕ) → AppendsPrefix a b xs → AppendsPrefix a b (xs ++ ys)
+prefix_more a b xs ys part =
+    elim (cases_lt part.0 (length xs)) [
+      | inl few ↦ (part.0, subst (Appends a b) (sym (take-append-le part.0 xs ys (omega (arith, few)))) part.1)
+      | inr many ↦ (
+        length xs,
+        subst (Appends a b) (take_all part.0 xs (omega (arith, many)) ∙ sym (take-append_seam xs ys)) part.1,
+      )
+    ]
+
+texts_more : (ss ts : List Content) → texts_of (ss ++ ts) ≡ texts_of ss ++ texts_of ts
+texts_more ss ts = flat_map-append segment_text ss ts
+
+appends_after : (a b c : Option (List ℕ)) (ss ts : List Content) → Appends a b (texts_of ss) → Appends b c (texts_of ts)
+    → Appends a c (texts_of (ss ++ ts))
+appends_after a b c ss ts first next =
+    subst (Appends a c) (sym (texts_more ss ts)) (Appends-trans a b c (texts_of ss) (texts_of ts) first next)
+
+pub written_after : (a b c : Option (List ℕ)) (ss ts : List Content) (fault : RunFault) → Appends a b (texts_of ss) → AreWritten fault b c ts
+    → AreWritten fault a c (ss ++ ts)
+written_after a b c ss ts Write first next =
+    subst (AppendsPrefix a c) (sym (texts_more ss ts)) (prefix_after a b c (texts_of ss) (texts_of ts) first next)
+written_after a b c ss ts fault first next = appends_after a b c ss ts first next
+
+-- ---- the front of bytes
+
+one_more : (bytes rest : List ℕ) (n : ℕ) (s : Content) (ss : List Content) → Splits bytes ss rest → BeginsWith rest n s
+    → Splits bytes (ss ++ s ∷ []) (drop n rest)
+one_more bytes rest n s ss split front =
+    let next = splits_one bytes [] ss rest n s (record { more = ss; pushed = refl; splits = split }) front in
+    subst (λ (all : List Content). Splits bytes all (drop n rest)) (sym next.pushed) next.splits
+
+pub front_next : (bytes rest : List ℕ) (n : ℕ) (s : Content) (old mid new : Option (List ℕ)) → FrontDumped bytes rest old mid
+    → BeginsWith rest n s → Appends mid new (segment_text s) → FrontDumped bytes (drop n rest) old new
+front_next bytes rest n s old mid new so_far front written = record {
+  segments = so_far.segments ++ s ∷ [];
+  splits = one_more bytes rest n s so_far.segments so_far.splits front;
+  written = subst (Appends old new) (flat_map_more segment_text [] so_far.segments s)
+      (Appends-trans old mid new (texts_of so_far.segments) (segment_text s) so_far.written written);
+}
+
+-- the rest begins behind the segments
+rest_at : (bytes rest : List ℕ) (ss : List Content) → Splits bytes ss rest → length bytes - length rest ≡ length (bundle ss)
+rest_at bytes rest ss split = omega (arith, ap length split.parts, length-append (bundle ss) rest)
+
+pub some_left : (rest : List ℕ) (fault : Fault) → first_fault rest ≡ Some fault → is_early_end fault ≡ false → 0 < length rest
+some_left [] fault is late = absurd (let same = some_is faults.Short fault (sym nothing_short ∙ is) in cc (ap is_early_end same ∙ late))
+some_left (x ∷ rest) fault is late = omega arith
+
+-- no segment follows, whatever follows
+pub front_refused : (place start : ℕ) (bytes rest : List ℕ) (old new : Option (List ℕ)) (fault : Fault) → FrontDumped bytes rest old new
+    → first_fault rest ≡ Some fault → is_early_end fault ≡ false → 0 < length rest
+    → FrontStops place start bytes old new (Segment place (start + (length bytes - length rest)) fault)
+front_refused place start bytes rest old new fault so_far is late some = record {
+  segments = so_far.segments;
+  rest = rest;
+  splits = so_far.splits;
+  ends = λ more. (
+    refl,
+    ap (λ (n : ℕ). start + n) (rest_at bytes rest so_far.segments so_far.splits),
+    omega (arith, some, length-append rest more),
+    late_stays rest more fault late is,
+  );
+  written = so_far.written;
+}
+
+-- memory was refused for the next segment
+pub front_memory : (place start : ℕ) (bytes rest : List ℕ) (old new : Option (List ℕ)) → FrontDumped bytes rest old new
+    → first_fault rest ≡ None → FrontStops place start bytes old new Memory
+front_memory place start bytes rest old new so_far none = record {
+  segments = so_far.segments;
+  rest = rest;
+  splits = so_far.splits;
+  ends = λ more. no_fault_stays rest more none;
+  written = so_far.written;
+}
+
+-- the next segment could not be written
+pub front_unwritten : (place start : ℕ) (bytes rest : List ℕ) (n : ℕ) (s : Content) (old mid new : Option (List ℕ))
+    → FrontDumped bytes rest old mid → BeginsWith rest n s → AppendsPrefix mid new (segment_text s)
+    → FrontStops place start bytes old new Write
+front_unwritten place start bytes rest n s old mid new so_far front part = record {
+  segments = so_far.segments ++ s ∷ [];
+  rest = drop n rest;
+  splits = one_more bytes rest n s so_far.segments so_far.splits front;
+  ends = λ more. tt;
+  written = subst (AppendsPrefix old new) (flat_map_more segment_text [] so_far.segments s)
+      (prefix_after old mid new (texts_of so_far.segments) (segment_text s) so_far.written part);
+}
+
+-- ---- all bytes of an input
+
+pub whole_of_front : (place : ℕ) (bytes : List ℕ) (old new : Option (List ℕ)) (fault : RunFault) → FrontStops place 0 bytes old new fault
+    → WholeStops place bytes old new fault
+whole_of_front place bytes old new fault stops = record {
+  segments = stops.segments;
+  rest = stops.rest;
+  splits = stops.splits;
+  ends =
+      let start : 0 + length (bundle stops.segments) ≡ length (bundle stops.segments) = omega arith in
+      subst (λ (l : List ℕ). EndsAt place (length (bundle stops.segments)) l fault) (append-nil stops.rest)
+      (subst (λ (n : ℕ). EndsAt place n (stops.rest ++ []) fault) start (stops.ends []));
+  written = stops.written;
+}
+
+segment_at : (bytes rest : List ℕ) (ss : List Content) → Splits bytes ss rest → first_fault rest ≡ None → SegmentAt bytes (length (bundle ss))
+segment_at bytes rest ss split none = record { before = ss; rest = rest; splits = split; offset_is = refl; no_fault = none }
+
+asks : (hex : Bool) (input bytes rest : List ℕ) (ss : List Content) → HasBytes hex input bytes → Splits bytes ss rest
+    → first_fault rest ≡ None → AsksMemory hex input
+asks true input bytes rest ss has split none = has.0
+asks false input bytes rest ss has split none = (length (bundle ss), rw (← has) (segment_at bytes rest ss split none))
+
+pub input_stops : (hex : Bool) (left : Option (List ℕ)) (ended : Bool) (place : ℕ) (input bytes : List ℕ) (old new : Option (List ℕ))
+    (fault : RunFault) → HasBytes hex input bytes → WholeStops place bytes old new fault
+    → InputStops hex left ended place input old new fault
+input_stops hex left ended place input bytes old new (Segment at offset fault) has stops = record {
+  reported = (
+    stops.ends.0,
+    record {
+      bytes = bytes;
+      has = has;
+      is = record {
+        before = stops.segments;
+        rest = stops.rest;
+        splits = stops.splits;
+        offset_is = stops.ends.1;
+        some = stops.ends.2;
+        fault_is = stops.ends.3;
+      };
+    },
+  );
+  segments = stops.segments;
+  are = (bytes, stops.rest, has, stops.splits, stops.ends.1);
+  written = stops.written;
+}
+input_stops hex left ended place input bytes old new Memory has stops = record {
+  reported = inl (asks hex input bytes stops.rest stops.segments has stops.splits stops.ends);
+  segments = stops.segments;
+  are = inr (bytes, stops.rest, has, stops.splits);
+  written = stops.written;
+}
+input_stops hex left ended place input bytes old new Write has stops = record {
+  reported = tt;
+  segments = stops.segments;
+  are = inr (bytes, stops.rest, has, stops.splits);
+  written = stops.written;
+}
+input_stops hex left ended place input bytes old new fault has stops = absurd (stops.ends)
+
+-- ---- a source that is dumped as it is read
+
+bundle_more : (ss ts : List Content) → bundle (ss ++ ts) ≡ bundle ss ++ bundle ts
+bundle_more ss ts = flat_map-append encoding ss ts
+
+-- what was taken in, one piece more, and its segments
+regrouped : (held piece rest : List ℕ) (ss ts : List Content) → Splits (held ++ piece) ts rest
+    → (bundle ss ++ held) ++ piece ≡ bundle (ss ++ ts) ++ rest
+regrouped held piece rest ss ts split =
+    append_assoc (bundle ss) held piece ∙ ap (λ (l : List ℕ). bundle ss ++ l) split.parts ∙ sym (append_assoc (bundle ss) (bundle ts) rest)
+    ∙ ap (λ (l : List ℕ). l ++ rest) (sym (bundle_more ss ts))
+
+pub so_far_next : (first mid last : Option (List ℕ)) (start : ℕ) (held piece rest : List ℕ) (old out new : Option (List ℕ))
+    → DumpedSoFar first mid start held old out → Consumes mid last piece → FrontDumped (held ++ piece) rest out new → IsRest rest
+    → DumpedSoFar first last (start + (length (held ++ piece) - length rest)) rest old new
+so_far_next first mid last start held piece rest old out new so_far read next is_rest = record {
+  segments = so_far.segments ++ next.segments;
+  fits = All-append Fits so_far.segments next.segments so_far.fits next.splits.fits;
+  start_is = omega (
+    arith,
+    so_far.start_is,
+    rest_at (held ++ piece) rest next.segments next.splits,
+    ap length (bundle_more so_far.segments next.segments),
+    length-append (bundle so_far.segments) (bundle next.segments),
+  );
+  is_rest = is_rest;
+  given = subst (Consumes first last) (regrouped held piece rest so_far.segments next.segments next.splits)
+      (Consumes-trans first mid last (bundle so_far.segments ++ held) piece so_far.given read);
+  written = appends_after old out new so_far.segments next.segments so_far.written next.written;
+}
+
+-- the source has ended, and nothing is left
+pub so_far_whole : (first mid last : Option (List ℕ)) (start : ℕ) (held : List ℕ) (old new : Option (List ℕ))
+    → DumpedSoFar first mid start held old new → Consumes mid last [] → IsAtEnd last → held ≡ []
+    → IfSome first (λ bytes. DumpsInput false bytes old new)
+so_far_whole None mid last start held old new so_far none end empty = tt
+so_far_whole (Some xs) mid last start held old new so_far none end empty =
+    let whole = ended_whole (Some xs) mid last so_far.segments held so_far.fits so_far.given none end empty in
+    (so_far.segments, record { bytes = xs; has = refl; splits = whole }, so_far.written)
+
+-- all bytes of a source whose next ones end the dump
+stops_behind : (xs ys zs : List ℕ) (place start : ℕ) (held piece : List ℕ) (old out new : Option (List ℕ)) (fault : RunFault)
+    → DumpedSoFar (Some xs) (Some ys) start held old out → ys ≡ piece ++ zs → FrontStops place start (held ++ piece) out new fault
+    → WholeStops place xs old new fault
+stops_behind xs ys zs place start held piece old out new fault so_far read stops =
+    let ss = so_far.segments in
+    let ts = stops.segments in
+    let whole : xs ≡ bundle (ss ++ ts) ++ (stops.rest ++ zs) =
+    so_far.given ∙ ap (λ (l : List ℕ). (bundle ss ++ held) ++ l) read ∙ sym (append_assoc (bundle ss ++ held) piece zs)
+    ∙ ap (λ (l : List ℕ). l ++ zs) (regrouped held piece stops.rest ss ts stops.splits) ∙ append_assoc (bundle (ss ++ ts)) stops.rest zs in
+    let offset : start + length (bundle ts) ≡ length (bundle (ss ++ ts)) =
+    omega (arith, so_far.start_is, ap length (bundle_more ss ts), length-append (bundle ss) (bundle ts)) in
+    record {
+      segments = ss ++ ts;
+      rest = stops.rest ++ zs;
+      splits = record { parts = whole; fits = All-append Fits ss ts so_far.fits stops.splits.fits };
+      ends = subst (λ (n : ℕ). EndsAt place n (stops.rest ++ zs) fault) offset (stops.ends zs);
+      written = written_after old out new ss ts fault so_far.written stops.written;
+    }
+
+pub so_far_stops : (first mid last : Option (List ℕ)) (ended : Bool) (place start : ℕ) (held piece : List ℕ) (old out new : Option (List ℕ))
+    (fault : RunFault) → DumpedSoFar first mid start held old out → Consumes mid last piece
+    → FrontStops place start (held ++ piece) out new fault
+    → IfSome first (λ bytes. InputStops false last ended place bytes old new fault)
+so_far_stops None mid last ended place start held piece old out new fault so_far read stops = tt
+so_far_stops (Some xs) None last ended place start held piece old out new fault so_far read stops = absurd (so_far.given)
+so_far_stops (Some xs) (Some ys) None ended place start held piece old out new fault so_far read stops = absurd read
+so_far_stops (Some xs) (Some ys) (Some zs) ended place start held piece old out new fault so_far read stops =
+    input_stops false (Some zs) ended place xs xs old new fault refl
+    (stops_behind xs ys zs place start held piece old out new fault so_far read stops)
+
+-- the source has ended inside a segment
+pub so_far_cut : (first mid last : Option (List ℕ)) (ended : Bool) (place start : ℕ) (held : List ℕ) (old new : Option (List ℕ)) (fault : Fault)
+    → DumpedSoFar first mid start held old new → Consumes mid last [] → IsAtEnd last → 0 < length held → first_fault held ≡ Some fault
+    → IfSome first (λ bytes. InputStops false last ended place bytes old new (Segment place start fault))
+so_far_cut None mid last ended place start held old new fault so_far none end some is = tt
+so_far_cut (Some xs) None last ended place start held old new fault so_far none end some is = absurd (so_far.given)
+so_far_cut (Some xs) (Some ys) None ended place start held old new fault so_far none end some is = absurd none
+so_far_cut (Some xs) (Some ys) (Some zs) ended place start held old new fault so_far none end some is =
+    let whole : xs ≡ bundle so_far.segments ++ held =
+    so_far.given ∙ ap (λ (l : List ℕ). (bundle so_far.segments ++ held) ++ l) (none ∙ end)
+    ∙ append-nil (bundle so_far.segments ++ held) in
+    input_stops false (Some zs) ended place xs xs old new (Segment place start fault) refl record {
+      segments = so_far.segments;
+      rest = held;
+      splits = record { parts = whole; fits = so_far.fits };
+      ends = (refl, so_far.start_is, some, is);
+      written = so_far.written;
+    }
+
+-- the source could not be read on
+pub so_far_unread : (first last : Option (List ℕ)) (ended : Bool) (place start : ℕ) (held : List ℕ) (old new : Option (List ℕ))
+    → DumpedSoFar first last start held old new → IfSome first (λ bytes. InputStops false last ended place bytes old new (Read place))
+so_far_unread None last ended place start held old new so_far = tt
+so_far_unread (Some xs) last ended place start held old new so_far = record {
+  reported = refl;
+  segments = so_far.segments;
+  are = (
+    taken so_far.segments held,
+    held,
+    so_far.given,
+    taken_splits so_far.segments held so_far.fits,
+    so_far.is_rest,
+  );
+  written = so_far.written;
+}
+
+-- a read that failed gave nothing
+pub so_far_failed : {E : Type 0} (first mid last : Option (List ℕ)) (start : ℕ) (held buffer : List ℕ) (old new : Option (List ℕ))
+    (result : Result ℕ E) → is_err result ≡ true → ReadConsumes mid last result buffer → DumpedSoFar first mid start held old new
+    → DumpedSoFar first last start held old new
+so_far_failed first mid last start held buffer old new (Ok n) failed read so_far = absurd cc
+so_far_failed first mid last start held buffer old new (Err e) failed read so_far = record {
+  segments = so_far.segments;
+  fits = so_far.fits;
+  start_is = so_far.start_is;
+  is_rest = so_far.is_rest;
+  given = Consumes-kept first mid last (bundle so_far.segments ++ held) so_far.given read;
+  written = so_far.written;
+}
+
+-- memory was refused for the bytes that were read last
+pub so_far_memory : (first mid last : Option (List ℕ)) (ended : Bool) (place start : ℕ) (held piece : List ℕ) (old new : Option (List ℕ))
+    → DumpedSoFar first mid start held old new → Consumes mid last piece → ended ≡ false → 0 < length piece
+    → IfSome first (λ bytes. InputStops false last ended place bytes old new Memory)
+so_far_memory None mid last ended place start held piece old new so_far read inside some = tt
+so_far_memory (Some xs) None last ended place start held piece old new so_far read inside some = absurd (so_far.given)
+so_far_memory (Some xs) (Some ys) last ended place start held piece old new so_far read inside some = record {
+  reported = inr (
+    inside,
+    taken so_far.segments held ++ piece,
+    omega (arith, some, length-append (taken so_far.segments held) piece),
+    Consumes-trans (Some xs) (Some ys) last (taken so_far.segments held) piece so_far.given read,
+  );
+  segments = so_far.segments;
+  are = inr (
+    xs,
+    held ++ ys,
+    refl,
+    record { parts = so_far.given ∙ append_assoc (bundle so_far.segments) held ys; fits = so_far.fits },
+  );
+  written = so_far.written;
+}
+
+pub so_far_read : (first now : Option (List ℕ)) (start : ℕ) (held : List ℕ) (old new : Option (List ℕ))
+    → DumpedSoFar first now start held old new → IsReadToFault first now
+so_far_read first now start held old new so_far =
+    read_without_fault first now so_far.segments held so_far.fits so_far.is_rest so_far.given
+
+pub so_far_once_more : (first mid last : Option (List ℕ)) (start : ℕ) (held piece : List ℕ) (old new : Option (List ℕ))
+    → DumpedSoFar first mid start held old new → Consumes mid last piece → length piece ≤ MAX_READ_LEN → IsReadToFault first last
+so_far_once_more first mid last start held piece old new so_far read few =
+    read_once_more first mid last so_far.segments held piece so_far.fits so_far.is_rest so_far.given read few
+
+-- ---- which input a fault names
+
+pub front_no_read : (place start : ℕ) (bytes : List ℕ) (old new : Option (List ℕ)) (fault : RunFault) → FrontStops place start bytes old new fault
+    → (at : ℕ) → fault ≡ Read at → ⊥
+front_no_read place start bytes old new fault stops at is =
+    (subst (λ (f : RunFault). FrontStops place start bytes old new f) is stops).ends []
+
+pub front_named : (place start : ℕ) (bytes : List ℕ) (old new : Option (List ℕ)) (fault : RunFault) → FrontStops place start bytes old new fault
+    → (later : ℕ) → EndsBefore fault later → place < later
+front_named place start bytes old new (Segment at offset fault) stops later before = omega (arith, (stops.ends []).0, before)
+front_named place start bytes old new Memory stops later before = absurd before
+front_named place start bytes old new Write stops later before = absurd before
+front_named place start bytes old new fault stops later before = absurd (stops.ends [])
+
+-- ---- the end of a source
+
+pub finished_whole : (first mid last : Option (List ℕ)) (start : ℕ) (held : List ℕ) (old new : Option (List ℕ))
+    (result : Result (Unit {0}) RunFault) → DumpedSoFar first mid start held old new → Consumes mid last [] → IsAtEnd last
+    → OnOk result (held ≡ []) → OnOk result (IfSome first (λ bytes. DumpsInput false bytes old new))
+finished_whole first mid last start held old new (Ok done) so_far none end empty =
+    so_far_whole first mid last start held old new so_far none end empty
+finished_whole first mid last start held old new (Err fault) so_far none end empty = tt
+
+pub finished_cut : (first mid last : Option (List ℕ)) (ended : Bool) (place start : ℕ) (held : List ℕ) (old new : Option (List ℕ))
+    (result : Result (Unit {0}) RunFault) → DumpedSoFar first mid start held old new → Consumes mid last [] → IsAtEnd last
+    → IfErr result (λ fault. (found : Fault) × (fault ≡ Segment place start found) × (0 < length held) × (first_fault held ≡ Some found))
+    → IfErr result (λ fault. IfSome first (λ bytes. InputStops false last ended place bytes old new fault))
+finished_cut first mid last ended place start held old new (Ok done) so_far none end is = tt
+finished_cut first mid last ended place start held old new (Err fault) so_far none end is =
+    rw (is.1) (so_far_cut first mid last ended place start held old new is.0 so_far none end is.2 is.3)
+
+-- the bytes that are kept are the rest
+pub kept_last : (bytes rest : List ℕ) (old new : Option (List ℕ)) → FrontDumped bytes rest old new
+    → drop (length bytes - length rest) bytes ≡ rest
+kept_last bytes rest old new so_far =
+    rw (rest_at bytes rest so_far.segments so_far.splits) (ap (drop (length (bundle so_far.segments))) so_far.splits.parts
+    ∙ drop-append_seam (bundle so_far.segments) rest)
+
+pub rest_inside : (bytes rest : List ℕ) (old new : Option (List ℕ)) → FrontDumped bytes rest old new → length rest ≤ length bytes
+rest_inside bytes rest old new so_far = omega (arith, ap length so_far.splits.parts, length-append (bundle so_far.segments) rest)
+
+-- ---- inputs one after another
+
+pub dumps_next : (hex : Bool) (texts : List (List ℕ)) (place : ℕ) (input : List ℕ) (old mid new : Option (List ℕ))
+    → slice_get texts place ≡ Some input → Dumps hex (take place texts) old mid → DumpsInput hex input mid new
+    → Dumps hex (take (place + 1) texts) old new
+dumps_next hex texts place input old mid new here so_far next = (
+  so_far.0 ++ next.0,
+  decode_next hex texts place input so_far.0 next.0 here so_far.1 next.1,
+  appends_after old mid new so_far.0 next.0 so_far.2 next.2,
+)

@@ -1,0 +1,107 @@
+-- Bytes in hexadecimal digits, and texts one after another: what they encode, and what is reported of the first that is refused.
+use Rattle.std.proofs.Common.{◌≡◌, ◌+◌, ◌<◌, ℕ, true, List, [], ◌∷◌, ◌++◌, length, map, take, refl, sym, ap, ◌∙◌}
+use Rattle.std.proofs.Common.{arith, subst, append_assoc, append-nil, Option, Some, Result, Ok, Err}
+use Rattle.std.specs.Prelude.{slice_get, IfErr}
+use Rattle.std.specs.Io.KnownBytes.{Appends}
+use Rattle.std.proofs.KnownBytes.{Appends-nil, Appends-trans}
+use Rattle.std.proofs.lemmas.Grind.{flat_map-append}
+use Rattle.std.proofs.lemmas.List.{take_more}
+use Rattle.std.proofs.lemmas.Option.{slice_get_within, get_or_from_slice_get}
+use Rattle.hex.specs.Hex.{encode_lower, encode_with}
+use Rattle.htl_device.specs.Devices.{AppendsPrefix}
+use Rattle.htl_segment.specs.Content.{Content}
+use Rattle.htl_segment.specs.Encoding.{encoding}
+use Rattle.htl_segment.specs.Bundles.{bundle}
+use Rattle.htl_text.specs.Encoded.{begins, Encodes, kept}
+use Rattle.htl_text.specs.Items.{segments_items}
+use Rattle.htl_text.specs.Lines.{item_in, lines_of}
+use Rattle.htl_main.specs.Encodings.{EncodeAll}
+use Rattle.htl_main.specs.declared.fault.RunFault.{RunFault}
+use Rattle.htl_main.specs.declared.fault.RunFault.TheVariants.{Write}
+use Rattle.htl_main.proofs.DumpLaws.{prefix_after, prefix_more}
+
+-- ---- hexadecimal digits
+
+-- the digits of the bytes before the rest were written
+pub record DigitsWritten (bytes rest : List ℕ) (old new : Option (List ℕ)) : Type 0 where
+  pub front : List ℕ
+  pub parts : bytes ≡ front ++ rest
+  pub written : Appends old new (encode_lower front)
+
+digits_more : (table a b : List ℕ) → encode_with table (a ++ b) ≡ encode_with table a ++ encode_with table b
+unfolding encode_with
+digits_more table [] b = refl
+digits_more table (x ∷ a) b = let rest = digits_more table a b in rw rest refl
+
+pub digits_start : (bytes : List ℕ) (known : Option (List ℕ)) → DigitsWritten bytes bytes known known
+unfolding encode_with
+digits_start bytes known = record { front = []; parts = refl; written = Appends-nil known }
+
+pub digits_next : (bytes rest step later : List ℕ) (old mid new : Option (List ℕ)) → DigitsWritten bytes rest old mid → rest ≡ step ++ later
+    → Appends mid new (encode_lower step) → DigitsWritten bytes later old new
+digits_next bytes rest step later old mid new so_far cut written = record {
+  front = so_far.front ++ step;
+  parts = so_far.parts ∙ ap (λ (l : List ℕ). so_far.front ++ l) cut ∙ sym (append_assoc so_far.front step later);
+  written = subst (Appends old new) (sym (digits_more _ so_far.front step))
+      (Appends-trans old mid new (encode_lower so_far.front) (encode_lower step) so_far.written written);
+}
+
+pub digits_cut : (bytes rest step later : List ℕ) (old mid new : Option (List ℕ)) → DigitsWritten bytes rest old mid → rest ≡ step ++ later
+    → AppendsPrefix mid new (encode_lower step) → AppendsPrefix old new (encode_lower bytes)
+digits_cut bytes rest step later old mid new so_far cut part =
+    let all : bytes ≡ (so_far.front ++ step) ++ later =
+    so_far.parts ∙ ap (λ (l : List ℕ). so_far.front ++ l) cut ∙ sym (append_assoc so_far.front step later) in
+    rw (all, digits_more, digits_more) (prefix_more old new (encode_lower so_far.front ++ encode_lower step) (encode_lower later)
+    (prefix_after old mid new (encode_lower so_far.front) (encode_lower step) so_far.written part))
+
+-- what follows the digits was written in part
+pub feed_cut : (P : Type 0) (old mid new : Option (List ℕ)) (xs ys : List ℕ) (result : Result (Unit {0}) RunFault) → Appends old mid xs
+    → IfErr result (λ fault. (fault ≡ Write) × P × AppendsPrefix mid new ys)
+    → IfErr result (λ fault. (fault ≡ Write) × AppendsPrefix old new (xs ++ ys))
+feed_cut P old mid new xs ys (Ok done) written failed = tt
+feed_cut P old mid new xs ys (Err fault) written failed = (failed.0, prefix_after old mid new xs ys written failed.2)
+
+-- ---- texts one after another
+
+-- one text more
+encode_more : (texts : List (List ℕ)) (text : List ℕ) (before after : List Content) → EncodeAll texts before → Encodes text after
+    → EncodeAll (texts ++ text ∷ []) (before ++ after)
+encode_more [] text before after none encoded = rw none (after, [], encoded, refl, sym (append-nil after))
+encode_more (first ∷ more) text before after all encoded =
+    (all.0, all.1 ++ after, all.2, encode_more more text all.1 after all.3 encoded, rw (all.4) (append_assoc all.0 all.1 after))
+
+encode_next : (texts : List (List ℕ)) (place : ℕ) (text : List ℕ) (before after : List Content) → slice_get texts place ≡ Some text
+    → EncodeAll (take place texts) before → Encodes text after → EncodeAll (take (place + 1) texts) (before ++ after)
+encode_next texts place text before after here all encoded =
+    rw (take_more texts place [] (slice_get_within texts place text here), get_or_from_slice_get texts place text [] here)
+    (encode_more (take place texts) text before after all encoded)
+
+-- these bytes are those of the segments that a text encodes
+abbrev pub Gives : List ℕ → List ℕ → Type 0
+Gives text bytes = (segments : List Content) × Encodes text segments × (bytes ≡ bundle segments)
+
+-- or of those that texts encode
+abbrev pub GiveAll : List (List ℕ) → List ℕ → Type 0
+GiveAll texts bytes = (segments : List Content) × EncodeAll texts segments × (bytes ≡ bundle segments)
+
+pub give_next : (texts : List (List ℕ)) (place : ℕ) (text before after : List ℕ) → slice_get texts place ≡ Some text
+    → GiveAll (take place texts) before → Gives text after → GiveAll (take (place + 1) texts) (before ++ after)
+give_next texts place text before after here all next = (
+  all.0 ++ next.0,
+  encode_next texts place text all.0 next.0 here all.1 next.1,
+  rw (all.2, next.2) (sym (flat_map-append encoding all.0 next.0)),
+)
+
+begins_of : (lines : List (List (List ℕ))) (s : Content) (ss : List Content)
+    → map item_in lines ≡ map (λ i. Some i) (segments_items (s ∷ ss)) → begins lines ≡ true
+begins_of [] s ss is = absurd (cc is)
+begins_of (ws ∷ lines) s ss is = cc is
+
+some_begin_of : (text bytes : List ℕ) (ss : List Content) → Encodes text ss → bytes ≡ bundle ss → 0 < length bytes
+    → begins (kept (lines_of text)) ≡ true
+some_begin_of text bytes [] encoded is some = absurd (omega (arith, some, ap length is))
+some_begin_of text bytes (s ∷ ss) encoded is some = begins_of (kept (lines_of text)) s ss encoded.written
+
+-- a text that gives some bytes begins with a segment
+pub some_begin : (text bytes : List ℕ) → Gives text bytes → 0 < length bytes → begins (kept (lines_of text)) ≡ true
+some_begin text bytes gives some = some_begin_of text bytes gives.0 gives.1 gives.2 some

@@ -1,0 +1,106 @@
+-- One source more, and the one at which the dump ends.
+use Rattle.std.proofs.Common.{◌<◌, [], length, map, get_or, arith, refl}
+use Rattle.std.proofs.KnownBytes.{Appends-nil}
+use Rattle.std.proofs.lemmas.Option.{slice_get-get_or}
+use Rattle.std.proofs.lemmas.Result.{err_from_is_err_and}
+use Rattle.htl_main.specs.Dumps.{DumpsInput, InputStops}
+use Rattle.htl_main.proofs.DumpLaws.{dumps_next, written_after}
+use Rattle.htl_main.proofs.ReadingLaws.{all_read, none_before, one_before, read_to, unread_later}
+use Rattle.htl_main.proofs.SourceLaws.{at_known, known_now, knows_now, none_read, one_read, value_there}
+use Rattle.htl_main.proofs.dumping.dump_from.Goals as goal
+
+pub loop-place-init : goal.loop-place-init
+loop-place-init g c = record {
+  before = none_before g.R.Source.has_failed g.R.Source.has_ended g.R.Source.good_reads c.args.inputs.now c.requires.inputs;
+  sound = c.requires.out;
+  dumped = λ texts all. ([], refl, Appends-nil (g.W.Sink.contents c.args.out.now));
+  to_fault = λ bytes. none_read (map g.R.Source.remaining c.args.inputs.now);
+}
+
+pub loop-place-preserved : goal.loop-place-preserved
+loop-place-preserved g c =
+    let inv = c.loop-place.invariant in
+    let is = c.in_ok-dump_input.ensures in
+    let place = c.loop-place.place in
+    let within : place < length c.loop-place.inputs = omega arith in
+    let source = get_or c.loop-place.inputs place c.index-inputs-place.result in
+    let here = slice_get-get_or c.loop-place.inputs place c.index-inputs-place.result within in
+    record {
+      before = one_before g.R.Source.has_failed g.R.Source.has_ended g.R.Source.good_reads g.R.Source.remaining c.args.inputs.now
+          c.loop-place.inputs place source c.dump_input.new.source _ inv.before within here
+          (record { reported = is.reported; read = is.read; bounded = is.bounded; named = is.named }) is.ended;
+      sound = is.failed;
+      dumped = λ texts all.
+          let knows = knows_now g.R.Source.remaining c.args.inputs.now c.loop-place.inputs texts place source
+          (inv.before.left place (omega arith)) here all in
+          dumps_next c.args.hex texts place knows.input _ (g.W.Sink.contents c.loop-place.out) (g.W.Sink.contents c.dump_input.new.out)
+          knows.here (inv.dumped texts all) (at_known texts place (g.R.Source.remaining source) (λ bytes. DumpsInput c.args.hex bytes
+          (g.W.Sink.contents c.loop-place.out) (g.W.Sink.contents c.dump_input.new.out)) knows is.ok);
+      to_fault = λ bytes.
+          one_read g.R.Source.remaining (map g.R.Source.remaining c.args.inputs.now) c.loop-place.inputs place source
+          c.dump_input.new.source within (inv.to_fault bytes) (known_now g.R.Source.remaining c.args.inputs.now c.loop-place.inputs place source
+          (inv.before.left place (omega arith)) here) (is.to_fault bytes);
+    }
+
+pub returns-in_err-dump_input-clause-stops : goal.returns-in_err-dump_input-clause-stops
+returns-in_err-dump_input-clause-stops g c =
+    let p = err_from_is_err_and c.from_residual.result c.from_residual.ensures.1 in
+    let inv = c.loop-place.invariant in
+    let place = c.loop-place.place in
+    let within : place < length c.loop-place.inputs = omega arith in
+    let source = get_or c.loop-place.inputs place c.index-inputs-place.result in
+    let here = slice_get-get_or c.loop-place.inputs place c.index-inputs-place.result within in
+    let new = c.dump_input.new.source in
+    λ texts all.
+    let knows = knows_now g.R.Source.remaining c.args.inputs.now c.loop-place.inputs texts place source
+    (inv.before.left place (omega arith)) here all in
+    let stops = at_known texts place (g.R.Source.remaining source) (λ bytes. InputStops c.args.hex (g.R.Source.remaining new)
+    (g.R.Source.has_ended new) place bytes (g.W.Sink.contents c.loop-place.out) (g.W.Sink.contents c.dump_input.new.out)
+    c.in_err-dump_input.field-0.0) knows c.in_err-dump_input.ensures.stops in
+    let so_far = inv.dumped texts all in
+    rw (p.1, p.2) record {
+      place = place;
+      input = knows.input;
+      here = knows.here;
+      left = g.R.Source.remaining new;
+      left_is = value_there g.R.Source.remaining c.loop-place.inputs place new within;
+      ended = g.R.Source.has_ended new;
+      ended_is = value_there g.R.Source.has_ended c.loop-place.inputs place new within;
+      before = so_far.0;
+      decoded = so_far.1;
+      reported = stops.reported;
+      segments = stops.segments;
+      are = stops.are;
+      written = written_after _ _ _ so_far.0 stops.segments c.in_err-dump_input.field-0.0 so_far.2 stops.written;
+      unread = unread_later g.R.Source.remaining c.args.inputs.now c.loop-place.inputs texts place new inv.before.left all;
+    }
+
+pub returns-in_err-dump_input-clause-reading : goal.returns-in_err-dump_input-clause-reading
+returns-in_err-dump_input-clause-reading g c =
+    let p = err_from_is_err_and c.from_residual.result c.from_residual.ensures.1 in
+    let inv = c.loop-place.invariant in
+    let is = c.in_err-dump_input.ensures in
+    let place = c.loop-place.place in
+    let within : place < length c.loop-place.inputs = omega arith in
+    let source = get_or c.loop-place.inputs place c.index-inputs-place.result in
+    let here = slice_get-get_or c.loop-place.inputs place c.index-inputs-place.result within in
+    rw (p.1, p.2) (read_to g.R.Source.has_failed g.R.Source.has_ended g.R.Source.good_reads g.R.Source.remaining c.args.inputs.now
+    c.loop-place.inputs place source c.dump_input.new.source c.in_err-dump_input.field-0.0 inv.before within here
+    (record { reported = is.reported; read = is.read; bounded = is.bounded; named = is.named }))
+
+pub returns-in_err-dump_input-clause-to_fault : goal.returns-in_err-dump_input-clause-to_fault
+returns-in_err-dump_input-clause-to_fault g c =
+    let inv = c.loop-place.invariant in
+    let place = c.loop-place.place in
+    let within : place < length c.loop-place.inputs = omega arith in
+    let source = get_or c.loop-place.inputs place c.index-inputs-place.result in
+    let here = slice_get-get_or c.loop-place.inputs place c.index-inputs-place.result within in
+    λ bytes.
+    one_read g.R.Source.remaining (map g.R.Source.remaining c.args.inputs.now) c.loop-place.inputs place source c.dump_input.new.source within
+    (inv.to_fault bytes) (known_now g.R.Source.remaining c.args.inputs.now c.loop-place.inputs place source
+    (inv.before.left place (omega arith)) here) (c.in_err-dump_input.ensures.to_fault bytes)
+
+pub returns-clause-reading : goal.returns-clause-reading
+returns-clause-reading g c =
+    all_read g.R.Source.has_failed g.R.Source.has_ended g.R.Source.good_reads g.R.Source.remaining c.args.inputs.now c.loop-place.inputs
+    c.loop-place.place _ c.loop-place.invariant.before (omega arith)

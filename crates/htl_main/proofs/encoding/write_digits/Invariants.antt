@@ -1,0 +1,13 @@
+-- The digits before the rest were written.
+use Rattle.std.proofs.Common.{◌≡◌, length, false}
+use Rattle.htl_main.proofs.EncodeLaws.{DigitsWritten}
+use Rattle.htl_main.proofs.encoding.write_digits.Given as goal
+
+abbrev pub invariant-loop-rest : goal.invariant-loop-rest
+invariant-loop-rest g l = record {
+  written : DigitsWritten l.bytes l.rest (g.W.Sink.contents l.initial.out) (g.W.Sink.contents l.out);
+  fine : g.W.Sink.has_failed l.out ≡ false;
+}
+
+abbrev pub decreases-loop-rest : goal.decreases-loop-rest
+decreases-loop-rest g l = length l.rest

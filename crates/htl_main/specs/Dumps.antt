@@ -1,0 +1,83 @@
+-- What a dump writes (this project's own): the text of every segment of its inputs, or of those before a fault.
+use Rattle.std.specs.Prelude.{◌≡◌, ◌⊎◌, ◌<◌, ℕ, Bool, true, false, List, [], ◌++◌, flat_map, length, map, slice_get, take}
+use Rattle.std.specs.Prelude.{Option, Some, Result, Err}
+use Rattle.std.specs.Io.KnownBytes.{Appends, Consumes}
+use Rattle.htl_device.specs.Devices.{AppendsPrefix}
+use Rattle.htl_segment.specs.Content.{Content}
+use Rattle.htl_segment.specs.Bundles.{bundle, IsRest, Splits}
+use Rattle.htl_text.specs.Texts.{segment_text}
+use Rattle.htl_main.specs.Inputs.{AsksMemory, DecodeAll, Decodes, HasBytes, IsReported}
+use Rattle.htl_main.specs.declared.fault.RunFault.{RunFault}
+use Rattle.htl_main.specs.declared.fault.RunFault.TheVariants.{Segment, Hex, Read, Memory, Write}
+
+-- the texts of segments, one after another
+abbrev pub texts_of : List Content → List ℕ
+texts_of segments = flat_map segment_text segments
+
+-- the known bytes of a sink got the texts of an input's segments
+abbrev pub DumpsInput : Bool → List ℕ → Option (List ℕ) → Option (List ℕ) → Type 0
+DumpsInput hex input old new = (segments : List Content) × Decodes hex input segments × Appends old new (texts_of segments)
+
+-- or those of the segments of all inputs
+abbrev pub Dumps : Bool → List (List ℕ) → Option (List ℕ) → Option (List ℕ) → Type 0
+Dumps hex inputs old new = (segments : List Content) × DecodeAll hex inputs segments × Appends old new (texts_of segments)
+
+-- the failure of a write is what is reported
+abbrev pub is_failed_write : {S : Type 0} → Result S RunFault → Bool
+is_failed_write (Err Write) = true
+is_failed_write other = false
+
+-- What is reported of the source at a place that gave some of the input's bytes, has others left, and whose end was
+-- found or not. While its end isn't found, memory is asked for to keep what was read too.
+abbrev pub IsReportedOfDump : Bool → Option (List ℕ) → Bool → ℕ → List ℕ → RunFault → Type 0
+IsReportedOfDump hex left ended place input (Read at) = at ≡ place
+IsReportedOfDump hex left ended place input Write = Unit {0}
+IsReportedOfDump hex left ended place input Memory =
+    AsksMemory hex input ⊎ ((ended ≡ false) × (read : List ℕ) × (0 < length read) × Consumes (Some input) left read)
+IsReportedOfDump hex left ended place input fault = IsReported hex place input fault
+
+-- the input's bytes begin with those of these segments, if there are any
+abbrev pub AreFirst : Bool → List ℕ → List Content → Type 0
+AreFirst hex input segments = (segments ≡ []) ⊎ ((bytes rest : List ℕ) × HasBytes hex input bytes × Splits bytes segments rest)
+
+-- The segments of an input before a fault: all before its offset; or, of bytes that could not be read on, all that
+-- were read. A text in hexadecimal is read whole first.
+abbrev pub AreBefore : Bool → Option (List ℕ) → List ℕ → RunFault → List Content → Type 0
+AreBefore hex left input (Segment at offset fault) segments =
+    (bytes rest : List ℕ) × HasBytes hex input bytes × Splits bytes segments rest × (offset ≡ length (bundle segments))
+AreBefore false left input (Read at) segments =
+    (read rest : List ℕ) × Consumes (Some input) left read × Splits read segments rest × IsRest rest
+AreBefore true left input (Read at) segments = segments ≡ []
+AreBefore hex left input (Hex at fault) segments = segments ≡ []
+AreBefore hex left input other segments = AreFirst hex input segments
+
+-- their texts were written, of which a failed write may have cut off the last bytes
+abbrev pub AreWritten : RunFault → Option (List ℕ) → Option (List ℕ) → List Content → Type 0
+AreWritten Write old new segments = AppendsPrefix old new (texts_of segments)
+AreWritten fault old new segments = Appends old new (texts_of segments)
+
+-- Why the dump of an input ends before its end, and what was written of it.
+pub record InputStops (hex : Bool) (left : Option (List ℕ)) (ended : Bool) (place : ℕ) (input : List ℕ)
+    (old new : Option (List ℕ)) (fault : RunFault) : Type 0 where
+  pub reported : IsReportedOfDump hex left ended place input fault
+  pub segments : List Content
+  pub are : AreBefore hex left input fault segments
+  pub written : AreWritten fault old new segments
+
+-- Why a dump ends: at one of its inputs, after the segments of those before it and some of its own. The later ones aren't read.
+pub record DumpStops (hex : Bool) (inputs : List (List ℕ)) (lefts : List (Option (List ℕ))) (ends : List Bool)
+    (old new : Option (List ℕ)) (fault : RunFault) : Type 0 where
+  pub place : ℕ
+  pub input : List ℕ
+  pub here : slice_get inputs place ≡ Some input
+  pub left : Option (List ℕ)
+  pub left_is : slice_get lefts place ≡ Some left
+  pub ended : Bool
+  pub ended_is : slice_get ends place ≡ Some ended
+  pub before : List Content
+  pub decoded : DecodeAll hex (take place inputs) before
+  pub reported : IsReportedOfDump hex left ended place input fault
+  pub segments : List Content
+  pub are : AreBefore hex left input fault segments
+  pub written : AreWritten fault old new (before ++ segments)
+  pub unread : (later : ℕ) → place < later → slice_get lefts later ≡ slice_get (map Some inputs) later

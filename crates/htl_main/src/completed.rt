@@ -1,0 +1,89 @@
+//! What a run reports beside the answer that it printed.
+
+ghost use Rattle.std.specs.Prelude.{◌≡◌, List};
+ghost use Rattle.std.specs.List.{list_any};
+ghost use Rattle.htl_segment.specs.Content.{Content};
+ghost use Rattle.htl_case.specs.Cases.{IsCaseOf};
+ghost use Rattle.htl_main.specs.Subjects.{has_subject, is_about, names_handle, names_object};
+
+use crate::coverage::Coverage;
+use htl_case::Case;
+use htl_command::Question;
+use htl_event::{Kind, SharedEvent, base};
+use htl_segment::Segment;
+
+/// What a run that ended well reports beside its answer.
+#[derive(Clone, Copy, Debug, PartialEq, Eq)]
+pub struct Completed {
+    /// How much of its trace the case has.
+    pub coverage: Coverage,
+    /// Whether the case has an event of what the question is about: of its process, in events of each
+    /// kind; of its object, or of its tag of the object, in references and dereferences; or of its
+    /// handle, in opens, closes and bad references. Where it has none, a number may be mistyped. A
+    /// summary is about all events.
+    pub has_subject: bool,
+}
+
+/// Whether the case has an event of what the question is about. The first that is found ends the
+/// walk.
+pub(crate) fn has_subject(question: Question, case: &Case) -> bool
+    ensures { (segments : List Content) → IsCaseOf segments case.now
+        → result ≡ has_subject question segments }
+{
+    any_about(question, case.segments())
+}
+
+/// Whether one of the segments has such an event.
+fn any_about(question: Question, segments: &[Segment]) -> bool
+    ensures { result ≡ list_any (λ s. list_any (is_about question) s.events) segments.now }
+{
+    segments
+        .iter()
+        .any(|segment| has_event_about(question, segment))
+}
+
+/// Whether the segment has such an event.
+fn has_event_about(question: Question, segment: &Segment) -> bool
+    ensures { result ≡ list_any (is_about question) segment.now.events }
+{
+    segment
+        .events()
+        .iter()
+        .any(|event| is_about(question, event))
+}
+
+/// Whether the event is of what the question is about.
+fn is_about(question: Question, event: &SharedEvent) -> bool
+    ensures { result ≡ is_about question event.now }
+{
+    match question {
+        Question::Summary => true,
+        Question::Outstanding { process }
+        | Question::Diff { process, .. }
+        | Question::Bad { process }
+        | Question::Leaks { process } => event.process == process,
+        Question::Tags { object } => names_object(event.kind) && event.object == object,
+        Question::Stacks { object, tag } => {
+            names_object(event.kind) && event.object == object && event.tag == tag
+        }
+        Question::Trace { process, handle } => {
+            names_handle(event.kind)
+                && event.process == process
+                && base(event.handle) == base(handle)
+        }
+    }
+}
+
+/// Whether an event of this kind names a handle.
+fn names_handle(kind: Kind) -> bool
+    ensures { result ≡ names_handle kind }
+{
+    matches!(kind, Kind::Opened | Kind::Closed | Kind::BadRef)
+}
+
+/// Whether an event of this kind names an object.
+fn names_object(kind: Kind) -> bool
+    ensures { result ≡ names_object kind }
+{
+    matches!(kind, Kind::Ref | Kind::Deref)
+}

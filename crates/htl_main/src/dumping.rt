@@ -1,0 +1,311 @@
+//! The run that dumps the segments of sources as text.
+
+ghost use Rattle.std.specs.Prelude.{◌≡◌, ◌⊎◌, ◌+◌, ◌*◌, ◌-◌, ◌<◌, ◌≤◌, ◌^◌};
+ghost use Rattle.std.specs.Prelude.{ℕ, Bool, List, Option, [], All, Some, false, true, drop};
+ghost use Rattle.std.specs.Prelude.{length, map, IfErr, IfSome, MatchResult, OnOk};
+ghost use Rattle.std.specs.Io.KnownBytes.{Appends};
+ghost use Rattle.htl_device.specs.Devices.{AppendsPrefix};
+ghost use Rattle.htl_segment.specs.Bundles.{is_early_end, IsRest};
+ghost use Rattle.htl_segment.specs.Content.{Content};
+ghost use Rattle.htl_segment.specs.Faults.{first_fault};
+ghost use Rattle.htl_segment.specs.declared.fault.Fault.{Fault};
+ghost use Rattle.htl_text.specs.Texts.{segment_text};
+ghost use Rattle.htl_main.specs.Dumping.{FrontDumped, FrontStops, WholeStops};
+ghost use Rattle.htl_main.specs.Dumps.{Dumps, DumpsInput, DumpStops, InputStops};
+ghost use Rattle.htl_main.specs.Dumps.{is_failed_write};
+ghost use Rattle.htl_main.specs.Reads.{FailsOnly, NamesOnly, NeverRead, ReportsFailure};
+ghost use Rattle.htl_main.specs.Readings.{AreRead};
+ghost use Rattle.htl_main.specs.Sources.{AreReadToFault, IsReadToFault};
+
+use crate::fault::RunFault;
+use crate::printing::write_lines;
+use htl_device::{MAX_READ_LEN, MAX_READS, Sink, Source, read_whole};
+use htl_segment::{Fault, SegmentBytes, from_hex};
+use htl_text::dump;
+use std::alloc::Global;
+
+/// Writes the text of every segment of the sources in their order, each as soon as its bytes were
+/// read. It asks for no case.
+///
+/// The first fault ends the run: no later source is read, and of its own bytes none after the read
+/// that gave the fault. What was written then are the texts of the segments before the fault, and of
+/// these some first part where the write of one failed. A text in hexadecimal is gathered whole
+/// first; of bytes no more is kept than one segment that isn't there whole yet, and one read.
+pub fn dump_from<R: Source, W: Sink>(
+    alloc: Global,
+    hex: bool,
+    inputs: &mut [R],
+    out: &mut W,
+) -> Result<(), RunFault>
+    requires inputs { All (λ source. R.has_failed source ≡ false) inputs.old }
+    requires out { W.has_failed out.old ≡ false }
+    // The texts of all segments are written; or of those before what is reported.
+    ensures ok { (texts : List (List ℕ)) → map R.remaining inputs.old ≡ map Some texts
+        → OnOk result (Dumps hex texts (W.contents out.old) (W.contents out.new)) }
+    ensures stops { (texts : List (List ℕ)) → map R.remaining inputs.old ≡ map Some texts
+        → IfErr result (λ fault. DumpStops hex texts (map R.remaining inputs.new)
+        (map R.has_ended inputs.new) (W.contents out.old) (W.contents out.new) fault) }
+    ensures failed { W.has_failed out.new ≡ is_failed_write result }
+    ensures reading { AreRead R.has_failed R.has_ended R.good_reads R.remaining
+        inputs.old inputs.new result }
+    ensures to_fault { hex ≡ false
+        → AreReadToFault (map R.remaining inputs.old) (map R.remaining inputs.new) }
+{
+    for (place, source) in inputs.iter_mut().enumerate() {
+        dump_input(alloc, hex, place as u64, source, out)?;
+    }
+    Ok(())
+}
+
+/// Dumps the source at a place.
+fn dump_input<R: Source, W: Sink>(
+    alloc: Global,
+    hex: bool,
+    place: u64,
+    source: &mut R,
+    out: &mut W,
+) -> Result<(), RunFault>
+    requires fresh { R.has_failed source.old ≡ false }
+    requires out { W.has_failed out.old ≡ false }
+    ensures ok { OnOk result (IfSome (R.remaining source.old)
+        (λ bytes. DumpsInput hex bytes (W.contents out.old) (W.contents out.new))) }
+    ensures stops { IfErr result (λ fault. IfSome (R.remaining source.old) (λ bytes.
+        InputStops hex (R.remaining source.new) (R.has_ended source.new) place bytes
+        (W.contents out.old) (W.contents out.new) fault)) }
+    ensures failed { W.has_failed out.new ≡ is_failed_write result }
+    ensures ended { OnOk result (R.has_ended source.new ≡ true) }
+    ensures reported { ReportsFailure place (R.has_failed source.new) result }
+    ensures read { FailsOnly place (R.has_failed source.new) (R.good_reads source.new)
+        (R.remaining source.old) MAX_READS result }
+    ensures bounded { R.good_reads source.new ≤ R.good_reads source.old + MAX_READS }
+    ensures named { NamesOnly place result }
+    ensures to_fault { hex ≡ false
+        → IsReadToFault (R.remaining source.old) (R.remaining source.new) }
+{
+    if hex {
+        dump_digits(alloc, place, source, out)
+    } else {
+        dump_bundle(alloc, place, source, out)
+    }
+}
+
+/// Dumps the source at a place, which writes its segments in hexadecimal.
+fn dump_digits<R: Source, W: Sink>(
+    alloc: Global,
+    place: u64,
+    source: &mut R,
+    out: &mut W,
+) -> Result<(), RunFault>
+    requires fresh { R.has_failed source.old ≡ false }
+    requires out { W.has_failed out.old ≡ false }
+    ensures ok { OnOk result (IfSome (R.remaining source.old)
+        (λ text. DumpsInput true text (W.contents out.old) (W.contents out.new))) }
+    ensures stops { IfErr result (λ fault. IfSome (R.remaining source.old) (λ text.
+        InputStops true (R.remaining source.new) (R.has_ended source.new) place text
+        (W.contents out.old) (W.contents out.new) fault)) }
+    ensures failed { W.has_failed out.new ≡ is_failed_write result }
+    ensures ended { OnOk result (R.has_ended source.new ≡ true) }
+    ensures reported { ReportsFailure place (R.has_failed source.new) result }
+    ensures read { FailsOnly place (R.has_failed source.new) (R.good_reads source.new)
+        (R.remaining source.old) MAX_READS result }
+    ensures bounded { R.good_reads source.new ≤ R.good_reads source.old + MAX_READS }
+    ensures named { NamesOnly place result }
+{
+    match read_whole(alloc, source) {
+        Ok(text) => dump_text(alloc, place, &text, out),
+        Err(fault) => Err(RunFault::of_read(place, fault)),
+    }
+}
+
+/// Dumps the text in hexadecimal of the input at a place.
+fn dump_text<W: Sink>(alloc: Global, place: u64, text: &[u8], out: &mut W) -> Result<(), RunFault>
+    requires { W.has_failed out.old ≡ false }
+    ensures ok { OnOk result
+        (DumpsInput true text.now (W.contents out.old) (W.contents out.new)) }
+    ensures stops { IfErr result (λ fault. (left : Option (List ℕ)) (ended : Bool)
+        → InputStops true left ended place text.now
+        (W.contents out.old) (W.contents out.new) fault) }
+    ensures failed { W.has_failed out.new ≡ is_failed_write result }
+    ensures no_read { NeverRead result }
+    ensures named { NamesOnly place result }
+{
+    match from_hex(alloc, text) {
+        Ok(bytes) => dump_whole(alloc, place, &bytes, out),
+        Err(fault) => Err(RunFault::of_hex(place, fault)),
+    }
+}
+
+/// Dumps all bytes of the input at a place.
+fn dump_whole<W: Sink>(alloc: Global, place: u64, bytes: &[u8], out: &mut W) -> Result<(), RunFault>
+    requires { W.has_failed out.old ≡ false }
+    ensures ok { OnOk result (FrontDumped bytes.now [] (W.contents out.old) (W.contents out.new)) }
+    ensures stops { IfErr result (λ fault.
+        WholeStops place bytes.now (W.contents out.old) (W.contents out.new) fault) }
+    ensures failed { W.has_failed out.new ≡ is_failed_write result }
+{
+    let rest = dump_front(alloc, place, 0, bytes, out)?;
+    finish(place, (bytes.len() - rest.len()) as u64, rest)
+}
+
+/// Dumps the source at a place, which gives the bytes of its segments. Each read is dumped at once.
+fn dump_bundle<R: Source, W: Sink>(
+    alloc: Global,
+    place: u64,
+    source: &mut R,
+    out: &mut W,
+) -> Result<(), RunFault>
+    requires fresh { R.has_failed source.old ≡ false }
+    requires out { W.has_failed out.old ≡ false }
+    ensures ok { OnOk result (IfSome (R.remaining source.old)
+        (λ bytes. DumpsInput false bytes (W.contents out.old) (W.contents out.new))) }
+    ensures stops { IfErr result (λ fault. IfSome (R.remaining source.old) (λ bytes.
+        InputStops false (R.remaining source.new) (R.has_ended source.new) place bytes
+        (W.contents out.old) (W.contents out.new) fault)) }
+    ensures failed { W.has_failed out.new ≡ is_failed_write result }
+    ensures ended { OnOk result (R.has_ended source.new ≡ true) }
+    ensures reported { ReportsFailure place (R.has_failed source.new) result }
+    ensures read { FailsOnly place (R.has_failed source.new) (R.good_reads source.new)
+        (R.remaining source.old) MAX_READS result }
+    ensures bounded { R.good_reads source.new ≤ R.good_reads source.old + MAX_READS }
+    ensures named { NamesOnly place result }
+    ensures to_fault { IsReadToFault (R.remaining source.old) (R.remaining source.new) }
+{
+    let mut buffer = [0u8; MAX_READ_LEN];
+    dump_within(alloc, place, source, &mut buffer, MAX_READS, out)
+}
+
+/// The same in reads of the buffer's length, of which at most `most` give bytes.
+fn dump_within<R: Source, W: Sink>(
+    alloc: Global,
+    place: u64,
+    source: &mut R,
+    buffer: &mut [u8],
+    most: u64,
+    out: &mut W,
+) -> Result<(), RunFault>
+    requires fresh { R.has_failed source.old ≡ false }
+    requires out { W.has_failed out.old ≡ false }
+    requires whole { length buffer.old ≡ MAX_READ_LEN }
+    requires few { most * MAX_READ_LEN < 2 ^ 64 }
+    ensures ok { OnOk result (IfSome (R.remaining source.old)
+        (λ bytes. DumpsInput false bytes (W.contents out.old) (W.contents out.new))) }
+    ensures stops { IfErr result (λ fault. IfSome (R.remaining source.old) (λ bytes.
+        InputStops false (R.remaining source.new) (R.has_ended source.new) place bytes
+        (W.contents out.old) (W.contents out.new) fault)) }
+    ensures failed { W.has_failed out.new ≡ is_failed_write result }
+    ensures ended { OnOk result (R.has_ended source.new ≡ true) }
+    ensures reported { ReportsFailure place (R.has_failed source.new) result }
+    ensures read { FailsOnly place (R.has_failed source.new) (R.good_reads source.new)
+        (R.remaining source.old) most result }
+    ensures bounded { R.good_reads source.new ≤ R.good_reads source.old + most }
+    ensures named { NamesOnly place result }
+    ensures to_fault { IsReadToFault (R.remaining source.old) (R.remaining source.new) }
+{
+    let mut held = Vec::new(alloc);
+    let mut start = 0;
+    for _read in 0..most {
+        let Ok(count) = source.read(buffer) else {
+            return Err(RunFault::Read { input: place });
+        };
+        if count == 0 {
+            return finish(place, start, &held);
+        }
+        held.extend_from_slice(&buffer[..count])?;
+        let left = dump_front(alloc, place, start, &held, out)?.len();
+        start += (held.len() - left) as u64;
+        keep_last(&mut held, left);
+    }
+    Err(RunFault::Read { input: place })
+}
+
+/// Leaves the last bytes, of which there are `count`.
+fn keep_last(bytes: &mut Vec<u8>, count: usize)
+    requires { count ≤ length bytes.old.items }
+    ensures { bytes.new.items ≡ drop (length bytes.old.items - count) bytes.old.items }
+{
+    bytes.rotate_left(bytes.len() - count);
+    bytes.truncate(count);
+}
+
+/// Ends the input at a place, whose last bytes are left from this offset on and make no segment.
+fn finish(place: u64, offset: u64, rest: &[u8]) -> Result<(), RunFault>
+    requires { IsRest rest.now }
+    ensures ok { OnOk result (rest.now ≡ []) }
+    ensures stops { IfErr result (λ fault. (first : Fault)
+        × (fault ≡ RunFault.Segment place offset first)
+        × (0 < length rest.now) × (first_fault rest.now ≡ Some first)) }
+{
+    if rest.is_empty() {
+        return Ok(());
+    }
+    match SegmentBytes::check(rest) {
+        Ok(_) => Ok(()),
+        Err(fault) => Err(RunFault::Segment {
+            input: place,
+            offset,
+            fault,
+        }),
+    }
+}
+
+/// Dumps the whole segments at the front of some bytes of the input at a place, which follow `start`
+/// others. What more bytes may make a segment of is left.
+fn dump_front<'a, W: Sink>(
+    alloc: Global,
+    place: u64,
+    start: u64,
+    bytes: &'a [u8],
+    out: &mut W,
+) -> Result<&'a [u8], RunFault>
+    requires out { W.has_failed out.old ≡ false }
+    requires room { start + length bytes.now < 2 ^ 64 }
+    ensures dumped { MatchResult result
+        (λ rest. FrontDumped bytes.now rest.now (W.contents out.old) (W.contents out.new)
+        × IsRest rest.now)
+        (λ fault. FrontStops place start bytes.now (W.contents out.old) (W.contents out.new) fault) }
+    ensures failed { W.has_failed out.new ≡ is_failed_write result }
+{
+    let mut rest = bytes;
+    loop {
+        match SegmentBytes::check(rest) {
+            Ok(segment) => {
+                dump_segment(alloc, &segment, out)?;
+                rest = &rest[segment.byte_len()..];
+            }
+            Err(fault) if is_early_end(fault) => return Ok(rest),
+            Err(fault) => {
+                return Err(RunFault::Segment {
+                    input: place,
+                    offset: start + (bytes.len() - rest.len()) as u64,
+                    fault,
+                });
+            }
+        }
+    }
+}
+
+/// Whether more bytes may make a segment of those that have this fault.
+fn is_early_end(fault: Fault) -> bool
+    ensures { result ≡ is_early_end fault }
+{
+    matches!(fault, Fault::Short | Fault::Cut)
+}
+
+/// Writes the text of a segment.
+fn dump_segment<W: Sink>(
+    alloc: Global,
+    segment: &SegmentBytes<'_>,
+    out: &mut W,
+) -> Result<(), RunFault>
+    requires { W.has_failed out.old ≡ false }
+    ensures ok { OnOk result
+        (Appends (W.contents out.old) (W.contents out.new) (segment_text segment.now)) }
+    ensures err { IfErr result (λ fault. ((fault ≡ RunFault.Memory) × (out.new ≡ out.old))
+        ⊎ ((fault ≡ RunFault.Write)
+        × AppendsPrefix (W.contents out.old) (W.contents out.new) (segment_text segment.now))) }
+    ensures failed { W.has_failed out.new ≡ is_failed_write result }
+{
+    let segment = segment.to_segment(alloc)?;
+    let text = dump(alloc, &segment)?;
+    write_lines(out, &text)
+}

@@ -1,0 +1,4 @@
+-- What public contracts cite: nothing.
+
+-- What only private contracts cite.
+pub mod Cuts

@@ -1,0 +1,24 @@
+//! Where bytes can be cut between segments, as their headers tell.
+
+ghost use Rattle.std.specs.Prelude.{◌≤◌, length, take};
+ghost use Rattle.htl_reading.specs.Cuts.{IsCut};
+
+use htl_segment::whole_len;
+
+/// Where the first segment ends that ends at `least` or after it, as the headers tell; or where
+/// they stop telling.
+pub fn cut(bytes: &[u8], least: usize) -> usize
+    ensures inside { result ≤ length bytes.now }
+    ensures cut { IsCut (take result bytes.now) }
+{
+    let mut place = 0;
+    loop {
+        if place >= least {
+            return place;
+        }
+        let Some(len) = whole_len(&bytes[place..]) else {
+            return place;
+        };
+        place += len;
+    }
+}

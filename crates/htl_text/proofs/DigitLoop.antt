@@ -1,0 +1,119 @@
+-- Digits that are read one after another: the number so far, and texts that write none.
+use Rattle.std.proofs.Common.{◌≡◌, ◌≤◌, ◌<◌, ◌+◌, ◌*◌, ℕ, zero, suc, Bool, true, false, List}
+use Rattle.std.proofs.Common.{[], ◌∷◌, length, take, drop, get_or, refl, sym, ap, ◌∙◌, arith, leb}
+use Rattle.std.proofs.Common.{◌++◌, take-append-drop, mul-le-mul, le_refl, le_trans}
+use Rattle.std.specs.Prelude.{Some, None, ◌&&◌, if◌then◌else◌, codes, nat_eq}
+use Rattle.std.proofs.lemmas.List.{length-drop}
+use Rattle.std.specs.List.{list_all, starts_with}
+use Rattle.std.specs.Char.{digit_value, is_digit}
+use Rattle.std.specs.Str.Parse.{AllDigits, digits_value, digits_value_after}
+use Rattle.std.proofs.lemmas.Bool.{le-leb, le-ltb}
+use Rattle.std.proofs.lemmas.Bool.Decides.{nat_tests}
+use Rattle.std.proofs.lemmas.Int.Digits.{digits_more, digits_value_more}
+use Rattle.htl_numbers.specs.Numbers.{hexadecimal_number, number_of, without_0x}
+use Rattle.htl_text.specs.Lines.{after_key, hexadecimal_value}
+use Rattle.htl_text.proofs.Numerals.{number_read}
+
+and_false : (a : Bool) → (a && false) ≡ false
+and_false true = refl
+and_false false = refl
+
+not_all : (radix : ℕ) (text : List ℕ) (i : ℕ) → i < length text → radix ≤ digit_value (get_or text i 0)
+    → list_all (λ c. is_digit c radix) text ≡ false
+not_all radix [] i within other = absurd (omega arith)
+not_all radix (c ∷ cs) zero within other = rw (le-ltb (digit_value c) radix other) refl
+not_all radix (c ∷ cs) (suc i) within other = rw (not_all radix cs i (omega arith) other) (and_false (is_digit c radix))
+
+-- a byte is no digit
+pub other_byte : (radix most : ℕ) (text : List ℕ) (i : ℕ) → i < length text → radix ≤ digit_value (get_or text i 0)
+    → None ≡ number_of radix most text
+unfolding number_of
+other_byte radix most text i within other = rw (not_all radix text i within other) refl
+
+value_after : (radix n : ℕ) (ds es : List ℕ)
+    → digits_value_after radix n (ds ++ es) ≡ digits_value_after radix (digits_value_after radix n ds) es
+value_after radix n [] es = refl
+value_after radix n (d ∷ ds) es = value_after radix (n * radix + digit_value d) ds es
+
+value_grows : (radix n : ℕ) (es : List ℕ) → 1 ≤ radix → n ≤ digits_value_after radix n es
+value_grows radix n [] one = omega arith
+value_grows radix n (e ∷ es) one =
+    let step : n * 1 ≤ n * radix = mul-le-mul (le_refl n) one in
+    let rest = value_grows radix (n * radix + digit_value e) es one in
+    let d = digit_value e in le_trans (omega (arith, step)) rest
+
+front_value : (radix : ℕ) (text : List ℕ) (i : ℕ) → 1 ≤ radix → digits_value radix (take i text) ≤ digits_value radix text
+front_value radix text i one =
+    let whole = ap (digits_value radix) (sym (take-append-drop i text)) ∙ value_after radix 0 (take i text) (drop i text) in
+    rw whole (value_grows radix (digits_value radix (take i text)) (drop i text) one)
+
+above : (a b : ℕ) → b < a → leb a b ≡ false
+above a b l = grind (arith, nat_tests)
+
+no_number : (a b : Bool) (n : ℕ) → None ≡ (if a && (b && false) then Some n else None)
+no_number a true n = rw (and_false a) refl
+no_number a false n = rw (and_false a) refl
+
+-- the first digits write too great a number
+pub too_great : (radix most : ℕ) (text : List ℕ) (i : ℕ) → 1 ≤ radix → most < digits_value radix (take i text)
+    → None ≡ number_of radix most text
+unfolding number_of
+too_great radix most text i one great =
+    let more = front_value radix text i one in
+    rw (above (digits_value radix text) most (omega (arith, great, more))) (no_number _ _ _)
+
+-- one digit more
+pub digit_next : (radix : ℕ) (text : List ℕ) (i number digit : ℕ) → i < length text → AllDigits radix (take i text)
+    → number ≡ digits_value radix (take i text) → digit ≡ digit_value (get_or text i 0) → digit < radix
+    → AllDigits radix (take (i + 1) text) × (number * radix + digit ≡ digits_value radix (take (i + 1) text))
+digit_next radix text i number digit within all is value low =
+    (digits_more radix text i within all (rw (← value) low), rw (digits_value_more radix text i within, ← is, ← value) refl)
+
+-- one digit more is too much
+pub overflow : (radix most : ℕ) (text : List ℕ) (i number digit : ℕ) → i < length text → AllDigits radix (take i text)
+    → number ≡ digits_value radix (take i text) → digit ≡ digit_value (get_or text i 0) → digit < radix → 1 ≤ radix
+    → most < number * radix + digit → None ≡ number_of radix most text
+overflow radix most text i number digit within all is value low one great =
+    let next = digit_next radix text i number digit within all is value low in
+    too_great radix most text (i + 1) one (rw (← next.1) great)
+
+-- all are read
+pub all_digits_read : (radix most : ℕ) (text : List ℕ) (number : ℕ) → 0 < length text → AllDigits radix text
+    → number ≡ digits_value radix text → number ≤ most → Some number ≡ number_of radix most text
+all_digits_read radix most text number some all is low =
+    sym (number_read radix most number text (record { numeral = (some, all); value = sym is }) low)
+
+pub no_digits : (radix most : ℕ) (text : List ℕ) → length text ≡ 0 → None ≡ number_of radix most text
+unfolding number_of
+no_digits radix most [] none = refl
+no_digits radix most (c ∷ cs) none = absurd (omega (arith, none))
+
+-- what follows `0x`
+digits_of : (text digits : List ℕ) (b : Bool) → (if b then Some (drop 2 text) else None) ≡ Some digits
+    → (b ≡ true) × (digits ≡ drop 2 text)
+digits_of text digits true is = (refl, let e : drop 2 text ≡ digits = cc is in sym e)
+digits_of text digits false is = absurd (cc is)
+
+none_of : (text : List ℕ) (b : Bool) → (if b then Some (drop 2 text) else None) ≡ None → b ≡ false
+none_of text true is = absurd (cc is)
+none_of text false is = refl
+
+pub no_0x : (most_digits most : ℕ) (text : List ℕ) → after_key (codes "0x") text ≡ None → None ≡ hexadecimal_value most_digits most text
+unfolding after_key hexadecimal_value
+no_0x most_digits most text none = rw (none_of text (starts_with nat_eq text (codes "0x")) none) refl
+
+pub long_after_0x : (most_digits most : ℕ) (text digits : List ℕ) → after_key (codes "0x") text ≡ Some digits → most_digits < length digits
+    → None ≡ hexadecimal_value most_digits most text
+unfolding after_key hexadecimal_value
+long_after_0x most_digits most text digits found long =
+    let is = digits_of text digits (starts_with nat_eq text (codes "0x")) found in
+    rw (is.0, above (length text) (2 + most_digits) (omega (arith, length-drop 2 text, ap length is.1, long))) refl
+
+pub after_0x : (most_digits most : ℕ) (text digits : List ℕ) → after_key (codes "0x") text ≡ Some digits → length digits ≤ most_digits
+    → most_digits ≤ 16 → number_of 16 most digits ≡ hexadecimal_value most_digits most text
+unfolding after_key hexadecimal_value hexadecimal_number without_0x
+after_0x most_digits most text digits found few low =
+    let is = digits_of text digits (starts_with nat_eq text (codes "0x")) found in
+    let short : length (drop 2 text) ≤ most_digits = omega (arith, ap length is.1, few) in
+    let all : length text ≤ 2 + most_digits = omega (arith, length-drop 2 text, short) in
+    rw (is.1, is.0, le-leb (length text) (2 + most_digits) all, le-leb (length (drop 2 text)) 16 (omega (arith, short, low))) refl

@@ -1,0 +1,10 @@
+-- The digits so far write the number.
+use Rattle.std.proofs.Common.{◌≡◌, take}
+use Rattle.std.specs.Str.Parse.{AllDigits, digits_value}
+use Rattle.htl_text.proofs.digits.number.Given as goal
+
+abbrev pub invariant-loop-byte : goal.invariant-loop-byte
+invariant-loop-byte l = record {
+  digits : AllDigits l.radix (take l.byte-index l.text);
+  value : l.number ≡ digits_value l.radix (take l.byte-index l.text);
+}

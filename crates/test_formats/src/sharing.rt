@@ -1,0 +1,54 @@
+//! Bundles that several workers decode, beside one worker.
+
+use htl_reading::decode_bundle_by;
+use htl_segment::{Fault, Segment, decode_bundle};
+use std::alloc::Global;
+use std::process::Abort;
+use std::thread::Threads;
+
+/// An empty segment, whose number stands at 12.
+const EMPTY: [u8; 32] = *b"HLS1\x01\0\x01\0\0\0\0\0\0\0\0\0\x07\0\0\0\0\0\0\0\0\0\0\0\x20\0\0\0";
+
+/// So many empty segments.
+fn bundle(rt: &impl Abort, alloc: Global, count: u32) -> Vec<u8> {
+    let mut bytes = Vec::new(alloc);
+    for number in 0..count {
+        let mut segment = EMPTY;
+        for (cell, byte) in segment.iter_mut().skip(12).zip(&number.to_le_bytes()) {
+            *cell = *byte;
+        }
+        bytes.extend_from_slice(&segment).expect(rt, "the memory");
+    }
+    bytes
+}
+
+/// What tells the numbers of the segments in their order, or the fault.
+fn told(decoded: Result<Vec<Segment>, (u64, Fault)>) -> Result<u64, (u64, Fault)> {
+    let segments = decoded?;
+    Ok(
+        segments.iter().fold(1u64, |told, segment| {
+            told.wrapping_mul(31).wrapping_add(segment.number() as u64)
+        }),
+    )
+}
+
+fn by_all(rt: &(impl Abort + Threads + Sync), alloc: Global, bytes: &[u8]) {
+    let alone = told(decode_bundle(alloc, bytes));
+    for workers in [1, 2, 3, 8] {
+        assert_eq!(rt; told(decode_bundle_by(rt, alloc, workers, bytes)), alone);
+    }
+}
+
+#[test]
+fn shared_by_any_number_of_workers(rt: HostRuntime) {
+    let alloc = rt.alloc();
+    let mut bytes = bundle(&rt, alloc, 3_000);
+    by_all(&rt, alloc, &bytes);
+    by_all(&rt, alloc, bytes.get(..95_990).expect(&rt, "a cut end"));
+    for place in [95_968, 60_004, 31_999] {
+        if let Some(cell) = bytes.get_mut(place) {
+            *cell = 0xFF;
+        }
+        by_all(&rt, alloc, &bytes);
+    }
+}

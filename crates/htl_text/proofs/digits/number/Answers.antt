@@ -14,7 +14,7 @@ returns-then-digit-radix-clause-value c =
 
 pub returns-in_err-checked_mul-clause-value : goal.returns-in_err-checked_mul-clause-value
 returns-in_err-checked_mul-clause-value c =
-    let one : 1 ≤ c.args.radix = elim (c.requires) [ | inl e ↦ omega (arith, e) | inr e ↦ omega (arith, e) ] in
+    let one : 1 ≤ c.args.radix = elim (c.requires) [ inl e ↦ omega (arith, e) | inr e ↦ omega (arith, e) ] in
     let low : c.digit_value-digit.result < c.args.radix = omega (arith, c.if-digit-radix.false) in
     let number = c.loop-byte.number * c.args.radix in
     elim (cases_lt number (2 ^ 64)) [
@@ -26,7 +26,7 @@ returns-in_err-checked_mul-clause-value c =
 
 pub returns-in_err-number-clause-value : goal.returns-in_err-number-clause-value
 returns-in_err-number-clause-value c =
-    let one : 1 ≤ c.args.radix = elim (c.requires) [ | inl e ↦ omega (arith, e) | inr e ↦ omega (arith, e) ] in
+    let one : 1 ≤ c.args.radix = elim (c.requires) [ inl e ↦ omega (arith, e) | inr e ↦ omega (arith, e) ] in
     let low : c.digit_value-digit.result < c.args.radix = omega (arith, c.if-digit-radix.false) in
     let product : c.in_ok-checked_mul.field-0 ≡ c.loop-byte.number * c.args.radix = c.in_ok-checked_mul.ensures.1 in
     let number = c.in_ok-checked_mul.field-0 + c.digit_value-digit.result in
@@ -57,7 +57,7 @@ returns-then-number-most-clause-value c =
 
 pub returns-else-number-most-clause-value : goal.returns-else-number-most-clause-value
 returns-else-number-most-clause-value c =
-    let one : 1 ≤ c.args.radix = elim (c.requires) [ | inl e ↦ omega (arith, e) | inr e ↦ omega (arith, e) ] in
+    let one : 1 ≤ c.args.radix = elim (c.requires) [ inl e ↦ omega (arith, e) | inr e ↦ omega (arith, e) ] in
     let inv = c.loop-byte.invariant in
     too_great c.args.radix c.args.most c.args.text.now c.loop-byte.byte-index one (rw (← inv.value) (omega (arith, c.if-number-most.false)))
 

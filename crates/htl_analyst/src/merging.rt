@@ -88,7 +88,7 @@ impl<A: Allocator + Clone> Analyst<A> {
     ghost use Rattle.htl_analyst.specs.StepParts.{IsHeldOfBoth, AreHeldOfBoth, AreGreaterOf};
 
     /// Takes in all that the other analyst has taken. What that one has folded further is copied,
-    /// and the segments that it holds are shared. All growths come before the first change.
+    /// and the segments that it holds are shared. All allocations come before the first change.
     pub fn merge(&mut self, other: &Analyst<A>) -> Result<(), MergeFault>
         ensures merged { OnOk result (IsMerge self.old other.now self.new) }
         ensures keys { OnOk result ((p n : ℕ) → HasTaken self.new p n

@@ -23,7 +23,7 @@ pub enum CaseFault {
     /// The least sequence that is in two different segments.
     #[error("C5({0})")]
     SequenceTwice(u64),
-    /// Memory for a growth was refused. It comes after `TwoContents` and before the faults that are
+    /// An allocation was refused. It comes after `TwoContents` and before the faults that are
     /// tried later.
     #[error("C6")]
     NoMemory,
@@ -43,7 +43,7 @@ pub enum PlayFault {
     /// The step at this place names analysts that are there and a segment that isn't.
     #[error("P2({0})")]
     NoSegment(u64),
-    /// Memory for a growth was refused. No step names an analyst or a segment that isn't there.
+    /// An allocation was refused. No step names an analyst or a segment that isn't there.
     #[error("P3")]
     NoMemory,
 }

@@ -22,7 +22,7 @@ pub enum ParseFault {
     /// ends with a line feed and goes to standard error.
     #[error("{0}")]
     Usage(String),
-    /// Memory for a growth was refused.
+    /// An allocation was refused.
     #[error("hleak: out of memory")]
     Memory,
 }

@@ -32,7 +32,7 @@ pub fn write_whole<W: Sink>(out: &mut W, text: &[u8]) -> Result<(), Failed>
 pub enum ReadFault {
     /// A read failed, or more than `MAX_READS` of them gave bytes.
     Failed,
-    /// Memory for a growth was refused.
+    /// An allocation was refused.
     NoMemory,
 }
 

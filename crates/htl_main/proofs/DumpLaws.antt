@@ -80,7 +80,7 @@ front_next bytes rest n s old mid new so_far front written = record {
       (Appends-trans old mid new (texts_of so_far.segments) (segment_text s) so_far.written written);
 }
 
--- the rest begins behind the segments
+-- the rest begins after the segments
 rest_at : (bytes rest : List ℕ) (ss : List Content) → Splits bytes ss rest → length bytes - length rest ≡ length (bundle ss)
 rest_at bytes rest ss split = omega (arith, ap length split.parts, length-append (bundle ss) rest)
 

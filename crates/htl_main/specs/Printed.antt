@@ -85,7 +85,7 @@ abbrev pub WorkersFit : ℕ → Type 0
 WorkersFit workers = (0 < workers) × (workers ≤ 8)
 
 -- Printed: what a run comes to. Its inputs are decoded in order, each to its end, and the first fault ends the
--- run. (A failed read or write, a refused growth and a refused thread are no faults of what is given.)
+-- run. (A failed read or write, a refused allocation and a refused thread are no faults of what is given.)
 abbrev pub Printed : Job → List (List ℕ) → Option (List ℕ) → Result (List ℕ) RunFault → Type 0
 Printed job inputs symbols (Err Workers) = WorkersFit job.workers → ⊥
 Printed job inputs symbols (Err (Segment at offset fault)) =

@@ -55,7 +55,7 @@ pub enum RunFault {
     /// A write failed, or took none of some bytes.
     #[error("hleak: output: write failed")]
     Write,
-    /// Memory for a growth was refused.
+    /// An allocation was refused.
     #[error("hleak: out of memory")]
     Memory,
     /// The system refused to start a worker. No run answers it, since none needs a thread.

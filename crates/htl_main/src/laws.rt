@@ -14,7 +14,7 @@ ghost use Rattle.htl_main.specs.declared.coverage.Coverage.{Coverage};
 ghost use Rattle.htl_main.specs.declared.fault.RunFault.{RunFault};
 
 /// Inputs and a symbol table come to one text or to one fault, and never to both. The number of
-/// workers is no part of it, where it is allowed. (A refused growth or thread and a failed read or
+/// workers is no part of it, where it is allowed. (A refused allocation or thread and a failed read or
 /// write are no faults of what is given.)
 pub fn one_outcome()
     ensures one { (job : Job) (inputs : List (List ℕ)) (symbols : Option (List ℕ))

@@ -60,7 +60,7 @@ no_rest b rest ss cut split is_rest = no_rest_of cut.wholes ss rest cut.each spl
 
 -- ---- one header after the other
 
--- the header at the front of bytes tells how many of them are whole
+-- the header at the front of bytes says how many of them are whole
 pub whole_front : (b : List ℕ) (n : ℕ) → header_fault b ≡ None → n ≡ length_in b → 32 ≤ n → n ≤ length b → IsWhole (take n b)
 whole_front b n none is long inside =
     let len : length (take n b) ≡ n = omega (arith, length-take n b) in

@@ -51,7 +51,7 @@ list_refused a b left rest ss ts cut first is_rest second some =
     let zero_more : length a + 0 ≡ length a = omega arith in
     rw zero_more at (second_refused a b left ss 0 faults.NoMemory cut first is_rest (first_asked b rest ts second some))
 
--- ---- a part behind
+-- ---- a part after
 
 pub first_refused : (a b : List ℕ) (offset : ℕ) (fault : Fault) → IsRefused a offset fault → IsRefused (a ++ b) offset fault
 first_refused a b offset fault refused =

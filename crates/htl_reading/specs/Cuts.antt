@@ -4,7 +4,7 @@ use Rattle.std.specs.List.{flat_map}
 use Rattle.htl_segment.specs.Reading.{length_in}
 use Rattle.htl_segment.specs.Faults.{header_fault}
 
--- a header without a fault, and as many bytes as it tells
+-- a header without a fault, and as many bytes as it says
 pub record IsWhole (bytes : List ℕ) : Type 0 where
   pub header : header_fault bytes ≡ None
   pub len : length_in bytes ≡ length bytes

@@ -55,7 +55,7 @@ pub fn new_caches(alloc: Global, workers: u32) -> Vec<StackCache> {
 }
 
 /// The segments that some bytes of a bundle begin with, and the bytes left, of which more bytes may
-/// make one. A refusal tells the offset of the refused segment.
+/// make one. A refusal names the offset of the refused segment.
 ///
 /// As many workers take part as there are caches, each with one of its own. A worker for which no
 /// thread can be made works in this one.

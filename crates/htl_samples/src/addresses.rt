@@ -7,7 +7,7 @@ use htl_event::{MAX_FRAMES, SharedStack, Stack};
 use htl_segment::StackCache;
 use std::alloc::Global;
 
-/// A stack of these addresses, the innermost call first. Those behind the 64th are left out.
+/// A stack of these addresses, the innermost call first. Those after the 64th are left out.
 pub fn stack(frames: &[u64]) -> Stack {
     let mut stack = Stack::new();
     for frame in frames {

@@ -14,7 +14,7 @@ pub enum SampleFault {
     /// The parts are no segment.
     #[error("no segment: {0}")]
     Segment(Fault),
-    /// Memory for a growth was refused.
+    /// An allocation was refused.
     #[error("out of memory")]
     NoMemory,
 }

@@ -19,7 +19,7 @@ use std::str::SplitWhitespace;
 /// | `D 6 0x1000 Lky8` | a dereference |
 /// | `exit 7` | a process exit |
 ///
-/// It is of process 4 and thread 12, or of another process where `process=5` stands behind the
+/// It is of process 4 and thread 12, or of another process where `process=5` stands after the
 /// fields.
 pub fn event(line: &str) -> Result<Event, SampleFault> {
     let (fields, frames) = line.split_once('[').unwrap_or((line, "]"));
@@ -127,7 +127,7 @@ pub(crate) fn narrow(word: &str) -> Result<u32, SampleFault> {
     u32::try_from(number(word)?).map_err(|_| SampleFault::Line)
 }
 
-/// A number in decimal digits, or in hexadecimal ones behind `0x`.
+/// A number in decimal digits, or in hexadecimal ones after `0x`.
 pub(crate) fn number(word: &str) -> Result<u64, SampleFault> {
     let parsed = match word.strip_prefix("0x") {
         Some(digits) => u64::from_str_radix(digits, 16),

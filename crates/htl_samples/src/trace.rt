@@ -23,7 +23,7 @@ impl Trace {
     ghost use Rattle.std.specs.Prelude.{All, IfOk};
     ghost use Rattle.htl_samples.specs.Samples.{IsOfTrace};
 
-    /// The segment that a line writes: its processor and number, and behind a colon its events, as
+    /// The segment that a line writes: its processor and number, and after a colon its events, as
     /// `0/1: O 1 0x44, C 2 0x44`. It is of version 2 where it has a process exit, else of version
     /// 1.
     pub fn segment(self, alloc: Global, line: &str) -> Result<Segment, SampleFault>

@@ -187,7 +187,7 @@ parts_encoded head left n s len long front =
     sym (take-append-drop n (head ++ left)) ∙ ap (λ (x : List ℕ). x ++ drop n (head ++ left)) front.encodes.bytes
     ∙ ap (λ (x : List ℕ). encoding s ++ x) tail
 
--- ---- bytes put behind others
+-- ---- bytes put after others
 
 pub extends_nothing : (b : List ℕ) → Extends b b
 extends_nothing b = record { more = []; is = sym (append-nil b) }
@@ -231,7 +231,7 @@ pub record IsPartOf (bytes : List ℕ) (len : ℕ) : Type 0 where
   pub is_rest : IsRest bytes
   pub room : (c : ℕ) → len ≤ c → HasRoom bytes c
 
--- a header, and fewer bytes behind it than it states
+-- a header, and fewer bytes after it than it states
 pub header_cut : (head left : List ℕ) (fault : Fault) → length head ≡ 32 → first_fault (head ++ left) ≡ Some fault
     → is_early_end fault ≡ true → IsPartOf (head ++ left) (length_in head)
 header_cut head left fault size is early =

@@ -10,7 +10,7 @@ pub record SplitsMore (bytes : List ℕ) (old new : List Content) (rest : List �
   pub pushed : new ≡ old ++ more
   pub splits : Splits bytes more rest
 
--- some bytes were put behind the old ones
+-- some bytes were put after the old ones
 pub record Extends (old new : List ℕ) : Type 0 where
   pub more : List ℕ
   pub is : new ≡ old ++ more

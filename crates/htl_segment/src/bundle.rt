@@ -41,7 +41,7 @@ pub fn cut_off(rest: &[u8]) -> Fault
     }
 }
 
-/// Takes whole segments off the front of `bytes` and puts them behind `segments`, up to bytes that
+/// Takes whole segments off the front of `bytes` and puts them after `segments`, up to bytes that
 /// more bytes may make a segment of. Those are left. A refusal reports the offset of the refused
 /// segment.
 pub fn split<'a>(

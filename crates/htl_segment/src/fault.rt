@@ -59,7 +59,7 @@ pub enum Fault {
     /// Bytes are left inside the length after the last record.
     #[error("S16")]
     Excess,
-    /// Memory for a growth was refused.
+    /// An allocation was refused.
     #[error("S17")]
     NoMemory,
 }

@@ -1,4 +1,4 @@
-//! How a piece is taken in behind the bytes that make no segment yet.
+//! How a piece is taken in after the bytes that make no segment yet.
 //!
 //! Where those hold a header, they have room for the whole segment; so the bytes that complete it
 //! need no memory, and memory is asked for only where no fault stands.
@@ -20,9 +20,9 @@ use crate::stack_cache::StackCache;
 use htl_event::NoMemory;
 use std::alloc::{AllocError, Global};
 
-/// Takes a piece in behind `rest`: gives the segments that it completes, and leaves the bytes after
+/// Takes a piece in after `rest`: gives the segments that it completes, and leaves the bytes after
 /// them in `rest`. A refusal reports the offset of the refused segment, and may leave bytes of the
-/// piece behind those that `rest` held.
+/// piece after those that `rest` held.
 pub fn absorb(
     alloc: Global,
     cache: &mut StackCache,
@@ -126,7 +126,7 @@ fn complete_records(
     }
 }
 
-/// Puts a piece behind `rest` that completes no segment, and makes room for `len` bytes.
+/// Puts a piece after `rest` that completes no segment, and makes room for `len` bytes.
 fn keep_piece(
     alloc: Global,
     rest: &mut Vec<u8>,
@@ -180,7 +180,7 @@ fn keep_after(
     }
 }
 
-/// Splits `bytes` behind `segments`, and keeps the last of them as `rest`.
+/// Splits `bytes` after `segments`, and keeps the last of them as `rest`.
 fn keep_tail(
     alloc: Global,
     cache: &mut StackCache,
@@ -230,7 +230,7 @@ fn make_room(rest: &mut Vec<u8>, len: usize) -> Result<(), AllocError>
     rest.reserve_exact(len.saturating_sub(rest.len()))
 }
 
-/// Puts bytes behind others, for which there is room.
+/// Puts bytes after others, for which there is room.
 fn put_behind(rest: &mut Vec<u8>, bytes: &[u8])
     requires { length rest.old.items + length bytes.now ≤ vec_capacity rest.old }
     ensures items { rest.new.items ≡ rest.old.items ++ bytes.now }

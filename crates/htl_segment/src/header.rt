@@ -18,7 +18,7 @@ pub const MAX_NUMBER: u32 = 0xFFFF_FFFE;
 /// How many events a segment has at most.
 pub const MAX_EVENTS: u32 = 4096;
 
-// Where the fields lie behind the magic.
+// Where the fields lie after the magic.
 const VERSION: usize = 4;
 
 const PROCESSORS: usize = 6;
@@ -106,7 +106,7 @@ pub fn len_at(bytes: &[u8]) -> usize
     u32_at(bytes, LEN) as usize
 }
 
-/// How many bytes the segment has that `bytes` begin with, as its header tells. None: the header
+/// How many bytes the segment has that `bytes` begin with, as its header says. None: the header
 /// has a fault, or the bytes end too early.
 #[tactic(auto, unfolding(crate::specs::InPlace::header_in))]
 pub fn whole_len(bytes: &[u8]) -> Option<usize>

@@ -18,7 +18,7 @@ pub enum HexFault {
     /// An odd number of digits.
     #[error("H2")]
     Odd,
-    /// Memory for a growth was refused.
+    /// An allocation was refused.
     #[error("H3")]
     NoMemory,
 }

@@ -17,7 +17,7 @@ use Rattle.htl_sorted.proofs.SideBySide.{find_join, Carries, carry_less, carry_g
 pub rest_is : {X : Type 0} (xs : List X) (i : ℕ) → take (length xs - i) (drop i xs) ≡ drop i xs
 rest_is xs i = take_all (length xs - i) (drop i xs) (omega (arith, length-drop i xs))
 
--- what is left of both lists, put behind what is made
+-- what is left of both lists, put after what is made
 pub rests_behind : {X : Type 0} (made left right one both : List X) (i j : ℕ) → one ≡ made ++ take (length left - i) (drop i left)
     → both ≡ one ++ take (length right - j) (drop j right) → both ≡ (made ++ drop i left) ++ drop j right
 rests_behind made left right one both i j first second =

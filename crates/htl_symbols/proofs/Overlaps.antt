@@ -9,7 +9,7 @@ use Rattle.htl_symbols.specs.Symbols.{IsLastBegun}
 use Rattle.htl_symbols.proofs.Searches.{list_any-false, list_any-true}
 use Rattle.htl_symbols.proofs.LastBegun.{cases_begun}
 
--- a range that starts before the end and ends behind the start
+-- a range that starts before the end and ends after the start
 pub meets-true : (start end : ℕ) (r : Range) → r.start < end → start < r.end → meets start end r ≡ true
 meets-true start end r low high = rw (lt-ltb r.start end low, lt-ltb start r.end high) refl
 
@@ -17,7 +17,7 @@ meets-true start end r low high = rw (lt-ltb r.start end low, lt-ltb start r.end
 meets-past : (start end : ℕ) (r : Range) → r.end ≤ start → meets start end r ≡ false
 meets-past start end r past = grind (arith, nat_tests)
 
--- one that starts at the end or behind it
+-- one that starts at the end or after it
 meets-before : (start end : ℕ) (r : Range) → end ≤ r.start → meets start end r ≡ false
 meets-before start end r before = grind (arith, nat_tests)
 
@@ -37,14 +37,14 @@ any-met table start end r some l = elim (cases_lt start r.end) [
       | inr (inr after) ↦ meets-before start end q (omega arith)
     ]
 
--- where every range begins behind the last address, none is met
+-- where every range begins after the last address, none is met
 pub none-met : (table : List Range) (start end : ℕ) → start < end → All (λ r. end - 1 < r.start) table
     → false ≡ list_any (meets start end) table
 none-met table start end some after =
     sym (list_any-false (meets start end) table
     (λ q listed. let begins = All-contains (λ r. end - 1 < r.start) table q after listed in meets-before start end q (omega arith)))
 
--- a range that isn't met lies behind or before
+-- a range that isn't met lies after or before
 pub not-met : (table : List Range) (start end : ℕ) (r : Range) → list_any (meets start end) table ≡ false → Contains table r
     → (end ≤ r.start) ⊎ (r.end ≤ start)
 not-met table start end r none listed = elim (cases_lt r.start end) [

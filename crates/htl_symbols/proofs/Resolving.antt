@@ -13,7 +13,7 @@ use Rattle.htl_symbols.proofs.LastBegun.{cases_begun}
 has-inside : (address : ℕ) (r : Range) → r.start ≤ address → address < r.end → has address r ≡ true
 has-inside address r low high = rw (le-leb r.start address low, lt-ltb address r.end high) refl
 
--- behind its end
+-- after its end
 has-past : (address : ℕ) (r : Range) → r.end ≤ address → has address r ≡ false
 has-past address r past = grind (arith, nat_tests)
 
@@ -45,7 +45,7 @@ resolved-outside table address r l past = rw (find-none (has address) table fail
       | inr (inr after) ↦ has-before address q after
     ]
 
--- where every range begins behind the address, none has it
+-- where every range begins after the address, none has it
 pub resolved-before : (table : List Range) (address : ℕ) → All (λ r. address < r.start) table → resolved table address ≡ None
 resolved-before table address before =
     rw (find-none (has address) table (λ q listed. has-before address q (All-contains (λ r. address < r.start) table q before listed)))

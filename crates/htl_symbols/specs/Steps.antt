@@ -24,7 +24,7 @@ abbrev pub columns_eq : List ℕ → List ℕ → List ℕ → List ℕ → Bool
 columns_eq start end m n =
     bytes_eq start (codes "start") && (bytes_eq end (codes "end") && (bytes_eq m (codes "module") && bytes_eq n (codes "name")))
 
--- the reader stands behind the header, or the first fault is there
+-- the reader stands after the header, or the first fault is there
 abbrev pub HeaderRead : SliceReader → SliceReader → Result (Unit {0}) SymbolFault → Type 0
 HeaderRead old new (Ok u) = IsAtRecord new × (records_left old ≡ header ∷ records_left new)
 HeaderRead old new (Err fault) = IsFirstFault (records_left old) fault

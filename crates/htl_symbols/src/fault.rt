@@ -28,7 +28,7 @@ pub enum SymbolFault {
     /// `csv` refuses a record, as one that isn't UTF-8.
     #[error("Y6({0})")]
     Csv(u64),
-    /// Memory for a growth was refused.
+    /// An allocation was refused.
     #[error("Y7")]
     NoMemory,
 }

@@ -7,7 +7,7 @@ ghost use Rattle.htl_symbols.specs.Rows.{Record};
 ghost use Rattle.htl_symbols.specs.declared.fault.SymbolFault.{SymbolFault};
 ghost use Rattle.htl_symbols.specs.declared.fault.SymbolFault.TheVariants.{NoMemory};
 
-/// Records come to one table, or to one first fault, and never to both. (A refused growth is no
+/// Records come to one table, or to one first fault, and never to both. (A refused allocation is no
 /// fault of theirs.)
 pub fn one_reading()
     ensures { (records : List Record) (a b : Result (List Range) SymbolFault)

@@ -63,7 +63,7 @@ fn read_header(reader: &mut Reader<&[u8]>, fields: &mut StringRecord) -> Result<
     }
 }
 
-/// Reads the records behind the header.
+/// Reads the records after the header.
 fn read_rows(
     alloc: Global,
     reader: &mut Reader<&[u8]>,

@@ -13,7 +13,7 @@ use std::marker::Model;
 /// What is known of a range beside its start.
 #[derive(Debug, Drop)]
 pub(crate) struct Symbol {
-    /// Behind the last address.
+    /// After the last address.
     pub(crate) end: u64,
     pub(crate) module: String,
     pub(crate) name: String,
@@ -47,7 +47,7 @@ impl Symbols {
         }
     }
 
-    /// The module and the name of the range that has the address, and how many bytes behind the
+    /// The module and the name of the range that has the address, and how many bytes after the
     /// range's start the address is. None where no range has it.
     pub fn resolve(&self, address: u64) -> Option<(&str, &str, u64)>
         ensures value { option_map (λ s. (s.0.now, s.1.now, s.2)) result

@@ -87,7 +87,7 @@ all_with : (events : Option (List Event × Event)) (es : List Event) → all_of 
 all_with events [] = sym (append-nil (all_of events))
 all_with events (e ∷ es) = all_with (Some (all_of events, e)) es ∙ append_assoc (all_of events) (e ∷ []) es
 
--- frames come only behind an event
+-- frames come only after an event
 abbrev MayFollow : Option (List Event × Event) → List ℕ → Type 0
 MayFollow None [] = Unit {0}
 MayFollow None (f ∷ fs) = ⊥

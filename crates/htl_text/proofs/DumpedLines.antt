@@ -1,4 +1,4 @@
--- A line of visible words, each behind the first after a blank, is read as these words, whatever follows it.
+-- A line of visible words, each but the first after a blank, is read as these words, whatever follows it.
 use Rattle.std.proofs.Common.{◌≡◌, ◌-◌, ℕ, suc, Bool, true, false, List, [], ◌∷◌, ◌++◌, length, refl, arith, ap, sym, ◌∙◌, get_or}
 use Rattle.std.specs.Prelude.{◌==◌, nat_le}
 use Rattle.std.specs.List.{list_all, slice_split}

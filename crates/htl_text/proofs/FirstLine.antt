@@ -30,7 +30,7 @@ is_cut (x ∷ xs) = by_case x xs (is_cut xs) (is_feed x) refl
     by_case x xs (inl (rest, parts)) false e = inl (rw e rest, rw (e, parts) refl)
     by_case x xs (inr (y, ys, rest, parts)) false e = inr (y, ys, rw e rest, rw (e, parts) refl)
 
--- an empty line behind all others changes nothing
+-- an empty line after all others changes nothing
 read_empty : (n : ℕ) (p : Progress) → read n [] p ≡ read n (lines_of []) p
 unfolding read lines_of words_of is_passed_over after_words
 read_empty n p = refl

@@ -99,7 +99,7 @@ le_yes p i h = grind (arith, nat_tests)
 lt_yes : (p i : ℕ) → p < i → nat_lt p i ≡ true
 lt_yes p i h = grind (arith, nat_tests)
 
--- later faults come behind that of too many frames
+-- later faults come after that of too many frames
 overfull_later : (i : ℕ) (f : Fault) → AtOrAfter (i + 1) f → overfull_fault i (Some f) ≡ faults.Frames i
 overfull_later i (faults.Sequence p) h = rw (not_le p i h) refl
 overfull_later i (faults.Kind p) h = rw (not_le p i h) refl

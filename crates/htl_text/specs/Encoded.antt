@@ -91,7 +91,7 @@ abbrev pub is_misplaced : Written → Item → Bool
 is_misplaced None i = not (is_header i)
 is_misplaced (Some so_far) i = is_frame i && is_none_yet so_far.1.events
 
--- a line with these words has this fault, behind what was written
+-- a line with these words has this fault, after what was written
 abbrev pub IsBad : Written → List (List ℕ) → LineFault → Type 0
 IsBad written ws Form = item_in ws ≡ None
 IsBad written ws Order = (i : Item) × (item_in ws ≡ Some i) × (is_misplaced written i ≡ true)

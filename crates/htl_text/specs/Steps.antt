@@ -46,7 +46,7 @@ nothing_read = progress [] None
 abbrev pub begun : ℕ → Head → Held
 begun line head = record { line = line; head = head; events = []; event = None; overfull = None }
 
--- the last event put behind the others
+-- the last event put after the others
 abbrev pub settled : Held → Held
 settled h = record { line = h.line; head = h.head; events = h.events ++ option_to_list h.event; event = None; overfull = h.overfull }
 

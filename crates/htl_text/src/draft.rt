@@ -62,7 +62,7 @@ impl Draft {
         Ok(())
     }
 
-    /// Puts the last event behind the others.
+    /// Puts the last event after the others.
     fn settle(&mut self) -> Result<(), AllocError>
         ensures { OnOk result (self.new ≡ settled self.old) }
     {
@@ -90,7 +90,7 @@ impl Draft {
         }
     }
 
-    /// Writes the bytes of the segment behind `out`, if the format can encode it.
+    /// Writes the bytes of the segment after `out`, if the format can encode it.
     pub fn encode(mut self, alloc: Global, out: &mut Vec<u8>) -> Result<(), TextFault>
         ensures { MatchResult result
             (λ _. closed_with out.old.items (Some self) ≡ Ok out.new.items)

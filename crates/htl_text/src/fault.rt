@@ -27,7 +27,7 @@ pub enum TextFault {
     /// Lines are counted from 1.
     #[error("line {0}: {1}")]
     Line(u64, LineFault),
-    /// Memory for a growth was refused.
+    /// An allocation was refused.
     #[error("out of memory")]
     NoMemory,
 }

@@ -51,7 +51,7 @@ fn the_last_segment_number(rt: HostRuntime) {
     assert_eq!(rt; take(&rt, rt.alloc(), &mut analyst, LAST), Ok(Took::Repeat));
 }
 
-/// It has folded the first three, and holds two behind a gap.
+/// It has folded the first three, and holds two after a gap.
 fn behind(rt: &impl Abort, alloc: Global) -> Analyst<Global> {
     let mut analyst = compacted(rt, alloc, TRACE, &SIX[..3]);
     take_all(rt, alloc, &mut analyst, &SIX[4..]);
@@ -68,7 +68,7 @@ fn merge_over_a_gap(rt: HostRuntime) {
     assert_eq!(rt; sizes(&analyst), (6, 0, 6));
 }
 
-/// What holds two behind a gap takes over what closes it, and is compacted.
+/// What holds two after a gap takes over what closes it, and is compacted.
 fn closed_from_behind(rt: &impl Abort, alloc: Global) -> Analyst<Global> {
     let mut analyst = behind(rt, alloc);
     assert_eq!(rt; sizes(&analyst), (3, 2, 5));

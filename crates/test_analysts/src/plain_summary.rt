@@ -141,7 +141,7 @@ pub fn gaps(
     gaps
 }
 
-/// Whether none of these numbers is there, the one behind them is, and no longer run ends with
+/// Whether none of these numbers is there, the one after them is, and no longer run ends with
 /// them.
 fn is_gap(keys: &[(u16, u32)], processor: u16, from: u32, to: u32) -> bool {
     let has = |number: u32| keys.contains(&(processor, number));

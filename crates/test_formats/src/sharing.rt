@@ -22,7 +22,7 @@ fn bundle(rt: &impl Abort, alloc: Global, count: u32) -> Vec<u8> {
     bytes
 }
 
-/// What tells the numbers of the segments in their order, or the fault.
+/// A number that tells apart lists of segments, or the fault.
 fn told(decoded: Result<Vec<Segment>, (u64, Fault)>) -> Result<u64, (u64, Fault)> {
     let segments = decoded?;
     Ok(

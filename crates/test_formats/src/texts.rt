@@ -95,7 +95,7 @@ fn a_text_as_people_write_it(rt: HostRuntime) {
     assert!(rt; encoded(&rt, rt.alloc(), WRITTEN.as_bytes()) == bytes);
 }
 
-/// So many lines behind a first one.
+/// So many lines after a first one.
 fn repeated(rt: &impl Abort, alloc: Global, first: &str, line: &str, count: usize) -> Vec<u8> {
     let mut text = Vec::new(alloc);
     text.extend_from_slice(first.as_bytes())
@@ -116,7 +116,7 @@ fn texts_without_an_event(rt: HostRuntime) {
     assert_eq!(rt; encoded(&rt, rt.alloc(), &three).len(), 96);
 }
 
-/// Events of one line behind the first line of a segment, with so many frames.
+/// Events of one line after the first line of a segment, with so many frames.
 fn deep_text(rt: &impl Abort, alloc: Global, head: &str, frames: usize) -> Vec<u8> {
     let mut text = Vec::new(alloc);
     for line in [head, OPEN] {

@@ -96,7 +96,7 @@ pub fn segment_len(bytes: &[u8]) -> Result<usize, Fault> {
     Ok(len)
 }
 
-/// The fields behind the version.
+/// The fields after the version.
 fn check_header(rules: Rules, bytes: &[u8]) -> Result<(), Fault> {
     let processors = number(bytes, 6, 2);
     let length = number(bytes, 28, 4);

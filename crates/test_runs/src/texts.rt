@@ -80,7 +80,7 @@ impl<'a> Devices<'a> {
     }
 }
 
-/// The bytes of both inputs, and those of both behind each other.
+/// The bytes of both inputs, and those of one after those of the other.
 fn bundles(alloc: Global) -> Result<[Vec<u8>; 3], Fail> {
     let first = bytes_of(alloc, INPUTS[0])?;
     let second = bytes_of(alloc, INPUTS[1])?;

@@ -31,7 +31,7 @@ fn encoded(rt: &impl Abort, alloc: Global, segment: &Segment) -> Vec<u8> {
     }
 }
 
-/// A segment of the bundle is refused for want of memory.
+/// A segment of the bundle is refused, out of memory.
 fn is_no_memory(rt: &impl Abort, (offset, fault): (u64, Fault)) {
     assert!(rt; offset == 0 || offset == 32);
     assert_eq!(rt; fault, Fault::NoMemory);

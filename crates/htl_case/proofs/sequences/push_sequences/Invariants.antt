@@ -1,4 +1,4 @@
--- So far the sequences of the events that were gone through were put behind those that were there.
+-- So far the sequences of the events that were gone through were put after those that were there.
 use Rattle.std.proofs.Common.{◌≡◌, ◌++◌, map, take}
 use Rattle.htl_case.specs.Sequences.{sequence_of}
 use Rattle.htl_case.proofs.sequences.push_sequences.Given as goal

@@ -1,4 +1,4 @@
--- One more header tells one more whole segment.
+-- One more header means one more whole segment.
 use Rattle.std.proofs.Common.{ℕ, arith}
 use Rattle.std.proofs.lemmas.List.{length-drop, take_rest}
 use Rattle.htl_reading.proofs.CutLaws.{cut_next}

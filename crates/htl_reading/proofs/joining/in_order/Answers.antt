@@ -1,4 +1,4 @@
--- The first fault by offset is told, and where there is none all is put together.
+-- The first fault by offset is reported, and where there is none all is put together.
 use Rattle.std.proofs.Common.{rules, ◌≡◌, ◌<◌, ◌++◌, length, arith}
 use Rattle.std.proofs.lemmas.Result.{err_from_is_err_and}
 use Rattle.std.proofs.lemmas.Grind.{common_steps}

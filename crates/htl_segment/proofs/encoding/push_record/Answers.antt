@@ -1,4 +1,4 @@
--- The fields one behind the other are the bytes of the event.
+-- The fields one after the other are the bytes of the event.
 use Rattle.std.proofs.Common.{append_assoc}
 use Rattle.htl_segment.specs.Encoding.{event_bytes}
 use Rattle.htl_segment.proofs.encoding.push_record.Goals as goal

@@ -1,4 +1,4 @@
--- What follows a first segment is split behind it.
+-- What follows a first segment is split after it.
 use Rattle.std.proofs.Common.{◌≡◌, ◌∷◌, [], refl, arith}
 use Rattle.std.proofs.lemmas.Grind.{common_steps}
 use Rattle.htl_segment.proofs.BundleLaws.{boundary_inside}

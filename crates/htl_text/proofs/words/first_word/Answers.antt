@@ -1,4 +1,4 @@
--- A line that is all blanks has no words; else its first word stands behind the first blanks.
+-- A line that is all blanks has no words; else its first word stands after the first blanks.
 use Rattle.std.proofs.Common.{rules}
 use Rattle.htl_text.proofs.FirstWord.{no_words, words_begin}
 use Rattle.htl_text.proofs.words.first_word.Goals as goal

@@ -17,6 +17,12 @@ append_is_union xs ys e = (
       elim h [ inl l ↦ Contains-append_left xs ys e l | inr r ↦ Contains-append_right xs ys e r ],
 )
 
+pub turned_union : (xs ys : List Event) → IsUnion xs ys (ys ++ xs)
+turned_union xs ys e = (
+  λ h. elim (Contains-append_cases ys xs e h) [ inl l ↦ inr l | inr r ↦ inl r ],
+  λ h. elim h [ inl l ↦ Contains-append_right ys xs e l | inr r ↦ Contains-append_left ys xs e r ],
+)
+
 pub latest_append : (xs ys : List Event) (process base : ℕ) (a b : Option Event) → LatestIs (Contains xs) process base a
     → LatestIs (Contains ys) process base b
     → LatestIs (Contains (xs ++ ys)) process base (later a b)

@@ -4,7 +4,7 @@ pub mod PartLemmas
 pub mod MomentLemmas
 pub mod Filters
 pub mod FilterMaps
-pub mod CandidateLemmas
+pub mod OpenLemmas
 pub mod Outermost
 pub mod WholeLemmas
 pub mod NumberSums

@@ -34,7 +34,7 @@ halves contents n parts = ap (map contents) (sym (take-append-drop n parts)) ∙
 
 module _ {X : Type 0} (contents : X → Contents) (n : ℕ) (parts front back : List X) (is_front : front ≡ take n parts)
     (is_back : back ≡ drop n parts) where
-  front_and_back : map contents parts ≡ map contents front ++ map contents back
+  pub front_and_back : map contents parts ≡ map contents front ++ map contents back
   front_and_back = halves contents n parts
       ∙ ap (λ ps. map contents ps ++ map contents (drop n parts)) (sym is_front)
       ∙ ap (λ ps. map contents front ++ map contents ps) (sym is_back)

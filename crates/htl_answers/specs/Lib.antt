@@ -5,7 +5,7 @@ pub mod Sums
 pub mod Counts
 pub mod Rows
 pub mod RowOrder
-pub mod Candidates
+pub mod Open
 pub mod Leaks
 pub mod Tags
 pub mod Bad

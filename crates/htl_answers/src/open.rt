@@ -1,17 +1,14 @@
 //! Handles that were opened and are still open, and the stacks that opened them.
 
-ghost use Rattle.std.specs.Prelude.{◌≡◌, ◌==◌, ◌&&◌, ◌++◌, List, Contains, IfOk, OnOk, map};
-ghost use Rattle.std.specs.Prelude.{flat_map, filter, nat_lt};
+ghost use Rattle.std.specs.Prelude.{◌≡◌, ◌++◌, List, Contains, IfOk, map, filter};
 ghost use Rattle.htl_event.specs.Events.{Event};
 ghost use Rattle.htl_event.specs.Handles.{IsOutstanding, IsDiff, HaveOwnSequences};
-ghost use Rattle.htl_tables.specs.Latest.{event_at};
 ghost use Rattle.htl_answers.specs.Parts.{AreEventsOf};
-ghost use Rattle.htl_answers.specs.Candidates.{AreCandidates, AreLatestOf, touches};
-ghost use Rattle.htl_answers.specs.Candidates.{is_opened_after};
+ghost use Rattle.htl_answers.specs.Open.{AreLatestOf, is_opened_after};
 
 use crate::handles::last_exit;
 use crate::part::Part;
-use htl_event::{EventList, Kind, NoMemory, SharedEvent};
+use htl_event::{Kind, NoMemory, SharedEvent};
 use htl_tables::Latest;
 use std::alloc::Global;
 
@@ -45,7 +42,8 @@ pub fn diff<P: Part>(
     opened_after(alloc, latest.rows_of(process), since.max(exit))
 }
 
-/// The latest open or close of each base handle of the process.
+/// The latest open or close of each base handle of the process. The tables of parts are joined in
+/// pairs.
 fn latest_of_process<P: Part>(
     alloc: Global,
     parts: &[P],
@@ -55,73 +53,30 @@ fn latest_of_process<P: Part>(
         → AreEventsOf (map P.contents parts.now) events
         → AreLatestOf events process latest) }
 {
-    let candidates = candidates(alloc, parts, process)?;
-    Latest::of(alloc, &[candidates])
+    if parts.len() < 2 {
+        return match parts.first() {
+            None => Ok(Latest::new(alloc)),
+            Some(part) => latest_of_part(alloc, part, process),
+        };
+    }
+    let (front, back) = parts.split_at(parts.len() / 2);
+    let left = latest_of_process(alloc, front, process)?;
+    let right = latest_of_process(alloc, back, process)?;
+    left.join_process(&right, process)
 }
 
-/// What each part has of the process's handles: the latest of those that it folded, and all opens
-/// and closes that it holds.
-fn candidates<P: Part>(
+/// The same of one part: the latest that it holds, joined with those that it folded.
+fn latest_of_part<P: Part>(
     alloc: Global,
-    parts: &[P],
+    part: &P,
     process: u32,
-) -> Result<Vec<SharedEvent>, NoMemory>
-    ensures { IfOk result (λ rows. (events : List Event)
-        → AreEventsOf (map P.contents parts.now) events
-        → AreCandidates events process rows.items) }
+) -> Result<Latest<Global>, NoMemory>
+    ensures { IfOk result (λ latest. (folded : List Event)
+        → AreLatestOf folded process (P.contents part.now).latest
+        → AreLatestOf (folded ++ (P.contents part.now).held) process latest) }
 {
-    let mut rows = Vec::new(alloc);
-    for part in parts {
-        add_copies(&mut rows, part.latest().rows_of(process))?;
-        add_held(&mut rows, part.held(), process)?;
-    }
-    Ok(rows)
-}
-
-fn add_copies(rows: &mut Vec<SharedEvent>, more: &[SharedEvent]) -> Result<(), NoMemory>
-    ensures { OnOk result (rows.new.items ≡ rows.old.items ++ more.now) }
-{
-    for event in more {
-        rows.push(event.copy()?)?;
-    }
-    Ok(())
-}
-
-fn add_held<E: EventList>(
-    rows: &mut Vec<SharedEvent>,
-    lists: &[E],
-    process: u32,
-) -> Result<(), NoMemory>
-    ensures { OnOk result (rows.new.items
-        ≡ rows.old.items ++ filter (touches process) (flat_map E.events_of lists.now)) }
-{
-    for list in lists {
-        add_touching(rows, list.events(), process)?;
-    }
-    Ok(())
-}
-
-/// Adds the opens and closes of the process's handles.
-fn add_touching(
-    rows: &mut Vec<SharedEvent>,
-    events: &[SharedEvent],
-    process: u32,
-) -> Result<(), NoMemory>
-    ensures { OnOk result (rows.new.items ≡ rows.old.items ++ filter (touches process) events.now) }
-{
-    for event in events {
-        if touches(event, process) {
-            rows.push(event.copy()?)?;
-        }
-    }
-    Ok(())
-}
-
-/// Whether the event opens or closes a handle of the process.
-fn touches(event: &SharedEvent, process: u32) -> bool
-    ensures { result ≡ touches process event.now }
-{
-    event.kind.opens_or_closes() && event.process == process
+    let held = Latest::of_process(alloc, part.held(), process)?;
+    held.join_process(part.latest(), process)
 }
 
 /// The opens that came after a moment.

@@ -11,7 +11,7 @@ ghost use Rattle.htl_event.specs.Members.{IsRising};
 ghost use Rattle.htl_event.specs.Handles.{HaveOwnSequences};
 ghost use Rattle.htl_event.specs.Summaries.{IsProcesses, MostOutstandingFirst};
 ghost use Rattle.htl_answers.specs.Parts.{AreEventsOf, AreTablesOf, size_of_all};
-ghost use Rattle.htl_answers.specs.Candidates.{is_opened_after};
+ghost use Rattle.htl_answers.specs.Open.{is_opened_after};
 ghost use Rattle.htl_answers.specs.Sums.{ListsSlotSums};
 ghost use Rattle.htl_summary.specs.Rows.{IsRowOf, AreRowsOf};
 

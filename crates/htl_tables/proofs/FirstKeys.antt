@@ -1,5 +1,5 @@
 -- Events noted in the order of their sort keys: of each handle the first leaves what is there.
-use Rattle.std.proofs.Common.{◌≡◌, ℕ, ◌+◌, true, false, ◌==◌, ◌&&◌, ◌<◌, ◌≤◌, List, length, Option}
+use Rattle.std.proofs.Common.{◌≡◌, ℕ, ◌+◌, Bool, true, false, ◌==◌, ◌&&◌, ◌<◌, ◌≤◌, List, length, Option}
 use Rattle.std.proofs.Common.{Some, None, sym, ap, ◌∙◌, inl, inr, arith, subst, slice_get, MatchOption, IsSorted}
 use Rattle.std.specs.Ordering.{is_lt}
 use Rattle.std.specs.Prelude.{flat_map}
@@ -22,14 +22,14 @@ pub record HasHandle (process base : ℕ) (k : SortKey) : Type 0 where
   pub owner : k.process ≡ process
   pub handle : k.base ≡ base
 
-key_of_event : (process base : ℕ) (e : Event) (r i : ℕ) → opens_or_closes_base process base e ≡ true
+pub key_of_event : (process base : ℕ) (e : Event) (r i : ℕ) → opens_or_closes_base process base e ≡ true
     → HasHandle process base (sort_key_of e r i)
 key_of_event process base e r i c =
     let key = and_parts (e.process == process) (base_of e.handle == base)
     (and_parts (opens_or_closes e.kind) (e.process == process && base_of e.handle == base) c).1 in
     record { owner = eqb-true e.process process key.0; handle = eqb-true (base_of e.handle) base key.1 }
 
-opens_of : (process base : ℕ) (e : Event) → opens_or_closes_base process base e ≡ true → opens_or_closes e.kind ≡ true
+pub opens_of : (process base : ℕ) (e : Event) → opens_or_closes_base process base e ≡ true → opens_or_closes e.kind ≡ true
 opens_of process base e c = (and_parts (opens_or_closes e.kind) (e.process == process && base_of e.handle == base) c).0
 
 opens_by_key : (process base : ℕ) (e : Event) (r i : ℕ) → opens_or_closes e.kind ≡ true → HasHandle process base (sort_key_of e r i)
@@ -39,7 +39,7 @@ opens_by_key process base e r i opens of =
     (and_from (e.process == process) (base_of e.handle == base) (eq-eqb e.process process of.owner)
     (eq-eqb (base_of e.handle) base of.handle))
 
-module _ {X : Type 0} (events_of : X → List Event) (lists : List X) where
+module _ {X : Type 0} (events_of : X → List Event) (lists : List X) (test : Event → Bool) where
   -- two events at one place of the lists are one
   pub same_event : (r i : ℕ) (x y : Event) → StandsAt events_of lists r i x → StandsAt events_of lists r i y → x ≡ y
   same_event r i x y sx sy =
@@ -47,13 +47,13 @@ module _ {X : Type 0} (events_of : X → List Event) (lists : List X) where
       same_Some x y (sym sx.in_list ∙ ap (λ (z : X). slice_get (events_of z) i) list ∙ sy.in_list)
 
   -- the key of the event that stands at its place
-  pub key_is : (k : SortKey) (x : Event) → IsKeyIn events_of lists k → StandsAt events_of lists k.list k.index x
-      → record { key : k ≡ sort_key_of x k.list k.index; opens : opens_or_closes x.kind ≡ true }
+  pub key_is : (k : SortKey) (x : Event) → IsKeyIn events_of lists test k → StandsAt events_of lists k.list k.index x
+      → record { key : k ≡ sort_key_of x k.list k.index; passes : test x ≡ true }
   key_is k x in_lists stands =
       let event : in_lists.event ≡ x = same_event k.list k.index in_lists.event x in_lists.stands stands in
       record {
         key = in_lists.is ∙ ap (λ (e : Event). sort_key_of e k.list k.index) event;
-        opens = subst (λ (e : Event). opens_or_closes e.kind ≡ true) event in_lists.opens;
+        passes = subst (λ (e : Event). test e ≡ true) event in_lists.passes;
       }
 
   module _ (keys : List SortKey) (process base : ℕ) where
@@ -71,8 +71,9 @@ module _ {X : Type 0} (events_of : X → List Event) (lists : List X) where
     FirstKeyIs n o = MatchOption o ((k : ℕ) (u : SortKey) → k < n → slice_get keys k ≡ Some u → HasHandle process base u → ⊥)
         (IsFirstKey n)
 
-    module _ (are : AreCandidates events_of lists keys) (sorted : IsSorted sort_key_cmp keys) where
-      here : (k : ℕ) (u : SortKey) → slice_get keys k ≡ Some u → IsKeyIn events_of lists u
+    module _ (opens : (e : Event) → test e ≡ true → opens_or_closes e.kind ≡ true)
+        (are : AreCandidates events_of lists test keys) (sorted : IsSorted sort_key_cmp keys) where
+      here : (k : ℕ) (u : SortKey) → slice_get keys k ≡ Some u → IsKeyIn events_of lists test u
       here k u at = are.each u (k, slice_get_within keys k u at, get_or_from_slice_get keys k u u at)
 
       -- one more event was noted
@@ -82,7 +83,7 @@ module _ {X : Type 0} (events_of : X → List Event) (lists : List X) where
         | inl c ↦ rw c (of_its_handle o h c)
         | inr f ↦ rw f (other o h f)
       ] where
-        is : record { key : t ≡ sort_key_of x t.list t.index; opens : opens_or_closes x.kind ≡ true }
+        is : record { key : t ≡ sort_key_of x t.list t.index; passes : test x ≡ true }
         is = key_is t x (here n t at) stands
 
         -- the key at place n
@@ -93,7 +94,7 @@ module _ {X : Type 0} (events_of : X → List Event) (lists : List X) where
 
         not_of : opens_or_closes_base process base x ≡ false → HasHandle process base t → ⊥
         not_of f of = both_ways (opens_or_closes_base process base x) f
-            (opens_by_key process base x t.list t.index is.opens (subst (HasHandle process base) is.key of))
+            (opens_by_key process base x t.list t.index (opens x is.passes) (subst (HasHandle process base) is.key of))
 
         other : (p : Option Event) → FirstKeyIs n p → opens_or_closes_base process base x ≡ false → FirstKeyIs (n + 1) p
         other None none f = λ k u lt at_k of. elim (cases_lt k n) [
@@ -154,9 +155,10 @@ module _ {X : Type 0} (events_of : X → List Event) (lists : List X) where
               ];
             })
 
-      -- once all were noted, the event is the first of the latest
-      pub keys_noted : (o : Option Event) → FirstKeyIs (length keys) o → o ≡ noted (flat_map events_of lists) process base
-      keys_noted o h =
+      -- once all were noted, the event is the first of the latest, where all of the handle's pass
+      pub keys_noted : ((e : Event) → opens_or_closes_base process base e ≡ true → test e ≡ true)
+          → (o : Option Event) → FirstKeyIs (length keys) o → o ≡ noted (flat_map events_of lists) process base
+      keys_noted pass o h =
           let events = flat_map events_of lists in
           FirstIs-unique events process base o (noted events process base) (first o h) (FirstIs-noted process base events) where
             -- the key that meets an event of the handle, and its place
@@ -174,7 +176,7 @@ module _ {X : Type 0} (events_of : X → List Event) (lists : List X) where
                 }
             meets p x at c =
                 let from = flat_stands events_of lists p x at in
-                let met = are.all from.r from.i x from.stands (opens_of process base x c) in
+                let met = are.all from.r from.i x from.stands (pass x c) in
                 let of = key_of_event process base x from.r from.i c in
                 let there = met.here in
                 record {
@@ -200,7 +202,7 @@ module _ {X : Type 0} (events_of : X → List Event) (lists : List X) where
                 record {
                   index = flat_place events_of lists one.key.list one.key.index;
                   at = stands_flat events_of lists one.key.list one.key.index e one.stands;
-                  of_handle = opens_by_key process base e one.key.list one.key.index is.opens own;
+                  of_handle = opens_by_key process base e one.key.list one.key.index (opens e is.passes) own;
                   first = λ p x at c.
                       let m = meets p x at c in
                       let le = one.first m.place m.key (slice_get_within keys m.place m.key m.at) m.at m.of in

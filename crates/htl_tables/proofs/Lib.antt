@@ -2,12 +2,14 @@ pub mod KeyOrder
 pub mod Noting
 pub mod Tables
 pub mod ProcessRows
+pub mod ProcessTables
 pub mod SortKeyOrder
 pub mod FirstNoted
 pub mod Offering
 pub mod Gathering
 pub mod FlatPlaces
 pub mod FirstKeys
+pub mod AskedKeys
 pub mod Sequences
 pub mod Moments
 pub mod NotingLaws

@@ -4,6 +4,7 @@ pub mod Latest
 pub mod Greatest
 pub mod Laws
 -- cited by private contracts alone
+pub mod Asked
 pub mod KeyLaws
 pub mod RowOrder
 pub mod Moments

@@ -1,13 +1,12 @@
 -- The sort keys of events that open or close a handle: by handle, of one handle the latest first, and of
 -- one sequence the first of the list.
-use Rattle.std.specs.Prelude.{◌≡◌, ℕ, ◌⊎◌, true, false, List, Some, Contains, slice_get}
+use Rattle.std.specs.Prelude.{◌≡◌, ℕ, ◌⊎◌, Bool, true, false, List, Some, Contains, slice_get}
 use Rattle.std.specs.Ordering.{is_lt}
 use Rattle.std.specs.declared.cmp.Ordering.{Ordering}
 use Rattle.htl_event.specs.Events.{Event}
 use Rattle.htl_event.specs.Slots.{base_of}
 use Rattle.htl_tables.specs.declared.sort_key.SortKey.{SortKey}
 use Rattle.htl_tables.specs.contracts.sort_key.SortKeyOrd.TheImpl.{cmp-value}
-use Rattle.htl_event.specs.Handles.{opens_or_closes}
 
 abbrev pub sort_key_cmp : SortKey → SortKey → Ordering
 sort_key_cmp = cmp-value.it
@@ -23,11 +22,11 @@ pub record StandsAt {X : Type 0} (events_of : X → List Event) (lists : List X)
   pub in_lists : slice_get lists r ≡ Some list
   pub in_list : slice_get (events_of list) i ≡ Some e
 
--- the key is that of an open or close of the lists
-pub record IsKeyIn {X : Type 0} (events_of : X → List Event) (lists : List X) (k : SortKey) : Type 0 where
+-- the key is that of an event of the lists that passes the test
+pub record IsKeyIn {X : Type 0} (events_of : X → List Event) (lists : List X) (test : Event → Bool) (k : SortKey) : Type 0 where
   pub event : Event
   pub stands : StandsAt events_of lists k.list k.index event
-  pub opens : opens_or_closes event.kind ≡ true
+  pub passes : test event ≡ true
   pub is : k ≡ sort_key_of event k.list k.index
 
 -- one of the keys is of the same handle and comes no later
@@ -38,24 +37,24 @@ pub record IsMet (keys : List SortKey) (k : SortKey) : Type 0 where
   pub base : key.base ≡ k.base
   pub order : is_lt (sort_key_cmp k key) ≡ false
 
--- the keys are of opens and closes of the lists, and meet each of these
-pub record AreCandidates {X : Type 0} (events_of : X → List Event) (lists : List X) (keys : List SortKey) : Type 0 where
-  pub each : (k : SortKey) → Contains keys k → IsKeyIn events_of lists k
-  pub all : (r i : ℕ) (e : Event) → StandsAt events_of lists r i e → opens_or_closes e.kind ≡ true
-      → IsMet keys (sort_key_of e r i)
+-- the keys are of events of the lists that pass the test, and meet each of these
+pub record AreCandidates {X : Type 0} (events_of : X → List Event) (lists : List X) (test : Event → Bool) (keys : List SortKey)
+    : Type 0 where
+  pub each : (k : SortKey) → Contains keys k → IsKeyIn events_of lists test k
+  pub all : (r i : ℕ) (e : Event) → StandsAt events_of lists r i e → test e ≡ true → IsMet keys (sort_key_of e r i)
 
--- the key is that of an open or close of the r-th list
-pub record IsKeyAt (r : ℕ) (events : List Event) (k : SortKey) : Type 0 where
+-- the key is that of an event of the r-th list that passes the test
+pub record IsKeyAt (r : ℕ) (events : List Event) (test : Event → Bool) (k : SortKey) : Type 0 where
   pub event : Event
   pub at : slice_get events k.index ≡ Some event
-  pub opens : opens_or_closes event.kind ≡ true
+  pub passes : test event ≡ true
   pub is : k ≡ sort_key_of event r k.index
 
--- the keys of one list's opens and closes came to the old ones, or in their places
-pub record Gathers (r : ℕ) (events : List Event) (old new : List SortKey) : Type 0 where
-  pub each : (k : SortKey) → Contains new k → Contains old k ⊎ IsKeyAt r events k
+-- the keys of one list's events that pass the test came to the old ones, or in their places
+pub record Gathers (r : ℕ) (events : List Event) (test : Event → Bool) (old new : List SortKey) : Type 0 where
+  pub each : (k : SortKey) → Contains new k → Contains old k ⊎ IsKeyAt r events test k
   pub met : (k : SortKey) → IsMet old k → IsMet new k
-  pub all : (i : ℕ) (e : Event) → slice_get events i ≡ Some e → opens_or_closes e.kind ≡ true → IsMet new (sort_key_of e r i)
+  pub all : (i : ℕ) (e : Event) → slice_get events i ≡ Some e → test e ≡ true → IsMet new (sort_key_of e r i)
 
 -- a key of the same handle stands at the place
 pub record IsPlaceOf (keys : List SortKey) (k : SortKey) (place : ℕ) : Type 0 where

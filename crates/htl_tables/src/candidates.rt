@@ -1,6 +1,7 @@
 //! The events that may be the latest of their handles, gathered from lists in one pass.
 
-ghost use Rattle.std.specs.Prelude.{IfOk, IsSorted};
+ghost use Rattle.std.specs.Prelude.{◌≡◌, IfOk, IsSorted};
+ghost use Rattle.htl_tables.specs.Asked.{touches};
 ghost use Rattle.htl_tables.specs.SortKeys.{sort_key_cmp, AreCandidates};
 
 use crate::hints::{Hints, WAYS};
@@ -15,18 +16,20 @@ struct Candidates<A: Allocator> {
     hints: Hints<A>,
 }
 
-/// Sort keys of the lists' opens and closes, in order. The latest event of each handle is among
-/// them.
+/// Sort keys of the lists' opens and closes, in order: of one process, or of all where none is
+/// named. The latest event of each handle is among them.
 pub(crate) fn candidates_in<R: EventList, A: Allocator + Clone>(
     alloc: A,
     lists: &[R],
+    asked: Option<u32>,
 ) -> Result<Vec<SortKey, A>, NoMemory>
-    ensures all { IfOk result (λ keys. AreCandidates R.events_of lists.now keys.items) }
+    ensures all { IfOk result (λ keys.
+        AreCandidates R.events_of lists.now (touches asked) keys.items) }
     ensures sorted { IfOk result (λ keys. IsSorted sort_key_cmp keys.items) }
 {
     let mut candidates = Candidates::new(alloc, events_in(lists))?;
     for (list, events) in lists.iter().enumerate() {
-        candidates.gather(list, events.events())?;
+        candidates.gather(list, events.events(), asked)?;
     }
     let mut keys = candidates.keys;
     keys.sort_unstable();
@@ -40,6 +43,13 @@ fn events_in<R: EventList>(lists: &[R]) -> usize {
         events = events.saturating_add(list.events().len());
     }
     events
+}
+
+/// Whether the event opens or closes a handle of the process that is asked for.
+fn touches(event: &SharedEvent, asked: Option<u32>) -> bool
+    ensures { result ≡ touches asked event.now }
+{
+    event.kind.opens_or_closes() && asked.is_none_or(|process| event.process == process)
 }
 
 impl<A: Allocator + Clone> Candidates<A> {
@@ -58,14 +68,21 @@ impl<A: Allocator + Clone> Candidates<A> {
 
 impl<A: Allocator> Candidates<A> {
     ghost use Rattle.std.specs.Prelude.{IfOk, OnOk};
+    ghost use Rattle.htl_tables.specs.Asked.{touches};
     ghost use Rattle.htl_tables.specs.SortKeys.{IsPlaceOf, Gathers, Offers};
 
-    /// Offers the key of each open and close of one list.
-    fn gather(&mut self, list: usize, events: &[SharedEvent]) -> Result<(), AllocError>
-        ensures { OnOk result (Gathers list events.now self.old.keys.items self.new.keys.items) }
+    /// Offers the key of each open and close of one list that is asked for.
+    fn gather(
+        &mut self,
+        list: usize,
+        events: &[SharedEvent],
+        asked: Option<u32>,
+    ) -> Result<(), AllocError>
+        ensures { OnOk result
+            (Gathers list events.now (touches asked) self.old.keys.items self.new.keys.items) }
     {
         for (index, event) in events.iter().enumerate() {
-            if event.kind.opens_or_closes() {
+            if touches(event, asked) {
                 self.offer(SortKey::of(event, list, index))?;
             }
         }

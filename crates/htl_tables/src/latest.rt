@@ -115,9 +115,11 @@ impl<A: Allocator> Latest<A> {
 }
 
 impl<A: Allocator + Clone> Latest<A> {
-    ghost use Rattle.std.specs.Prelude.{◌≡◌, ℕ, IfOk, Contains, flat_map};
+    ghost use Rattle.std.specs.Prelude.{◌≡◌, ◌≢◌, ◌==◌, ℕ, [], None, Ok, IfOk, Contains};
+    ghost use Rattle.std.specs.Prelude.{filter, flat_map};
     ghost use Rattle.htl_event.specs.Handles.{LatestIs, later};
     ghost use Rattle.htl_tables.specs.Latest.{event_at, noted};
+    ghost use Rattle.htl_tables.specs.Asked.{noted_of};
 
     /// The later event of both tables for each handle, this table's where their sequences are
     /// equal, under a clone of this table's allocator.
@@ -128,6 +130,30 @@ impl<A: Allocator + Clone> Latest<A> {
         let alloc = self.rows.allocator().clone()?;
         Ok(Latest {
             rows: merge::<ByHandle, A>(alloc, &self.rows, &other.rows)?,
+        })
+    }
+
+    /// This table with what the other has of one process: the later event of both for each handle,
+    /// this table's where their sequences are equal. It takes no memory where that has none.
+    pub fn join_process<B: Allocator>(
+        self,
+        other: &Latest<B>,
+        process: u32,
+    ) -> Result<Latest<A>, NoMemory>
+        ensures joined { IfOk result (λ t. (base : ℕ) → event_at t process base
+            ≡ later (event_at self process base) (event_at other.now process base)) }
+        ensures others { IfOk result (λ t. (owner base : ℕ) → owner ≢ process
+            → event_at t owner base ≡ event_at self owner base) }
+        ensures nothing { filter (λ e. e.process == process) other.now ≡ []
+            → result ≡ Ok self }
+    {
+        let rows = of_process(&other.rows, process);
+        if rows.is_empty() {
+            return Ok(self);
+        }
+        let alloc = self.rows.allocator().clone()?;
+        Ok(Latest {
+            rows: merge::<ByHandle, A>(alloc, &self.rows, rows)?,
         })
     }
 
@@ -152,7 +178,35 @@ impl<A: Allocator + Clone> Latest<A> {
             → LatestIs (Contains (flat_map R.events_of lists.now)) process base
             (event_at t process base)) }
     {
-        let keys = candidates_in(alloc.clone()?, lists)?;
+        Latest::of_asked(alloc, lists, None)
+    }
+
+    /// The same of one process alone: the table has no event of another.
+    pub fn of_process<R: EventList>(
+        alloc: A,
+        lists: &[R],
+        process: u32,
+    ) -> Result<Latest<A>, NoMemory>
+        ensures noted { IfOk result (λ t. (base : ℕ)
+            → event_at t process base ≡ noted (flat_map R.events_of lists.now) process base) }
+        ensures latest { IfOk result (λ t. (base : ℕ)
+            → LatestIs (Contains (flat_map R.events_of lists.now)) process base
+            (event_at t process base)) }
+        ensures others { IfOk result (λ t. (other base : ℕ) → other ≢ process
+            → event_at t other base ≡ None) }
+    {
+        Latest::of_asked(alloc, lists, Some(process))
+    }
+
+    fn of_asked<R: EventList>(
+        alloc: A,
+        lists: &[R],
+        asked: Option<u32>,
+    ) -> Result<Latest<A>, NoMemory>
+        ensures { IfOk result (λ t. (process base : ℕ) → event_at t process base
+            ≡ noted_of asked (flat_map R.events_of lists.now) process base) }
+    {
+        let keys = candidates_in(alloc.clone()?, lists, asked)?;
         let mut latest = Latest {
             rows: Vec::with_capacity(alloc, handles_in(&keys))?,
         };

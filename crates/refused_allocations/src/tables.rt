@@ -8,6 +8,8 @@ use htl_segment::Segment;
 use htl_tables::{EventKind, Exits, Greatest, Latest, Marks};
 use std::alloc::Global;
 
+const PROCESS: u32 = 4;
+
 type Handles = Latest<Global>;
 
 type Moments<K> = Greatest<K, Global>;
@@ -23,8 +25,10 @@ pub fn try_all(trials: &mut Trials<'_, HostRuntime>) -> Result<()> {
 
 fn try_latest(trials: &mut Trials<'_, HostRuntime>) -> Result<()> {
     trials.reads("Latest::of", segments, latest_of)?;
+    trials.reads("Latest::of_process", segments, latest_of_process)?;
     trials.changes("Latest::note", noting_handles, note_handle)?;
     trials.reads("Latest::join", two_latest, join_handles)?;
+    trials.reads("Latest::join_process", two_latest, join_process)?;
     trials.reads("Latest::copy", latest, copy_handles)
 }
 
@@ -60,6 +64,10 @@ fn new_events(alloc: Global) -> Result<Equal<Vec<SharedEvent>>, Refusal> {
 
 fn latest_of(alloc: Global, segments: &Vec<Segment>) -> Result<Handles, Refusal> {
     Ok(Latest::of(alloc, segments)?)
+}
+
+fn latest_of_process(alloc: Global, segments: &Vec<Segment>) -> Result<Handles, Refusal> {
+    Ok(Latest::of_process(alloc, segments, PROCESS)?)
 }
 
 fn marks_of(alloc: Global, segments: &Vec<Segment>) -> Result<Marks<Global>, Refusal> {
@@ -129,6 +137,11 @@ fn note_moment<K: EventKind>(
 
 fn join_handles(_alloc: Global, (one, two): &(Handles, Handles)) -> Result<Handles, Refusal> {
     Ok(one.join(two)?)
+}
+
+/// Joins a copy of the first table.
+fn join_process(_alloc: Global, (one, two): &(Handles, Handles)) -> Result<Handles, Refusal> {
+    Ok(one.copy()?.join_process(two, PROCESS)?)
 }
 
 fn join_moments<K: EventKind>(

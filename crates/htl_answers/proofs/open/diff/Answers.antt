@@ -3,7 +3,7 @@ use Rattle.std.proofs.Common.{sym, subst}
 use Rattle.std.specs.Prelude.{Contains}
 use Rattle.std.proofs.lemmas.Result.{IfOk-weaker}
 use Rattle.htl_event.specs.Handles.{IsDiff}
-use Rattle.htl_answers.proofs.CandidateLemmas.{opened_after_is_diff}
+use Rattle.htl_answers.proofs.OpenLemmas.{opened_after_is_diff}
 use Rattle.htl_answers.proofs.open.diff.Goals as goal
 
 pub returns : goal.returns

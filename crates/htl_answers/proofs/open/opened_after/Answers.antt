@@ -1,7 +1,7 @@
 -- One event more.
 use Rattle.std.proofs.Common.{[], ◌∷◌, ◌++◌, List, sym, ap, ◌∙◌}
 use Rattle.htl_event.specs.Events.{Event}
-use Rattle.htl_answers.specs.Candidates.{is_opened_after}
+use Rattle.htl_answers.specs.Open.{is_opened_after}
 use Rattle.htl_answers.proofs.Filters.{one_added, none_added}
 use Rattle.htl_answers.proofs.open.opened_after.Goals as goal
 use Rattle.htl_answers.proofs.open.opened_after.Goals.{then-is_opened_after+in_ok-copy+in_ok-push, else-is_opened_after}

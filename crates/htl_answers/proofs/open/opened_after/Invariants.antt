@@ -1,7 +1,7 @@
 -- Copies of the opens after the moment so far.
 use Rattle.std.proofs.Common.{◌≡◌, take}
 use Rattle.std.specs.Prelude.{filter}
-use Rattle.htl_answers.specs.Candidates.{is_opened_after}
+use Rattle.htl_answers.specs.Open.{is_opened_after}
 use Rattle.htl_answers.proofs.open.opened_after.Given as goal
 
 abbrev pub invariant-loop-event : goal.invariant-loop-event

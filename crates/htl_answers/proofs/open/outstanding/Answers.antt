@@ -1,6 +1,6 @@
 -- The difference since the start has all outstanding handles.
 use Rattle.std.proofs.lemmas.Result.{IfOk-weaker}
-use Rattle.htl_answers.proofs.CandidateLemmas.{diff_from_start}
+use Rattle.htl_answers.proofs.OpenLemmas.{diff_from_start}
 use Rattle.htl_answers.proofs.open.outstanding.Goals as goal
 
 pub returns : goal.returns

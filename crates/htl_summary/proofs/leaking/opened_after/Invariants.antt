@@ -1,7 +1,7 @@
 -- Those of the events so far.
 use Rattle.std.proofs.Common.{◌≡◌, ◌≤◌, length, take}
 use Rattle.std.specs.Prelude.{filter}
-use Rattle.htl_answers.specs.Candidates.{is_opened_after}
+use Rattle.htl_answers.specs.Open.{is_opened_after}
 use Rattle.htl_summary.proofs.leaking.opened_after.Given as goal
 
 abbrev pub invariant-loop-event : goal.invariant-loop-event

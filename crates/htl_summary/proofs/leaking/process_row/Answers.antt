@@ -2,8 +2,8 @@
 use Rattle.std.proofs.Common.{◌≡◌, max, refl, arith}
 use Rattle.std.specs.Prelude.{Contains, filter}
 use Rattle.htl_event.specs.Handles.{IsMark, IsLastExit}
-use Rattle.htl_answers.specs.Candidates.{is_opened_after}
-use Rattle.htl_answers.proofs.CandidateLemmas.{opened_after_is_diff, diff_from_start}
+use Rattle.htl_answers.specs.Open.{is_opened_after}
+use Rattle.htl_answers.proofs.OpenLemmas.{opened_after_is_diff, diff_from_start}
 use Rattle.htl_summary.proofs.leaking.process_row.Goals as goal
 
 pub returns-clause-row : goal.returns-clause-row

@@ -1,9 +1,10 @@
 -- An event more that opens or closes is met by its key, and any other changes nothing.
 use Rattle.std.proofs.Common.{◌≡◌, length, Some, slice_get, refl, sym, ◌∙◌, arith}
 use Rattle.std.proofs.lemmas.Option.{slice_get_read}
+use Rattle.htl_tables.specs.Asked.{touches}
 use Rattle.htl_tables.proofs.Gathering.{gathers_more, gathers_skip, gathers_whole}
 use Rattle.htl_tables.proofs.candidates.Candidates.gather.Goals as goal
-use Rattle.htl_tables.proofs.candidates.Candidates.gather.Goals.{then-opens_or_closes+in_ok-offer, else-opens_or_closes}
+use Rattle.htl_tables.proofs.candidates.Candidates.gather.Goals.{then-touches+in_ok-offer, else-touches}
 
 pub loop-index-preserved : goal.loop-index-preserved
 loop-index-preserved g c =
@@ -13,17 +14,18 @@ loop-index-preserved g c =
     let i = c.loop-index.index in
     let e = c.index-events-index.result in
     let at : slice_get events i ≡ Some e = slice_get_read events (length events) i e refl c.loop-index-test.true c.index-events-index.is in
-    elim c.if-opens_or_closes.branch [
-      | then-opens_or_closes+in_ok-offer w ↦
+    elim c.if-touches.branch [
+      | then-touches+in_ok-offer w ↦
           let offers = rw w.of.ensures at w.in_ok-offer.ensures in
-          rw w.self-is (gathers_more c.args.list events old i keys w.offer.new.self.keys.items
-          e at (sym c.opens_or_closes.ensures ∙ w.if-opens_or_closes.true) offers c.loop-index.invariant)
-      | else-opens_or_closes w ↦
-          rw w.self-is (gathers_skip c.args.list events old i keys e at (sym c.opens_or_closes.ensures ∙ w.if-opens_or_closes.false)
+          rw w.self-is (gathers_more c.args.list events (touches c.args.asked) old i keys w.offer.new.self.keys.items
+          e at (sym c.touches.ensures ∙ w.if-touches.true) offers c.loop-index.invariant)
+      | else-touches w ↦
+          rw w.self-is (gathers_skip c.args.list events (touches c.args.asked) old i keys e at (sym c.touches.ensures ∙ w.if-touches.false)
           c.loop-index.invariant)
     ]
 
 pub returns : goal.returns
 returns g c =
     let all : c.loop-index.index ≡ length c.args.events.now = omega arith in
-    gathers_whole c.args.list c.args.events.now c.args.self.now.keys.items c.loop-index.self.keys.items (rw all at c.loop-index.invariant)
+    gathers_whole c.args.list c.args.events.now (touches c.args.asked) c.args.self.now.keys.items c.loop-index.self.keys.items
+    (rw all at c.loop-index.invariant)

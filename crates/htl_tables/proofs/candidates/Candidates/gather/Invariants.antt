@@ -1,6 +1,7 @@
 -- The keys of the list's events so far came to those that were there.
+use Rattle.htl_tables.specs.Asked.{touches}
 use Rattle.htl_tables.proofs.Gathering.{GathersFirst}
 use Rattle.htl_tables.proofs.candidates.Candidates.gather.Given as goal
 
 abbrev pub invariant-loop-index : goal.invariant-loop-index
-invariant-loop-index g l = GathersFirst l.list l.events l.initial.self.keys.items l.index l.self.keys.items
+invariant-loop-index g l = GathersFirst l.list l.events (touches l.asked) l.initial.self.keys.items l.index l.self.keys.items

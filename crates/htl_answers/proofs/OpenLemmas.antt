@@ -1,90 +1,71 @@
--- What folded tables and held events have of a process's handles, and the latest of these.
-use Rattle.std.proofs.Common.{◌≡◌, ℕ, ◌<◌, Bool, true, List, [], ◌∷◌, ◌++◌, Option, Some, None, refl, sym, ap, ◌∙◌, subst, arith, inl, inr}
+-- The latest events of a process's handles over several lists, and the opens among them.
+use Rattle.std.proofs.Common.{◌≡◌, ℕ, ◌<◌, Bool, true, List, [], ◌∷◌, ◌++◌, map, take, drop, append-nil, length, slice_get, Some, refl, sym, ap, ◌∙◌}
+use Rattle.std.proofs.Common.{subst, arith, inl, inr}
 use Rattle.std.specs.Prelude.{Contains, filter, max}
 use Rattle.std.proofs.lemmas.Bool.{and_from, and_parts, cases_Bool, ltb-true, lt-ltb}
-use Rattle.std.proofs.lemmas.Bool.Decides.{Decides-eqb}
-use Rattle.std.proofs.lemmas.List.Elements.{Contains-append_cases, Contains-append_left, Contains-append_right}
+use Rattle.std.proofs.lemmas.Option.{same_Some, none-some}
 use Rattle.htl_event.specs.Events.{Event}
 use Rattle.htl_event.specs.declared.kind.Kind.{Kind}
 use Rattle.htl_event.specs.declared.kind.Kind.TheVariants.{Opened}
 use Rattle.htl_event.specs.Slots.{base_of}
 use Rattle.htl_event.specs.Members.{Lists, IsRising}
-use Rattle.htl_event.specs.Handles.{OpensOrCloses, LatestIs, ByBase, IsOpen, IsLastExit, IsDiff, HaveOwnSequences}
+use Rattle.htl_event.specs.Handles.{LatestIs, ByBase, IsOpen, IsLastExit, IsDiff, HaveOwnSequences, later}
 use Rattle.htl_event.proofs.Members.{Contains-filter, Contains-from_filter, each_member, at_member, filter-pass, filter-skip}
 use Rattle.htl_event.proofs.ComputedHandles.{last_exit_of, IsLastExit-last_exit_of}
 use Rattle.htl_event.specs.Handles.{IsOutstanding}
+use Rattle.htl_event.proofs.Unions.{LatestIs-later}
 use Rattle.htl_event.proofs.Determined.{LatestIs-unique, one_event, IsGreatestSequence-unique}
 use Rattle.htl_tables.specs.Latest.{event_at, HasEventOf}
-use Rattle.htl_answers.specs.Candidates.{touches, is_open_kind, is_opened_after, IsMet, AreCandidates, AreLatestOf}
+use Rattle.htl_answers.specs.Open.{is_open_kind, is_opened_after, AreLatestOf}
+use Rattle.htl_answers.specs.Parts.{Contents, AreEventsOf}
+use Rattle.htl_answers.proofs.Appended.{latest_append, turned_union}
+use Rattle.htl_answers.proofs.PartLemmas.{split_parts}
+use Rattle.htl_answers.proofs.WholeLemmas.{front_and_back}
 
-more_candidates : (cs ds : List Event) (process base : ℕ) (e : Event) → ((x : Event) → Contains cs x → Contains ds x)
-    → IsMet cs process base e → IsMet ds process base e
-more_candidates cs ds process base e into met =
-    record { event = met.event; here = into met.event met.here; of_handle = met.of_handle; order = met.order }
+-- the later of what two tables have is the latest of both lists
+pub latest_joined : (xs ys : List Event) (process : ℕ) (latest left right : List Event)
+    → ((base : ℕ) → event_at latest process base ≡ later (event_at left process base) (event_at right process base))
+    → AreLatestOf xs process left → AreLatestOf ys process right → AreLatestOf (xs ++ ys) process latest
+latest_joined xs ys process latest left right is of_left of_right base =
+    rw (is base) (latest_append xs ys process base _ _ (of_left base) (of_right base))
 
-pub candidates_append : (xs ys : List Event) (process : ℕ) (cs ds : List Event) → AreCandidates xs process cs
-    → AreCandidates ys process ds → AreCandidates (xs ++ ys) process (cs ++ ds)
-candidates_append xs ys process cs ds p q = record {
-  each = λ e h. elim (Contains-append_cases cs ds e h)
-      [ inl l ↦ Contains-append_left xs ys e (p.each e l) | inr r ↦ Contains-append_right xs ys e (q.each e r) ];
-  met = λ base e h touches. elim (Contains-append_cases xs ys e h) [
-    | inl l ↦ more_candidates cs (cs ++ ds) process base e (Contains-append_left cs ds) (p.met base e l touches)
-    | inr r ↦ more_candidates ds (cs ++ ds) process base e (Contains-append_right cs ds) (q.met base e r touches)
-  ];
-}
+-- in either order
+pub latest_turned : (xs ys : List Event) (process : ℕ) (latest left right : List Event)
+    → ((base : ℕ) → event_at latest process base ≡ later (event_at left process base) (event_at right process base))
+    → AreLatestOf xs process left → AreLatestOf ys process right → AreLatestOf (ys ++ xs) process latest
+latest_turned xs ys process latest left right is of_left of_right base =
+    rw (is base) (LatestIs-later (Contains xs) (Contains ys) (Contains (ys ++ xs)) (turned_union xs ys) process base _ _
+    (of_left base) (of_right base))
 
--- what a table of latest events has for the process
-pub candidates_folded : (latest : List Event) (process : ℕ) (rows events : List Event)
-    → ((process base : ℕ) → LatestIs (Contains events) process base (event_at latest process base))
-    → Lists ByBase (HasEventOf latest process) rows → AreCandidates events process rows
-candidates_folded latest process rows events is listed = record {
-  each = λ e h.
-      let has = (listed.members e).0 h in
-      let here : LatestIs (Contains events) e.process (base_of e.handle) (Some e) =
-      subst (λ o. LatestIs (Contains events) e.process (base_of e.handle) o) has.1 (is e.process (base_of e.handle)) in
-      here.here;
-  met = λ base e h touches. go base e h touches (event_at latest process base) refl (is process base);
-}
-  where
-    go : (base : ℕ) (e : Event) → Contains events e → OpensOrCloses process base e → (o : Option Event) → event_at latest process base ≡ o
-        → LatestIs (Contains events) process base o → IsMet rows process base e
-    go base e h touches None at none = absurd (none e h touches)
-    go base e h touches (Some x) at found =
-        let kept = ap (λ p. event_at latest p (base_of x.handle)) found.of_handle.owner
-        ∙ ap (λ b. event_at latest process b) found.of_handle.handle ∙ at in
-        record {
-          event = x;
-          here = (listed.members x).1 (found.of_handle.owner, kept);
-          of_handle = found.of_handle;
-          order = found.greatest e h touches;
-        }
+-- of parts in two halves
+pub latest_halves : {X : Type 0} (contents : X → Contents) (n : ℕ) (parts front back : List X) → front ≡ take n parts
+    → back ≡ drop n parts → (process : ℕ) (latest left right : List Event)
+    → ((base : ℕ) → event_at latest process base ≡ later (event_at left process base) (event_at right process base))
+    → ((events : List Event) → AreEventsOf (map contents front) events → AreLatestOf events process left)
+    → ((events : List Event) → AreEventsOf (map contents back) events → AreLatestOf events process right)
+    → (events : List Event) → AreEventsOf (map contents parts) events → AreLatestOf events process latest
+latest_halves contents n parts front back is_front is_back process latest left right is of_left of_right events are =
+    let both = front_and_back contents n parts front back is_front is_back in
+    let joins = split_parts (map contents front) (map contents back) events (subst (λ ps. AreEventsOf ps events) both are) in
+    subst (λ (es : List Event). AreLatestOf es process latest) (sym joins.is)
+    (latest_joined joins.first joins.second process latest left right is (of_left joins.first joins.of_front)
+    (of_right joins.second joins.of_back))
 
--- and the held events themselves
-pub candidates_held : (events : List Event) (process : ℕ) → AreCandidates events process (filter (touches process) events)
-candidates_held events process = record {
-  each = λ e h. (Contains-from_filter (touches process) events e h).0;
-  met = λ base e h is. record {
-    event = e;
-    here = Contains-filter (touches process) events e h (and_from _ _ is.kind ((Decides-eqb e.process process).1 is.owner));
-    of_handle = is;
-    order = omega arith;
-  };
-}
-
--- the latest of the candidates are the latest of all
-pub latest_of_candidates : (events : List Event) (process : ℕ) (candidates : List Event) → AreCandidates events process candidates
-    → (base : ℕ) (o : Option Event) → LatestIs (Contains candidates) process base o → LatestIs (Contains events) process base o
-latest_of_candidates events process candidates are base None none = λ e h touches. let met =
-    are.met base e h touches in none met.event met.here met.of_handle
-latest_of_candidates events process candidates are base (Some x) found = record {
-  here = are.each x found.here;
-  of_handle = found.of_handle;
-  greatest = λ e h touches.
-      let met = are.met base e h touches in
-      let le = found.greatest met.event met.here met.of_handle in
-      let order = met.order in
-      omega (arith, le, order);
-}
+-- of one part
+pub latest_of_one : {X : Type 0} (contents : X → Contents) (parts : List X) (part : X) → length parts < 2 → slice_get parts 0 ≡ Some part
+    → (process : ℕ) (latest : List Event)
+    → ((folded : List Event) → AreLatestOf folded process (contents part).latest → AreLatestOf (folded ++ (contents part).held) process latest)
+    → (events : List Event) → AreEventsOf (map contents parts) events → AreLatestOf events process latest
+latest_of_one contents [] part lt at process latest of events are = absurd (none-some part at)
+latest_of_one contents (x ∷ []) part lt at process latest of events (folded, others, fold, none, is) =
+    let same : x ≡ part = same_Some x part at in
+    let all : events ≡ folded ++ (contents x).held = is ∙ ap (λ (es : List Event). folded ++ ((contents x).held ++ es)) none
+    ∙ ap (λ (es : List Event). folded ++ es) (append-nil (contents x).held) in
+    let its : AreLatestOf folded process (contents part).latest =
+    subst (λ y. AreLatestOf folded process (contents y).latest) same (fold.tables.latest_at process) in
+    subst (λ (es : List Event). AreLatestOf es process latest)
+    (sym (all ∙ ap (λ y. folded ++ (contents y).held) same)) (of folded its)
+latest_of_one contents (x ∷ y ∷ parts) part lt at process latest of events are = absurd (omega (arith, lt))
 
 -- ---- opens of a table that came after a moment
 

@@ -1,0 +1,6 @@
+-- Half as many parts.
+use Rattle.std.proofs.Common.{length}
+use Rattle.htl_answers.proofs.open.+latest_of_process.Given as goal
+
+abbrev pub decreases-latest_of_process : goal.decreases-latest_of_process
+decreases-latest_of_process g l = length l.parts.now

@@ -1,5 +1,5 @@
 -- Segments that are written one after the other are written together.
-use Rattle.std.proofs.Common.{◌≡◌, ◌∙◌, ℕ, ◌+◌, List, [], ◌∷◌, ◌++◌, refl, sym, ap, append_assoc, Option, Some, None, length-append, add-one}
+use Rattle.std.proofs.Common.{◌≡◌, ◌∙◌, ℕ, ◌+◌, List, [], ◌∷◌, ◌++◌, refl, sym, ap, append_assoc, Option, Some, None, add-one}
 use Rattle.std.specs.Io.KnownBytes.{Appends}
 use Rattle.std.proofs.lemmas.Grind.{flat_map-append}
 use Rattle.std.proofs.lemmas.List.{append-nil, map-append}
@@ -9,7 +9,7 @@ use Rattle.htl_segment.specs.Bundles.{bundle}
 use Rattle.htl_segment.specs.Encoding.{encoding}
 use Rattle.htl_samples.specs.Samples.{IsOfTrace}
 use Rattle.htl_samples.specs.declared.trace.Trace.{Trace}
-use Rattle.make_samples.specs.Writing.{Writes, WritesCount, WritesKeys, key_of, turn, turns}
+use Rattle.make_samples.specs.Writing.{Writes, WritesKeys, key_of, turn, turns}
 
 appends-none : (old : Option (List ℕ)) → Appends old old []
 appends-none None = tt
@@ -35,14 +35,6 @@ writes-both trace ss ts old mid new a b = record {
   fit = All-append Fits ss ts a.fit b.fit;
   bytes = rw (flat_map-append encoding ss ts) (appends-both old mid new (bundle ss) (bundle ts) a.bytes b.bytes);
 }
-
-pub count-one-more : (trace : Trace) (n : ℕ) (s : Content) (old mid new : Option (List ℕ)) → WritesCount trace n old mid
-    → Writes trace (s ∷ []) mid new → WritesCount trace (n + 1) old new
-count-one-more trace n s old mid new a b = (
-  a.0 ++ s ∷ [],
-  writes-both trace a.0 (s ∷ []) old mid new a.1 b,
-  length-append a.0 (s ∷ []) ∙ ap (λ (m : ℕ). m + 1) a.2,
-)
 
 pub keys-both : (trace : Trace) (ks js : List (ℕ × ℕ)) (old mid new : Option (List ℕ)) → WritesKeys trace ks old mid
     → WritesKeys trace js mid new → WritesKeys trace (ks ++ js) old new

@@ -1,5 +1,5 @@
 -- What is written of a trace (this project's own): segments of it, one after the other.
-use Rattle.std.specs.Prelude.{◌≡◌, ℕ, zero, suc, List, [], ◌∷◌, ◌++◌, Option, All, length, map}
+use Rattle.std.specs.Prelude.{◌≡◌, ℕ, zero, suc, List, [], ◌∷◌, ◌++◌, Option, All, map}
 use Rattle.std.specs.Io.KnownBytes.{Appends}
 use Rattle.htl_segment.specs.Content.{Content, Fits}
 use Rattle.htl_segment.specs.Bundles.{bundle}
@@ -11,10 +11,6 @@ pub record Writes (trace : Trace) (segments : List Content) (old new : Option (L
   pub of_trace : All (IsOfTrace trace) segments
   pub fit : All Fits segments
   pub bytes : Appends old new (bundle segments)
-
--- by those of so many segments
-abbrev pub WritesCount : Trace → ℕ → Option (List ℕ) → Option (List ℕ) → Type 0
-WritesCount trace count old new = (segments : List Content) × Writes trace segments old new × (length segments ≡ count)
 
 -- a processor and a number
 abbrev pub key_of : Content → ℕ × ℕ

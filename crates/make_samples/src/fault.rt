@@ -1,9 +1,9 @@
-//! Why a sample was not written.
+//! Why a trace was not written.
 
 use htl_samples::SampleFault;
 use thiserror::Error;
 
-/// Why a sample was not written.
+/// Why a trace was not written.
 #[derive(Clone, Copy, Debug, PartialEq, Eq, Error)]
 pub enum MakeFault {
     /// A segment of it can't be made.

@@ -1,34 +1,13 @@
 //! Segments as they are made, one after the other into a sink.
-ghost use Rattle.std.specs.Prelude.{◌≡◌, [], ◌∷◌, false, true, length, OnOk};
+ghost use Rattle.std.specs.Prelude.{◌≡◌, [], ◌∷◌, false, true, OnOk};
 ghost use Rattle.htl_samples.specs.Samples.{IsOfTrace};
-ghost use Rattle.make_samples.specs.Writing.{Writes, WritesCount, WritesKeys, turn, turns};
+ghost use Rattle.make_samples.specs.Writing.{Writes, WritesKeys, turn, turns};
 
 use crate::fault::MakeFault;
 use htl_device::{Sink, write_whole};
 use htl_samples::{RandomTrace, SampleFault, TRACE, Trace};
 use htl_segment::{Segment, encode};
 use std::alloc::Global;
-
-/// Writes the segment of each line, in their order. After a fault the segments before it are
-/// written, and after a failed write a part of one more.
-pub fn write_lines<W: Sink>(
-    alloc: Global,
-    trace: Trace,
-    lines: &[&str],
-    out: &mut W,
-) -> Result<(), MakeFault>
-    requires { W.has_failed out.old ≡ false }
-    ensures ok { OnOk result (WritesCount trace (length lines.now)
-        (W.contents out.old) (W.contents out.new)) }
-    ensures fine { OnOk result (W.has_failed out.new ≡ false) }
-    ensures reported { W.has_failed out.new ≡ true → result ≡ Err MakeFault.Write }
-{
-    for line in lines {
-        let segment = trace.segment(alloc, line)?;
-        write_segment(alloc, trace, &segment, out)?;
-    }
-    Ok(())
-}
 
 /// Writes a generated trace: number 0 of each processor, then number 1 of each, and so on. Only one
 /// segment is in memory at a time. After a fault the segments before it are written, and after a

@@ -6,6 +6,7 @@ pub mod Opens
 pub mod Listings
 pub mod BadReferences
 pub mod Leaks
+pub mod Folded
 pub mod TagBalances
 pub mod ReferenceStacks
 pub mod Summaries

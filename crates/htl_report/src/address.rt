@@ -1,7 +1,8 @@
 //! The lines of stacks: addresses by name where the symbols have them.
 
 ghost use Rattle.std.specs.Prelude.{◌≡◌, ◌++◌, codes, OnOk, string_bytes};
-ghost use Rattle.htl_report.specs.Addresses.{frame_line, hex16, line_feed, stack_lines};
+ghost use Rattle.htl_symbols.specs.Ranges.{resolved};
+ghost use Rattle.htl_report.specs.Addresses.{frame_line, hex16, named, stack_lines};
 
 use htl_symbols::Symbols;
 use std::alloc::AllocError;
@@ -25,20 +26,34 @@ fn write_frame(out: &mut String, symbols: &Symbols, address: u64) -> Result<(), 
     ensures { OnOk result (string_bytes out.new
         ≡ string_bytes out.old ++ frame_line symbols.now address) }
 {
+    out.push_str("  ")?;
+    write_named(out, symbols, address)?;
+    out.push('\n')
+}
+
+/// An address by its symbol where it has one, and else by its digits.
+pub(crate) fn write_named(
+    out: &mut String,
+    symbols: &Symbols,
+    address: u64,
+) -> Result<(), AllocError>
+    ensures { OnOk result (string_bytes out.new
+        ≡ string_bytes out.old ++ named address (resolved symbols.now address)) }
+{
     match symbols.resolve(address) {
-        None => write_unnamed(out, address),
-        Some((module, name, 0)) => writeln!(out, "  {module}!{name}"),
-        Some((module, name, offset)) => writeln!(out, "  {module}!{name}+0x{offset:x}"),
+        None => write_address(out, address),
+        Some((module, name, 0)) => write!(out, "{module}!{name}"),
+        Some((module, name, offset)) => write!(out, "{module}!{name}+0x{offset:x}"),
     }
 }
 
-fn write_unnamed(out: &mut String, address: u64) -> Result<(), AllocError>
+/// An address by its digits.
+pub fn write_address(out: &mut String, address: u64) -> Result<(), AllocError>
     ensures { OnOk result (string_bytes out.new
-        ≡ string_bytes out.old ++ (codes "  0x" ++ (hex16 address ++ line_feed))) }
+        ≡ string_bytes out.old ++ (codes "0x" ++ hex16 address)) }
 {
-    out.push_str("  0x")?;
-    write_padded(out, address)?;
-    out.push('\n')
+    out.push_str("0x")?;
+    write_padded(out, address)
 }
 
 /// 16 hexadecimal digits.

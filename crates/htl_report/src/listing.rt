@@ -60,13 +60,13 @@ fn write_listed(out: &mut String, symbols: &Symbols, event: &SharedEvent) -> Res
     ensures { OnOk result (string_bytes out.new
         ≡ string_bytes out.old ++ listed_lines symbols.now event.now) }
 {
-    write_event(out, word(event.kind), event.handle, event)?;
+    write_event(out, event_word(event.kind), event.handle, event)?;
     write_stack(out, symbols, event.stack.frames())
 }
 
 /// The word of an event of this kind. A listing has the first three alone, but any event can be
 /// printed.
-fn word(kind: Kind) -> &'static str
+pub fn event_word(kind: Kind) -> &'static str
     ensures { result.now ≡ word_of kind }
 {
     match kind {

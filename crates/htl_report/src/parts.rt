@@ -73,7 +73,7 @@ pub(crate) fn write_counts(out: &mut String, count: Count) -> Result<(), AllocEr
 }
 
 /// A tag in display order.
-pub(crate) fn write_tag(out: &mut String, tag: &[u8]) -> Result<(), AllocError>
+pub fn write_tag(out: &mut String, tag: &[u8]) -> Result<(), AllocError>
     ensures { OnOk result (string_bytes out.new
         ≡ string_bytes out.old ++ shown_tag tag.now) }
 {

@@ -4,7 +4,7 @@ ghost use Rattle.std.specs.Prelude.{◌≡◌};
 ghost use Rattle.htl_report.specs.Rows.{first_rows as first_rows_of};
 
 /// The first rows: all, or at most `top`.
-pub(crate) fn first_rows<R>(top: Option<u32>, rows: &[R]) -> &[R]
+pub fn first_rows<R>(top: Option<u32>, rows: &[R]) -> &[R]
     ensures { result.now ≡ first_rows_of top rows.now }
 {
     match top {

@@ -1,0 +1,32 @@
+-- The text of leaking stacks for flame graph programs, as bytes: a line for each stack, its frames from the outermost to the innermost.
+use Rattle.std.specs.Prelude.{◌++◌, ◌∷◌, [], ◌==◌, ◌||◌, ℕ, List, Option, codes, flat_map, if◌then◌else◌, map, reverse}
+use Rattle.std.specs.Fmt.{decimal}
+use Rattle.std.specs.List.{join_by}
+use Rattle.htl_symbols.specs.Ranges.{Range, resolved}
+use Rattle.htl_report.specs.Addresses.{line_feed, named}
+use Rattle.htl_report.specs.Rows.{first_rows}
+
+-- `;` parts frames and a line feed or carriage return ends a line, so within a name `:` and a space stand for them
+abbrev pub folded_byte : ℕ → ℕ
+folded_byte b = if b == 59 then 58 else (if b == 10 || b == 13 then 32 else b)
+
+-- an address as in other texts
+abbrev pub folded_frame : List Range → ℕ → List ℕ
+folded_frame symbols address = map folded_byte (named address (resolved symbols address))
+
+-- the frames, the outermost first
+abbrev pub folded_stack : List Range → List ℕ → List ℕ
+folded_stack symbols [] = codes "(no stack)"
+folded_stack symbols (frame ∷ frames) = join_by (folded_frame symbols) (codes ";") (reverse (frame ∷ frames))
+
+-- a space and how many handles
+unfoldable pub folded_count : ℕ → List ℕ
+folded_count handles = codes " " ++ (decimal handles ++ line_feed)
+
+-- a stack, and how many handles it opened
+abbrev pub folded_line : List Range → List ℕ × ℕ → List ℕ
+folded_line symbols row = folded_stack symbols row.0 ++ folded_count row.1
+
+-- the leaking stacks, with no first line
+abbrev pub folded_text : List Range → Option ℕ → List (List ℕ × ℕ) → List ℕ
+folded_text symbols top rows = flat_map (folded_line symbols) (first_rows top rows)

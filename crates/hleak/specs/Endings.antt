@@ -1,14 +1,20 @@
 -- How the program ends (this project's own).
-use Rattle.std.specs.Prelude.{◌≡◌, ◌⊎◌, ℕ, Result, Ok, Err}
+use Rattle.std.specs.Prelude.{◌≡◌, ◌⊎◌, ◌&&◌, ℕ, Bool, if◌then◌else◌, Result, Ok, Err}
 use Rattle.htl_command.specs.declared.fault.ParseFault.{ParseFault}
 use Rattle.htl_command.specs.declared.fault.ParseFault.TheVariants.{Help, Usage, Memory}
 use Rattle.htl_main.specs.Statuses.{status_of}
+use Rattle.htl_main.specs.declared.completed.Completed.{Completed}
 use Rattle.htl_main.specs.declared.fault.RunFault.{RunFault}
 
--- the status after a run
-abbrev pub end_status : {X : Type 0} → Result X RunFault → ℕ
-end_status (Ok done) = 0
-end_status (Err fault) = status_of fault
+-- the status after a run, which says that the answer finds something only where that is asked for
+abbrev pub end_status : Bool → Result Completed RunFault → ℕ
+end_status exit_code (Ok completed) = if exit_code && completed.has_finding then 1 else 0
+end_status exit_code (Err fault) = status_of fault
+
+-- the status after a conversion
+abbrev pub conversion_status : {X : Type 0} → Result X RunFault → ℕ
+conversion_status (Ok done) = 0
+conversion_status (Err fault) = status_of fault
 
 -- the status after a text was written, or after that failed
 abbrev pub IsTextStatus : ℕ → Type 0

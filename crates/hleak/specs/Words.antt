@@ -4,7 +4,7 @@ use Rattle.htl_command.specs.Codes.{code_name}
 use Rattle.htl_command.specs.declared.code.Code.{Code}
 use Rattle.htl_command.specs.declared.code.Code.TheVariants.{S1, S2, S3, S4, S5, S6, S7, S8, S9, S10, S11, S12, S13, S14, S15, S16, S17}
 use Rattle.htl_command.specs.declared.code.Code.TheVariants.{H1, H2, H3}
-use Rattle.htl_command.specs.declared.code.Code.TheVariants.{C1, C2, C3, C4, C5, C6, C7}
+use Rattle.htl_command.specs.declared.code.Code.TheVariants.{C1, C2, C3, C4, C5, C6, C7, C8}
 use Rattle.htl_command.specs.declared.code.Code.TheVariants.{Y1, Y2, Y3, Y4, Y5, Y6, Y7}
 use Rattle.htl_command.specs.declared.code.Code.TheVariants.{E1, E2}
 
@@ -36,6 +36,7 @@ meaning_of C4 = codes "segment <number> of processor <processor> is there with t
 meaning_of C5 = codes "sequence <sequence> is that of an event in each of two different segments"
 meaning_of C6 = codes "the system refused memory"
 meaning_of C7 = codes "segment <number> of processor <processor> has an event that isn't above all in the processor's segments before"
+meaning_of C8 = codes "segment <number> of processor <processor> is missing"
 meaning_of Y1 = codes "the first line isn't start,end,module,name"
 meaning_of Y2 = codes "row <row> hasn't four fields"
 meaning_of Y3 = codes "row <row> has a start or an end that is no number"
@@ -86,6 +87,7 @@ advice_of C4 = codes "give the files of one trace, as they were written"
 advice_of C5 = mixed
 advice_of C6 = free_memory
 advice_of C7 = mixed
+advice_of C8 = codes "give all files of the trace, or leave out --complete"
 advice_of Y1 = codes "is it a table of symbols?"
 advice_of Y2 = codes "is a name with a comma in quotes, and is each quote ended?"
 advice_of Y3 = codes "each is 1 to 16 hexadecimal digits, with or without 0x"

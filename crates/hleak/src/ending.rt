@@ -14,14 +14,19 @@ pub struct Ending {
 }
 
 impl Ending {
-    /// That of a run. One that ended well has no line, and status 0, which no fault has.
-    pub fn of(ended: Result<Completed, RunFault>) -> Ending
-        ensures status { result.status ≡ end_status ended }
+    /// That of a run. One that ended well has no line, and status 0; or 1 where its answer finds
+    /// something and the status is to say so. No fault has either.
+    pub fn of(exit_code: bool, ended: Result<Completed, RunFault>) -> Ending
+        ensures status { result.status ≡ end_status exit_code ended }
         ensures line { result.line ≡ result_err ended }
     {
         match ended {
-            Ok(_) => Ending {
-                status: 0,
+            Ok(completed) => Ending {
+                status: if exit_code && completed.has_finding {
+                    1
+                } else {
+                    0
+                },
                 line: None,
             },
             Err(fault) => Ending {

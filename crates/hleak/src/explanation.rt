@@ -66,6 +66,7 @@ impl<'a> Explanation<'a> {
             RunFault::Hex { fault, .. } => Meaning::of_hex(fault),
             RunFault::Text { fault, .. } => Meaning::of_line(fault),
             RunFault::Case(fault) => Meaning::of_case(fault),
+            RunFault::Incomplete { processor, number } => Meaning::of_missing(processor, number),
             RunFault::Symbols(fault) => Meaning::of_symbols(fault),
             RunFault::Read { .. } | RunFault::SymbolsRead => Meaning::new(
                 "it can't be opened or read",
@@ -94,9 +95,11 @@ impl<'a> Explanation<'a> {
             RunFault::Read { input } => self.input(input),
             RunFault::Symbols(_) | RunFault::SymbolsRead => self.symbols(),
             RunFault::Write => "standard output",
-            RunFault::Workers | RunFault::Case(_) | RunFault::Memory | RunFault::NoThread => {
-                "hleak"
-            }
+            RunFault::Workers
+            | RunFault::Case(_)
+            | RunFault::Incomplete { .. }
+            | RunFault::Memory
+            | RunFault::NoThread => "hleak",
         }
     }
 

@@ -16,7 +16,7 @@ ghost use Rattle.std.specs.Prelude.{◌≡◌, ⊤, All, IfErr, IfOk, false};
 ghost use Rattle.std.specs.Process.{exit_status};
 ghost use Rattle.htl_command.specs.Refusals.{IsUsageWith};
 ghost use Rattle.hleak.specs.Arguments.{AreArguments};
-ghost use Rattle.hleak.specs.Endings.{EndsRefusal, IsTextStatus, end_status};
+ghost use Rattle.hleak.specs.Endings.{EndsRefusal, IsTextStatus, conversion_status, end_status};
 
 mod absence;
 mod conversion;
@@ -163,9 +163,9 @@ fn end(
     is_watched: bool,
     ended: Result<Completed, RunFault>,
 ) -> ExitCode
-    ensures { exit_status result ≡ end_status ended }
+    ensures { exit_status result ≡ end_status asked.now.job.exit_code ended }
 {
-    let ending = Ending::of(ended);
+    let ending = Ending::of(asked.job.exit_code, ended);
     if let Some(line) = ending.line {
         let _ = eprintln!(rt; "{line}");
     }
@@ -182,7 +182,7 @@ fn end_conversion(
     is_watched: bool,
     ended: Result<(), RunFault>,
 ) -> ExitCode
-    ensures { exit_status result ≡ end_status ended }
+    ensures { exit_status result ≡ conversion_status ended }
 {
     let Err(fault) = ended else {
         return ExitCode::SUCCESS;

@@ -103,6 +103,11 @@ impl Meaning {
         Meaning::of_code(code, numbers)
     }
 
+    /// That of a case that misses a segment, where a complete one is asked for.
+    pub fn of_missing(processor: u16, number: u32) -> Meaning {
+        Meaning::of_code(Code::C8, Numbers::of_key(processor, number))
+    }
+
     /// That of a fault of a symbol table.
     pub fn of_symbols(fault: SymbolFault) -> Meaning {
         let (code, numbers) = match fault {

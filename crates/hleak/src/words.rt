@@ -57,6 +57,7 @@ pub fn meaning(code: Code) -> &'static str
 segment <number> of processor <processor> has an event that isn't above all in the \
 processor's segments before"
         }
+        Code::C8 => "segment <number> of processor <processor> is missing",
         Code::Y1 => "the first line isn't start,end,module,name",
         Code::Y2 => "row <row> hasn't four fields",
         Code::Y3 => "row <row> has a start or an end that is no number",
@@ -98,6 +99,7 @@ pub fn advice(code: Code) -> &'static str
         Code::C2 | Code::C3 => ONE_TRACE,
         Code::C4 => "give the files of one trace, as they were written",
         Code::C5 | Code::C7 => MIXED,
+        Code::C8 => "give all files of the trace, or leave out --complete",
         Code::Y1 => "is it a table of symbols?",
         Code::Y2 => "is a name with a comma in quotes, and is each quote ended?",
         Code::Y3 => "each is 1 to 16 hexadecimal digits, with or without 0x",

@@ -1,6 +1,8 @@
 -- The table of the commands and their options (this project's own).
 use Rattle.std.specs.Prelude.{ℕ, Bool, true, false, List, [], ◌∷◌, Option, codes, find}
 use Rattle.std.specs.Str.{bytes_eq}
+use Rattle.htl_command.specs.declared.commands.CommandFlag.{CommandFlag}
+use Rattle.htl_command.specs.declared.commands.CommandFlag.TheVariants.{ExitCode, Complete, Hex}
 use Rattle.htl_command.specs.declared.commands.CommandName.{CommandName}
 use Rattle.htl_command.specs.declared.commands.CommandName.TheVariants.{Ask, Explain, Dump, Encode}
 use Rattle.htl_command.specs.declared.commands.CommandOption.{CommandOption}
@@ -41,6 +43,12 @@ question_name question = (question_row question).0
 abbrev pub own_options : QuestionName → List CommandOption
 own_options question = (question_row question).1
 
+-- the options without a value that not every question has
+abbrev pub own_flags : QuestionName → List CommandFlag
+own_flags Stacks = []
+own_flags Trace = []
+own_flags question = ExitCode ∷ []
+
 abbrev pub name_of : CommandName → List ℕ
 name_of (Ask question) = question_name question
 name_of Explain = codes "explain"
@@ -52,6 +60,12 @@ option_name option = (option_row option).0
 
 abbrev pub is_required : CommandOption → Bool
 is_required option = (option_row option).1
+
+-- each option without a value: its name without the dashes
+abbrev pub flag_name : CommandFlag → List ℕ
+flag_name ExitCode = codes "exit-code"
+flag_name Complete = codes "complete"
+flag_name Hex = codes "hex"
 
 -- the command of a name
 unfoldable pub command_named : List ℕ → Option CommandName

@@ -4,7 +4,9 @@ use Rattle.clap.specs.Lexer.{usize_max}
 use Rattle.clap.specs.Simple.{new_shape}
 use Rattle.clap.specs.Words.{App, Kinds, Row, Rule, Text, fault_of, new_app, new_rule, subcommand_of, with_rule, with_subcommand}
 use Rattle.clap.specs.declared.builder.ArgAction.TheVariants.{SetTrue}
-use Rattle.htl_command.specs.Commands.{commands, is_required, name_of, option_name, own_options}
+use Rattle.htl_command.specs.Commands.{commands, flag_name, is_required, name_of, option_name, own_flags, own_options}
+use Rattle.htl_command.specs.declared.commands.CommandFlag.{CommandFlag}
+use Rattle.htl_command.specs.declared.commands.CommandFlag.TheVariants.{Complete, Hex}
 use Rattle.htl_command.specs.declared.commands.CommandName.{CommandName}
 use Rattle.htl_command.specs.declared.commands.CommandName.TheVariants.{Ask, Explain, Dump, Encode}
 use Rattle.htl_command.specs.declared.commands.CommandOption.{CommandOption}
@@ -18,8 +20,9 @@ option_rule option = record (new_rule (option_name option)) {
   required = is_required option;
 }
 
-abbrev pub hex_rule : Rule
-hex_rule = record (new_rule (codes "hex")) { long = Some (codes "hex"); action = Some SetTrue }
+-- one without a value is there or not
+abbrev pub flag_rule : CommandFlag → Rule
+flag_rule flag = record (new_rule (flag_name flag)) { long = Some (flag_name flag); action = Some SetTrue }
 
 -- all other arguments are files
 abbrev pub files_rule : Rule
@@ -30,7 +33,7 @@ files_rule = record (new_rule (codes "files")) {
 
 -- what every question has
 abbrev pub common_rules : List Rule
-common_rules = option_rule Symbols ∷ option_rule Workers ∷ hex_rule ∷ files_rule ∷ []
+common_rules = option_rule Symbols ∷ option_rule Workers ∷ flag_rule Complete ∷ flag_rule Hex ∷ files_rule ∷ []
 
 -- with these rules, in order
 abbrev pub with_rules : App → List Rule → App
@@ -39,14 +42,15 @@ with_rules a (rule ∷ more) = with_rules (with_rule a rule) more
 
 -- what the two commands on texts of segments have
 abbrev pub text_rules : List Rule
-text_rules = hex_rule ∷ files_rule ∷ []
+text_rules = flag_rule Hex ∷ files_rule ∷ []
 
 -- a code is one argument
 abbrev pub code_rule : Rule
 code_rule = record (new_rule (codes "code")) { value_names = 1; required = true }
 
 abbrev pub rules_of : CommandName → App → App
-rules_of (Ask question) a = with_rules (with_rules a (map option_rule (own_options question))) common_rules
+rules_of (Ask question) a =
+    with_rules (with_rules (with_rules a (map option_rule (own_options question))) (map flag_rule (own_flags question))) common_rules
 rules_of Explain a = with_rules a (code_rule ∷ [])
 rules_of Dump a = with_rules a text_rules
 rules_of Encode a = with_rules a text_rules

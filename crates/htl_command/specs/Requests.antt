@@ -5,13 +5,15 @@ use Rattle.std.specs.Option.{option_map_or}
 use Rattle.std.specs.Str.{bytes_eq}
 use Rattle.clap.specs.Words.{Kinds, Row, Text, all_of, first_of}
 use Rattle.htl_command.specs.Codes.{code_named}
-use Rattle.htl_command.specs.Commands.{command_named, option_name}
+use Rattle.htl_command.specs.Commands.{command_named, flag_name, option_name}
 use Rattle.htl_command.specs.Entries.{entries, refusals}
 use Rattle.htl_command.specs.Values.{handle_in, object_in, process_in, sequence_in, tag_in, top_in, workers_in}
 use Rattle.htl_command.specs.declared.asked.Asked.{Asked}
 use Rattle.htl_command.specs.declared.asked.Command.{Command}
 use Rattle.htl_command.specs.declared.asked.Command.TheVariants as wish
 use Rattle.htl_command.specs.declared.code.Code.{Code}
+use Rattle.htl_command.specs.declared.commands.CommandFlag.{CommandFlag}
+use Rattle.htl_command.specs.declared.commands.CommandFlag.TheVariants as flag
 use Rattle.htl_command.specs.declared.commands.CommandName.{CommandName}
 use Rattle.htl_command.specs.declared.commands.CommandName.TheVariants as command
 use Rattle.htl_command.specs.declared.commands.QuestionName.{QuestionName}
@@ -54,13 +56,19 @@ abbrev pub workers : List Row → Option ℕ
 workers rows = option_map (λ n. unwrap_or n 1) (optional workers_in Workers rows)
 
 -- `clap` gives a flag that was used the text `true`
-abbrev pub is_hex : List Row → Bool
-is_hex rows = option_map_or (λ text. bytes_eq text (codes "true")) (first_of (codes "hex") rows) false
+abbrev pub is_given : CommandFlag → List Row → Bool
+is_given flag rows = option_map_or (λ text. bytes_eq text (codes "true")) (first_of (flag_name flag) rows) false
 
 unfoldable pub job_of : QuestionName → List Row → Option Job
 job_of name rows =
-    option_and_then (λ question. both (λ n t. record { question = question; hex = is_hex rows; workers = n; top = t })
-    (workers rows) (optional top_in Top rows)) (question_of name rows)
+    option_and_then (λ question. both (λ n t. record {
+      question = question;
+      hex = is_given flag.Hex rows;
+      workers = n;
+      top = t;
+      complete = is_given flag.Complete rows;
+      exit_code = is_given flag.ExitCode rows;
+    }) (workers rows) (optional top_in Top rows)) (question_of name rows)
 
 -- the code that is to be explained
 abbrev pub code_of : List Row → Option Code
@@ -89,8 +97,8 @@ with_files rows job = record { job = job; files = file_names rows; symbols = giv
 abbrev pub request_of : CommandName → List Row → Option Request
 request_of (command.Ask name) rows = option_map (λ job. answers (with_files rows job)) (job_of name rows)
 request_of command.Explain rows = option_map (λ code. explains code) (code_of rows)
-request_of command.Dump rows = Some (dumps (is_hex rows) (file_names rows))
-request_of command.Encode rows = Some (encodes (is_hex rows) (file_names rows))
+request_of command.Dump rows = Some (dumps (is_given flag.Hex rows) (file_names rows))
+request_of command.Encode rows = Some (encodes (is_given flag.Hex rows) (file_names rows))
 
 -- what a command's name and its entries ask for
 abbrev pub request_met : Option (Text × List Row) → Option Request
@@ -98,7 +106,11 @@ request_met met = option_and_then (λ p. option_and_then (λ command. request_of
 
 -- what no arguments ask for
 abbrev pub stored : Work
-stored = record { job = record { question = Outstanding 4; hex = true; workers = 1; top = None }; files = []; symbols = None }
+stored = record {
+  job = record { question = Outstanding 4; hex = true; workers = 1; top = None; complete = false; exit_code = false };
+  files = [];
+  symbols = None;
+}
 
 abbrev pub is_nothing : Kinds → Bool
 is_nothing [] = true

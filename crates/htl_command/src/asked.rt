@@ -4,18 +4,19 @@ ghost use Rattle.std.specs.Prelude.{string_bytes};
 ghost use Rattle.clap.specs.Words.{subcommand_rows_of};
 ghost use Rattle.htl_command.specs.Entries.{entries as entries_in, refusals};
 ghost use Rattle.htl_command.specs.Refusals.{IsUsageWith, RefusesArguments};
-ghost use Rattle.htl_command.specs.Requests.{file_names, is_hex as is_hex_in};
+ghost use Rattle.htl_command.specs.Requests.{file_names, is_given as is_given_in};
 ghost use Rattle.htl_command.specs.Requests.{job_of, request, request_met, request_of};
 ghost use Rattle.htl_command.specs.Requests.{requested, stored as stored_work, work};
 ghost use Rattle.htl_command.specs.Requests.{with_files as with_files_in};
 ghost use Rattle.htl_command.specs.Steps.{IsRefused, entries_of};
+ghost use Rattle.htl_command.specs.declared.commands.CommandFlag.TheVariants as flag;
 
 use crate::builder::program;
 use crate::code::Code;
-use crate::commands::{CommandName, QuestionName};
+use crate::commands::{CommandFlag, CommandName, QuestionName};
 use crate::fault::{ParseFault, no_command, of_clap, of_code, of_value};
 use crate::question::{Job, Question};
-use crate::reading::{code, files, is_hex, job, symbols};
+use crate::reading::{code, files, is_given, job, symbols};
 use clap::ArgMatches;
 use std::alloc::{AllocError, Global};
 
@@ -83,6 +84,8 @@ fn stored(alloc: Global) -> Asked
             hex: true,
             workers: 1,
             top: None,
+            complete: false,
+            exit_code: false,
         },
         files: Vec::new(alloc),
         symbols: None,
@@ -200,12 +203,12 @@ fn with_files(alloc: Global, job: Job, entries: &ArgMatches) -> Result<Asked, Al
 }
 
 fn read_conversion(alloc: Global, entries: &ArgMatches) -> Result<Conversion, AllocError>
-    ensures hex { IfOk result (λ of. of.hex ≡ is_hex_in (entries_of entries.now)) }
+    ensures hex { IfOk result (λ of. of.hex ≡ is_given_in flag.Hex (entries_of entries.now)) }
     ensures files { IfOk result (λ of.
         map string_bytes of.files.items ≡ file_names (entries_of entries.now)) }
 {
     Ok(Conversion {
-        hex: is_hex(entries),
+        hex: is_given(entries, CommandFlag::Hex),
         files: files(alloc, entries)?,
     })
 }

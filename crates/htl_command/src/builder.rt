@@ -4,14 +4,12 @@ ghost use Rattle.clap.specs.Words.{app_of, rule_of, with_subcommand};
 ghost use Rattle.clap.specs.declared.builder.Command.TheViews.{out-Command as fields_of};
 ghost use Rattle.htl_command.specs.Steps.{Describes};
 ghost use Rattle.htl_command.specs.Entries.{code_rule, common_rules, command_app, files_rule};
-ghost use Rattle.htl_command.specs.Entries.{hex_rule, hleak_app, option_rule, program_app};
+ghost use Rattle.htl_command.specs.Entries.{flag_rule, hleak_app, option_rule, program_app};
 ghost use Rattle.htl_command.specs.Entries.{text_rules};
 ghost use Rattle.htl_command.specs.Entries.{with_commands as with_commands_of, with_rules};
 
-use crate::commands::{COMMANDS, CommandName, CommandOption};
-use crate::help::{
-    ABOUT, AFTER_HELP, CODE_HELP, FILES_HELP, HEX_HELP, HEX_TEXT_HELP, TEXTS_HELP, VERSION,
-};
+use crate::commands::{COMMANDS, CommandFlag, CommandName, CommandOption};
+use crate::help::{ABOUT, AFTER_HELP, CODE_HELP, FILES_HELP, HEX_TEXT_HELP, TEXTS_HELP, VERSION};
 use clap::{Arg, ArgAction, Command};
 use std::alloc::{AllocError, Global};
 
@@ -26,12 +24,12 @@ fn option<'a>(alloc: Global, option: CommandOption) -> Arg<'a>
         .required(option.is_required())
 }
 
-fn hex_flag<'a>(alloc: Global, help: &'a str) -> Arg<'a>
-    ensures rule { rule_of result ≡ hex_rule }
+fn flag<'a>(alloc: Global, flag: CommandFlag, help: &'a str) -> Arg<'a>
+    ensures rule { rule_of result ≡ flag_rule flag }
     ensures local { result.global ≡ false }
 {
-    Arg::new(alloc, "hex")
-        .long("hex")
+    Arg::new(alloc, flag.as_str())
+        .long(flag.as_str())
         .action(ArgAction::SetTrue)
         .help(help)
 }
@@ -56,7 +54,7 @@ fn code<'a>(alloc: Global) -> Arg<'a>
         .required(true)
 }
 
-fn with_own_options<'a>(
+fn with_options<'a>(
     alloc: Global,
     command: Command<'a>,
     options: &[CommandOption],
@@ -72,15 +70,33 @@ fn with_own_options<'a>(
     Ok(command)
 }
 
+fn with_flags<'a>(
+    alloc: Global,
+    command: Command<'a>,
+    flags: &[CommandFlag],
+) -> Result<Command<'a>, AllocError>
+    requires { (fields_of command).has_globals ≡ false }
+    ensures { IfOk result
+        (Describes (with_rules (app_of command.entry) (map flag_rule flags.now))) }
+{
+    let mut command = command;
+    for own in flags {
+        command = command.arg(flag(alloc, *own, own.help()))?;
+    }
+    Ok(command)
+}
+
 fn with_common_options<'a>(alloc: Global, command: Command<'a>) -> Result<Command<'a>, AllocError>
     requires { (fields_of command).has_globals ≡ false }
     ensures { IfOk result (Describes (with_rules (app_of command.entry) common_rules)) }
 {
-    command
-        .arg(option(alloc, CommandOption::Symbols))?
-        .arg(option(alloc, CommandOption::Workers))?
-        .arg(hex_flag(alloc, HEX_HELP))?
-        .arg(files(alloc, FILES_HELP))
+    let command = with_options(
+        alloc,
+        command,
+        &[CommandOption::Symbols, CommandOption::Workers],
+    )?;
+    let command = with_flags(alloc, command, &[CommandFlag::Complete, CommandFlag::Hex])?;
+    command.arg(files(alloc, FILES_HELP))
 }
 
 fn with_text_options<'a>(
@@ -93,7 +109,7 @@ fn with_text_options<'a>(
     ensures { IfOk result (Describes (with_rules (app_of command.entry) text_rules)) }
 {
     command
-        .arg(hex_flag(alloc, hex_help))?
+        .arg(flag(alloc, CommandFlag::Hex, hex_help))?
         .arg(files(alloc, files_help))
 }
 
@@ -105,11 +121,12 @@ fn command<'a>(alloc: Global, name: CommandName) -> Result<Command<'a>, AllocErr
         .after_help(name.example());
     match name {
         CommandName::Ask(question) => {
-            let command = with_own_options(alloc, bare, question.own_options())?;
+            let command = with_options(alloc, bare, question.own_options())?;
+            let command = with_flags(alloc, command, question.own_flags())?;
             with_common_options(alloc, command)
         }
         CommandName::Explain => bare.arg(code(alloc)),
-        CommandName::Dump => with_text_options(alloc, bare, HEX_HELP, FILES_HELP),
+        CommandName::Dump => with_text_options(alloc, bare, CommandFlag::Hex.help(), FILES_HELP),
         CommandName::Encode => with_text_options(alloc, bare, HEX_TEXT_HELP, TEXTS_HELP),
     }
 }

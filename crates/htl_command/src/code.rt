@@ -34,6 +34,7 @@ pub enum Code {
     C5,
     C6,
     C7,
+    C8,
     Y1,
     Y2,
     Y3,
@@ -46,7 +47,7 @@ pub enum Code {
 }
 
 /// All codes.
-const CODES: [Code; 36] = [
+const CODES: [Code; 37] = [
     Code::S1,
     Code::S2,
     Code::S3,
@@ -74,6 +75,7 @@ const CODES: [Code; 36] = [
     Code::C5,
     Code::C6,
     Code::C7,
+    Code::C8,
     Code::Y1,
     Code::Y2,
     Code::Y3,
@@ -118,6 +120,7 @@ impl Code {
             Code::C5 => "C5",
             Code::C6 => "C6",
             Code::C7 => "C7",
+            Code::C8 => "C8",
             Code::Y1 => "Y1",
             Code::Y2 => "Y2",
             Code::Y3 => "Y3",

@@ -1,8 +1,8 @@
 //! The commands of the program and their options, by name.
 ghost use Rattle.std.specs.Prelude.{◌≡◌, find};
 ghost use Rattle.std.specs.Str.{bytes_eq};
-ghost use Rattle.htl_command.specs.Commands.{command_named, is_required, name_of, option_name};
-ghost use Rattle.htl_command.specs.Commands.{own_options, question_name};
+ghost use Rattle.htl_command.specs.Commands.{command_named, flag_name, is_required, name_of};
+ghost use Rattle.htl_command.specs.Commands.{option_name, own_flags, own_options, question_name};
 
 /// A command.
 #[derive(Clone, Copy)]
@@ -41,6 +41,14 @@ pub(crate) enum CommandOption {
     Top,
     Symbols,
     Workers,
+}
+
+/// An option without a value.
+#[derive(Clone, Copy)]
+pub(crate) enum CommandFlag {
+    ExitCode,
+    Complete,
+    Hex,
 }
 
 /// All commands, as help lists them.
@@ -125,6 +133,21 @@ impl QuestionName {
             ],
         }
     }
+
+    /// The options without a value that not every question has.
+    pub(crate) fn own_flags(self) -> &'static [CommandFlag]
+        ensures { result.now ≡ own_flags self }
+    {
+        match self {
+            QuestionName::Summary
+            | QuestionName::Outstanding
+            | QuestionName::Diff
+            | QuestionName::Tags
+            | QuestionName::Bad
+            | QuestionName::Leaks => &[CommandFlag::ExitCode],
+            QuestionName::Stacks | QuestionName::Trace => &[],
+        }
+    }
 }
 
 fn named_among(commands: &[CommandName], name: &str) -> Option<CommandName>
@@ -164,5 +187,18 @@ impl CommandOption {
                 | CommandOption::Symbols
                 | CommandOption::Workers
         )
+    }
+}
+
+impl CommandFlag {
+    /// The name, without its dashes.
+    pub(crate) fn as_str<'a>(self) -> &'a str
+        ensures { result.now ≡ flag_name self }
+    {
+        match self {
+            CommandFlag::ExitCode => "exit-code",
+            CommandFlag::Complete => "complete",
+            CommandFlag::Hex => "hex",
+        }
     }
 }

@@ -1,6 +1,6 @@
 //! What a person reads of the commands and their options: the texts of help.
 
-use crate::commands::{CommandName, CommandOption, QuestionName};
+use crate::commands::{CommandFlag, CommandName, CommandOption, QuestionName};
 
 pub(crate) const VERSION: &str = "0.1.0";
 
@@ -13,14 +13,15 @@ pub(crate) const AFTER_HELP: &str = "\
 Options of every question, from summary to trace:
       --symbols <FILE>  Names for addresses: CSV of start,end,module,name
       --workers <N>     How many threads take in segments: 1 to 8 [default: 1]
+      --complete        Refuse segments of which one is missing (C8)
       --hex             The files hold hexadecimal digits, not bytes
   [FILES]...            Trace segments; standard input where no file is given
 
 Exit status:
-  0  done                        4  the segments are not of one trace
-  2  wrong command line          5  a read or a write failed
-  3  not a segment or its text   6  out of memory or of threads
-                                 7  not a symbol table
+  0  done                        4  not the segments of one trace
+  1  found, with --exit-code     5  a read or a write failed
+  2  wrong command line          6  out of memory or of threads
+  3  not a segment or its text   7  not a symbol table
 
 Examples:
   hleak summary cpu0.hls cpu1.hls
@@ -29,8 +30,6 @@ Examples:
 
 'hleak COMMAND --help' lists the options of a command. No argument at all stands
 for 'hleak outstanding --process 4 --hex'.";
-
-pub(crate) const HEX_HELP: &str = "The files hold hexadecimal digits, not bytes";
 
 pub(crate) const FILES_HELP: &str = "Trace segments; standard input where no file is given";
 
@@ -43,7 +42,7 @@ The code of a fault, as S10, without the numbers that
 may follow it";
 
 /// Which codes there are, as a refusal reports it.
-pub(crate) const CODE_EXPECTED: &str = "S1 to S17, H1 to H3, C1 to C7, Y1 to Y7, E1 or E2";
+pub(crate) const CODE_EXPECTED: &str = "S1 to S17, H1 to H3, C1 to C8, Y1 to Y7, E1 or E2";
 
 impl CommandName {
     /// What the command is for, in one line.
@@ -203,6 +202,16 @@ The handle: 1 to 16 hexadecimal digits, with or without
             CommandOption::Top => "1 to 4294967295",
             CommandOption::Symbols => "the name of a file",
             CommandOption::Workers => "1 to 8",
+        }
+    }
+}
+
+impl CommandFlag {
+    pub(crate) fn help<'a>(self) -> &'a str {
+        match self {
+            CommandFlag::ExitCode => "End with status 1 where the answer finds something",
+            CommandFlag::Complete => "Refuse segments of which one is missing (C8)",
+            CommandFlag::Hex => "The files hold hexadecimal digits, not bytes",
         }
     }
 }

@@ -35,4 +35,8 @@ pub struct Job {
     /// How many rows are printed at most, 1 or more, and of a summary how many of each kind. `None`
     /// stands for all.
     pub top: Option<u32>,
+    /// Whether segments of which one is missing are refused.
+    pub complete: bool,
+    /// Whether the exit status says that the answer finds something. The text is the same.
+    pub exit_code: bool,
 }

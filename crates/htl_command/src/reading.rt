@@ -4,14 +4,14 @@ ghost use Rattle.std.specs.Result.{result_ok};
 ghost use Rattle.clap.specs.Words.{all_of, first_of};
 ghost use Rattle.htl_command.specs.Steps.{Names, entries_of};
 ghost use Rattle.htl_command.specs.Requests.{code_of, file_names, given as given_in};
-ghost use Rattle.htl_command.specs.Requests.{is_hex as is_hex_in, job_of, optional, question_of, value};
-ghost use Rattle.htl_command.specs.Requests.{workers as workers_given};
+ghost use Rattle.htl_command.specs.Requests.{is_given as is_given_in, job_of, optional, question_of};
+ghost use Rattle.htl_command.specs.Requests.{value, workers as workers_given};
 ghost use Rattle.htl_command.specs.Values.{handle_in, object_in, process_in, sequence_in, tag_in};
 ghost use Rattle.htl_command.specs.Values.{top_in};
 ghost use Rattle.htl_command.specs.declared.commands.CommandOption.TheVariants as option;
 
 use crate::code::Code;
-use crate::commands::{CommandOption, QuestionName};
+use crate::commands::{CommandFlag, CommandOption, QuestionName};
 use crate::question::{Job, Question};
 use crate::values;
 use clap::ArgMatches;
@@ -176,10 +176,10 @@ fn question<'a>(name: QuestionName, entries: &ArgMatches<'a>) -> Result<Question
 }
 
 /// `clap` gives a flag the text `true` or `false`.
-pub(crate) fn is_hex(entries: &ArgMatches) -> bool
-    ensures { result ≡ is_hex_in (entries_of entries.now) }
+pub(crate) fn is_given(entries: &ArgMatches, flag: CommandFlag) -> bool
+    ensures { result ≡ is_given_in flag (entries_of entries.now) }
 {
-    match entry(entries, "hex") {
+    match entry(entries, flag.as_str()) {
         Some(text) => text == "true",
         None => false,
     }
@@ -193,9 +193,11 @@ pub(crate) fn job<'a>(name: QuestionName, entries: &ArgMatches<'a>) -> Result<Jo
 {
     Ok(Job {
         question: question(name, entries)?,
-        hex: is_hex(entries),
+        hex: is_given(entries, CommandFlag::Hex),
         workers: workers(entries)?,
         top: top(entries)?,
+        complete: is_given(entries, CommandFlag::Complete),
+        exit_code: is_given(entries, CommandFlag::ExitCode),
     })
 }
 

@@ -129,7 +129,7 @@ module _ (T : Trace) (is : IsTrace T) (p : ℕ) (own : List Content) (mine : Are
   abbrev first : ℕ
   first = reach_from 0 (numbers_of own)
 
-  first_is : IsFirstMissing T p first
+  pub first_is : IsFirstMissing T p first
   first_is = record {
     below = λ m lt. (has_number m).1 (inr (before_reach 0 (numbers_of own) m (omega arith) lt));
     missing = λ key. elim ((has_number first).0 key) [

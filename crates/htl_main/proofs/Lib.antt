@@ -8,7 +8,9 @@ pub mod FewSegments
 pub mod OfProcessor
 pub mod Covered
 pub mod WholeLaws
+pub mod Missing
 pub mod OneSummary
+pub mod OneAnswer
 pub mod OneOutcome
 pub mod OneCoverage
 pub mod UnfoldedLaws

@@ -1,16 +1,10 @@
 -- Inputs and a symbol table come to one outcome: one text, or one first fault, and never both.
 use Rattle.std.proofs.Common.{◌≡◌, ◌≢◌, ◌⊎◌, ◌<◌, ℕ, zero, suc, Bool, true, false, List, [], ◌∷◌, ◌++◌, length, take, Option, Some, None}
 use Rattle.std.proofs.Common.{refl, sym, ap, ◌∙◌, subst, inl, inr, arith}
-use Rattle.std.specs.Prelude.{Result, Ok, Err, Contains, slice_get}
+use Rattle.std.specs.Prelude.{Result, Ok, Err, slice_get}
 use Rattle.std.proofs.lemmas.Bool.{cases_order}
-use Rattle.std.proofs.lemmas.List.Sorted.{IsPermutation-refl}
-use Rattle.htl_event.specs.Events.{Event}
-use Rattle.htl_event.specs.Handles.{IsDiff}
-use Rattle.htl_event.specs.Laws.{HandlesAreDetermined, CountsAreDetermined}
-use Rattle.htl_event.proofs.Determined.{handles_are_determined}
-use Rattle.htl_event.proofs.Counts.{counts_are_determined}
 use Rattle.htl_segment.specs.Content.{Content}
-use Rattle.htl_segment.specs.Traces.{Trace, all_events}
+use Rattle.htl_segment.specs.Traces.{Trace}
 use Rattle.htl_segment.specs.Bundles.{bundle, Splits, BundleFault}
 use Rattle.htl_segment.specs.Faults.{first_fault}
 use Rattle.htl_segment.specs.declared.fault.Fault.{Fault}
@@ -25,20 +19,17 @@ use Rattle.htl_case.proofs.Outcomes.{one_case, exact_case, exact_fault}
 use Rattle.htl_symbols.specs.Ranges.{Range}
 use Rattle.htl_symbols.specs.Reading.{records_of}
 use Rattle.htl_symbols.specs.declared.fault.SymbolFault.{SymbolFault}
-use Rattle.htl_report.specs.Opens.{outstanding_text, diff_text}
-use Rattle.htl_report.specs.TagBalances.{tags_text}
-use Rattle.htl_report.specs.BadReferences.{bad_text}
-use Rattle.htl_report.specs.Leaks.{leaks_text}
-use Rattle.htl_report.specs.ReferenceStacks.{stacks_text}
-use Rattle.htl_report.specs.Listings.{trace_text}
 use Rattle.htl_command.specs.declared.question.Job.{Job}
 use Rattle.htl_command.specs.declared.question.Question.{Question}
-use Rattle.htl_command.specs.declared.question.Question.TheVariants as asked
 use Rattle.htl_main.specs.Inputs.{HasBytes, Decodes, DecodeAll, HasBundleFault, HasHexFault, IsReported, StopsAt}
-use Rattle.htl_main.specs.Printed.{IsText, IsTextOver, HasSymbols, HasSymbolFault, AreAnswerLines, IsPrinted, WorkersFit, Printed}
+use Rattle.htl_main.specs.Answers.{Finds, FindsIn, IsAnswer}
+use Rattle.htl_main.specs.Completeness.{IsComplete, IsLeastMissing}
+use Rattle.htl_main.specs.Printed.{IsText, IsTaken, HasSymbols, HasSymbolFault, AreAnswerLines, IsPrinted, WorkersFit, Printed}
+use Rattle.htl_main.specs.Summaries.{IsFirstMissing}
 use Rattle.htl_main.specs.declared.fault.RunFault.{RunFault}
-use Rattle.htl_main.specs.declared.fault.RunFault.TheVariants.{Workers, Segment, Hex, Case, Symbols, Memory}
-use Rattle.htl_main.proofs.OneSummary.{one_summary}
+use Rattle.htl_main.specs.declared.fault.RunFault.TheVariants.{Workers, Segment, Hex, Case, Incomplete, Symbols, Memory}
+use Rattle.htl_main.proofs.Covered.{one_first}
+use Rattle.htl_main.proofs.OneAnswer.{one_answer, same_finding, same_text}
 use Rattle.htl_symbols.proofs.OneTable.{one_table, one_symbol_fault, table_has_no_fault}
 
 -- ---- one input
@@ -163,48 +154,6 @@ not_decoded hex inputs fault ss p reported all =
     let at = decoded_at hex inputs p.place p.input ss all p.here in
     decoded_not_reported hex p.place p.input at.0 fault at.1 (cases_reported hex p.place p.input fault reported p.reported)
 
--- ---- one answer
-
-handles : (events : List Event) → HandlesAreDetermined events events
-handles events = handles_are_determined events events (λ e. ((λ h. h), (λ h. h)))
-
-counts : (events : List Event) → CountsAreDetermined events events
-counts events = counts_are_determined events events (IsPermutation-refl events)
-
-one_text : (events : List Event) (table : List Range) (question : Question) (top : Option ℕ) (a b : List ℕ) → IsTextOver events table question top a
-    → IsTextOver events table question top b → a ≡ b
-one_text events table (asked.Outstanding process) top a b p q =
-    p.2 ∙ ap (outstanding_text table top process) ((handles events).outstanding process p.0 q.0 p.1 q.1) ∙ sym q.2
-one_text events table (asked.Diff process (Some since)) top a b p q =
-    p.2 ∙ ap (diff_text table top process since) ((handles events).diff process since p.0 q.0 p.1 q.1) ∙ sym q.2
-one_text events table (asked.Diff process None) top a b p q =
-    let mark : p.0 ≡ q.0 = (handles events).mark process p.0 q.0 p.2 q.2 in
-    let rows = (handles events).diff process q.0 p.1 q.1
-    (subst (λ (n : ℕ). IsDiff (Contains events) process n p.1) mark p.3) q.3 in
-    p.4 ∙ ap (λ (n : ℕ). diff_text table top process n p.1) mark ∙ ap (diff_text table top process q.0) rows ∙ sym q.4
-one_text events table (asked.Tags object) top a b p q =
-    p.2 ∙ ap (tags_text top object) ((counts events).tags object p.0 q.0 p.1 q.1) ∙ sym q.2
-one_text events table (asked.Bad process) top a b p q =
-    p.2 ∙ ap (bad_text table top process) ((counts events).bad process p.0 q.0 p.1 q.1) ∙ sym q.2
-one_text events table (asked.Leaks process) top a b p q =
-    p.2 ∙ ap (leaks_text table top process) ((handles events).leaks process p.0 q.0 p.1 q.1) ∙ sym q.2
-one_text events table (asked.Stacks object tag) top a b p q =
-    p.2 ∙ ap (stacks_text table top object tag) ((counts events).stacks object tag p.0 q.0 p.1 q.1) ∙ sym q.2
-one_text events table (asked.Trace process handle) top a b p q =
-    p.2 ∙ ap (trace_text table top process handle) ((handles events).listing process handle p.0 q.0 p.1 q.1) ∙ sym q.2
-one_text events table asked.Summary top a b p q = absurd p
-
-one_answer_over : (T : Trace) (table : List Range) (question : Question) (top : Option ℕ) (a b : List ℕ) → IsText T table question top a
-    → IsText T table question top b → a ≡ b
-one_answer_over T table asked.Summary top a b p q = one_summary T top a b p q
-one_answer_over T table (asked.Outstanding process) top a b p q = one_text (all_events T.segments) table (asked.Outstanding process) top a b p q
-one_answer_over T table (asked.Diff process since) top a b p q = one_text (all_events T.segments) table (asked.Diff process since) top a b p q
-one_answer_over T table (asked.Tags object) top a b p q = one_text (all_events T.segments) table (asked.Tags object) top a b p q
-one_answer_over T table (asked.Bad process) top a b p q = one_text (all_events T.segments) table (asked.Bad process) top a b p q
-one_answer_over T table (asked.Leaks process) top a b p q = one_text (all_events T.segments) table (asked.Leaks process) top a b p q
-one_answer_over T table (asked.Stacks object tag) top a b p q = one_text (all_events T.segments) table (asked.Stacks object tag) top a b p q
-one_answer_over T table (asked.Trace process handle) top a b p q = one_text (all_events T.segments) table (asked.Trace process handle) top a b p q
-
 -- ---- what decoded segments come to
 
 one_symbols : (symbols : Option (List ℕ)) (a b : List Range) → HasSymbols symbols a → HasSymbols symbols b → a ≡ b
@@ -232,13 +181,29 @@ one_case_fault segments f g p q = elim (exact_fault segments f (Err g) p.1 q) [
     fault_is : (x y : CaseFault) → ◌≡◌ {A = Result Trace CaseFault} (Err x) (Err y) → x ≡ y
     fault_is x y e = cc
 
-one_answer : (segments : List Content) (symbols : Option (List ℕ)) (question : Question) (top : Option ℕ) (a b : List ℕ)
-    → AreAnswerLines segments symbols question top a → AreAnswerLines segments symbols question top b → a ≡ b
-one_answer segments symbols question top a b p q =
-    let trace = one_case segments p.trace q.trace p.of_case q.of_case in
+one_lines : (segments : List Content) (symbols : Option (List ℕ)) (job : Job) (a b : List ℕ)
+    → AreAnswerLines segments symbols job a → AreAnswerLines segments symbols job b → a ≡ b
+one_lines segments symbols job a b p q =
+    let trace = one_case segments p.trace q.trace p.taken.0 q.taken.0 in
     let table = one_symbols symbols p.table q.table p.named q.named in
-    one_answer_over q.trace q.table question top a b (subst (λ (t : List Range). IsText q.trace t question top a) table
-    (subst (λ (T : Trace). IsText T p.table question top a) trace p.is)) q.is
+    let is = subst (λ (t : List Range). IsText q.trace t job a) table (subst (λ (T : Trace). IsText T p.table job a) trace p.is) in
+    is.2 ∙ same_text q.table job.top is.0 q.is.0 (one_answer q.trace job.question is.0 q.is.0 is.1 q.is.1) ∙ sym q.is.2
+
+-- a key that is missing is that of a gap
+complete_or_missing : (segments : List Content) (job : Job) (T U : Trace) (p n : ℕ) → IsTaken segments job T → job.complete ≡ true
+    → IsCaseOf segments U → IsLeastMissing U p n → ⊥
+complete_or_missing segments job T U p n taken complete case missing =
+    let trace = one_case segments T U taken.0 case in
+    subst (λ (V : Trace). IsComplete V) trace (taken.1 complete) missing.gap missing.there
+
+one_missing : (T : Trace) (p q n m : ℕ) → IsLeastMissing T p n → IsLeastMissing T q m → (p ≡ q) × (n ≡ m)
+one_missing T p q n m a b =
+    let le = b.before a.gap a.there in
+    let ge = a.before b.gap b.there in
+    let mine = a.own in
+    let other = b.own in
+    let same : p ≡ q = omega (arith, le, ge, mine, other) in
+    (same, one_first T q n m (subst (λ (r : ℕ). IsFirstMissing T r n) same a.first) b.first)
 
 abbrev done : List ℕ → Result (List ℕ) RunFault
 done lines = Ok lines
@@ -246,46 +211,60 @@ done lines = Ok lines
 abbrev failed : RunFault → Result (List ℕ) RunFault
 failed fault = Err fault
 
-one_printed : (segments : List Content) (symbols : Option (List ℕ)) (question : Question) (top : Option ℕ) (a b : Result (List ℕ) RunFault)
-    → IsPrinted segments symbols question top a → IsPrinted segments symbols question top b → a ≡ b
-one_printed segments symbols question top (Ok a) (Ok b) p q = ap done (one_answer segments symbols question top a b p q)
-one_printed segments symbols question top (Ok a) (Err (Case f)) p q = absurd (case_or_fault segments p.trace f p.of_case q)
-one_printed segments symbols question top (Ok a) (Err (Symbols f)) p q = absurd (symbols_or_fault symbols p.table f p.named q.2)
-one_printed segments symbols question top (Ok a) (Err other) p q = absurd q
-one_printed segments symbols question top (Err (Case f)) (Ok b) p q = absurd (case_or_fault segments q.trace f q.of_case p)
-one_printed segments symbols question top (Err (Case f)) (Err (Case g)) p q =
+one_printed : (segments : List Content) (symbols : Option (List ℕ)) (job : Job) (a b : Result (List ℕ) RunFault)
+    → IsPrinted segments symbols job a → IsPrinted segments symbols job b → a ≡ b
+one_printed segments symbols job (Ok a) (Ok b) p q = ap done (one_lines segments symbols job a b p q)
+one_printed segments symbols job (Ok a) (Err (Case f)) p q = absurd (case_or_fault segments p.trace f p.taken.0 q)
+one_printed segments symbols job (Ok a) (Err (Incomplete r n)) p q =
+    absurd (complete_or_missing segments job p.trace q.1 r n p.taken q.0 q.2 q.3)
+one_printed segments symbols job (Ok a) (Err (Symbols f)) p q = absurd (symbols_or_fault symbols p.table f p.named q.2)
+one_printed segments symbols job (Ok a) (Err other) p q = absurd q
+one_printed segments symbols job (Err (Case f)) (Ok b) p q = absurd (case_or_fault segments q.trace f q.taken.0 p)
+one_printed segments symbols job (Err (Case f)) (Err (Case g)) p q =
     ap (λ (x : CaseFault). failed (Case x)) (one_case_fault segments f g p q)
-one_printed segments symbols question top (Err (Case f)) (Err (Symbols g)) p q = absurd (case_or_fault segments q.0 f q.1 p)
-one_printed segments symbols question top (Err (Case f)) (Err other) p q = absurd q
-one_printed segments symbols question top (Err (Symbols f)) (Ok b) p q = absurd (symbols_or_fault symbols q.table f q.named p.2)
-one_printed segments symbols question top (Err (Symbols f)) (Err (Case g)) p q = absurd (case_or_fault segments p.0 g p.1 q)
-one_printed segments symbols question top (Err (Symbols f)) (Err (Symbols g)) p q =
+one_printed segments symbols job (Err (Case f)) (Err (Incomplete r n)) p q = absurd (case_or_fault segments q.1 f q.2 p)
+one_printed segments symbols job (Err (Case f)) (Err (Symbols g)) p q = absurd (case_or_fault segments q.0 f q.1.0 p)
+one_printed segments symbols job (Err (Case f)) (Err other) p q = absurd q
+one_printed segments symbols job (Err (Incomplete r n)) (Ok b) p q =
+    absurd (complete_or_missing segments job q.trace p.1 r n q.taken p.0 p.2 p.3)
+one_printed segments symbols job (Err (Incomplete r n)) (Err (Case g)) p q = absurd (case_or_fault segments p.1 g p.2 q)
+one_printed segments symbols job (Err (Incomplete r n)) (Err (Incomplete s m)) p q =
+    let trace = one_case segments p.1 q.1 p.2 q.2 in
+    let key = one_missing q.1 r s n m (subst (λ (T : Trace). IsLeastMissing T r n) trace p.3) q.3 in
+    ap (λ (x : ℕ). failed (Incomplete x n)) key.0 ∙ ap (λ (x : ℕ). failed (Incomplete s x)) key.1
+one_printed segments symbols job (Err (Incomplete r n)) (Err (Symbols g)) p q =
+    absurd (complete_or_missing segments job q.0 p.1 r n q.1 p.0 p.2 p.3)
+one_printed segments symbols job (Err (Incomplete r n)) (Err other) p q = absurd q
+one_printed segments symbols job (Err (Symbols f)) (Ok b) p q = absurd (symbols_or_fault symbols q.table f q.named p.2)
+one_printed segments symbols job (Err (Symbols f)) (Err (Case g)) p q = absurd (case_or_fault segments p.0 g p.1.0 q)
+one_printed segments symbols job (Err (Symbols f)) (Err (Incomplete r n)) p q =
+    absurd (complete_or_missing segments job p.0 q.1 r n p.1 q.0 q.2 q.3)
+one_printed segments symbols job (Err (Symbols f)) (Err (Symbols g)) p q =
     ap (λ (x : SymbolFault). failed (Symbols x)) (one_fault_of_symbols symbols f g p.2 q.2)
-one_printed segments symbols question top (Err (Symbols f)) (Err other) p q = absurd q
-one_printed segments symbols question top (Err other) b p q = absurd p
+one_printed segments symbols job (Err (Symbols f)) (Err other) p q = absurd q
+one_printed segments symbols job (Err other) b p q = absurd p
 
 -- ---- the outcome
 
 -- what a run comes to where the number of workers is allowed
-abbrev Comes : Bool → Question → Option ℕ → List (List ℕ) → Option (List ℕ) → Result (List ℕ) RunFault → Type 0
-Comes hex question top inputs symbols outcome =
-    ((fault : RunFault) × (outcome ≡ failed fault) × (fault ≢ Memory) × Stops hex inputs fault)
-    ⊎ ((segments : List Content) × DecodeAll hex inputs segments × IsPrinted segments symbols question top outcome)
+abbrev Comes : Job → List (List ℕ) → Option (List ℕ) → Result (List ℕ) RunFault → Type 0
+Comes job inputs symbols outcome =
+    ((fault : RunFault) × (outcome ≡ failed fault) × (fault ≢ Memory) × Stops job.hex inputs fault)
+    ⊎ ((segments : List Content) × DecodeAll job.hex inputs segments × IsPrinted segments symbols job outcome)
 
-one_coming : (hex : Bool) (question : Question) (top : Option ℕ) (inputs : List (List ℕ)) (symbols : Option (List ℕ)) (a b : Result (List ℕ) RunFault)
-    → Comes hex question top inputs symbols a → Comes hex question top inputs symbols b → a ≡ b
-one_coming hex question top inputs symbols a b (inl p) (inl q) =
-    p.1 ∙ ap failed (one_stop hex inputs p.0 q.0 p.3 q.3 p.2 q.2) ∙ sym q.1
-one_coming hex question top inputs symbols a b (inl p) (inr q) = absurd (not_decoded hex inputs p.0 q.0 p.3 p.2 q.1)
-one_coming hex question top inputs symbols a b (inr p) (inl q) = absurd (not_decoded hex inputs q.0 p.0 q.3 q.2 p.1)
-one_coming hex question top inputs symbols a b (inr p) (inr q) =
-    let same = one_decoding hex inputs p.0 q.0 p.1 q.1 in
-    one_printed q.0 symbols question top a b (subst (λ (ss : List Content). IsPrinted ss symbols question top a) same p.2) q.2
+one_coming : (job : Job) (inputs : List (List ℕ)) (symbols : Option (List ℕ)) (a b : Result (List ℕ) RunFault)
+    → Comes job inputs symbols a → Comes job inputs symbols b → a ≡ b
+one_coming job inputs symbols a b (inl p) (inl q) =
+    p.1 ∙ ap failed (one_stop job.hex inputs p.0 q.0 p.3 q.3 p.2 q.2) ∙ sym q.1
+one_coming job inputs symbols a b (inl p) (inr q) = absurd (not_decoded job.hex inputs p.0 q.0 p.3 p.2 q.1)
+one_coming job inputs symbols a b (inr p) (inl q) = absurd (not_decoded job.hex inputs q.0 p.0 q.3 q.2 p.1)
+one_coming job inputs symbols a b (inr p) (inr q) =
+    let same = one_decoding job.hex inputs p.0 q.0 p.1 q.1 in
+    one_printed q.0 symbols job a b (subst (λ (ss : List Content). IsPrinted ss symbols job a) same p.2) q.2
 
 cases_printed : (job : Job) (inputs : List (List ℕ)) (symbols : Option (List ℕ)) (outcome : Result (List ℕ) RunFault)
     → Printed job inputs symbols outcome
-    → ((outcome ≡ failed Workers) × (WorkersFit job.workers → ⊥))
-    ⊎ (WorkersFit job.workers × Comes job.hex job.question job.top inputs symbols outcome)
+    → ((outcome ≡ failed Workers) × (WorkersFit job.workers → ⊥)) ⊎ (WorkersFit job.workers × Comes job inputs symbols outcome)
 cases_printed job inputs symbols (Err Workers) is = inl (refl, is)
 cases_printed job inputs symbols (Err (Segment at offset fault)) is =
     inr (is.0, inl (Segment at offset fault, refl, (λ same. cc), is.1))
@@ -299,22 +278,46 @@ one_outcome job inputs symbols a b p q =
       | inl x ↦ elim (cases_printed job inputs symbols b q) [ inl y ↦ x.0 ∙ sym y.0 | inr y ↦ absurd (x.1 y.0) ]
       | inr x ↦ elim (cases_printed job inputs symbols b q) [
         | inl y ↦ absurd (y.1 x.0)
-        | inr y ↦ one_coming job.hex job.question job.top inputs symbols a b x.1 y.1
+        | inr y ↦ one_coming job inputs symbols a b x.1 y.1
       ]
     ]
 
 -- and the number of workers is no part of it
-pub for_all_workers : (job other : Job) (inputs : List (List ℕ)) (symbols : Option (List ℕ)) (a b : Result (List ℕ) RunFault)
-    → job.hex ≡ other.hex → job.question ≡ other.question → job.top ≡ other.top → WorkersFit job.workers → WorkersFit other.workers
-    → Printed job inputs symbols a → Printed other inputs symbols b → a ≡ b
-for_all_workers job other inputs symbols a b hex question top few few_too p q =
-    elim (cases_printed job inputs symbols a p) [
-      | inl x ↦ absurd (x.1 few)
-      | inr x ↦ elim (cases_printed other inputs symbols b q) [
-        | inl y ↦ absurd (y.1 few_too)
-        | inr y ↦ one_coming other.hex other.question other.top inputs symbols a b
-            (subst (λ (t : Option ℕ). Comes other.hex other.question t inputs symbols a) top
-            (subst (λ (asked_too : Question). Comes other.hex asked_too job.top inputs symbols a) question
-            (subst (λ (h : Bool). Comes h job.question job.top inputs symbols a) hex x.1))) y.1
+module _ (job : Job) (workers other : ℕ) (inputs : List (List ℕ)) (symbols : Option (List ℕ)) where
+  abbrev with_workers : ℕ → Job
+  with_workers n = record job { workers = n }
+
+  same_printed : (segments : List Content) (outcome : Result (List ℕ) RunFault) → IsPrinted segments symbols (with_workers workers) outcome
+      → IsPrinted segments symbols (with_workers other) outcome
+  same_printed segments (Ok lines) p = record { trace = p.trace; taken = p.taken; table = p.table; named = p.named; is = p.is }
+  same_printed segments (Err (Case f)) p = p
+  same_printed segments (Err (Incomplete r n)) p = p
+  same_printed segments (Err (Symbols f)) p = p
+  same_printed segments (Err any) p = absurd p
+
+  same_coming : (outcome : Result (List ℕ) RunFault) → Comes (with_workers workers) inputs symbols outcome → Comes (with_workers other) inputs symbols outcome
+  same_coming outcome (inl p) = inl p
+  same_coming outcome (inr p) = inr (p.0, p.1, same_printed p.0 outcome p.2)
+
+  pub for_all_workers : (a b : Result (List ℕ) RunFault) → WorkersFit workers → WorkersFit other → Printed (with_workers workers) inputs symbols a
+      → Printed (with_workers other) inputs symbols b → a ≡ b
+  for_all_workers a b few few_too p q =
+      elim (cases_printed (with_workers workers) inputs symbols a p) [
+        | inl x ↦ absurd (x.1 few)
+        | inr x ↦ elim (cases_printed (with_workers other) inputs symbols b q) [
+          | inl y ↦ absurd (y.1 few_too)
+          | inr y ↦ one_coming (with_workers other) inputs symbols a b (same_coming a x.1) y.1
+        ]
       ]
-    ]
+
+-- ---- what the answer finds
+
+pub one_finding : (hex : Bool) (inputs : List (List ℕ)) (question : Question) (a b : Bool) → Finds hex inputs question a
+    → Finds hex inputs question b → a ≡ b
+one_finding hex inputs question a b p q =
+    let same = one_decoding hex inputs p.0 q.0 p.1 q.1 in
+    let first = subst (λ (ss : List Content). FindsIn ss question a) same p.2 in
+    let second = q.2 in
+    let trace = one_case q.0 first.0 second.0 first.1 second.1 in
+    let is = subst (λ (T : Trace). IsAnswer T question first.2) trace first.3 in
+    first.4 ∙ same_finding first.2 second.2 (one_answer second.0 question first.2 second.2 is second.3) ∙ sym second.4

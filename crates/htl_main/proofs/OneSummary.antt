@@ -1,7 +1,9 @@
 -- A trace has one summary.
-use Rattle.std.proofs.Common.{◌≡◌, ℕ, List, Option, ap, sym, ◌∙◌, arith}
+use Rattle.std.proofs.Common.{◌≡◌, ℕ, List, ap, sym, ◌∙◌, arith}
 use Rattle.std.proofs.lemmas.List.Sorted.{IsPermutation-refl}
-use Rattle.htl_event.specs.Summaries.{SummariesAreDetermined}
+use Rattle.htl_event.specs.Summaries.{IsProcesses, IsUnbalanced, SummariesAreDetermined}
+use Rattle.htl_event.specs.declared.summary.ObjectRow.{ObjectRow}
+use Rattle.htl_event.specs.declared.summary.ProcessRow.{ProcessRow}
 use Rattle.htl_event.proofs.Members.{Lists-same}
 use Rattle.htl_event.proofs.Summarized.{summaries_are_determined}
 use Rattle.htl_segment.specs.Traces.{Trace, HasKey, all_events}
@@ -9,7 +11,7 @@ use Rattle.htl_taken.specs.Gaps.{IsGap, IsGapBefore, IsGaps}
 use Rattle.htl_taken.specs.declared.gap.Gap.{Gap}
 use Rattle.htl_taken.proofs.Gaps.{IsGapBefore-strict}
 use Rattle.htl_report.specs.declared.summary.Totals.{Totals}
-use Rattle.htl_main.specs.Summaries.{AreTotals, IsCompleteTo, IsSummaryText}
+use Rattle.htl_main.specs.Summaries.{AreTotals, IsCompleteTo}
 
 determined : (T : Trace) → SummariesAreDetermined (all_events T.segments) (all_events T.segments)
 determined T = summaries_are_determined (all_events T.segments) (all_events T.segments) (IsPermutation-refl (all_events T.segments))
@@ -29,7 +31,7 @@ totals processors segments events complete_to objects = record {
   objects = objects;
 }
 
-one_totals : (T : Trace) (a b : Totals) → AreTotals T a → AreTotals T b → a ≡ b
+pub one_totals : (T : Trace) (a b : Totals) → AreTotals T a → AreTotals T b → a ≡ b
 one_totals T a b p q =
     let processors : a.processors ≡ b.processors = p.processors ∙ sym q.processors in
     let segments : a.segments ≡ b.segments = p.segments ∙ sym q.segments in
@@ -47,12 +49,8 @@ one_gaps T a b =
     Lists-same IsGapBefore IsGapBefore-strict (IsGap (HasKey T) T.processors) (IsGap (HasKey T) T.processors) a b
     (λ gap. ((λ h. h), (λ h. h)))
 
-pub one_summary : (T : Trace) (top : Option ℕ) (a b : List ℕ) → IsSummaryText T top a → IsSummaryText T top b → a ≡ b
-one_summary T top a b p q =
-    let totals : p.0 ≡ q.0 = one_totals T p.0 q.0 p.4 q.4 in
-    let gaps : p.1 ≡ q.1 = one_gaps T p.1 q.1 p.5 q.5 in
-    let processes : p.2 ≡ q.2 = (determined T).processes p.2 q.2 p.6 q.6 in
-    let objects : p.3 ≡ q.3 = (determined T).unbalanced p.3 q.3 p.7 q.7 in
-    let one = p.8 in
-    let other = q.8 in
-    cc
+pub one_processes : (T : Trace) (a b : List ProcessRow) → IsProcesses (all_events T.segments) a → IsProcesses (all_events T.segments) b → a ≡ b
+one_processes T = (determined T).processes
+
+pub one_objects : (T : Trace) (a b : List ObjectRow) → IsUnbalanced (all_events T.segments) a → IsUnbalanced (all_events T.segments) b → a ≡ b
+one_objects T = (determined T).unbalanced

@@ -4,13 +4,11 @@ use Rattle.std.specs.Io.KnownBytes.{Appends}
 use Rattle.htl_device.specs.Devices.{AppendsPrefix}
 use Rattle.htl_segment.specs.Content.{Content}
 use Rattle.htl_segment.specs.Traces.{Trace}
-use Rattle.htl_case.specs.Cases.{IsCaseOf}
 use Rattle.htl_case.specs.Faults.{IsRefusal}
 use Rattle.htl_case.specs.declared.fault.CaseFault.TheVariants as case_faults
 use Rattle.htl_command.specs.declared.question.Job.{Job}
-use Rattle.htl_command.specs.declared.question.Question.{Question}
 use Rattle.htl_main.specs.Inputs.{DecodeAll, IsReported, StopsAt}
-use Rattle.htl_main.specs.Printed.{IsPrinted, WorkersFit, Printed}
+use Rattle.htl_main.specs.Printed.{IsPrinted, IsTaken, WorkersFit, Printed}
 use Rattle.htl_main.specs.declared.fault.RunFault.{RunFault}
 use Rattle.htl_main.specs.declared.fault.RunFault.TheVariants.{Write, Memory}
 
@@ -23,11 +21,11 @@ abbrev pub PrintsPart : Job → List (List ℕ) → Option (List ℕ) → Option
 PrintsPart job inputs symbols old new =
     (lines : List ℕ) × Printed job inputs symbols (Ok lines) × AppendsPrefix old new lines
 
--- Why nothing is printed of decoded segments. Memory is asked for where the rules of a case that take none hold.
-abbrev pub IsCauseAfter : List Content → Option (List ℕ) → Question → Option ℕ → RunFault → Type 0
-IsCauseAfter segments symbols question top Memory =
-    IsRefusal segments case_faults.NoMemory ⊎ ((T : Trace) × IsCaseOf segments T)
-IsCauseAfter segments symbols question top fault = IsPrinted segments symbols question top (Err fault)
+-- Why nothing is printed of decoded segments. Memory is asked for where the rules of a case that take none hold; to look for gaps
+-- takes none.
+abbrev pub IsCauseAfter : List Content → Option (List ℕ) → Job → RunFault → Type 0
+IsCauseAfter segments symbols job Memory = IsRefusal segments case_faults.NoMemory ⊎ ((T : Trace) × IsTaken segments job T)
+IsCauseAfter segments symbols job fault = IsPrinted segments symbols job (Err fault)
 
 -- Why a run ends: the first fault of what was given; or memory was refused where no fault came before, or the lines
 -- could not be written. No run needs a thread, so none ends because one was refused.
@@ -36,6 +34,6 @@ IsCause job inputs symbols Memory =
     WorkersFit job.workers
     × (StopsAt job.hex (IsReported job.hex) inputs Memory
     ⊎ ((segments : List Content) × DecodeAll job.hex inputs segments
-    × IsCauseAfter segments symbols job.question job.top Memory))
+    × IsCauseAfter segments symbols job Memory))
 IsCause job inputs symbols Write = (lines : List ℕ) × Printed job inputs symbols (Ok lines)
 IsCause job inputs symbols fault = Printed job inputs symbols (Err fault)

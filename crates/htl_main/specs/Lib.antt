@@ -3,6 +3,8 @@ pub mod Inputs
 pub mod Summaries
 pub mod Coverages
 pub mod Subjects
+pub mod Answers
+pub mod Completeness
 pub mod Printed
 pub mod Causes
 pub mod Sources

@@ -40,7 +40,7 @@ IsSourcesCause job inputs lefts ends symbols Memory =
     WorkersFit job.workers
     × (StopsAt job.hex (IsReportedAt job.hex lefts ends) inputs Memory
     ⊎ ((segments : List Content) × DecodeAll job.hex inputs segments
-    × IsCauseAfter segments symbols job.question job.top Memory))
+    × IsCauseAfter segments symbols job Memory))
 IsSourcesCause job inputs lefts ends symbols fault = IsCause job inputs symbols fault
 
 -- the test is true of the element at the place

@@ -1,5 +1,5 @@
 -- The summary of a trace (this project's own): what there is, which segments are missing, and what leaks at all.
-use Rattle.std.specs.Prelude.{◌≡◌, ℕ, ◌<◌, ◌≤◌, List, length, Contains, Option}
+use Rattle.std.specs.Prelude.{◌≡◌, ℕ, ◌<◌, ◌≤◌, List, length, Contains}
 use Rattle.htl_event.specs.Handles.{IsGreatestSequence}
 use Rattle.htl_event.specs.Summaries.{IsNumberOfObjects, IsProcesses, IsUnbalanced}
 use Rattle.htl_event.specs.declared.summary.ObjectRow.{ObjectRow}
@@ -8,7 +8,6 @@ use Rattle.htl_segment.specs.Keys.{run_below}
 use Rattle.htl_segment.specs.Traces.{Trace, HasKey, all_events, events_of}
 use Rattle.htl_taken.specs.Gaps.{IsGaps}
 use Rattle.htl_taken.specs.declared.gap.Gap.{Gap}
-use Rattle.htl_report.specs.Summaries.{summary_text}
 use Rattle.htl_report.specs.declared.summary.Totals.{Totals}
 
 -- the number of the processor's first segment that is missing
@@ -36,9 +35,8 @@ pub record AreTotals (T : Trace) (totals : Totals) : Type 0 where
   pub objects : IsNumberOfObjects (all_events T.segments) totals.objects
 
 -- Summary: the totals, the missing segments of all processors, the processes, and the objects with an unbalanced tag.
-abbrev pub IsSummaryText : Trace → Option ℕ → List ℕ → Type 0
-IsSummaryText T top lines =
-    (totals : Totals) × (gaps : List Gap) × (processes : List ProcessRow) × (objects : List ObjectRow)
-    × AreTotals T totals × IsGaps (HasKey T) T.processors gaps
-    × IsProcesses (all_events T.segments) processes × IsUnbalanced (all_events T.segments) objects
-    × (lines ≡ summary_text top totals gaps processes objects)
+pub record IsSummary (T : Trace) (totals : Totals) (gaps : List Gap) (processes : List ProcessRow) (objects : List ObjectRow) : Type 0 where
+  pub totals_are : AreTotals T totals
+  pub gaps_are : IsGaps (HasKey T) T.processors gaps
+  pub processes_are : IsProcesses (all_events T.segments) processes
+  pub objects_are : IsUnbalanced (all_events T.segments) objects

@@ -1,15 +1,13 @@
 //! The answer to a question over a case.
 
-ghost use Rattle.std.specs.Prelude.{◌≡◌, ◌<◌, ◌^◌, ℕ, List, Option, map};
+ghost use Rattle.std.specs.Prelude.{◌≡◌, ◌<◌, ◌^◌, List, map};
 ghost use Rattle.std.specs.Prelude.{IfOk, IfSome, IfNone, Contains};
 ghost use Rattle.htl_event.specs.Events.{Event};
 ghost use Rattle.htl_event.specs.Handles.{HaveOwnSequences, IsMark};
 ghost use Rattle.htl_segment.specs.Traces.{all_events};
 ghost use Rattle.htl_answers.specs.Parts.{AreEventsOf, size_of_all};
-ghost use Rattle.htl_symbols.specs.Ranges.{Range};
-ghost use Rattle.htl_report.specs.Texts.{text_of};
+ghost use Rattle.htl_main.specs.Answers.{IsAnswer, IsAnswerOver};
 ghost use Rattle.htl_main.specs.Coverages.{IsCoverage};
-ghost use Rattle.htl_main.specs.Printed.{IsText, IsTextOver};
 ghost use Rattle.htl_main.specs.Questions.{IsOfParts};
 ghost use Rattle.htl_main.specs.Unfolded.{contents_of};
 
@@ -32,8 +30,7 @@ pub(crate) fn answer(
     coverage: Coverage,
 ) -> Result<Answer, NoMemory>
     requires { IsCoverage case.now coverage }
-    ensures { IfOk result (λ answer. (table : List Range) (top : Option ℕ)
-        → IsText case.now table question top (text_of table top answer)) }
+    ensures { IfOk result (IsAnswer case.now question) }
 {
     match question {
         Question::Trace { process, handle } => Ok(Answer::Trace {
@@ -55,9 +52,7 @@ pub(crate) fn answer(
 /// The answer to a question about events, by one part that holds all segments of the case.
 fn answer_over(alloc: Global, case: &Case, question: Question) -> Result<Answer, NoMemory>
     requires { IsOfParts question }
-    ensures { IfOk result (λ answer. (table : List Range) (top : Option ℕ)
-        → IsTextOver (all_events case.now.segments) table question top
-        (text_of table top answer)) }
+    ensures { IfOk result (IsAnswerOver (all_events case.now.segments) question) }
 {
     let part = Unfolded::new(alloc, case.segments());
     let answer = answer_of(alloc, &[part], question)?;
@@ -70,8 +65,7 @@ fn answer_of(alloc: Global, parts: &[Unfolded<'_>], question: Question) -> Resul
     requires few { size_of_all (map contents_of parts.now) < 2 ^ 64 }
     ensures { IfOk result (λ answer. (events : List Event)
         → AreEventsOf (map contents_of parts.now) events → HaveOwnSequences events
-        → (table : List Range) (top : Option ℕ)
-        → IsTextOver events table question top (text_of table top answer)) }
+        → IsAnswerOver events question answer) }
 {
     Ok(match question {
         Question::Outstanding { process } => Answer::Outstanding {

@@ -1,15 +1,17 @@
 //! What a run reports beside the answer that it printed.
 
-ghost use Rattle.std.specs.Prelude.{◌≡◌, List};
+ghost use Rattle.std.specs.Prelude.{◌≡◌, ◌==◌, ◌||◌, List, not};
 ghost use Rattle.std.specs.List.{list_any};
 ghost use Rattle.htl_segment.specs.Content.{Content};
 ghost use Rattle.htl_case.specs.Cases.{IsCaseOf};
+ghost use Rattle.htl_main.specs.Answers.{has_finding};
 ghost use Rattle.htl_main.specs.Subjects.{has_subject, is_about, names_handle, names_object};
 
 use crate::coverage::Coverage;
 use htl_case::Case;
 use htl_command::Question;
-use htl_event::{Kind, SharedEvent, base};
+use htl_event::{Count, Kind, ProcessRow, SharedEvent, base};
+use htl_report::Answer;
 use htl_segment::Segment;
 
 /// What a run that ended well reports beside its answer.
@@ -22,6 +24,46 @@ pub struct Completed {
     /// handle, in opens, closes and bad references. Where it has none, a number may be mistyped. A
     /// summary is about all events.
     pub has_subject: bool,
+    /// Whether the answer finds something: it has a row; of tags one that doesn't balance, and of a
+    /// summary a process with outstanding handles or bad references, or an object.
+    pub has_finding: bool,
+}
+
+/// Whether the answer finds something.
+pub(crate) fn has_finding(answer: &Answer) -> bool
+    ensures { result ≡ has_finding answer.now }
+{
+    match answer {
+        Answer::Outstanding { rows, .. } => !rows.is_empty(),
+        Answer::Diff { rows, .. } => !rows.is_empty(),
+        Answer::Tags { rows, .. } => has_unbalanced(rows),
+        Answer::Bad { rows, .. } => !rows.is_empty(),
+        Answer::Leaks { rows, .. } => !rows.is_empty(),
+        Answer::Stacks { rows, .. } => !rows.is_empty(),
+        Answer::Trace { rows, .. } => !rows.is_empty(),
+        Answer::Summary {
+            processes,
+            objects,
+            ..
+        } => has_use(processes) || !objects.is_empty(),
+    }
+}
+
+/// Whether a tag doesn't balance.
+fn has_unbalanced(rows: &[([u8; 4], Count)]) -> bool
+    ensures { result ≡ list_any (λ row. not (row.1.plus == row.1.minus)) rows.now }
+{
+    rows.iter().any(|row| row.1.plus != row.1.minus)
+}
+
+/// Whether a process has outstanding handles or bad references.
+fn has_use(processes: &[ProcessRow]) -> bool
+    ensures { result ≡ list_any (λ row. not (row.outstanding == 0) || not (row.bad == 0))
+        processes.now }
+{
+    processes
+        .iter()
+        .any(|row| row.outstanding != 0 || row.bad != 0)
 }
 
 /// Whether the case has an event of what the question is about. The first that is found ends the

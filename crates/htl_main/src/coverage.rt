@@ -2,12 +2,13 @@
 //! only the list of gaps takes memory.
 
 ghost use Rattle.std.specs.Prelude.{◌≡◌, ◌<◌, ◌≤◌, ◌+◌, ◌++◌, ℕ, length, take, All, Contains};
-ghost use Rattle.std.specs.Prelude.{IfOk, OnOk};
+ghost use Rattle.std.specs.Prelude.{IfNone, IfOk, IfSome, OnOk};
 ghost use Rattle.htl_event.specs.Handles.{IsGreatestSequence};
 ghost use Rattle.htl_segment.specs.Traces.{AreInOrder, HasKey, all_events};
 ghost use Rattle.htl_taken.specs.Gaps.{IsGaps};
 ghost use Rattle.htl_taken.specs.GapLists.{gaps_from, gaps_of};
 ghost use Rattle.htl_taken.specs.Rising.{reach_from};
+ghost use Rattle.htl_main.specs.Completeness.{IsComplete, IsLeastMissing};
 ghost use Rattle.htl_main.specs.Numbers.{numbers_of};
 
 use htl_case::Case;
@@ -45,6 +46,23 @@ impl Coverage {
         }
         Coverage { gaps, complete_to }
     }
+}
+
+/// The processor and the number of the least key that the case misses: of the first processor that
+/// has a gap the first missing number.
+pub(crate) fn first_missing(case: &Case) -> Option<(u16, u32)>
+    ensures some { IfSome result (λ key. IsLeastMissing case.now key.0 key.1) }
+    ensures none { IfNone result (IsComplete case.now) }
+{
+    let mut rest = case.segments();
+    for processor in 0..case.processors() {
+        let (own, after) = split_at_processor(rest, processor);
+        if gap_count(own) > 0 {
+            return Some((processor, unbroken(own).len() as u32));
+        }
+        rest = after;
+    }
+    None
 }
 
 /// The gaps of a case: for each processor, in order, the longest unbroken runs of numbers that are

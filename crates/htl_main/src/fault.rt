@@ -41,6 +41,12 @@ pub enum RunFault {
     /// The segments of all inputs are no case.
     #[error("hleak: case: {0}")]
     Case(CaseFault),
+    /// The least key that the case of all segments misses, where a complete case is asked for.
+    #[error("hleak: case: C8({processor}, {number})")]
+    Incomplete {
+        processor: u16,
+        number: u32,
+    },
     /// The symbols are no symbol table.
     #[error("hleak: symbols: {0}")]
     Symbols(SymbolFault),
@@ -78,7 +84,7 @@ impl RunFault {
         match self {
             RunFault::Workers => 2,
             RunFault::Segment { .. } | RunFault::Hex { .. } | RunFault::Text { .. } => 3,
-            RunFault::Case(_) => 4,
+            RunFault::Case(_) | RunFault::Incomplete { .. } => 4,
             RunFault::Read { .. } | RunFault::SymbolsRead | RunFault::Write => 5,
             RunFault::Memory | RunFault::NoThread => 6,
             RunFault::Symbols(_) => 7,

@@ -7,6 +7,8 @@ ghost use Rattle.htl_taken.specs.Gaps.{IsGaps};
 ghost use Rattle.htl_taken.specs.declared.gap.Gap.{Gap};
 ghost use Rattle.htl_report.specs.declared.summary.Totals.{Totals};
 ghost use Rattle.htl_command.specs.declared.question.Job.{Job};
+ghost use Rattle.htl_command.specs.declared.question.Question.{Question};
+ghost use Rattle.htl_main.specs.Answers.{Finds};
 ghost use Rattle.htl_main.specs.Coverages.{Covers, IsCoverage};
 ghost use Rattle.htl_main.specs.Printed.{Printed, WorkersFit};
 ghost use Rattle.htl_main.specs.Summaries.{AreTotals};
@@ -20,11 +22,17 @@ pub fn one_outcome()
     ensures one { (job : Job) (inputs : List (List ℕ)) (symbols : Option (List ℕ))
         (a b : Result (List ℕ) RunFault)
         → Printed job inputs symbols a → Printed job inputs symbols b → a ≡ b }
-    ensures workers { (job other : Job) (inputs : List (List ℕ)) (symbols : Option (List ℕ))
-        (a b : Result (List ℕ) RunFault)
-        → job.hex ≡ other.hex → job.question ≡ other.question → job.top ≡ other.top
-        → WorkersFit job.workers → WorkersFit other.workers
-        → Printed job inputs symbols a → Printed other inputs symbols b → a ≡ b }
+    ensures workers { (job : Job) (workers other : ℕ) (inputs : List (List ℕ))
+        (symbols : Option (List ℕ)) (a b : Result (List ℕ) RunFault)
+        → WorkersFit workers → WorkersFit other
+        → Printed (record job { workers = workers }) inputs symbols a
+        → Printed (record job { workers = other }) inputs symbols b → a ≡ b }
+{}
+
+/// What an answer over inputs finds is one thing, and no option but the question has a part in it.
+pub fn one_finding()
+    ensures { (hex : Bool) (inputs : List (List ℕ)) (question : Question) (a b : Bool)
+        → Finds hex inputs question a → Finds hex inputs question b → a ≡ b }
 {}
 
 /// Inputs have one coverage, and a summary reports the same.

@@ -4,14 +4,16 @@ ghost use Rattle.std.specs.Prelude.{◌≡◌, ◌≢◌, ◌⊎◌, false, true
 ghost use Rattle.std.specs.Io.KnownBytes.{Appends};
 ghost use Rattle.std.specs.Option.{option_copied};
 ghost use Rattle.htl_device.specs.Devices.{AppendsPrefix};
+ghost use Rattle.htl_main.specs.Answers.{Finds, FindsIn};
+ghost use Rattle.htl_main.specs.Completeness.{IsComplete, ReportsMissing};
 ghost use Rattle.htl_main.specs.Coverages.{Covers, CoversSegments};
 ghost use Rattle.htl_main.specs.Printed.{AreAnswerLines, HasSymbols, HasSymbolFault, WorkersFit};
 ghost use Rattle.htl_main.specs.Causes.{Prints, PrintsPart, IsCause, IsCauseAfter};
 ghost use Rattle.htl_main.specs.Subjects.{ReportsSubject, has_subject as has_subject_of};
 
 use crate::answering::answer;
-use crate::completed::{Completed, has_subject};
-use crate::coverage::Coverage;
+use crate::completed::{Completed, has_finding, has_subject};
+use crate::coverage::{Coverage, first_missing};
 use crate::fault::RunFault;
 use crate::inputs::decode_all;
 use htl_case::Case;
@@ -28,10 +30,12 @@ use std::thread::Threads;
 /// where the symbol table has them.
 ///
 /// The number of workers is tested first; then each input in order is decoded, the segments are
-/// made a case, the symbols are read, and the answer is made. The first fault ends the run. Nothing
-/// is written before the whole text is made; after a failed write some first part of it went out.
-/// What is printed is the same for every number of workers. A run that ends well reports how much
-/// of its trace the case of all segments has, and whether it has an event of what was asked about.
+/// made a case, which is refused where it has a gap and the job asks for a complete one, the symbols
+/// are read, and the answer is made. The first fault ends the run. Nothing is written before the
+/// whole text is made; after a failed write some first part of it went out. What is printed is the
+/// same for every number of workers. A run that ends well reports how much of its trace the case of
+/// all segments has, whether it has an event of what was asked about, and whether the answer finds
+/// something.
 pub fn run<Rt: Threads + Wait + Sync, W: Sink>(
     _rt: &Rt,
     alloc: Global,
@@ -47,6 +51,8 @@ pub fn run<Rt: Threads + Wait + Sync, W: Sink>(
         Covers job.now.hex (map (λ input. input.items) inputs.now) completed.coverage) }
     ensures subject { IfOk result (λ completed. ReportsSubject job.now.hex
         (map (λ input. input.items) inputs.now) job.now.question completed.has_subject) }
+    ensures finding { IfOk result (λ completed. Finds job.now.hex
+        (map (λ input. input.items) inputs.now) job.now.question completed.has_finding) }
     ensures fine { OnOk result (W.has_failed out.new ≡ false) }
     ensures cause { IfErr result (IsCause job.now (map (λ input. input.items) inputs.now)
         (option_copied symbols.entry)) }
@@ -77,6 +83,7 @@ pub(crate) fn check_workers(workers: u32) -> Result<(), RunFault>
 
 /// The lines of the answer to the job's question over the decoded segments, and what is reported
 /// beside them.
+#[tactic(auto, using(crate::proofs::Missing::missing_cause))]
 pub(crate) fn answered(
     alloc: Global,
     job: &Job,
@@ -85,15 +92,17 @@ pub(crate) fn answered(
 ) -> Result<(Vec<u8>, Completed), RunFault>
     requires { WorkersFit job.now.workers }
     ensures ok { IfOk result (λ answered.
-        AreAnswerLines segments.items (option_copied symbols.entry) job.now.question job.now.top
-        answered.0.items) }
+        AreAnswerLines segments.items (option_copied symbols.entry) job.now answered.0.items) }
     ensures coverage { IfOk result (λ answered. CoversSegments segments.items answered.1.coverage) }
     ensures subject { IfOk result (λ answered.
         answered.1.has_subject ≡ has_subject_of job.now.question segments.items) }
+    ensures finding { IfOk result (λ answered.
+        FindsIn segments.items job.now.question answered.1.has_finding) }
     ensures err { IfErr result
-        (IsCauseAfter segments.items (option_copied symbols.entry) job.now.question job.now.top) }
+        (IsCauseAfter segments.items (option_copied symbols.entry) job.now) }
 {
     let case = Case::of(alloc, segments)?;
+    check_gaps(job.complete, &case)?;
     let symbols = read_symbols(alloc, symbols)?;
     let coverage = Coverage::of(&case);
     let answer = answer(alloc, job.question, &case, coverage)?;
@@ -104,8 +113,23 @@ pub(crate) fn answered(
         Completed {
             coverage,
             has_subject,
+            has_finding: has_finding(&answer),
         },
     ))
+}
+
+/// Refuses a case with a gap where a complete one is asked for. Takes no memory.
+fn check_gaps(complete: bool, case: &Case) -> Result<(), RunFault>
+    ensures ok { OnOk result (complete ≡ true → IsComplete case.now) }
+    ensures err { IfErr result (λ fault. (complete ≡ true) × ReportsMissing case.now fault) }
+{
+    if !complete {
+        return Ok(());
+    }
+    match first_missing(case) {
+        Some((processor, number)) => Err(RunFault::Incomplete { processor, number }),
+        None => Ok(()),
+    }
 }
 
 /// The symbols of a table's bytes, or none where no table is given.

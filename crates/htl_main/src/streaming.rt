@@ -3,6 +3,7 @@
 ghost use Rattle.std.specs.Prelude.{◌≡◌, ◌≢◌, ◌⊎◌, ℕ, List, All, Some};
 ghost use Rattle.std.specs.Prelude.{false, true, map, slice_get, IfErr, IfOk, OnOk};
 ghost use Rattle.std.specs.Option.{option_copied};
+ghost use Rattle.htl_main.specs.Answers.{Finds};
 ghost use Rattle.htl_main.specs.Causes.{Prints, PrintsPart};
 ghost use Rattle.htl_main.specs.Coverages.{Covers};
 ghost use Rattle.htl_main.specs.Sources.{AreReadInOrder, AreReadToFault, AreReadWithin};
@@ -44,6 +45,8 @@ pub fn run_from<Rt: Threads + Wait + Sync, R: Source, W: Sink>(
     ensures subject { (texts : List (List ℕ)) → map R.remaining inputs.old ≡ map Some texts
         → IfOk result (λ completed.
         ReportsSubject job.now.hex texts job.now.question completed.has_subject) }
+    ensures finding { (texts : List (List ℕ)) → map R.remaining inputs.old ≡ map Some texts
+        → IfOk result (λ completed. Finds job.now.hex texts job.now.question completed.has_finding) }
     ensures fine { OnOk result (W.has_failed out.new ≡ false) }
     ensures cause { (texts : List (List ℕ)) → map R.remaining inputs.old ≡ map Some texts
         → IfErr result (IsSourcesCause job.now texts (map R.remaining inputs.new)

@@ -1,12 +1,10 @@
 //! The summary of a case.
 
-ghost use Rattle.std.specs.Prelude.{◌≡◌, ◌<◌, ◌^◌, ℕ, List, Option, IfOk, length};
+ghost use Rattle.std.specs.Prelude.{◌≡◌, ◌<◌, ◌^◌, IfOk, length};
 ghost use Rattle.htl_segment.specs.Traces.{all_events};
-ghost use Rattle.htl_symbols.specs.Ranges.{Range};
 ghost use Rattle.htl_event.specs.Summaries.{IsNumberOfObjects};
-ghost use Rattle.htl_report.specs.Texts.{text_of};
+ghost use Rattle.htl_main.specs.Answers.{IsAnswer};
 ghost use Rattle.htl_main.specs.Coverages.{IsCoverage};
-ghost use Rattle.htl_main.specs.Printed.{IsText};
 ghost use Rattle.htl_main.specs.Summaries.{AreTotals};
 ghost use Rattle.htl_command.specs.declared.question.Question.TheVariants as asked;
 
@@ -22,8 +20,7 @@ use std::alloc::Global;
 /// The summary of a case of this coverage, by one part that holds all its segments.
 pub(crate) fn summary(alloc: Global, case: &Case, coverage: Coverage) -> Result<Answer, NoMemory>
     requires { IsCoverage case.now coverage }
-    ensures { IfOk result (λ answer. (table : List Range) (top : Option ℕ)
-        → IsText case.now table asked.Summary top (text_of table top answer)) }
+    ensures { IfOk result (IsAnswer case.now asked.Summary) }
 {
     let part = Unfolded::new(alloc, case.segments());
     let Summary { objects, processes } = summarize(alloc, &alloc, &[part])?;

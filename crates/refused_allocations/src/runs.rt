@@ -34,6 +34,8 @@ pub fn try_all<R: Threads + Wait + Sync>(
             hex: false,
             workers,
             top: None,
+            complete: true,
+            exit_code: false,
         };
         trials.changes(name, unread, |alloc, running: &mut Running| {
             printed(rt, alloc, &job, running)

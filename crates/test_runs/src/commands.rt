@@ -12,13 +12,15 @@ pub const INPUTS: [&str; 2] = [
     "0/1: C 4 0x44, B 5 0x45 [0x30], R 6 0x1000 Lky8 [0x1004], D 7 0x1000 Dflt",
 ];
 
-/// No segment of it is missing, and it has events of what each command asks about.
+/// No segment of it is missing, it has events of what each command asks about, and each answer finds
+/// something.
 pub const COMPLETED: Completed = Completed {
     coverage: Coverage {
         gaps: 0,
         complete_to: 7,
     },
     has_subject: true,
+    has_finding: true,
 };
 
 pub const SYMBOLS: &str = "start,end,module,name\n1000,1010,app,main\n";

@@ -20,6 +20,8 @@ pub fn over_bytes(question: Question) -> Job {
         hex: false,
         workers: 1,
         top: None,
+        complete: false,
+        exit_code: false,
     }
 }
 
@@ -124,13 +126,58 @@ fn refused_row(
         inputs.push(Vec::from_slice(alloc, input.as_bytes())?)?;
     }
     let job = Job {
-        question: OUTSTANDING,
         hex: true,
         workers: row.workers,
-        top: None,
+        ..over_bytes(OUTSTANDING)
     };
     let (written, ended) = printed(rt, alloc, &job, &inputs, row.symbols);
     refusal(&written, ended)
+}
+
+/// Lines of segments, a question, and whether its answer finds something. Tags alone have a row that
+/// is no finding.
+const FINDINGS: [(&str, Question, bool); 9] = [
+    ("0/0: O 1 0x44, C 2 0x44, B 3 0x7", OUTSTANDING, false),
+    (
+        "0/0: O 1 0x44, S 2",
+        Question::Diff {
+            process: 4,
+            since: None,
+        },
+        false,
+    ),
+    (
+        "0/0: O 1 0x44, S 2",
+        Question::Diff {
+            process: 4,
+            since: Some(0),
+        },
+        true,
+    ),
+    (
+        "0/0: R 1 0x1000 Lky8, D 2 0x1000 Lky8, O 3 0x44",
+        Question::Tags { object: 0x1000 },
+        false,
+    ),
+    (
+        "0/0: R 1 0x1000 Lky8, D 2 0x1000 Dflt",
+        Question::Tags { object: 0x1000 },
+        true,
+    ),
+    ("0/0: O 1 0x44", Question::Bad { process: 4 }, false),
+    ("0/0: B 1 0x44", Question::Leaks { process: 4 }, false),
+    ("0/0: O 1 0x44", Question::Summary, true),
+    ("0/0: R 1 0x1000 Lky8", Question::Summary, true),
+];
+
+#[test]
+fn says_whether_the_answer_finds_something(rt: HostRuntime) -> Result<(), Fail> {
+    for (lines, question, has_finding) in FINDINGS {
+        let inputs = bundles(rt.alloc(), &[lines])?;
+        let (_, ended) = printed(&rt, rt.alloc(), &over_bytes(question), &inputs, None);
+        assert_eq!(rt; ended?.has_finding, has_finding, "of {lines}");
+    }
+    Ok(())
 }
 
 #[test]

@@ -2,6 +2,7 @@
 
 use crate::commands::{COMMANDS, COMPLETED, Command, INPUTS, SYMBOLS, bytes_of};
 use crate::pieces::Pieces;
+use crate::printed::over_bytes;
 use htl_command::Job;
 use htl_main::{Completed, Reading, RunFault, Writing, run_from};
 use htl_samples::SampleFault;
@@ -99,10 +100,8 @@ fn fail_reads_of(
 ) -> usize {
     let [first, second] = inputs;
     let job = Job {
-        question: command.question,
         hex,
-        workers: 1,
-        top: None,
+        ..over_bytes(command.question)
     };
     let mut failed: usize = 0;
     for piece in [1, 7, 65_536] {

@@ -26,6 +26,7 @@ pub const STORED_COMPLETED: Completed = Completed {
         complete_to: 3,
     },
     has_subject: true,
+    has_finding: true,
 };
 
 /// A segment with no events.

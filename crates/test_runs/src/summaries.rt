@@ -1,6 +1,6 @@
 //! Summaries of traces of several processors, and how much of them is there.
 
-use crate::printed::{over_bytes, printed};
+use crate::printed::{over_bytes, printed, refusal};
 use htl_command::{Job, Question};
 use htl_main::Coverage;
 use htl_samples::Trace;
@@ -13,6 +13,9 @@ struct Summary {
     processors: u16,
     segments: &'static [&'static str],
     coverage: Coverage,
+    has_finding: bool,
+    /// The line of the refusal where a complete case is asked for.
+    missing: Option<&'static str>,
     text: &'static str,
 }
 
@@ -31,6 +34,8 @@ const MISSING: Summary = Summary {
         gaps: 4,
         complete_to: 0,
     },
+    has_finding: true,
+    missing: Some("hleak: case: C8(0, 0)"),
     text: "\
 summary processors=3 segments=5 events=16 complete_to=0 gaps=4 processes=3 objects=4 unbalanced=3
 GAP processor=0 from=0 to=0
@@ -61,10 +66,29 @@ const TORN: Summary = Summary {
         gaps: 2,
         complete_to: 4,
     },
+    has_finding: false,
+    missing: Some("hleak: case: C8(0, 2)"),
     text: "\
 summary processors=2 segments=6 events=6 complete_to=4 gaps=2 processes=0 objects=0 unbalanced=0
 GAP processor=0 from=2 to=2
 GAP processor=1 from=2 to=6
+",
+};
+
+/// One processor has no segment.
+const ABSENT: Summary = Summary {
+    processors: 2,
+    segments: &["0/0: S 1", "0/1: B 2 0x7"],
+    coverage: Coverage {
+        gaps: 1,
+        complete_to: 0,
+    },
+    has_finding: true,
+    missing: Some("hleak: case: C8(1, 0)"),
+    text: "\
+summary processors=2 segments=2 events=2 complete_to=0 gaps=1 processes=1 objects=0 unbalanced=0
+GAP processor=1 from=0
+PROCESS process=4 outstanding=0 opens=0 closes=0 bad=1 mark=1 exit=0
 ",
 };
 
@@ -75,6 +99,8 @@ const WHOLE: Summary = Summary {
         gaps: 0,
         complete_to: 2,
     },
+    has_finding: false,
+    missing: None,
     text: "\
 summary processors=2 segments=3 events=3 complete_to=2 gaps=0 processes=1 objects=0 unbalanced=0
 PROCESS process=4 outstanding=0 opens=1 closes=1 bad=0 mark=3 exit=0
@@ -96,7 +122,7 @@ fn input(alloc: Global, row: &Summary) -> Result<Vec<Vec<u8>>, Fail> {
 
 #[test]
 fn prints_summaries(rt: HostRuntime) -> Result<(), Fail> {
-    for row in [MISSING, TORN, WHOLE] {
+    for row in [MISSING, TORN, ABSENT, WHOLE] {
         let inputs = input(rt.alloc(), &row)?;
         for workers in [1, 2, 4] {
             let job = Job {
@@ -104,8 +130,35 @@ fn prints_summaries(rt: HostRuntime) -> Result<(), Fail> {
                 ..over_bytes(Question::Summary)
             };
             let (written, ended) = printed(&rt, rt.alloc(), &job, &inputs, None);
-            assert_eq!(rt; ended?.coverage, row.coverage);
+            let completed = ended?;
+            assert_eq!(rt; completed.coverage, row.coverage);
+            assert_eq!(rt; completed.has_finding, row.has_finding);
             assert_eq!(rt; written.as_slice(), row.text.as_bytes());
+        }
+    }
+    Ok(())
+}
+
+#[test]
+fn refuses_gaps_before_faulty_symbols(rt: HostRuntime) -> Result<(), Fail> {
+    let job = Job {
+        complete: true,
+        ..over_bytes(Question::Summary)
+    };
+    for row in [MISSING, TORN, ABSENT, WHOLE] {
+        let inputs = input(rt.alloc(), &row)?;
+        let symbols = row.missing.map(|_| "");
+        let (written, ended) = printed(&rt, rt.alloc(), &job, &inputs, symbols);
+        match row.missing {
+            Some(line) => {
+                let fault = refusal(&written, ended)?;
+                assert_eq!(rt; fault.to_string(rt.alloc())?.as_str(), line);
+                assert_eq!(rt; fault.status(), 4);
+            }
+            None => {
+                ended?;
+                assert_eq!(rt; written.as_slice(), row.text.as_bytes());
+            }
         }
     }
     Ok(())

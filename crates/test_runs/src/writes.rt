@@ -1,7 +1,7 @@
 //! Sinks that take a few bytes a write, and that fail at each of their writes in turn.
 
 use crate::commands::{COMMANDS, COMPLETED, Command, INPUTS, SYMBOLS, bytes_of};
-use htl_command::Job;
+use crate::printed::over_bytes;
 use htl_main::{Completed, RunFault, Writing, run};
 use std::alloc::Global;
 use std::io;
@@ -56,12 +56,7 @@ fn run_into(
     inputs: &[Vec<u8>],
     mut narrow: Narrow,
 ) -> (Vec<u8>, Result<Completed, RunFault>) {
-    let job = Job {
-        question: command.question,
-        hex: false,
-        workers: 1,
-        top: None,
-    };
+    let job = over_bytes(command.question);
     let ended = run(
         rt,
         alloc,

@@ -199,10 +199,23 @@ const TOPS: [(&str, Option<u32>); 9] = [
     ("trace|--process|4|--handle|44|--top|3|a.hls", Some(3)),
 ];
 
+/// Lines that want a complete trace, and the exit status to say what was found.
+const CHECKS: [(&str, bool, bool); 8] = [
+    ("summary|--exit-code", false, true),
+    ("outstanding|--exit-code|--process|4", false, true),
+    ("diff|--process|4|a.hls|--exit-code", false, true),
+    ("tags|--object|1|--exit-code|--complete", true, true),
+    ("bad|--process|4|--exit-code", false, true),
+    ("leaks|--complete|--process|4|--exit-code", true, true),
+    ("stacks|--object|1|--tag|Lky8|--complete", true, false),
+    ("trace|--process|4|--handle|44|--complete", true, false),
+];
+
 /// Lines that ask what a code means.
-const EXPLAINED: [(&str, Code); 4] = [
+const EXPLAINED: [(&str, Code); 5] = [
     ("explain|S1", Code::S1),
     ("explain|C7", Code::C7),
+    ("explain|C8", Code::C8),
     ("explain|--|S17", Code::S17),
     ("explain|E2", Code::E2),
 ];
@@ -216,7 +229,7 @@ const CONVERTED: [(&str, bool, &[&str]); 4] = [
 ];
 
 /// Lines that are refused, and what their text names.
-const REFUSED: [(&str, &str); 68] = [
+const REFUSED: [(&str, &str); 73] = [
     // values
     (
         "bad|--process|4294967296",
@@ -314,6 +327,11 @@ const REFUSED: [(&str, &str); 68] = [
     ("tags|--object|1|--top|5", "'--top'"),
     ("leaks|--process|4|--top|5|--top|5", "'--top <N>'"),
     ("summary|--hex|--hex", "'--hex'"),
+    ("leaks|--process|4|--exit-code|--exit-code", "'--exit-code'"),
+    ("bad|--process|4|--complete|--complete", "'--complete'"),
+    ("stacks|--object|1|--tag|Lky8|--exit-code", "'--exit-code'"),
+    ("trace|--process|4|--handle|44|--exit-code", "'--exit-code'"),
+    ("dump|--complete", "'--complete'"),
     ("bad|--process|4|--workers", "'--workers <N>'"),
     // commands
     ("", "''"),
@@ -356,6 +374,8 @@ fn lines_ask_questions(rt: HostRuntime) {
             hex: false,
             workers: 1,
             top: None,
+            complete: false,
+            exit_code: false,
         };
         assert_eq!(rt; asked(&rt, rt.alloc(), line).job, job, "of {line}");
     }
@@ -376,6 +396,15 @@ fn lines_have_options(rt: HostRuntime) {
 fn lines_limit_rows(rt: HostRuntime) {
     for (line, top) in TOPS {
         assert_eq!(rt; asked(&rt, rt.alloc(), line).job.top, top, "of {line}");
+    }
+}
+
+#[test]
+fn lines_check(rt: HostRuntime) {
+    for (line, complete, exit_code) in CHECKS {
+        let job = asked(&rt, rt.alloc(), line).job;
+        assert_eq!(rt; job.complete, complete, "of {line}");
+        assert_eq!(rt; job.exit_code, exit_code, "of {line}");
     }
 }
 

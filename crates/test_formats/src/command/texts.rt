@@ -32,14 +32,15 @@ Options:
 Options of every question, from summary to trace:
       --symbols <FILE>  Names for addresses: CSV of start,end,module,name
       --workers <N>     How many threads take in segments: 1 to 8 [default: 1]
+      --complete        Refuse segments of which one is missing (C8)
       --hex             The files hold hexadecimal digits, not bytes
   [FILES]...            Trace segments; standard input where no file is given
 
 Exit status:
-  0  done                        4  the segments are not of one trace
-  2  wrong command line          5  a read or a write failed
-  3  not a segment or its text   6  out of memory or of threads
-                                 7  not a symbol table
+  0  done                        4  not the segments of one trace
+  1  found, with --exit-code     5  a read or a write failed
+  2  wrong command line          6  out of memory or of threads
+  3  not a segment or its text   7  not a symbol table
 
 Examples:
   hleak summary cpu0.hls cpu1.hls
@@ -64,8 +65,10 @@ Arguments:
 
 Options:
       --top <N>         At most N rows: decimal, 1 to 4294967295
+      --exit-code       End with status 1 where the answer finds something
       --symbols <FILE>  Names for addresses: CSV of start,end,module,name
       --workers <N>     How many threads take in segments: 1 to 8 [default: 1]
+      --complete        Refuse segments of which one is missing (C8)
       --hex             The files hold hexadecimal digits, not bytes
   -h, --help            Print help
 
@@ -84,8 +87,10 @@ Arguments:
 Options:
       --process <N>     The process: decimal, at most 4294967295
       --top <N>         At most N rows: decimal, 1 to 4294967295
+      --exit-code       End with status 1 where the answer finds something
       --symbols <FILE>  Names for addresses: CSV of start,end,module,name
       --workers <N>     How many threads take in segments: 1 to 8 [default: 1]
+      --complete        Refuse segments of which one is missing (C8)
       --hex             The files hold hexadecimal digits, not bytes
   -h, --help            Print help
 
@@ -106,8 +111,10 @@ Options:
       --since <N>       Handles opened after this sequence: decimal, at most
                         18446744073709551615 [default: the last snapshot's]
       --top <N>         At most N rows: decimal, 1 to 4294967295
+      --exit-code       End with status 1 where the answer finds something
       --symbols <FILE>  Names for addresses: CSV of start,end,module,name
       --workers <N>     How many threads take in segments: 1 to 8 [default: 1]
+      --complete        Refuse segments of which one is missing (C8)
       --hex             The files hold hexadecimal digits, not bytes
   -h, --help            Print help
 
@@ -126,8 +133,10 @@ Arguments:
 Options:
       --object <HEX>    The object's address: 1 to 16 hexadecimal digits, with
                         or without 0x
+      --exit-code       End with status 1 where the answer finds something
       --symbols <FILE>  Names for addresses: CSV of start,end,module,name
       --workers <N>     How many threads take in segments: 1 to 8 [default: 1]
+      --complete        Refuse segments of which one is missing (C8)
       --hex             The files hold hexadecimal digits, not bytes
   -h, --help            Print help
 
@@ -146,8 +155,10 @@ Arguments:
 Options:
       --process <N>     The process: decimal, at most 4294967295
       --top <N>         At most N rows: decimal, 1 to 4294967295
+      --exit-code       End with status 1 where the answer finds something
       --symbols <FILE>  Names for addresses: CSV of start,end,module,name
       --workers <N>     How many threads take in segments: 1 to 8 [default: 1]
+      --complete        Refuse segments of which one is missing (C8)
       --hex             The files hold hexadecimal digits, not bytes
   -h, --help            Print help
 
@@ -166,8 +177,10 @@ Arguments:
 Options:
       --process <N>     The process: decimal, at most 4294967295
       --top <N>         At most N rows: decimal, 1 to 4294967295
+      --exit-code       End with status 1 where the answer finds something
       --symbols <FILE>  Names for addresses: CSV of start,end,module,name
       --workers <N>     How many threads take in segments: 1 to 8 [default: 1]
+      --complete        Refuse segments of which one is missing (C8)
       --hex             The files hold hexadecimal digits, not bytes
   -h, --help            Print help
 
@@ -191,6 +204,7 @@ Options:
       --top <N>         At most N rows: decimal, 1 to 4294967295
       --symbols <FILE>  Names for addresses: CSV of start,end,module,name
       --workers <N>     How many threads take in segments: 1 to 8 [default: 1]
+      --complete        Refuse segments of which one is missing (C8)
       --hex             The files hold hexadecimal digits, not bytes
   -h, --help            Print help
 
@@ -213,6 +227,7 @@ Options:
       --top <N>         At most N rows: decimal, 1 to 4294967295
       --symbols <FILE>  Names for addresses: CSV of start,end,module,name
       --workers <N>     How many threads take in segments: 1 to 8 [default: 1]
+      --complete        Refuse segments of which one is missing (C8)
       --hex             The files hold hexadecimal digits, not bytes
   -h, --help            Print help
 
@@ -274,7 +289,7 @@ Example:
 
 const CODE: &str = "\
 error: invalid value 'S18' for '<CODE>'
-  [expected: S1 to S17, H1 to H3, C1 to C7, Y1 to Y7, E1 or E2]
+  [expected: S1 to S17, H1 to H3, C1 to C8, Y1 to Y7, E1 or E2]
 
 For more information, try 'hleak explain --help'.
 ";

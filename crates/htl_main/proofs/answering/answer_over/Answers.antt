@@ -13,4 +13,4 @@ pub returns : goal.returns
 returns c =
     let T = c.args.case.now in
     let are = are_events T (contents_of c.new-part.result) c.segments.result.now c.new-part.ensures c.segments.ensures.value in
-    λ table top. c.in_ok-answer.ensures (all_events T.segments) are c.segments.ensures.is_case.trace.sequences table top
+    c.in_ok-answer.ensures (all_events T.segments) are c.segments.ensures.is_case.trace.sequences

@@ -1,5 +1,4 @@
 -- The case's segments are one part, whose rows are those of all its events; and its gaps are those of its keys.
-use Rattle.std.proofs.Common.{refl}
 use Rattle.htl_segment.specs.Traces.{all_events}
 use Rattle.htl_main.specs.Unfolded.{contents_of}
 use Rattle.htl_main.proofs.UnfoldedLaws.{are_events, size_fits}
@@ -21,14 +20,9 @@ returns c =
     let T = c.args.case.now in
     let events = all_events T.segments in
     let are = are_events T (contents_of c.new-part.result) c.segments.result.now c.new-part.ensures c.segments.ensures.value in
-    λ table top. (
-      c.totals.result,
-      c.in_ok-gaps.gaps.items,
-      c.in_ok-objects.field-0.processes.items,
-      c.in_ok-objects.field-0.objects.unbalanced.items,
-      c.totals.ensures,
-      c.in_ok-gaps.ensures,
-      c.in_ok-objects.ensures.processes events are c.segments.ensures.is_case.trace.sequences,
-      c.in_ok-objects.ensures.unbalanced events are,
-      refl,
-    )
+    record {
+      totals_are = c.totals.ensures;
+      gaps_are = c.in_ok-gaps.ensures;
+      processes_are = c.in_ok-objects.ensures.processes events are c.segments.ensures.is_case.trace.sequences;
+      objects_are = c.in_ok-objects.ensures.unbalanced events are;
+    }

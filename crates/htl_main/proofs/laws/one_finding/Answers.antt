@@ -1,0 +1,6 @@
+-- What an answer finds is one thing.
+use Rattle.htl_main.proofs.OneOutcome.{one_finding}
+use Rattle.htl_main.proofs.laws.one_finding.Goals as goal
+
+pub returns : goal.returns
+returns c = one_finding

@@ -10,7 +10,7 @@ use std::thread::Threads;
 const EMPTY: [u8; 32] = *b"HLS1\x01\0\x01\0\0\0\0\0\0\0\0\0\x07\0\0\0\0\0\0\0\0\0\0\0\x20\0\0\0";
 
 /// So many empty segments.
-fn bundle(rt: &impl Abort, alloc: Global, count: u32) -> Vec<u8> {
+pub fn bundle(rt: &impl Abort, alloc: Global, count: u32) -> Vec<u8> {
     let mut bytes = Vec::new(alloc);
     for number in 0..count {
         let mut segment = EMPTY;
@@ -23,7 +23,7 @@ fn bundle(rt: &impl Abort, alloc: Global, count: u32) -> Vec<u8> {
 }
 
 /// What tells the numbers of the segments in their order, or the fault.
-fn told(decoded: Result<Vec<Segment>, (u64, Fault)>) -> Result<u64, (u64, Fault)> {
+pub fn told(decoded: Result<Vec<Segment>, (u64, Fault)>) -> Result<u64, (u64, Fault)> {
     let segments = decoded?;
     Ok(
         segments.iter().fold(1u64, |told, segment| {

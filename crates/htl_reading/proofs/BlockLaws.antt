@@ -14,7 +14,7 @@ use Rattle.htl_segment.proofs.BundleLaws.{first_fault-rest, first_fault-no_memor
 use Rattle.htl_segment.proofs.PiecesLaws.{fault_more, refused_after, segment_more, splits_after}
 use Rattle.htl_reading.specs.declared.fault.SourceFault.{SourceFault}
 use Rattle.htl_reading.specs.declared.fault.SourceFault.TheVariants.{Segment, Read, NoMemory}
-use Rattle.htl_reading.specs.Blocks.{EndsInside, EndsOrBegins, IsBegun, IsDecoded, IsGathered, of_segment, taken}
+use Rattle.htl_reading.specs.Blocks.{EndsInside, EndsOrBegins, FailsAfter, IsBegun, IsDecoded, IsGathered, of_segment, taken}
 use Rattle.htl_reading.specs.Sources.{IsReadToFault, IsRefusal, IsReported, StandsBefore}
 use Rattle.htl_reading.proofs.JoinLaws.{first_begins}
 use Rattle.htl_reading.proofs.PieceLaws.{ended_inside, left_fault, read_more, segment_fault, taken_splits}
@@ -109,19 +109,34 @@ refusal_reported (Some xs) (Some ys) ended read fault given refusal = rw given (
 
 -- a source that can't be read on
 pub fail_reported : (first last : Option (List ℕ)) (ended : Bool) (read : List ℕ) (fault : SourceFault) → Consumes first last read
-    → (fault ≡ Read) ⊎ IsRefusal read fault → IfSome first (λ all. IsReported last ended all fault)
+    → FailsAfter read fault → IfSome first (λ all. IsReported last ended all fault)
 fail_reported None last ended read fault given cause = tt
-fail_reported (Some xs) last ended read fault given (inl failed) = rw failed tt
+fail_reported (Some xs) last ended read fault given (inl failed) = rw (failed.0) tt
 fail_reported (Some xs) last ended read fault given (inr refusal) = refusal_reported (Some xs) last ended read fault given refusal
 
 abbrev told : {S : Type 0} → SourceFault → Result S SourceFault
 told fault = Err fault
 
 pub fail_told : {S : Type 0} (first last : Option (List ℕ)) (read : List ℕ) (fault : SourceFault) → Consumes first last read
-    → (fault ≡ Read) ⊎ IsRefusal read fault → (told {S = S} fault ≡ Err Read) ⊎ StandsBefore first last (told {S = S} fault)
-fail_told first last read fault given (inl failed) = inl (rw failed refl)
+    → FailsAfter read fault → (told {S = S} fault ≡ Err Read) ⊎ StandsBefore first last (told {S = S} fault)
+fail_told first last read fault given (inl failed) = inl (rw (failed.0) refl)
 fail_told first last read fault given (inr refusal) =
     inr record { fault = fault; is = refl; read = read; consumes = given; refusal = refusal }
+
+pub fail_no_fault : {S : Type 0} (first last : Option (List ℕ)) (read : List ℕ) (fault : SourceFault) → Consumes first last read
+    → FailsAfter read fault → told {S = S} fault ≡ Err Read → IsReadToFault 0 first last
+fail_no_fault first last read fault given (inl failed) is = record {
+  before = read;
+  segments = failed.1.segments;
+  rest = failed.1.rest;
+  splits = failed.1.splits;
+  is_rest = failed.1.is_rest;
+  last = [];
+  few = omega arith;
+  read = subst (Consumes first last) (sym (append-nil read)) given;
+}
+fail_no_fault first last read fault given (inr refusal) is =
+    let same : fault ≡ Read = cc is in absurd (subst (IsRefusal read) same refusal)
 
 -- what was read, and a piece more
 pub taken_more : (first mid last : Option (List ℕ)) (segments : List Content) (block piece : List ℕ) → Consumes first mid (taken segments block)

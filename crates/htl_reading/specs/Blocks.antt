@@ -1,5 +1,5 @@
 -- For the clauses of private functions: what reading on a source came to, and how its faults are reported.
-use Rattle.std.specs.Prelude.{◌≡◌, ◌+◌, ◌*◌, ◌<◌, ◌≤◌, ℕ, Bool, true, false, List, ◌++◌, length, All, None, Option}
+use Rattle.std.specs.Prelude.{◌≡◌, ◌+◌, ◌*◌, ◌<◌, ◌≤◌, ◌⊎◌, ℕ, Bool, true, false, List, ◌++◌, length, All, None, Option}
 use Rattle.std.specs.Io.KnownBytes.{Consumes, IsAtEnd}
 use Rattle.htl_device.specs.declared.source.TheConstants.{MAX_READ_LEN}
 use Rattle.htl_segment.specs.declared.fault.Fault.{Fault}
@@ -7,6 +7,7 @@ use Rattle.htl_segment.specs.declared.fault.Fault.TheVariants as faults
 use Rattle.htl_segment.specs.Content.{Content, Fits}
 use Rattle.htl_segment.specs.Bundles.{BundleFault, IsRest, SegmentAt, Splits, bundle}
 use Rattle.htl_segment.specs.Pieces.{SplitterState}
+use Rattle.htl_reading.specs.Sources.{IsRefusal}
 use Rattle.htl_reading.specs.declared.fault.SourceFault.{SourceFault}
 use Rattle.htl_reading.specs.declared.fault.SourceFault.TheVariants.{Segment, Read, NoMemory}
 
@@ -61,3 +62,14 @@ abbrev pub EndsInside : List ℕ → SourceFault → Type 0
 EndsInside bytes (Segment offset fault) = BundleFault bytes offset fault
 EndsInside bytes Read = ⊥
 EndsInside bytes NoMemory = (offset : ℕ) × SegmentAt bytes offset
+
+-- the bytes have no fault: they are those of segments, and the beginning of one more
+pub record IsSplit (bytes : List ℕ) : Type 0 where
+  pub segments : List Content
+  pub rest : List ℕ
+  pub splits : Splits bytes segments rest
+  pub is_rest : IsRest rest
+
+-- Why a source that gave these bytes can't be read on: as one, where they have no fault, or for theirs.
+abbrev pub FailsAfter : List ℕ → SourceFault → Type 0
+FailsAfter bytes fault = ((fault ≡ Read) × IsSplit bytes) ⊎ IsRefusal bytes fault

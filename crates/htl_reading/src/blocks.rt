@@ -5,7 +5,7 @@ ghost use Rattle.std.specs.Prelude.{false, true, length, Err, IfOk, IfErr, IfSom
 ghost use Rattle.std.specs.Io.KnownBytes.{Consumes};
 ghost use Rattle.htl_segment.specs.Bundles.{IsRest, Splits};
 ghost use Rattle.htl_reading.specs.Blocks.{IsBegun, IsCounted, IsDecoded, IsGathered};
-ghost use Rattle.htl_reading.specs.Blocks.{EndsInside, taken};
+ghost use Rattle.htl_reading.specs.Blocks.{EndsInside, FailsAfter, taken};
 ghost use Rattle.htl_reading.specs.Sources.{FailsOnly, IsReadToFault, IsRefusal, IsReported};
 ghost use Rattle.htl_reading.specs.Sources.{StandsBefore};
 ghost use Rattle.htl_reading.specs.declared.fault.SourceFault.TheVariants.{Read};
@@ -125,8 +125,7 @@ impl Gathered {
     fn fail<T: Threads + Sync>(mut self, rt: &T, alloc: Global) -> SourceFault
         requires gathered { IsGathered self.segments.items self.offset }
         requires room { length (taken self.segments.items self.block.items) < 2 ^ 64 }
-        ensures { (result ≡ Read)
-            ⊎ IsRefusal (taken self.segments.items self.block.items) result }
+        ensures { FailsAfter (taken self.segments.items self.block.items) result }
     {
         match self.decode(rt, alloc) {
             Ok(()) => SourceFault::Read,
@@ -170,6 +169,9 @@ pub fn read_blocks<T: Threads + Sync, R: Source>(
     ensures read { (given : Option (List ℕ)) → Consumes given (R.remaining source.old)
         (taken gathered.segments.items gathered.block.items)
         → FailsOnly (R.has_failed source.new) (R.good_reads source.new) given most result }
+    ensures no_fault { (given : Option (List ℕ)) → Consumes given (R.remaining source.old)
+        (taken gathered.segments.items gathered.block.items)
+        → result ≡ Err Read → IsReadToFault 0 given (R.remaining source.new) }
     ensures bounded { R.good_reads source.new + before ≤ R.good_reads source.old + most }
     ensures to_fault { (given : Option (List ℕ)) → Consumes given (R.remaining source.old)
         (taken gathered.segments.items gathered.block.items)

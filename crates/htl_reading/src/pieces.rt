@@ -57,6 +57,8 @@ pub fn read_pieces<R: Source>(
     ensures reported { R.has_failed source.new ≡ true → result ≡ Err Read }
     ensures read { FailsOnly (R.has_failed source.new) (R.good_reads source.new)
         (R.remaining source.old) most result }
+    ensures no_fault { result ≡ Err Read
+        → IsReadToFault 0 (R.remaining source.old) (R.remaining source.new) }
     ensures bounded { R.good_reads source.new ≤ R.good_reads source.old + most }
     ensures to_fault { IsReadToFault MAX_READ_LEN (R.remaining source.old)
         (R.remaining source.new) }

@@ -1,10 +1,11 @@
 //! A source, read to its end.
 
 ghost use Rattle.std.specs.Prelude.{◌≡◌, ◌⊎◌, ◌+◌, ◌*◌, ◌<◌, ◌≤◌, ◌^◌, [], false, true};
-ghost use Rattle.std.specs.Prelude.{length, IfOk, IfErr, IfSome, OnOk};
+ghost use Rattle.std.specs.Prelude.{length, Err, IfOk, IfErr, IfSome, OnOk};
 ghost use Rattle.htl_segment.specs.Bundles.{Splits};
 ghost use Rattle.htl_reading.specs.Sources.{FailsOnly, IsReadToFault, IsReported, ReportsFailure};
 ghost use Rattle.htl_reading.specs.Sources.{read_ahead};
+ghost use Rattle.htl_reading.specs.declared.fault.SourceFault.TheVariants.{Read};
 
 use crate::blocks::{Gathered, read_blocks};
 use crate::fault::SourceFault;
@@ -39,6 +40,9 @@ pub fn read_bundle<T: Threads + Sync, R: Source>(
         (R.remaining source.new) result }
     ensures read { FailsOnly (R.has_failed source.new) (R.good_reads source.new)
         (R.remaining source.old) MAX_READS result }
+    // A failed read is reported only where what was read has no fault.
+    ensures no_fault { result ≡ Err Read
+        → IsReadToFault 0 (R.remaining source.old) (R.remaining source.new) }
     ensures bounded { R.good_reads source.new ≤ R.good_reads source.old + MAX_READS }
     ensures to_fault { IsReadToFault (read_ahead workers BLOCK_LEN) (R.remaining source.old)
         (R.remaining source.new) }
@@ -64,6 +68,9 @@ pub fn read_in_blocks<T: Threads + Sync, R: Source>(
         (R.remaining source.new) result }
     ensures read { FailsOnly (R.has_failed source.new) (R.good_reads source.new)
         (R.remaining source.old) MAX_READS result }
+    // A failed read is reported only where what was read has no fault.
+    ensures no_fault { result ≡ Err Read
+        → IsReadToFault 0 (R.remaining source.old) (R.remaining source.new) }
     ensures bounded { R.good_reads source.new ≤ R.good_reads source.old + MAX_READS }
     ensures to_fault { IsReadToFault (read_ahead workers block_len) (R.remaining source.old)
         (R.remaining source.new) }
@@ -102,6 +109,9 @@ fn read_within<T: Threads + Sync, R: Source>(
         (R.remaining source.new) result }
     ensures read { FailsOnly (R.has_failed source.new) (R.good_reads source.new)
         (R.remaining source.old) most result }
+    // A failed read is reported only where what was read has no fault.
+    ensures no_fault { result ≡ Err Read
+        → IsReadToFault 0 (R.remaining source.old) (R.remaining source.new) }
     ensures bounded { R.good_reads source.new ≤ R.good_reads source.old + most }
     ensures to_fault { IsReadToFault (read_ahead workers block_len) (R.remaining source.old)
         (R.remaining source.new) }

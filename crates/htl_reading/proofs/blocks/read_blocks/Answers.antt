@@ -6,7 +6,7 @@ use Rattle.std.specs.Prelude.{is_err}
 use Rattle.std.specs.Io.KnownBytes.{Consumes, IsAtEnd}
 use Rattle.htl_device.specs.declared.source.TheConstants.{MAX_READ_LEN}
 use Rattle.htl_reading.specs.Blocks.{taken}
-use Rattle.htl_reading.proofs.BlockLaws.{block_and_read, block_read, fail_reported, fail_told, finish_reported, read_end}
+use Rattle.htl_reading.proofs.BlockLaws.{block_and_read, block_read, fail_no_fault, fail_reported, fail_told, finish_reported, read_end}
 use Rattle.htl_reading.proofs.BlockLaws.{refusal_reported, taken_more, taken_more_len}
 use Rattle.htl_reading.proofs.PieceLaws.{read_before, read_bounded}
 use Rattle.htl_reading.proofs.blocks.read_blocks.Goals as goal
@@ -28,6 +28,21 @@ returns-in_default-clause-reported g c =
     λ given start is. fail_told given (g.R.Source.remaining c.read.new.self) read c.fail.result
     (read_before given (g.R.Source.remaining c.loop-read.source) (g.R.Source.remaining c.read.new.self) read c.read.new.buffer c.read.result
     failed c.read.ensures.bytes (inv.given given start)) c.fail.ensures
+
+pub returns-in_default-clause-no_fault : goal.returns-in_default-clause-no_fault
+returns-in_default-clause-no_fault g c =
+    let inv = c.loop-read.invariant in
+    let read = taken c.loop-read.gathered.segments.items c.loop-read.gathered.block.items in
+    let failed : is_err c.read.result ≡ true = grind (arith, common_steps) in
+    λ given start is. fail_no_fault given (g.R.Source.remaining c.read.new.self) read c.fail.result
+    (read_before given (g.R.Source.remaining c.loop-read.source) (g.R.Source.remaining c.read.new.self) read c.read.new.buffer c.read.result
+    failed c.read.ensures.bytes (inv.given given start)) c.fail.ensures is
+
+pub returns-clause-no_fault : goal.returns-clause-no_fault
+returns-clause-no_fault g c =
+    let inv = c.loop-read.invariant in
+    λ given start is. fail_no_fault given (g.R.Source.remaining c.loop-read.source)
+    (taken c.loop-read.gathered.segments.items c.loop-read.gathered.block.items) c.fail-2.result (inv.given given start) c.fail-2.ensures is
 
 pub returns-in_default-clause-to_fault : goal.returns-in_default-clause-to_fault
 returns-in_default-clause-to_fault g c =

@@ -45,6 +45,22 @@ returns-in_err-append-clause-err g c =
     more_left inv.given c.in-Ok.ensures.bytes.0 (λ left. list_refused s read piece left c.feed.new.splitter.rest segments more (taken_splits
     segments s.rest inv.fits) inv.fed c.in_ok-more.ensures.ok.0 some))
 
+pub returns-in_default-clause-no_fault : goal.returns-in_default-clause-no_fault
+returns-in_default-clause-no_fault g c =
+    let inv = c.loop-reads.invariant in
+    let segments = c.loop-reads.segments.items in
+    let rest = c.loop-reads.splitter.rest in
+    let failed : is_err c.read.result ≡ true = grind (arith, common_steps) in
+    λ is. read_without_fault 0 (g.R.Source.remaining c.args.source.now) (g.R.Source.remaining c.read.new.self) segments rest inv.fits
+    inv.is_rest (read_before (g.R.Source.remaining c.args.source.now) (g.R.Source.remaining c.loop-reads.source)
+    (g.R.Source.remaining c.read.new.self) (taken segments rest) c.read.new.buffer c.read.result failed c.read.ensures.bytes inv.given)
+
+pub returns-clause-no_fault : goal.returns-clause-no_fault
+returns-clause-no_fault g c =
+    let inv = c.loop-reads.invariant in
+    λ is. read_without_fault 0 (g.R.Source.remaining c.args.source.now) (g.R.Source.remaining c.loop-reads.source)
+    c.loop-reads.segments.items c.loop-reads.splitter.rest inv.fits inv.is_rest inv.given
+
 pub returns-in_default-clause-to_fault : goal.returns-in_default-clause-to_fault
 returns-in_default-clause-to_fault g c =
     let inv = c.loop-reads.invariant in

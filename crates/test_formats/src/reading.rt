@@ -35,13 +35,17 @@ impl Read for Pieces<'_> {
 /// What the reads come to: what their bytes do, where these have a fault that more bytes wouldn't
 /// mend; else a failed read, where one comes before the end.
 fn expected(alloc: Global, source: Pieces) -> Result<u64, SourceFault> {
-    let given = source.piece.wrapping_mul(source.reads_left).min(source.bytes.len());
+    let given = source
+        .piece
+        .wrapping_mul(source.reads_left)
+        .min(source.bytes.len());
     let fails = source.reads_left <= source.bytes.len().div_ceil(source.piece.max(1));
     let (read, _) = source.bytes.split_at(given);
-    match told(decode_bundle(alloc, read)) {
-        Err((_, Fault::Short | Fault::Cut)) | Ok(_) if fails => Err(SourceFault::Read),
+    match decode_bundle(alloc, read) {
+        Ok(_) if fails => Err(SourceFault::Read),
+        Err((_, Fault::Short | Fault::Cut)) if fails => Err(SourceFault::Read),
+        Ok(segments) => Ok(told(&segments)),
         Err((offset, fault)) => Err(SourceFault::Segment { offset, fault }),
-        Ok(told) => Ok(told),
     }
 }
 
@@ -51,10 +55,7 @@ fn by_all(rt: &(impl Abort + Threads + Sync), alloc: Global, source: Pieces) {
     for workers in [1, 2, 3, 8] {
         for block_len in [0, 100, 1_000] {
             let read = read_in_blocks(rt, alloc, workers, &mut Reading::new(source), block_len);
-            let found = match read {
-                Ok(segments) => Ok(told(Ok(segments)).expect(rt, "the segments")),
-                Err(fault) => Err(fault),
-            };
+            let found = read.map(|segments| told(&segments));
             assert_eq!(rt; found, expected, "{workers} workers, blocks of {block_len}");
         }
     }

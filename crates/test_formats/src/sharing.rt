@@ -22,20 +22,25 @@ pub fn bundle(rt: &impl Abort, alloc: Global, count: u32) -> Vec<u8> {
     bytes
 }
 
-/// What tells the numbers of the segments in their order, or the fault.
-pub fn told(decoded: Result<Vec<Segment>, (u64, Fault)>) -> Result<u64, (u64, Fault)> {
-    let segments = decoded?;
-    Ok(
-        segments.iter().fold(1u64, |told, segment| {
-            told.wrapping_mul(31).wrapping_add(segment.number() as u64)
-        }),
-    )
+/// What tells the numbers of the segments in their order.
+pub fn told(segments: &[Segment]) -> u64 {
+    segments.iter().fold(1u64, |told, segment| {
+        told.wrapping_mul(31).wrapping_add(segment.number() as u64)
+    })
+}
+
+/// The same where there are segments, or the fault.
+fn told_or_fault(decoded: Result<Vec<Segment>, (u64, Fault)>) -> Result<u64, (u64, Fault)> {
+    Ok(told(&decoded?))
 }
 
 fn by_all(rt: &(impl Abort + Threads + Sync), alloc: Global, bytes: &[u8]) {
-    let alone = told(decode_bundle(alloc, bytes));
+    let alone = told_or_fault(decode_bundle(alloc, bytes));
     for workers in [1, 2, 3, 8] {
-        assert_eq!(rt; told(decode_bundle_by(rt, alloc, workers, bytes)), alone);
+        assert_eq!(rt;
+            told_or_fault(decode_bundle_by(rt, alloc, workers, bytes)),
+            alone
+        );
     }
 }
 

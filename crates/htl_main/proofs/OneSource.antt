@@ -8,10 +8,13 @@ use Rattle.htl_reading.specs.Sources.{IsRefusal, IsReported, ReportsFailure}
 use Rattle.htl_main.specs.declared.fault.RunFault.{RunFault}
 use Rattle.htl_main.specs.declared.fault.RunFault.TheVariants.{Read, Write}
 use Rattle.htl_main.specs.Faults.{of_source}
-use Rattle.htl_main.specs.Sources.{EndsBefore, IsRefusalOf, IsReportedOfSource, StandsBefore}
+use Rattle.htl_main.specs.Sources.{EndsBefore, IsRefusalOf, IsReportedOfSource, IsTrueAt, ReportsFailed, StandsBefore}
 
 abbrev ill : {S : Type 0} → RunFault → Result S RunFault
 ill fault = Err fault
+
+abbrev well : {S : Type 0} → S → Result S RunFault
+well value = Ok value
 
 abbrev told : {S : Type 0} → SourceFault → Result S SourceFault
 told fault = Err fault
@@ -20,7 +23,11 @@ reported_source : (left : Option (List ℕ)) (ended : Bool) (place : ℕ) (bytes
     → IsReported left ended bytes fault → IsReportedOfSource false left ended place bytes (of_source place fault)
 reported_source left ended place bytes (sources.Segment offset fault) found = (refl, record { bytes = bytes; has = refl; is = found })
 reported_source left ended place bytes sources.Read found = refl
-reported_source left ended place bytes sources.NoMemory found = found
+reported_source left ended place bytes sources.NoMemory found =
+    elim found [
+      | inl segment ↦ inl segment
+      | inr rest ↦ inr (rest.0, rest.1, rest.2, (rest.3, rest.4))
+    ]
 
 -- what is reported, where the bytes are known
 pub reported_bytes_of : (first left : Option (List ℕ)) (ended : Bool) (place : ℕ) (fault : SourceFault)
@@ -71,10 +78,10 @@ never_write place sources.Read is = cc is
 never_write place sources.NoMemory is = cc is
 
 -- the same among all sources
-pub failed_or_before : {S : Type 0} (hex : Bool) (workers place : ℕ) (given left : Option (List ℕ)) (known lefts : List (Option (List ℕ)))
+pub failed_or_before : {S T : Type 0} (hex : Bool) (workers place : ℕ) (given left : Option (List ℕ)) (known lefts : List (Option (List ℕ)))
     (fault : RunFault) → slice_get known place ≡ Some given → slice_get lefts place ≡ Some left
     → (ill {S = S} fault ≡ Err (Read place)) ⊎ StandsBefore hex workers place given left (ill {S = S} fault)
-    → {T : Type 0} → (ill {S = T} fault ≡ Err (Read place)) ⊎ ((given left : Option (List ℕ)) × (slice_get known place ≡ Some given)
+    → (ill {S = T} fault ≡ Err (Read place)) ⊎ ((given left : Option (List ℕ)) × (slice_get known place ≡ Some given)
     × (slice_get lefts place ≡ Some left) × StandsBefore hex workers place given left (ill {S = T} fault))
 failed_or_before hex workers place given left known lefts fault here there reports =
     elim reports [
@@ -96,4 +103,22 @@ failed_or_before hex workers place given left known lefts fault here there repor
               refusal = rw same (before.refusal);
             },
           )
+    ]
+
+-- where a source was read to its end, no read failed
+pub never_failed : {S : Type 0} (hex : Bool) (workers place : ℕ) (given left : Option (List ℕ)) (value : S)
+    → (well value ≡ Err (Read place)) ⊎ StandsBefore hex workers place given left (well value) → ⊥
+never_failed hex workers place given left value reports =
+    elim reports [
+      | inl read ↦ cc read
+      | inr before ↦ let other = before.is in cc other
+    ]
+
+-- where all were
+pub none_failed : {S : Type 0} (hex : Bool) (workers : ℕ) (failed : List Bool) (known lefts : List (Option (List ℕ))) (value : S)
+    → ReportsFailed hex workers failed known lefts (well value) → (place : ℕ) → IsTrueAt failed place → ⊥
+none_failed hex workers failed known lefts value reports place is =
+    elim (reports place is) [
+      | inl read ↦ cc read
+      | inr before ↦ let other = before.4.is in cc other
     ]

@@ -9,7 +9,7 @@ use Rattle.htl_main.specs.Sources.{IsReportedOfSource}
 use Rattle.htl_reading.specs.Sources.{read_ahead}
 use Rattle.htl_reading.specs.declared.reading.TheConstants.{BLOCK_LEN}
 use Rattle.std.proofs.Math.ListN.{set}
-use Rattle.htl_main.proofs.OneSource.{failed_or_before}
+use Rattle.htl_main.proofs.OneSource.{failed_or_before, never_failed}
 use Rattle.htl_main.proofs.InputLaws.{asked_for, decode_next}
 use Rattle.htl_main.proofs.SourceLaws.{at_known, endless_at, known_now, knows_now, none_read, one_read, slice_get-set_other, true_nowhere, true_of_new}
 use Rattle.htl_main.proofs.SourceLaws.{ended_next, none_read_within, one_read_within, stopped_at, stopped_before, true_of_all, true_there, value_there}
@@ -116,11 +116,10 @@ returns-in_err-more-clause-no_fault g c =
     let source = get_or c.loop-place.sources place c.index-sources-place.result in
     let here = slice_get-get_or c.loop-place.sources place c.index-sources-place.result within in
     λ at ended bytes.
-    let told = cc (p.1, p.2, ended) in
-    let read = c.in_err-more.ensures.read at told in
+    let read = c.in_err-more.ensures.read at (cc (p.1, p.2, ended)) in
     rw (read.0) (read_no_fault g.R.Source.remaining (map g.R.Source.remaining c.args.sources.now) c.loop-place.sources place source
     c.read_input.new.source within (known_now g.R.Source.remaining c.args.sources.now c.loop-place.sources place source
-    (inv.left place (omega arith)) here) (c.in_err-more.ensures.no_fault at told bytes))
+    (inv.left place (omega arith)) here) (c.in_err-more.ensures.no_fault at (cc (p.1, p.2, ended)) bytes))
 
 pub returns-in_err-more-clause-unread : goal.returns-in_err-more-clause-unread
 returns-in_err-more-clause-unread g c =
@@ -162,8 +161,7 @@ returns-in_err-append-clause-reported g c =
     λ place failed.
     let new = true_of_new g.R.Source.has_failed c.loop-place.sources c.loop-place.place place c.read_input.new.source
     c.loop-place.invariant.fine failed in
-    let reported = c.in_ok-more.ensures.reported new.1 in
-    absurd (cc reported)
+    absurd (never_failed c.args.hex c.args.workers c.loop-place.place _ _ c.in_ok-more.more (c.in_ok-more.ensures.reported new.1))
 
 pub returns-in_err-more-clause-bounded : goal.returns-in_err-more-clause-bounded
 returns-in_err-more-clause-bounded g c =
@@ -227,7 +225,8 @@ loop-place-preserved g c =
     let source = get_or c.loop-place.sources place c.index-sources-place.result in
     let here = slice_get-get_or c.loop-place.sources place c.index-sources-place.result within in
     let fine : g.R.Source.has_failed c.read_input.new.source ≡ false =
-    false_from_ne_true (g.R.Source.has_failed c.read_input.new.source) (λ failed. let reported = c.in_ok-more.ensures.reported failed in cc reported) in
+    false_from_ne_true (g.R.Source.has_failed c.read_input.new.source) (λ failed.
+    never_failed c.args.hex c.args.workers place _ _ c.in_ok-more.more (c.in_ok-more.ensures.reported failed)) in
     record {
       left = λ k above.
           slice_get-set_other c.loop-place.sources place k c.read_input.new.source (λ e. omega arith) ∙ inv.left k (omega arith);

@@ -21,13 +21,15 @@ use Rattle.htl_segment.proofs.BundleLaws.{late_stays, no_fault_stays, nothing_sh
 use Rattle.htl_segment.proofs.PassedTests.{some_is}
 use Rattle.htl_text.specs.Texts.{segment_text}
 use Rattle.htl_main.specs.Inputs.{AsksMemory, HasBytes}
-use Rattle.htl_main.specs.Sources.{EndsBefore, IsReadToFault}
+use Rattle.htl_main.specs.Sources.{EndsBefore}
 use Rattle.htl_main.specs.Dumps.{AreWritten, Dumps, DumpsInput, InputStops, texts_of}
 use Rattle.htl_main.specs.Dumping.{DumpedSoFar, EndsAt, FrontDumped, FrontStops, WholeStops}
 use Rattle.htl_main.specs.declared.fault.RunFault.{RunFault}
 use Rattle.htl_main.specs.declared.fault.RunFault.TheVariants.{Segment, Read, Memory, Write}
 use Rattle.htl_main.proofs.InputLaws.{decode_next}
-use Rattle.htl_main.proofs.SplitLaws.{ended_whole, read_once_more, read_without_fault, taken, taken_splits}
+use Rattle.htl_reading.specs.Blocks.{taken}
+use Rattle.htl_reading.specs.Sources.{IsReadToFault}
+use Rattle.htl_reading.proofs.PieceLaws.{ended_whole, read_more, read_without_fault, taken_splits}
 
 -- ---- what was written
 
@@ -226,7 +228,9 @@ pub so_far_whole : (first mid last : Option (List ℕ)) (start : ℕ) (held : Li
     → IfSome first (λ bytes. DumpsInput false bytes old new)
 so_far_whole None mid last start held old new so_far none end empty = tt
 so_far_whole (Some xs) mid last start held old new so_far none end empty =
-    let whole = ended_whole (Some xs) mid last so_far.segments held so_far.fits so_far.given none end empty in
+    let read = subst (Consumes (Some xs) last) (append-nil (taken so_far.segments held))
+    (Consumes-trans (Some xs) mid last (taken so_far.segments held) [] so_far.given none) in
+    let whole = ended_whole (Some xs) last so_far.segments held so_far.fits read end empty in
     (so_far.segments, record { bytes = xs; has = refl; splits = whole }, so_far.written)
 
 -- all bytes of a source whose next ones end the dump
@@ -334,14 +338,14 @@ so_far_memory (Some xs) (Some ys) last ended place start held piece old new so_f
 }
 
 pub so_far_read : (first now : Option (List ℕ)) (start : ℕ) (held : List ℕ) (old new : Option (List ℕ))
-    → DumpedSoFar first now start held old new → IsReadToFault first now
+    → DumpedSoFar first now start held old new → IsReadToFault MAX_READ_LEN first now
 so_far_read first now start held old new so_far =
-    read_without_fault first now so_far.segments held so_far.fits so_far.is_rest so_far.given
+    read_without_fault MAX_READ_LEN first now so_far.segments held so_far.fits so_far.is_rest so_far.given
 
 pub so_far_once_more : (first mid last : Option (List ℕ)) (start : ℕ) (held piece : List ℕ) (old new : Option (List ℕ))
-    → DumpedSoFar first mid start held old new → Consumes mid last piece → length piece ≤ MAX_READ_LEN → IsReadToFault first last
+    → DumpedSoFar first mid start held old new → Consumes mid last piece → length piece ≤ MAX_READ_LEN → IsReadToFault MAX_READ_LEN first last
 so_far_once_more first mid last start held piece old new so_far read few =
-    read_once_more first mid last so_far.segments held piece so_far.fits so_far.is_rest so_far.given read few
+    read_more MAX_READ_LEN first mid last so_far.segments held piece so_far.fits so_far.is_rest so_far.given read few
 
 -- ---- which input a fault names
 

@@ -1,5 +1,4 @@
 pub mod InputLaws
-pub mod SplitLaws
 pub mod SourceLaws
 pub mod ReadingLaws
 pub mod DumpLaws
@@ -15,3 +14,4 @@ pub mod OneOutcome
 pub mod OneCoverage
 pub mod UnfoldedLaws
 pub mod AnyEvents
+pub mod OneSource

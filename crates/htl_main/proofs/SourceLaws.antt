@@ -9,8 +9,9 @@ use Rattle.std.proofs.lemmas.List.Elements.{All-cons, All-head, All-nil, All-tai
 use Rattle.std.proofs.lemmas.Option.{slice_get-map}
 use Rattle.htl_device.specs.declared.whole.TheConstants.{MAX_READS}
 use Rattle.htl_segment.specs.Content.{Fits}
-use Rattle.htl_main.specs.Sources.{AreReadInOrder, AreReadToFault, AreReadWithin, IsEndless, IsReadToFault, IsTrueAt}
-use Rattle.htl_main.proofs.SplitLaws.{read_without_fault}
+use Rattle.htl_main.specs.Sources.{AreReadInOrder, AreReadToFault, AreReadWithin, IsEndless, IsTrueAt, ReadsNoFault}
+use Rattle.htl_reading.specs.Sources.{IsReadToFault}
+use Rattle.htl_reading.proofs.PieceLaws.{read_without_fault}
 
 pub slice_get-set_other : {X : Type 0} (xs : List X) (i k : ℕ) (y : X) → (k ≡ i → ⊥) → slice_get (set xs i y) k ≡ slice_get xs k
 slice_get-set_other [] i k y other = refl
@@ -139,13 +140,13 @@ endless_at f reads first now place x y within here many =
 
 -- ---- how far sources are read
 
-pub unread_to_fault : (known : Option (List ℕ)) → IsReadToFault known known
-unread_to_fault known = read_without_fault known known [] [] (All-nil Fits) (record { cut_off = inl (omega arith) }) (Consumes-nil known)
+pub unread_to_fault : (most : ℕ) (known : Option (List ℕ)) → IsReadToFault most known known
+unread_to_fault most known = read_without_fault most known known [] [] (All-nil Fits) (record { cut_off = inl (omega arith) }) (Consumes-nil known)
 
 -- no source was read
-pub none_read : (known : List (Option (List ℕ))) → AreReadToFault known known
-none_read known place given left here there =
-    let same : given ≡ left = cc (here, there) in rw same (unread_to_fault left)
+pub none_read : (most : ℕ) (known : List (Option (List ℕ))) → AreReadToFault most known known
+none_read most known place given left here there =
+    let same : given ≡ left = cc (here, there) in rw same (unread_to_fault most left)
 
 same_or_other : (a b : ℕ) → (a ≡ b) ⊎ (a ≡ b → ⊥)
 same_or_other zero zero = inl refl
@@ -158,9 +159,10 @@ same_or_other (suc a) (suc b) =
     ]
 
 -- one source more was read
-pub one_read : {X : Type 0} (f : X → Option (List ℕ)) (known : List (Option (List ℕ))) (now : List X) (i : ℕ) (x y : X) → i < length now
-    → AreReadToFault known (map f now) → slice_get known i ≡ Some (f x) → IsReadToFault (f x) (f y) → AreReadToFault known (map f (set now i y))
-one_read f known now i x y within before here one place given left is new =
+pub one_read : {X : Type 0} (most : ℕ) (f : X → Option (List ℕ)) (known : List (Option (List ℕ))) (now : List X) (i : ℕ) (x y : X) → i < length now
+    → AreReadToFault most known (map f now) → slice_get known i ≡ Some (f x) → IsReadToFault most (f x) (f y)
+    → AreReadToFault most known (map f (set now i y))
+one_read most f known now i x y within before here one place given left is new =
     elim (same_or_other place i) [
       | inl same ↦
           let there : slice_get (map f (set now i y)) place ≡ Some (f y) = rw same (value_there f now i y within) in
@@ -170,6 +172,15 @@ one_read f known now i x y within before here one place given left is new =
           rw (given_is, left_is) one
       | inr other ↦ before place given left is (sym (other_value f now i place y other) ∙ new)
     ]
+
+-- the last source that was read has no fault so far
+pub read_no_fault : {X : Type 0} (f : X → Option (List ℕ)) (known : List (Option (List ℕ))) (now : List X) (i : ℕ) (x y : X) → i < length now
+    → slice_get known i ≡ Some (f x) → IsReadToFault 0 (f x) (f y) → ReadsNoFault known (map f (set now i y)) i
+read_no_fault f known now i x y within here one given left is new =
+    let there : slice_get (map f (set now i y)) i ≡ Some (f y) = value_there f now i y within in
+    let given_is : given ≡ f x = cc (is, here) in
+    let left_is : left ≡ f y = cc (new, there) in
+    rw (given_is, left_is) one
 
 -- ---- how often sources are read
 

@@ -3,6 +3,8 @@
 use Rattle.std.specs.Prelude.{◌≡◌, ℕ}
 use Rattle.htl_device.specs.declared.whole.ReadFault.{ReadFault}
 use Rattle.htl_device.specs.declared.whole.ReadFault.TheVariants as reads
+use Rattle.htl_reading.specs.declared.fault.SourceFault.{SourceFault}
+use Rattle.htl_reading.specs.declared.fault.SourceFault.TheVariants as sources
 use Rattle.htl_segment.specs.declared.fault.Fault.{Fault}
 use Rattle.htl_segment.specs.declared.fault.Fault.TheVariants as faults
 use Rattle.htl_segment.specs.declared.hexadecimal.HexFault.{HexFault}
@@ -30,6 +32,12 @@ of_hex input fault = Hex input fault
 abbrev pub of_read : ℕ → ReadFault → RunFault
 of_read input reads.NoMemory = Memory
 of_read input reads.Failed = Read input
+
+-- of the reading of an input of bytes
+abbrev pub of_source : ℕ → SourceFault → RunFault
+of_source input (sources.Segment offset fault) = Segment input offset fault
+of_source input sources.Read = Read input
+of_source input sources.NoMemory = Memory
 
 -- of the segments as a case
 abbrev pub of_case : CaseFault → RunFault

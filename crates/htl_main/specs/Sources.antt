@@ -1,11 +1,12 @@
 -- Why a run over sources ends, and how far it reads them (this project's own). What a source gives is known where it reports its bytes.
-use Rattle.std.specs.Prelude.{◌≡◌, ◌<◌, ◌≤◌, ◌+◌, ◌⊎◌, ⊤, ℕ, Bool, true, false, List, ◌++◌, length, map, slice_get, Option, Some, IfSome}
+use Rattle.std.specs.Prelude.{◌≡◌, ◌<◌, ◌≤◌, ◌+◌, ◌⊎◌, ⊤, ℕ, Bool, true, false, List, length, map, slice_get}
+use Rattle.std.specs.Prelude.{Option, Some, IfSome, Result, Err}
 use Rattle.std.specs.Io.KnownBytes.{Consumes}
-use Rattle.htl_device.specs.declared.source.TheConstants.{MAX_READ_LEN}
 use Rattle.htl_device.specs.declared.whole.TheConstants.{MAX_READS}
 use Rattle.htl_command.specs.declared.question.Job.{Job}
 use Rattle.htl_segment.specs.Content.{Content}
-use Rattle.htl_segment.specs.Bundles.{IsRest, RestAt, Splits}
+use Rattle.htl_segment.specs.Bundles.{BundleFault, RestAt, SegmentAt, is_early_end}
+use Rattle.htl_reading.specs.Sources.{IsReadToFault}
 use Rattle.htl_main.specs.Inputs.{AsksMemory, DecodeAll, IsReported, StopsAt}
 use Rattle.htl_main.specs.Printed.{WorkersFit}
 use Rattle.htl_main.specs.Causes.{IsCause, IsCauseAfter}
@@ -72,20 +73,38 @@ abbrev pub AreReadWithin : List ℕ → List ℕ → Type 0
 AreReadWithin before after =
     (place old new : ℕ) → slice_get before place ≡ Some old → slice_get after place ≡ Some new → new ≤ old + MAX_READS
 
--- What was read of a source of bytes: segments and the beginning of one more, and after these one read's bytes at most. So it
--- is read no further once a fault was read.
-pub record IsReadToFault (given left : Option (List ℕ)) : Type 0 where
-  pub before : List ℕ
-  pub segments : List Content
-  pub rest : List ℕ
-  pub splits : Splits before segments rest
-  pub is_rest : IsRest rest
-  pub last : List ℕ
-  pub few : length last ≤ MAX_READ_LEN
-  pub read : Consumes given left (before ++ last)
-
--- the same of each source
-abbrev pub AreReadToFault : List (Option (List ℕ)) → List (Option (List ℕ)) → Type 0
-AreReadToFault known lefts =
+-- Each source of bytes was read so many bytes further at most than what has no fault.
+abbrev pub AreReadToFault : ℕ → List (Option (List ℕ)) → List (Option (List ℕ)) → Type 0
+AreReadToFault most known lefts =
     (place : ℕ) (given left : Option (List ℕ)) → slice_get known place ≡ Some given → slice_get lefts place ≡ Some left
-    → IsReadToFault given left
+    → IsReadToFault most given left
+
+-- why the bytes that were read of the source at a place are refused, whichever may follow them
+abbrev pub IsRefusalOf : ℕ → List ℕ → RunFault → Type 0
+IsRefusalOf place read (Segment at offset fault) = (at ≡ place) × BundleFault read offset fault × (is_early_end fault ≡ false)
+IsRefusalOf place read Memory = (offset : ℕ) × SegmentAt read offset
+IsRefusalOf place read fault = ⊥
+
+-- Several workers decode reads together, so a read of the source at the place may fail after bytes that have a fault: that is told.
+pub record StandsBefore {S : Type 0} (hex : Bool) (workers place : ℕ) (given left : Option (List ℕ)) (result : Result S RunFault)
+    : Type 0 where
+  pub bytes : hex ≡ false
+  pub several : 1 < workers
+  pub fault : RunFault
+  pub is : result ≡ Err fault
+  pub read : List ℕ
+  pub consumes : Consumes given left read
+  pub refusal : IsRefusalOf place read fault
+
+-- a read that failed is reported, or what stands before it
+abbrev pub ReportsFailed : {S : Type 0} → Bool → ℕ → List Bool → List (Option (List ℕ)) → List (Option (List ℕ)) → Result S RunFault
+    → Type 0
+ReportsFailed hex workers failed known lefts result =
+    (place : ℕ) → IsTrueAt failed place
+    → (result ≡ Err (Read place)) ⊎ ((given left : Option (List ℕ)) × (slice_get known place ≡ Some given)
+    × (slice_get lefts place ≡ Some left) × StandsBefore hex workers place given left result)
+
+-- what was read of the source of bytes at a place has no fault
+abbrev pub ReadsNoFault : List (Option (List ℕ)) → List (Option (List ℕ)) → ℕ → Type 0
+ReadsNoFault known lefts place =
+    (given left : Option (List ℕ)) → slice_get known place ≡ Some given → slice_get lefts place ≡ Some left → IsReadToFault 0 given left

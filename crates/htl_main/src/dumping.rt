@@ -15,7 +15,8 @@ ghost use Rattle.htl_main.specs.Dumps.{Dumps, DumpsInput, DumpStops, InputStops}
 ghost use Rattle.htl_main.specs.Dumps.{is_failed_write};
 ghost use Rattle.htl_main.specs.Reads.{FailsOnly, NamesOnly, NeverRead, ReportsFailure};
 ghost use Rattle.htl_main.specs.Readings.{AreRead};
-ghost use Rattle.htl_main.specs.Sources.{AreReadToFault, IsReadToFault};
+ghost use Rattle.htl_main.specs.Sources.{AreReadToFault};
+ghost use Rattle.htl_reading.specs.Sources.{IsReadToFault};
 
 use crate::fault::RunFault;
 use crate::printing::write_lines;
@@ -49,7 +50,7 @@ pub fn dump_from<R: Source, W: Sink>(
     ensures reading { AreRead R.has_failed R.has_ended R.good_reads R.remaining
         inputs.old inputs.new result }
     ensures to_fault { hex ≡ false
-        → AreReadToFault (map R.remaining inputs.old) (map R.remaining inputs.new) }
+        → AreReadToFault MAX_READ_LEN (map R.remaining inputs.old) (map R.remaining inputs.new) }
 {
     for (place, source) in inputs.iter_mut().enumerate() {
         dump_input(alloc, hex, place as u64, source, out)?;
@@ -80,7 +81,7 @@ fn dump_input<R: Source, W: Sink>(
     ensures bounded { R.good_reads source.new ≤ R.good_reads source.old + MAX_READS }
     ensures named { NamesOnly place result }
     ensures to_fault { hex ≡ false
-        → IsReadToFault (R.remaining source.old) (R.remaining source.new) }
+        → IsReadToFault MAX_READ_LEN (R.remaining source.old) (R.remaining source.new) }
 {
     if hex {
         dump_digits(alloc, place, source, out)
@@ -168,7 +169,7 @@ fn dump_bundle<R: Source, W: Sink>(
         (R.remaining source.old) MAX_READS result }
     ensures bounded { R.good_reads source.new ≤ R.good_reads source.old + MAX_READS }
     ensures named { NamesOnly place result }
-    ensures to_fault { IsReadToFault (R.remaining source.old) (R.remaining source.new) }
+    ensures to_fault { IsReadToFault MAX_READ_LEN (R.remaining source.old) (R.remaining source.new) }
 {
     let mut buffer = [0u8; MAX_READ_LEN];
     dump_within(alloc, place, source, &mut buffer, MAX_READS, out)
@@ -199,7 +200,7 @@ fn dump_within<R: Source, W: Sink>(
         (R.remaining source.old) most result }
     ensures bounded { R.good_reads source.new ≤ R.good_reads source.old + most }
     ensures named { NamesOnly place result }
-    ensures to_fault { IsReadToFault (R.remaining source.old) (R.remaining source.new) }
+    ensures to_fault { IsReadToFault MAX_READ_LEN (R.remaining source.old) (R.remaining source.new) }
 {
     let mut held = Vec::new(alloc);
     let mut start = 0;

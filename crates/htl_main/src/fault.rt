@@ -3,6 +3,7 @@
 use htl_case::CaseFault;
 use htl_device::ReadFault;
 use htl_event::NoMemory;
+use htl_reading::SourceFault;
 use htl_segment::{Fault, HexFault};
 use htl_symbols::SymbolFault;
 use htl_text::{LineFault, TextFault};
@@ -71,7 +72,7 @@ pub enum RunFault {
 
 impl RunFault {
     ghost use Rattle.std.specs.Prelude.{◌≡◌};
-    ghost use Rattle.htl_main.specs.Faults.{of_hex, of_read, of_segment, of_text};
+    ghost use Rattle.htl_main.specs.Faults.{of_hex, of_read, of_segment, of_source, of_text};
     ghost use Rattle.htl_main.specs.Statuses.{status_of};
 
     /// The exit status of the program: 2 for a wrong command, 3 where an input says something else
@@ -122,6 +123,21 @@ impl RunFault {
         match fault {
             ReadFault::NoMemory => RunFault::Memory,
             ReadFault::Failed => RunFault::Read { input },
+        }
+    }
+
+    /// Why the reading of an input of bytes ended.
+    pub(crate) fn of_source(input: u64, fault: SourceFault) -> RunFault
+        ensures { result ≡ of_source input fault }
+    {
+        match fault {
+            SourceFault::Segment { offset, fault } => RunFault::Segment {
+                input,
+                offset,
+                fault,
+            },
+            SourceFault::Read => RunFault::Read { input },
+            SourceFault::NoMemory => RunFault::Memory,
         }
     }
 

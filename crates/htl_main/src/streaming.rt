@@ -3,11 +3,14 @@
 ghost use Rattle.std.specs.Prelude.{◌≡◌, ◌≢◌, ◌⊎◌, ℕ, List, All, Some};
 ghost use Rattle.std.specs.Prelude.{false, true, map, slice_get, IfErr, IfOk, OnOk};
 ghost use Rattle.std.specs.Option.{option_copied};
+ghost use Rattle.htl_reading.specs.Sources.{read_ahead};
+ghost use Rattle.htl_reading.specs.declared.reading.TheConstants.{BLOCK_LEN};
 ghost use Rattle.htl_main.specs.Answers.{Finds};
 ghost use Rattle.htl_main.specs.Causes.{Prints, PrintsPart};
 ghost use Rattle.htl_main.specs.Coverages.{Covers};
 ghost use Rattle.htl_main.specs.Sources.{AreReadInOrder, AreReadToFault, AreReadWithin};
 ghost use Rattle.htl_main.specs.Sources.{EndsBefore, IsEndless, IsSourcesCause, IsTrueAt};
+ghost use Rattle.htl_main.specs.Sources.{ReadsNoFault, ReportsFailed};
 ghost use Rattle.htl_main.specs.Subjects.{ReportsSubject};
 
 use crate::completed::Completed;
@@ -24,10 +27,11 @@ use std::thread::Threads;
 /// 65,536 bytes.
 ///
 /// A fault of a source ends the run: no later source is read, and of its own bytes, which are
-/// decoded as they come, none after the read that gave the fault. A text in hexadecimal is gathered
-/// whole first.
+/// decoded as they come, none after the read that gave the fault, or after the block of reads that
+/// several workers decode together. They report the same fault as one worker, and a read that failed
+/// where none stands before it. A text in hexadecimal is gathered whole first.
 pub fn run_from<Rt: Threads + Wait + Sync, R: Source, W: Sink>(
-    _rt: &Rt,
+    rt: &Rt,
     alloc: Global,
     job: &Job,
     inputs: &mut [R],
@@ -59,22 +63,26 @@ pub fn run_from<Rt: Threads + Wait + Sync, R: Source, W: Sink>(
     // Each source is read to its end before the next.
     ensures ended { OnOk result (All (λ source. R.has_ended source ≡ true) inputs.new) }
     ensures in_order { AreReadInOrder R.has_ended inputs.old inputs.new }
-    // A read that failed is reported, and reported only then or after too many reads.
-    ensures reported { (place : ℕ) → IsTrueAt (map R.has_failed inputs.new) place
-        → result ≡ Err (RunFault.Read place) }
+    // A read that failed is reported, and reported only then or after too many reads. Several workers
+    // may find a fault of the bytes before it first, and report that.
+    ensures reported { ReportsFailed job.now.hex job.now.workers (map R.has_failed inputs.new)
+        (map R.remaining inputs.old) (map R.remaining inputs.new) result }
     ensures read { (place : ℕ) → result ≡ Err (RunFault.Read place)
         → IsTrueAt (map R.has_failed inputs.new) place
         ⊎ IsEndless (map R.good_reads inputs.new) (map R.remaining inputs.old) place }
+    ensures no_fault { (place : ℕ) → result ≡ Err (RunFault.Read place) → job.now.hex ≡ false
+        → ReadsNoFault (map R.remaining inputs.old) (map R.remaining inputs.new) place }
     ensures bounded { AreReadWithin (map R.good_reads inputs.old) (map R.good_reads inputs.new) }
     // A fault ends the reading.
     ensures unread { IfErr result (λ fault. (place : ℕ) → EndsBefore fault place
         → slice_get inputs.new place ≡ slice_get inputs.old place) }
     ensures to_fault { job.now.hex ≡ false
-        → AreReadToFault (map R.remaining inputs.old) (map R.remaining inputs.new) }
+        → AreReadToFault (read_ahead job.now.workers BLOCK_LEN) (map R.remaining inputs.old)
+        (map R.remaining inputs.new) }
     ensures untouched { IfErr result (λ fault. fault ≢ RunFault.Write → out.new ≡ out.old) }
 {
     check_workers(job.workers)?;
-    let segments = read_all(alloc, job.hex, inputs)?;
+    let segments = read_all(rt, alloc, job.hex, job.workers, inputs)?;
     let (lines, completed) = answered(alloc, job, segments, symbols)?;
     write_lines(out, &lines)?;
     Ok(completed)

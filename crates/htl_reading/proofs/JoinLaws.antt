@@ -6,7 +6,7 @@ use Rattle.htl_segment.specs.declared.fault.Fault.TheVariants as faults
 use Rattle.htl_segment.specs.Content.{Content, Fits}
 use Rattle.htl_segment.specs.Encoding.{encoding}
 use Rattle.htl_segment.specs.Faults.{first_fault}
-use Rattle.htl_segment.specs.Bundles.{bundle, Splits, IsRest, IsRefused}
+use Rattle.htl_segment.specs.Bundles.{bundle, SegmentAt, Splits, IsRest, IsRefused}
 use Rattle.htl_segment.proofs.SegmentLaws.{segment_again}
 use Rattle.htl_segment.proofs.PiecesLaws.{splits_after, refused_after, fault_more, segment_more}
 use Rattle.htl_reading.specs.Cuts.{IsCut}
@@ -26,23 +26,24 @@ pub second_refused : (a b left : List ℕ) (ss : List Content) (offset : ℕ) (f
 second_refused a b left ss offset fault cut first is_rest refused =
     refused_after a b ss offset fault (whole_part a left ss cut first is_rest) refused
 
--- memory was refused for the list of some segments, the first of which asked for it
-pub first_asked : (b rest : List ℕ) (ts : List Content) → Splits b ts rest → 0 < length ts → IsRefused b 0 faults.NoMemory
-first_asked b rest [] split some = absurd (omega arith)
-first_asked b rest (t ∷ ts) split some =
+-- bytes of some segments begin with one
+pub first_begins : (b rest : List ℕ) (ts : List Content) → Splits b ts rest → 0 < length ts → SegmentAt b 0
+first_begins b rest [] split some = absurd (omega arith)
+first_begins b rest (t ∷ ts) split some =
     let parts : b ≡ encoding t ++ (bundle ts ++ rest) = split.parts ∙ append_assoc (encoding t) (bundle ts) rest in
     let none : first_fault b ≡ None = ap first_fault parts
     ∙ (segment_again t (bundle ts ++ rest) (All-head Fits t ts split.fits)).no_fault in
-    inr (
-      refl,
-      record {
-        before = [];
-        rest = b;
-        splits = record { parts = refl; fits = All-nil Fits };
-        offset_is = refl;
-        no_fault = none;
-      },
-    )
+    record {
+      before = [];
+      rest = b;
+      splits = record { parts = refl; fits = All-nil Fits };
+      offset_is = refl;
+      no_fault = none;
+    }
+
+-- memory was refused for the list of some segments, the first of which asked for it
+pub first_asked : (b rest : List ℕ) (ts : List Content) → Splits b ts rest → 0 < length ts → IsRefused b 0 faults.NoMemory
+first_asked b rest ts split some = inr (refl, first_begins b rest ts split some)
 
 -- or of both parts
 pub list_refused : (a b left rest : List ℕ) (ss ts : List Content) → IsCut a → Splits a ss left → IsRest left → Splits b ts rest

@@ -1,2 +1,4 @@
 pub mod CutLaws
 pub mod JoinLaws
+pub mod PieceLaws
+pub mod BlockLaws

@@ -1,4 +1,5 @@
--- What public contracts cite: nothing.
-
+-- What public contracts cite.
+pub mod Sources
 -- What only private contracts cite.
 pub mod Cuts
+pub mod Blocks

@@ -1,16 +1,27 @@
-//! The segments of a bundle, decoded by several workers.
+//! The segments that a source gives, by one worker or by several.
 //!
-//! The bytes are cut between segments, as their headers tell; each part is decoded by a thread, with a
-//! cache of stacks of its own, and what the threads give is put together in order. Segments and faults
-//! are those of one worker.
+//! One worker splits each read at once. Several gather reads to a block: it is cut between segments, as
+//! their headers tell, each part is decoded by a thread with a cache of stacks of its own, and what the
+//! threads give is put together in order. Segments and faults are those of one worker.
 //!
-//! Files, in reading order: `decoding.rt` (the workers), `cutting.rt` (where bytes are cut),
-//! `joining.rt` (what two parts come to together). In `proofs/`, `CutLaws` shows that what headers cut
-//! leaves no rest, and `JoinLaws` that two parts come to what their bytes come to.
+//! Files, in reading order: `fault.rt` (why a reading ends), `reading.rt` (a source to its end),
+//! `pieces.rt` (in reads that are split at once), `blocks.rt` (in blocks), `decoding.rt`, `cutting.rt`
+//! and `joining.rt` (bytes that several workers decode: the workers, where the bytes are cut, and what
+//! two parts come to together).
+//!
+//! `specs/Sources` says what is reported and how far a source is read. In `proofs/`, `PieceLaws` and
+//! `BlockLaws` show what reads come to, `CutLaws` that what headers cut leaves no rest, and `JoinLaws`
+//! that two parts come to what their bytes come to.
 #![tactic(auto)]
 
+mod blocks;
 mod cutting;
 mod decoding;
+mod fault;
 mod joining;
+mod pieces;
+mod reading;
 
 pub use decoding::decode_bundle_by;
+pub use fault::SourceFault;
+pub use reading::{BLOCK_LEN, read_bundle, read_in_blocks};

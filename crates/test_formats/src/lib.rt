@@ -11,6 +11,8 @@ mod command;
 #[cfg(test)]
 mod devices;
 #[cfg(test)]
+mod reading;
+#[cfg(test)]
 mod reports;
 #[cfg(test)]
 mod samples;

@@ -10,7 +10,7 @@ use std::thread::Threads;
 const EMPTY: [u8; 32] = *b"HLS1\x01\0\x01\0\0\0\0\0\0\0\0\0\x07\0\0\0\0\0\0\0\0\0\0\0\x20\0\0\0";
 
 /// So many empty segments.
-fn bundle(rt: &impl Abort, alloc: Global, count: u32) -> Vec<u8> {
+pub fn bundle(rt: &impl Abort, alloc: Global, count: u32) -> Vec<u8> {
     let mut bytes = Vec::new(alloc);
     for number in 0..count {
         let mut segment = EMPTY;
@@ -22,20 +22,25 @@ fn bundle(rt: &impl Abort, alloc: Global, count: u32) -> Vec<u8> {
     bytes
 }
 
-/// A number that tells apart lists of segments, or the fault.
-fn told(decoded: Result<Vec<Segment>, (u64, Fault)>) -> Result<u64, (u64, Fault)> {
-    let segments = decoded?;
-    Ok(
-        segments.iter().fold(1u64, |told, segment| {
-            told.wrapping_mul(31).wrapping_add(segment.number() as u64)
-        }),
-    )
+/// A number that tells apart lists of segments.
+pub fn told(segments: &[Segment]) -> u64 {
+    segments.iter().fold(1u64, |told, segment| {
+        told.wrapping_mul(31).wrapping_add(segment.number() as u64)
+    })
+}
+
+/// The same where there are segments, or the fault.
+fn told_or_fault(decoded: Result<Vec<Segment>, (u64, Fault)>) -> Result<u64, (u64, Fault)> {
+    Ok(told(&decoded?))
 }
 
 fn by_all(rt: &(impl Abort + Threads + Sync), alloc: Global, bytes: &[u8]) {
-    let alone = told(decode_bundle(alloc, bytes));
+    let alone = told_or_fault(decode_bundle(alloc, bytes));
     for workers in [1, 2, 3, 8] {
-        assert_eq!(rt; told(decode_bundle_by(rt, alloc, workers, bytes)), alone);
+        assert_eq!(rt;
+            told_or_fault(decode_bundle_by(rt, alloc, workers, bytes)),
+            alone
+        );
     }
 }
 

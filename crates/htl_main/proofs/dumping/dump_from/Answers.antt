@@ -1,4 +1,5 @@
 -- One source more, and the one at which the dump ends.
+use Rattle.htl_device.specs.declared.source.TheConstants.{MAX_READ_LEN}
 use Rattle.std.proofs.Common.{◌<◌, [], length, map, get_or, arith, refl}
 use Rattle.std.proofs.KnownBytes.{Appends-nil}
 use Rattle.std.proofs.lemmas.Option.{slice_get-get_or}
@@ -14,7 +15,7 @@ loop-place-init g c = record {
   before = none_before g.R.Source.has_failed g.R.Source.has_ended g.R.Source.good_reads c.args.inputs.now c.requires.inputs;
   sound = c.requires.out;
   dumped = λ texts all. ([], refl, Appends-nil (g.W.Sink.contents c.args.out.now));
-  to_fault = λ bytes. none_read (map g.R.Source.remaining c.args.inputs.now);
+  to_fault = λ bytes. none_read MAX_READ_LEN (map g.R.Source.remaining c.args.inputs.now);
 }
 
 pub loop-place-preserved : goal.loop-place-preserved
@@ -37,7 +38,7 @@ loop-place-preserved g c =
           knows.here (inv.dumped texts all) (at_known texts place (g.R.Source.remaining source) (λ bytes. DumpsInput c.args.hex bytes
           (g.W.Sink.contents c.loop-place.out) (g.W.Sink.contents c.dump_input.new.out)) knows is.ok);
       to_fault = λ bytes.
-          one_read g.R.Source.remaining (map g.R.Source.remaining c.args.inputs.now) c.loop-place.inputs place source
+          one_read MAX_READ_LEN g.R.Source.remaining (map g.R.Source.remaining c.args.inputs.now) c.loop-place.inputs place source
           c.dump_input.new.source within (inv.to_fault bytes) (known_now g.R.Source.remaining c.args.inputs.now c.loop-place.inputs place source
           (inv.before.left place (omega arith)) here) (is.to_fault bytes);
     }
@@ -96,7 +97,7 @@ returns-in_err-dump_input-clause-to_fault g c =
     let source = get_or c.loop-place.inputs place c.index-inputs-place.result in
     let here = slice_get-get_or c.loop-place.inputs place c.index-inputs-place.result within in
     λ bytes.
-    one_read g.R.Source.remaining (map g.R.Source.remaining c.args.inputs.now) c.loop-place.inputs place source c.dump_input.new.source within
+    one_read MAX_READ_LEN g.R.Source.remaining (map g.R.Source.remaining c.args.inputs.now) c.loop-place.inputs place source c.dump_input.new.source within
     (inv.to_fault bytes) (known_now g.R.Source.remaining c.args.inputs.now c.loop-place.inputs place source
     (inv.before.left place (omega arith)) here) (c.in_err-dump_input.ensures.to_fault bytes)
 

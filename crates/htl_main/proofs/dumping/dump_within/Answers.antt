@@ -10,7 +10,7 @@ use Rattle.htl_segment.specs.Bundles.{IsRest}
 use Rattle.htl_main.specs.Dumping.{FrontDumped}
 use Rattle.htl_main.proofs.DumpLaws.{finished_cut, finished_whole, front_named, front_no_read, kept_last, rest_inside, so_far_failed}
 use Rattle.htl_main.proofs.DumpLaws.{so_far_memory, so_far_next, so_far_once_more, so_far_read, so_far_stops, so_far_unread}
-use Rattle.htl_main.proofs.SplitLaws.{read_bounded}
+use Rattle.htl_reading.proofs.PieceLaws.{read_bounded}
 use Rattle.htl_main.proofs.dumping.dump_within.Goals as goal
 
 pub returns-in_default-clause-stops : goal.returns-in_default-clause-stops

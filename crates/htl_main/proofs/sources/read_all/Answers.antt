@@ -6,9 +6,14 @@ use Rattle.std.proofs.lemmas.Option.{slice_get-get_or}
 use Rattle.std.proofs.lemmas.Result.{err_from_is_err_and}
 use Rattle.htl_main.specs.Inputs.{Decodes}
 use Rattle.htl_main.specs.Sources.{IsReportedOfSource}
+use Rattle.htl_reading.specs.Sources.{read_ahead}
+use Rattle.htl_reading.specs.declared.reading.TheConstants.{BLOCK_LEN}
+use Rattle.std.proofs.Math.ListN.{set}
+use Rattle.htl_main.proofs.OneSource.{failed_or_before, never_failed}
 use Rattle.htl_main.proofs.InputLaws.{asked_for, decode_next}
 use Rattle.htl_main.proofs.SourceLaws.{at_known, endless_at, known_now, knows_now, none_read, one_read, slice_get-set_other, true_nowhere, true_of_new}
 use Rattle.htl_main.proofs.SourceLaws.{ended_next, none_read_within, one_read_within, stopped_at, stopped_before, true_of_all, true_there, value_there}
+use Rattle.htl_main.proofs.SourceLaws.{read_no_fault}
 use Rattle.htl_main.proofs.sources.read_all.Goals as goal
 
 pub returns-in_err-more-clause-err : goal.returns-in_err-more-clause-err
@@ -72,11 +77,18 @@ returns-in_err-append-clause-err g c =
 pub returns-in_err-more-clause-reported : goal.returns-in_err-more-clause-reported
 returns-in_err-more-clause-reported g c =
     let p = err_from_is_err_and c.from_residual.result c.from_residual.ensures.1 in
-    λ place failed.
-    let new = true_of_new g.R.Source.has_failed c.loop-place.sources c.loop-place.place place c.read_input.new.source
-    c.loop-place.invariant.fine failed in
-    let reported = c.in_err-more.ensures.reported new.1 in
-    cc (p.1, p.2, new.0, reported)
+    let inv = c.loop-place.invariant in
+    let place = c.loop-place.place in
+    let within : place < length c.loop-place.sources = omega arith in
+    let source = get_or c.loop-place.sources place c.index-sources-place.result in
+    let here = slice_get-get_or c.loop-place.sources place c.index-sources-place.result within in
+    let new = c.read_input.new.source in
+    λ at failed.
+    let is = true_of_new g.R.Source.has_failed c.loop-place.sources place at new inv.fine failed in
+    rw (p.1, p.2, is.0) (failed_or_before c.args.hex c.args.workers place (g.R.Source.remaining source) (g.R.Source.remaining new)
+    (map g.R.Source.remaining c.args.sources.now) (map g.R.Source.remaining (set c.loop-place.sources place new)) c.in_err-more.field-0.0
+    (known_now g.R.Source.remaining c.args.sources.now c.loop-place.sources place source (inv.left place (omega arith)) here)
+    (value_there g.R.Source.remaining c.loop-place.sources place new within) (c.in_err-more.ensures.reported is.1))
 
 pub returns-in_err-more-clause-read : goal.returns-in_err-more-clause-read
 returns-in_err-more-clause-read g c =
@@ -95,6 +107,20 @@ returns-in_err-more-clause-read g c =
           (inv.left place (omega arith)) here) many)
     ])
 
+pub returns-in_err-more-clause-no_fault : goal.returns-in_err-more-clause-no_fault
+returns-in_err-more-clause-no_fault g c =
+    let p = err_from_is_err_and c.from_residual.result c.from_residual.ensures.1 in
+    let inv = c.loop-place.invariant in
+    let place = c.loop-place.place in
+    let within : place < length c.loop-place.sources = omega arith in
+    let source = get_or c.loop-place.sources place c.index-sources-place.result in
+    let here = slice_get-get_or c.loop-place.sources place c.index-sources-place.result within in
+    λ at ended bytes.
+    let read = c.in_err-more.ensures.read at (cc (p.1, p.2, ended)) in
+    rw (read.0) (read_no_fault g.R.Source.remaining (map g.R.Source.remaining c.args.sources.now) c.loop-place.sources place source
+    c.read_input.new.source within (known_now g.R.Source.remaining c.args.sources.now c.loop-place.sources place source
+    (inv.left place (omega arith)) here) (c.in_err-more.ensures.no_fault at (cc (p.1, p.2, ended)) bytes))
+
 pub returns-in_err-more-clause-unread : goal.returns-in_err-more-clause-unread
 returns-in_err-more-clause-unread g c =
     let p = err_from_is_err_and c.from_residual.result c.from_residual.ensures.1 in
@@ -112,7 +138,8 @@ returns-in_err-more-clause-to_fault g c =
     let source = get_or c.loop-place.sources place c.index-sources-place.result in
     let here = slice_get-get_or c.loop-place.sources place c.index-sources-place.result within in
     λ bytes.
-    one_read g.R.Source.remaining (map g.R.Source.remaining c.args.sources.now) c.loop-place.sources place source c.read_input.new.source within
+    one_read (read_ahead c.args.workers BLOCK_LEN) g.R.Source.remaining (map g.R.Source.remaining c.args.sources.now) c.loop-place.sources
+    place source c.read_input.new.source within
     (inv.to_fault bytes) (known_now g.R.Source.remaining c.args.sources.now c.loop-place.sources place source
     (inv.left place (omega arith)) here) (c.in_err-more.ensures.to_fault bytes)
 
@@ -124,7 +151,8 @@ returns-in_err-append-clause-to_fault g c =
     let source = get_or c.loop-place.sources place c.index-sources-place.result in
     let here = slice_get-get_or c.loop-place.sources place c.index-sources-place.result within in
     λ bytes.
-    one_read g.R.Source.remaining (map g.R.Source.remaining c.args.sources.now) c.loop-place.sources place source c.read_input.new.source within
+    one_read (read_ahead c.args.workers BLOCK_LEN) g.R.Source.remaining (map g.R.Source.remaining c.args.sources.now) c.loop-place.sources
+    place source c.read_input.new.source within
     (inv.to_fault bytes) (known_now g.R.Source.remaining c.args.sources.now c.loop-place.sources place source
     (inv.left place (omega arith)) here) (c.in_ok-more.ensures.to_fault bytes)
 
@@ -133,8 +161,7 @@ returns-in_err-append-clause-reported g c =
     λ place failed.
     let new = true_of_new g.R.Source.has_failed c.loop-place.sources c.loop-place.place place c.read_input.new.source
     c.loop-place.invariant.fine failed in
-    let reported = c.in_ok-more.ensures.reported new.1 in
-    absurd (cc reported)
+    absurd (never_failed c.args.hex c.args.workers c.loop-place.place _ _ c.in_ok-more.more (c.in_ok-more.ensures.reported new.1))
 
 pub returns-in_err-more-clause-bounded : goal.returns-in_err-more-clause-bounded
 returns-in_err-more-clause-bounded g c =
@@ -187,7 +214,7 @@ loop-place-init g c = record {
   fine = c.requires;
   decoded = λ inputs all. c.new-segments.ensures.items;
   bounded = none_read_within (map g.R.Source.good_reads c.args.sources.now);
-  to_fault = λ bytes. none_read (map g.R.Source.remaining c.args.sources.now);
+  to_fault = λ bytes. none_read (read_ahead c.args.workers BLOCK_LEN) (map g.R.Source.remaining c.args.sources.now);
 }
 
 pub loop-place-preserved : goal.loop-place-preserved
@@ -198,7 +225,8 @@ loop-place-preserved g c =
     let source = get_or c.loop-place.sources place c.index-sources-place.result in
     let here = slice_get-get_or c.loop-place.sources place c.index-sources-place.result within in
     let fine : g.R.Source.has_failed c.read_input.new.source ≡ false =
-    false_from_ne_true (g.R.Source.has_failed c.read_input.new.source) (λ failed. let reported = c.in_ok-more.ensures.reported failed in cc reported) in
+    false_from_ne_true (g.R.Source.has_failed c.read_input.new.source) (λ failed.
+    never_failed c.args.hex c.args.workers place _ _ c.in_ok-more.more (c.in_ok-more.ensures.reported failed)) in
     record {
       left = λ k above.
           slice_get-set_other c.loop-place.sources place k c.read_input.new.source (λ e. omega arith) ∙ inv.left k (omega arith);
@@ -216,7 +244,7 @@ loop-place-preserved g c =
           c.read_input.new.source within inv.bounded (known_now g.R.Source.good_reads c.args.sources.now c.loop-place.sources place
           source (inv.left place (omega arith)) here) c.in_ok-more.ensures.bounded;
       to_fault = λ bytes.
-          one_read g.R.Source.remaining (map g.R.Source.remaining c.args.sources.now) c.loop-place.sources place source
+          one_read (read_ahead c.args.workers BLOCK_LEN) g.R.Source.remaining (map g.R.Source.remaining c.args.sources.now) c.loop-place.sources place source
           c.read_input.new.source within (inv.to_fault bytes) (known_now g.R.Source.remaining c.args.sources.now
           c.loop-place.sources place source (inv.left place (omega arith)) here) (c.in_ok-more.ensures.to_fault bytes);
     }

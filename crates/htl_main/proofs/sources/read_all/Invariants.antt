@@ -1,6 +1,8 @@
 -- The segments are those of the sources so far, which have ended, and the other sources are as they were.
 use Rattle.std.proofs.Common.{◌≡◌, ◌<◌, ◌≤◌, ℕ, List, All, Some, false, map, take}
 use Rattle.std.specs.Prelude.{slice_get}
+use Rattle.htl_reading.specs.Sources.{read_ahead}
+use Rattle.htl_reading.specs.declared.reading.TheConstants.{BLOCK_LEN}
 use Rattle.htl_main.specs.Inputs.{DecodeAll}
 use Rattle.htl_main.specs.Sources.{AreReadToFault, AreReadWithin, IsTrueAt}
 use Rattle.htl_main.proofs.sources.read_all.Given as goal
@@ -13,5 +15,5 @@ invariant-loop-place g l = record {
   decoded : (inputs : List (List ℕ)) → map g.R.Source.remaining l.initial.sources ≡ map Some inputs
       → DecodeAll l.hex (take l.place inputs) l.segments.items;
   bounded : AreReadWithin (map g.R.Source.good_reads l.initial.sources) (map g.R.Source.good_reads l.sources);
-  to_fault : l.hex ≡ false → AreReadToFault (map g.R.Source.remaining l.initial.sources) (map g.R.Source.remaining l.sources);
+  to_fault : l.hex ≡ false → AreReadToFault (read_ahead l.workers BLOCK_LEN) (map g.R.Source.remaining l.initial.sources) (map g.R.Source.remaining l.sources);
 }

@@ -1,0 +1,62 @@
+-- Why the reading of one source ends, and how far it is read (this project's own). What a source gives is known where it reports its bytes.
+use Rattle.std.specs.Prelude.{◌≡◌, ◌<◌, ◌≤◌, ◌+◌, ◌⊎◌, ⊤, ℕ, Bool, true, false, List, ◌++◌, length, Option, Some, IfSome, Result, Err}
+use Rattle.std.specs.Prelude.{nat_le, if◌then◌else◌}
+use Rattle.std.specs.Io.KnownBytes.{Consumes}
+use Rattle.htl_device.specs.declared.source.TheConstants.{MAX_READ_LEN}
+use Rattle.htl_segment.specs.Content.{Content}
+use Rattle.htl_segment.specs.Bundles.{BundleFault, IsRest, RestAt, SegmentAt, Splits, is_early_end}
+use Rattle.htl_reading.specs.declared.fault.SourceFault.{SourceFault}
+use Rattle.htl_reading.specs.declared.fault.SourceFault.TheVariants.{Segment, Read, NoMemory}
+
+-- Memory is asked for where a segment begins; and while the end isn't found, to keep what was read last, of which more may make one.
+abbrev pub AsksMemory : Option (List ℕ) → Bool → List ℕ → Type 0
+AsksMemory left ended bytes =
+    ((offset : ℕ) × SegmentAt bytes offset)
+    ⊎ ((ended ≡ false) × (read : List ℕ) × Consumes (Some bytes) left read × (offset : ℕ) × RestAt read offset)
+
+-- what is reported of a source that gave some of these bytes, has others left, and whose end was found or not
+abbrev pub IsReported : Option (List ℕ) → Bool → List ℕ → SourceFault → Type 0
+IsReported left ended bytes (Segment offset fault) = BundleFault bytes offset fault
+IsReported left ended bytes Read = ⊤
+IsReported left ended bytes NoMemory = AsksMemory left ended bytes
+
+-- a failed read is reported only where one failed, or so many reads gave bytes
+abbrev pub FailsOnly : {S : Type 0} → Bool → ℕ → Option (List ℕ) → ℕ → Result S SourceFault → Type 0
+FailsOnly failed reads known most result =
+    result ≡ Err Read → (failed ≡ true) ⊎ ((most ≤ reads) × IfSome known (λ bytes. most ≤ length bytes))
+
+-- why these bytes are refused, whichever may follow them
+abbrev pub IsRefusal : List ℕ → SourceFault → Type 0
+IsRefusal bytes (Segment offset fault) = BundleFault bytes offset fault × (is_early_end fault ≡ false)
+IsRefusal bytes Read = ⊥
+IsRefusal bytes NoMemory = (offset : ℕ) × SegmentAt bytes offset
+
+-- a fault of the bytes that were read is reported, in place of a read that failed after them
+pub record StandsBefore {S : Type 0} (given left : Option (List ℕ)) (result : Result S SourceFault) : Type 0 where
+  pub fault : SourceFault
+  pub is : result ≡ Err fault
+  pub read : List ℕ
+  pub consumes : Consumes given left read
+  pub refusal : IsRefusal read fault
+
+-- A read that failed is reported, or what stands before it. One worker decodes each read before the next, so only several find a
+-- fault so late.
+abbrev pub ReportsFailure : {S : Type 0} → ℕ → Bool → Option (List ℕ) → Option (List ℕ) → Result S SourceFault → Type 0
+ReportsFailure workers failed given left result =
+    failed ≡ true → (result ≡ Err Read) ⊎ ((1 < workers) × StandsBefore given left result)
+
+-- how many bytes are read before they are decoded, in blocks of at least so many: one read by one worker, and a block by several
+abbrev pub read_ahead : ℕ → ℕ → ℕ
+read_ahead workers block = if nat_le workers 1 then MAX_READ_LEN else block + MAX_READ_LEN
+
+-- What was read of a source: segments and the beginning of one more, and after these so many bytes at most. So it is read
+-- no further once a fault was read.
+pub record IsReadToFault (most : ℕ) (given left : Option (List ℕ)) : Type 0 where
+  pub before : List ℕ
+  pub segments : List Content
+  pub rest : List ℕ
+  pub splits : Splits before segments rest
+  pub is_rest : IsRest rest
+  pub last : List ℕ
+  pub few : length last ≤ most
+  pub read : Consumes given left (before ++ last)

@@ -1,0 +1,50 @@
+//! Why the reading of a source ended.
+
+use htl_segment::Fault;
+use std::alloc::{AllocError, AllocFailed};
+
+/// Why the reading of a source ended before its end.
+#[derive(Clone, Copy, Debug, PartialEq, Eq)]
+pub enum SourceFault {
+    /// The bytes at this offset are no segment.
+    Segment { offset: u64, fault: Fault },
+    /// A read failed, or more than `MAX_READS` of them gave bytes.
+    Read,
+    /// Memory was refused.
+    NoMemory,
+}
+
+impl SourceFault {
+    ghost use Rattle.std.specs.Prelude.{◌≡◌};
+    ghost use Rattle.htl_reading.specs.Blocks.{of_segment};
+
+    /// The fault of the bytes at an offset.
+    pub(crate) fn of_segment(offset: u64, fault: Fault) -> SourceFault
+        ensures { result ≡ of_segment offset fault }
+    {
+        match fault {
+            Fault::NoMemory => SourceFault::NoMemory,
+            _ => SourceFault::Segment { offset, fault },
+        }
+    }
+}
+
+impl From<AllocError> for SourceFault {
+    ghost use Rattle.htl_reading.specs.Blocks.{IsNoMemory};
+
+    ghost from_gives = { λ _. IsNoMemory };
+
+    fn from(_refused: AllocError) -> SourceFault {
+        SourceFault::NoMemory
+    }
+}
+
+impl<T: Drop> From<AllocFailed<T>> for SourceFault {
+    ghost use Rattle.htl_reading.specs.Blocks.{IsNoMemory};
+
+    ghost from_gives = { λ _. IsNoMemory };
+
+    fn from(_refused: AllocFailed<T>) -> SourceFault {
+        SourceFault::NoMemory
+    }
+}

@@ -1,0 +1,87 @@
+//! Sources that several workers read in blocks, beside bytes that lie in memory.
+
+use crate::sharing::{bundle, told};
+use htl_device::Reading;
+use htl_reading::{SourceFault, read_in_blocks};
+use htl_segment::{Fault, decode_bundle};
+use std::alloc::Global;
+use std::io;
+use std::io::Read;
+use std::process::Abort;
+use std::thread::Threads;
+
+/// A reader over memory that gives a few bytes a read, and fails after so many reads.
+#[derive(Clone, Copy, Drop)]
+struct Pieces<'a> {
+    bytes: &'a [u8],
+    piece: usize,
+    reads_left: usize,
+}
+
+impl Read for Pieces<'_> {
+    fn read(&mut self, buffer: &mut [u8]) -> io::Result<usize> {
+        if self.reads_left == 0 {
+            return Err(io::Error::from(io::ErrorKind::Interrupted));
+        }
+        self.reads_left -= 1;
+        let count = self.piece.min(self.bytes.len()).min(buffer.len());
+        let (given, rest) = self.bytes.split_at(count);
+        buffer[..count].copy_from_slice(given);
+        self.bytes = rest;
+        Ok(count)
+    }
+}
+
+/// What the reads come to: what their bytes do, where these have a fault that more bytes wouldn't
+/// mend; else a failed read, where one comes before the end.
+fn expected(alloc: Global, source: Pieces) -> Result<u64, SourceFault> {
+    let given = source
+        .piece
+        .wrapping_mul(source.reads_left)
+        .min(source.bytes.len());
+    let fails = source.reads_left <= source.bytes.len().div_ceil(source.piece.max(1));
+    let (read, _) = source.bytes.split_at(given);
+    match decode_bundle(alloc, read) {
+        Ok(_) if fails => Err(SourceFault::Read),
+        Err((_, Fault::Short | Fault::Cut)) if fails => Err(SourceFault::Read),
+        Ok(segments) => Ok(told(&segments)),
+        Err((offset, fault)) => Err(SourceFault::Segment { offset, fault }),
+    }
+}
+
+/// Reads by every number of workers, in blocks of a few bytes.
+fn by_all(rt: &(impl Abort + Threads + Sync), alloc: Global, source: Pieces) {
+    let expected = expected(alloc, source);
+    for workers in [1, 2, 3, 8] {
+        for block_len in [0, 100, 1_000] {
+            let read = read_in_blocks(rt, alloc, workers, &mut Reading::new(source), block_len);
+            let found = read.map(|segments| told(&segments));
+            assert_eq!(rt; found, expected, "{workers} workers, blocks of {block_len}");
+        }
+    }
+}
+
+#[test]
+fn read_by_any_number_of_workers(rt: HostRuntime) {
+    let alloc = rt.alloc();
+    let mut bytes = bundle(&rt, alloc, 40);
+    for place in [1_280, 1_000, 352, 3] {
+        for piece in [7, 64] {
+            for reads_left in [3, 11, 16, 1_000] {
+                by_all(
+                    &rt,
+                    alloc,
+                    Pieces {
+                        bytes: &bytes,
+                        piece,
+                        reads_left,
+                    },
+                );
+            }
+        }
+        if let Some(cell) = bytes.get_mut(place) {
+            *cell = 0xFF;
+        }
+        bytes.truncate(1_275);
+    }
+}

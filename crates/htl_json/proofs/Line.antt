@@ -1,5 +1,5 @@
 -- An object that was begun, given fields and ended is a line, which reads back as the record of these fields.
-use Rattle.std.proofs.Common.{◌≡◌, ◌≤◌, ℕ, List, [], ◌∷◌, ◌++◌, Some, ap, append-nil, append_assoc, arith, option_and_then, subst, sym, ◌∙◌}
+use Rattle.std.proofs.Common.{◌≡◌, ◌≤◌, ℕ, List, [], ◌∷◌, ◌++◌, ap, append-nil, append_assoc, arith, option_and_then, subst, sym, ◌∙◌}
 use Rattle.std.proofs.lemmas.Grind.{flat_map-append}
 use Rattle.std.specs.List.{flat_map}
 use Rattle.json.proofs.Printed.Trees.{value-json_tokens}

@@ -1,5 +1,5 @@
 -- The lines of an answer as JSON: one for its first line and one for each row of its text, in the same order.
-use Rattle.std.specs.Prelude.{◌++◌, ◌∷◌, ◌≡◌, [], ℕ, All, IsUtf8, List, Option, Some, codes, length, map}
+use Rattle.std.specs.Prelude.{◌++◌, ◌∷◌, ◌≡◌, [], ℕ, IsUtf8, List, Option, Some, codes, length, map}
 use Rattle.json.specs.Json.{Json, document}
 use Rattle.json.specs.Print.{print}
 use Rattle.json.specs.Tree.{json_tokens}

@@ -3,7 +3,7 @@ use Rattle.std.specs.Prelude.{◌++◌, ◌∷◌, ◌≡◌, ◌≤◌, [], ⊤
 use Rattle.json.specs.Json.{Json}
 use Rattle.json.specs.Lex.{tokens}
 use Rattle.json.specs.Print.{print}
-use Rattle.json.specs.Token.{Token, end_object, key}
+use Rattle.json.specs.Token.{Token, key}
 use Rattle.json.specs.Tree.{depth, json_tokens}
 use Rattle.htl_json.specs.Lines.{IsReadBack, json_line}
 use Rattle.htl_json.specs.Records.{Field}

@@ -1,0 +1,60 @@
+-- Lines that are added one after another are those of the values of an answer.
+use Rattle.std.proofs.Common.{◌≡◌, ◌≤◌, ◌<◌, ◌+◌, ℕ, List, [], ◌∷◌, ◌++◌, append-nil, append_assoc, ap, get_or, length, map, subst, sym, take, ◌∙◌}
+use Rattle.std.proofs.lemmas.List.{take_all, take_more}
+use Rattle.std.proofs.lemmas.Grind.{flat_map-append}
+use Rattle.std.proofs.lemmas.List.Elements.{All-append, All-cons, All-map, All-nil}
+use Rattle.std.proofs.lemmas.List.Folds.{flat_map-map}
+use Rattle.std.specs.List.{flat_map}
+use Rattle.json.specs.Json.{Json}
+use Rattle.htl_json.specs.Lines.{IsReadBack, json_line}
+use Rattle.htl_json.specs.Writing.{AddsLine, AddsLines}
+use Rattle.htl_json.specs.declared.lines.Lines.{Lines}
+
+abbrev pub AddsValues : Lines → Lines → List Json → Type 0
+AddsValues old new values = AddsLines {R = Json} (λ value. value) old new values
+
+pub row_added : {R : Type 0} (value_of : R → Json) (rows : List R) (i : ℕ) (row : R) (a b c : Lines) → i < length rows
+    → AddsLines value_of a b (take i rows) → AddsLine b c (value_of (get_or rows i row)) → AddsLines value_of a c (take (i + 1) rows)
+row_added {R} value_of rows i row a b c within h k =
+    let before = a.writer.before in
+    let IsRead = λ (x : R). IsReadBack (value_of x) in
+    let line = λ (x : R). json_line (value_of x) in
+    let so_far = take i rows in
+    let next = get_or rows i row in
+    subst (AddsLines value_of a c) (sym (take_more rows i row within)) (
+      All-append IsRead so_far (next ∷ []) h.0 (All-cons IsRead next [] k.0 (All-nil IsRead)),
+      k.1,
+      k.2 ∙ ap (λ text. text ++ line next) h.2 ∙ append_assoc before (flat_map line so_far) (line next)
+          ∙ ap (λ text. before ++ (flat_map line so_far ++ text)) (sym (append-nil (line next)))
+          ∙ ap (λ text. before ++ text) (sym (flat_map-append line so_far (next ∷ []))),
+    )
+
+pub rows_more : {R : Type 0} (value_of : R → Json) (rows : List R) (i : ℕ) (row : R) (a b c : Lines) → i < length rows → row ≡ get_or rows i row
+    → AddsLines value_of a b (take i rows) → AddsLine b c (value_of row) → AddsLines value_of a c (take (i + 1) rows)
+rows_more value_of rows i row a b c within at h k =
+    row_added value_of rows i row a b c within h (subst (λ x. AddsLine b c (value_of x)) at k)
+
+pub rows_done : {R : Type 0} (value_of : R → Json) (rows : List R) (i : ℕ) (a b : Lines) → length rows ≤ i → AddsLines value_of a b (take i rows)
+    → AddsLines value_of a b rows
+rows_done value_of rows i a b all h = subst (AddsLines value_of a b) (take_all i rows all) h
+
+pub values_then : (vs ws : List Json) (a b c : Lines) → AddsValues a b vs → AddsValues b c ws → AddsValues a c (vs ++ ws)
+values_then vs ws a b c h k =
+    let before = a.writer.before in (
+      All-append IsReadBack vs ws h.0 k.0,
+      k.1,
+      k.2 ∙ ap (λ text. text ++ flat_map json_line ws) h.2
+          ∙ append_assoc before (flat_map json_line vs) (flat_map json_line ws) ∙ ap (λ text. before ++ text) (sym (flat_map-append json_line vs ws)),
+    )
+
+pub line_alone : (v : Json) (a b : Lines) → AddsLine a b v → AddsValues a b (v ∷ [])
+line_alone v a b h =
+    (All-cons IsReadBack v [] h.0 (All-nil IsReadBack), h.1, h.2 ∙ ap (λ text. a.writer.before ++ text) (sym (append-nil (json_line v))))
+
+pub rows_as_values : {R : Type 0} (value_of : R → Json) (rows : List R) (a b : Lines) → AddsLines value_of a b rows → AddsValues a b (map value_of rows)
+rows_as_values value_of rows a b h =
+    (All-map IsReadBack value_of rows h.0, h.1, h.2 ∙ ap (λ text. a.writer.before ++ text) (sym (flat_map-map json_line value_of rows)))
+
+pub answer_added : {R : Type 0} (value_of : R → Json) (v : Json) (rows : List R) (a b c : Lines) → AddsLine a b v → AddsLines value_of b c rows
+    → AddsValues a c ((v ∷ []) ++ map value_of rows)
+answer_added value_of v rows a b c h k = values_then (v ∷ []) (map value_of rows) a b c (line_alone v a b h) (rows_as_values value_of rows b c k)

@@ -1,0 +1,18 @@
+-- The fields are those of the line.
+use Rattle.std.proofs.Common.{◌++◌, codes}
+use Rattle.std.proofs.lemmas.Result.{on_ok_weaker}
+use Rattle.htl_json.proofs.Line.{fields_then, line_added}
+use Rattle.htl_json.specs.Heads.{count_field, process_fields, since_field}
+use Rattle.htl_json.proofs.heads.write_diff_head.Goals as goal
+
+pub returns : goal.returns
+returns c =
+    let a = process_fields (codes "diff") c.args.process in
+    let b = since_field c.args.since in
+    let d = count_field c.args.count in
+    let fields = fields_then a (b ++ d) c.begin_object.new.self c.write_process.new.lines c.write_count.new.lines c.in_ok-write_process.ensures
+    (fields_then b d c.write_process.new.lines c.write_since.new.lines c.write_count.new.lines c.in_ok-write_since.ensures c.in_ok-write_count.ensures) in
+    on_ok_weaker c.end_line.result
+    (line_added (a ++ (b ++ d)) c.args.lines.now c.begin_object.new.self c.write_count.new.lines c.end_line.new.self c.requires
+    c.in_ok-begin_object.ensures fields)
+    c.end_line.ensures

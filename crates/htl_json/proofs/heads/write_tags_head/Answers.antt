@@ -1,0 +1,16 @@
+-- The fields are those of the line.
+use Rattle.std.proofs.Common.{◌++◌, codes}
+use Rattle.std.proofs.lemmas.Result.{on_ok_weaker}
+use Rattle.htl_json.proofs.Line.{fields_then, line_added}
+use Rattle.htl_json.specs.Heads.{count_field, object_fields}
+use Rattle.htl_json.proofs.heads.write_tags_head.Goals as goal
+
+pub returns : goal.returns
+returns c =
+    let a = object_fields (codes "tags") c.args.object in
+    let b = count_field c.args.count in
+    let fields = fields_then a b c.begin_object.new.self c.write_object.new.lines c.write_count.new.lines c.in_ok-write_object.ensures
+    c.in_ok-write_count.ensures in
+    on_ok_weaker c.end_line.result
+    (line_added (a ++ b) c.args.lines.now c.begin_object.new.self c.write_count.new.lines c.end_line.new.self c.requires c.in_ok-begin_object.ensures fields)
+    c.end_line.ensures

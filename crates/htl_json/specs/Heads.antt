@@ -1,0 +1,55 @@
+-- The value of an answer's first line, with the fields of the text's first line.
+use Rattle.std.specs.Prelude.{◌++◌, ◌∷◌, [], ℕ, List, codes}
+use Rattle.htl_event.specs.Slots.{base_of}
+use Rattle.json.specs.Json.{Json, string}
+use Rattle.htl_json.specs.Records.{Field, quantity, record_of, shown_address, shown_handle, tag_fields}
+use Rattle.htl_report.specs.declared.summary.Totals.{Totals}
+
+-- which question was asked about a process
+unfoldable pub process_fields : List ℕ → ℕ → List Field
+process_fields word process = (codes "answer", string word) ∷ (codes "process", quantity process) ∷ []
+
+unfoldable pub object_fields : List ℕ → ℕ → List Field
+object_fields word object = (codes "answer", string word) ∷ (codes "object", shown_address object) ∷ []
+
+-- how many rows the whole answer has
+unfoldable pub count_field : ℕ → List Field
+count_field count = (codes "count", quantity count) ∷ []
+
+unfoldable pub since_field : ℕ → List Field
+since_field since = (codes "since", quantity since) ∷ []
+
+unfoldable pub handle_field : ℕ → List Field
+handle_field handle = (codes "handle", shown_handle handle) ∷ []
+
+abbrev pub process_head : List ℕ → ℕ → ℕ → Json
+process_head word process count = record_of (process_fields word process ++ count_field count)
+
+abbrev pub diff_head : ℕ → ℕ → ℕ → Json
+diff_head process since count = record_of (process_fields (codes "diff") process ++ (since_field since ++ count_field count))
+
+-- the base handle
+abbrev pub trace_head : ℕ → ℕ → ℕ → Json
+trace_head process handle count =
+    record_of (process_fields (codes "trace") process ++ (handle_field (base_of handle) ++ count_field count))
+
+abbrev pub tags_head : ℕ → ℕ → Json
+tags_head object count = record_of (object_fields (codes "tags") object ++ count_field count)
+
+abbrev pub stacks_head : ℕ → List ℕ → ℕ → Json
+stacks_head object tag count = record_of (object_fields (codes "stacks") object ++ (tag_fields tag ++ count_field count))
+
+-- what there is
+unfoldable pub totals_fields : Totals → List Field
+totals_fields t =
+    (codes "answer", string (codes "summary")) ∷ (codes "processors", quantity t.processors) ∷ (codes "segments", quantity t.segments)
+    ∷ (codes "events", quantity t.events) ∷ (codes "complete_to", quantity t.complete_to) ∷ []
+
+-- how many lines of each kind follow
+unfoldable pub lines_fields : ℕ → ℕ → ℕ → ℕ → List Field
+lines_fields gaps processes objects unbalanced =
+    (codes "gaps", quantity gaps) ∷ (codes "processes", quantity processes) ∷ (codes "objects", quantity objects)
+    ∷ (codes "unbalanced", quantity unbalanced) ∷ []
+
+abbrev pub summary_head : Totals → ℕ → ℕ → ℕ → Json
+summary_head t gaps processes unbalanced = record_of (totals_fields t ++ lines_fields gaps processes t.objects unbalanced)

@@ -1,0 +1,93 @@
+-- The value of a row of each answer.
+use Rattle.std.specs.Prelude.{◌++◌, ◌-◌, ◌∷◌, [], ℕ, List, codes}
+use Rattle.htl_event.specs.Events.{Event}
+use Rattle.htl_event.specs.Slots.{base_of}
+use Rattle.htl_event.specs.declared.slot.Count.{Count}
+use Rattle.htl_event.specs.declared.summary.ObjectRow.{ObjectRow}
+use Rattle.htl_event.specs.declared.summary.ProcessRow.{ProcessRow}
+use Rattle.htl_symbols.specs.Ranges.{Range}
+use Rattle.htl_taken.specs.declared.gap.Gap.{Gap}
+use Rattle.htl_taken.specs.declared.gap.Gap.TheVariants.{Between, Absent}
+use Rattle.json.specs.Json.{Json, string}
+use Rattle.htl_json.specs.Frames.{stack_fields}
+use Rattle.htl_json.specs.Records.{Field, count_fields, quantity, record_of, shown_address, shown_handle, tag_fields}
+use Rattle.htl_report.specs.Listings.{word_of}
+
+-- an event by this word and this handle
+unfoldable pub event_fields : List ℕ → ℕ → Event → List Field
+event_fields word handle e =
+    (codes "event", string word) ∷ (codes "handle", shown_handle handle) ∷ (codes "sequence", quantity e.sequence)
+    ∷ (codes "thread", quantity e.thread) ∷ []
+
+-- an outstanding handle, by the base handle
+abbrev pub opened : List Range → Event → Json
+opened symbols e = record_of (event_fields (codes "OPEN") (base_of e.handle) e ++ stack_fields symbols e.stack)
+
+-- an event, its handle as it was written
+abbrev pub listed : List Range → Event → Json
+listed symbols e = record_of (event_fields (word_of e.kind) e.handle e ++ stack_fields symbols e.stack)
+
+-- a handle as it was written, and how often it was named
+unfoldable pub bad_fields : ℕ → ℕ → List Field
+bad_fields handle times =
+    (codes "event", string (codes "BAD REF")) ∷ (codes "handle", shown_handle handle) ∷ (codes "times", quantity times) ∷ []
+
+abbrev pub bad_reference : List Range → ℕ × List ℕ × ℕ → Json
+bad_reference symbols row = record_of (bad_fields row.0 row.2 ++ stack_fields symbols row.1)
+
+-- how many handles
+unfoldable pub handles_field : ℕ → List Field
+handles_field handles = (codes "handles", quantity handles) ∷ []
+
+abbrev pub leak : List Range → List ℕ × ℕ → Json
+leak symbols row = record_of (handles_field row.1 ++ stack_fields symbols row.0)
+
+abbrev pub counted_stack : List Range → List ℕ × Count → Json
+counted_stack symbols row = record_of (count_fields row.1.plus row.1.minus ++ stack_fields symbols row.0)
+
+-- by how much references are above dereferences, and the other way round: one of them is 0
+unfoldable pub balance_fields : Count → List Field
+balance_fields c = (codes "over", quantity (c.plus - c.minus)) ∷ (codes "under", quantity (c.minus - c.plus)) ∷ []
+
+abbrev pub tag_balance : List ℕ × Count → Json
+tag_balance row = record_of (tag_fields row.0 ++ (count_fields row.1.plus row.1.minus ++ balance_fields row.1))
+
+-- the segments of a processor that are missing, from one number to another
+unfoldable pub between_fields : ℕ → ℕ → ℕ → List Field
+between_fields processor from to =
+    (codes "row", string (codes "GAP")) ∷ (codes "processor", quantity processor) ∷ (codes "from", quantity from)
+    ∷ (codes "to", quantity to) ∷ []
+
+-- a processor without a segment
+unfoldable pub absent_fields : ℕ → List Field
+absent_fields processor =
+    (codes "row", string (codes "GAP")) ∷ (codes "processor", quantity processor) ∷ (codes "from", quantity 0) ∷ []
+
+abbrev pub missing_fields : Gap → List Field
+missing_fields (Between processor from to) = between_fields processor from to
+missing_fields (Absent processor) = absent_fields processor
+
+abbrev pub missing : Gap → Json
+missing gap = record_of (missing_fields gap)
+
+-- a process, its outstanding handles, and its events of each kind
+unfoldable pub handles_fields : ProcessRow → List Field
+handles_fields row =
+    (codes "row", string (codes "PROCESS")) ∷ (codes "process", quantity row.process) ∷ (codes "outstanding", quantity row.outstanding)
+    ∷ (codes "opens", quantity row.opens) ∷ (codes "closes", quantity row.closes) ∷ []
+
+-- its bad references, its snapshot mark and its last exit
+unfoldable pub moments_fields : ProcessRow → List Field
+moments_fields row = (codes "bad", quantity row.bad) ∷ (codes "mark", quantity row.mark) ∷ (codes "exit", quantity row.exit) ∷ []
+
+abbrev pub process_row : ProcessRow → Json
+process_row row = record_of (handles_fields row ++ moments_fields row)
+
+-- an object, its tags, and those that aren't balanced
+unfoldable pub unbalanced_fields : ObjectRow → List Field
+unbalanced_fields row =
+    (codes "row", string (codes "OBJECT")) ∷ (codes "object", shown_address row.object) ∷ (codes "tags", quantity row.tags)
+    ∷ (codes "unbalanced", quantity row.unbalanced) ∷ []
+
+abbrev pub unbalanced_object : ObjectRow → Json
+unbalanced_object row = record_of (unbalanced_fields row ++ count_fields row.refs row.derefs)

@@ -1,0 +1,82 @@
+//! Rows that are events: outstanding handles, differences and listings.
+
+ghost use Rattle.std.specs.Prelude.{◌≡◌, ◌∷◌, [], OnOk, map};
+ghost use Rattle.htl_json.specs.Rows.{event_fields, listed, opened};
+ghost use Rattle.htl_json.specs.Writing.{AddsFields, AddsLine, AddsLines};
+
+use crate::frames::write_stack;
+use crate::lines::Lines;
+use htl_event::{SharedEvent, base};
+use htl_report::event_word;
+use htl_symbols::Symbols;
+use std::alloc::AllocError;
+
+/// Each handle by the event that opened it.
+pub(crate) fn write_opens(
+    lines: &mut Lines,
+    symbols: &Symbols,
+    rows: &[SharedEvent],
+) -> Result<(), AllocError>
+    requires { lines.old.writer.tokens ≡ [] }
+    ensures { OnOk result
+        (AddsLines (opened symbols.now) lines.old lines.new rows.now) }
+{
+    for event in rows {
+        write_open(lines, symbols, event)?;
+    }
+    Ok(())
+}
+
+fn write_open(lines: &mut Lines, symbols: &Symbols, event: &SharedEvent) -> Result<(), AllocError>
+    requires { lines.old.writer.tokens ≡ [] }
+    ensures { OnOk result
+        (AddsLine lines.old lines.new (opened symbols.now event.now)) }
+{
+    lines.begin_object()?;
+    write_event(lines, "OPEN", base(event.handle), event)?;
+    write_stack(lines, symbols, &event.stack)?;
+    lines.end_line()
+}
+
+/// Each event by its word, its handle as it was written.
+pub(crate) fn write_listing(
+    lines: &mut Lines,
+    symbols: &Symbols,
+    rows: &[SharedEvent],
+) -> Result<(), AllocError>
+    requires { lines.old.writer.tokens ≡ [] }
+    ensures { OnOk result
+        (AddsLines (listed symbols.now) lines.old lines.new rows.now) }
+{
+    for event in rows {
+        write_listed(lines, symbols, event)?;
+    }
+    Ok(())
+}
+
+fn write_listed(lines: &mut Lines, symbols: &Symbols, event: &SharedEvent) -> Result<(), AllocError>
+    requires { lines.old.writer.tokens ≡ [] }
+    ensures { OnOk result
+        (AddsLine lines.old lines.new (listed symbols.now event.now)) }
+{
+    lines.begin_object()?;
+    write_event(lines, event_word(event.kind), event.handle, event)?;
+    write_stack(lines, symbols, &event.stack)?;
+    lines.end_line()
+}
+
+#[tactic(auto, unfolding(crate::specs::Rows::event_fields))]
+fn write_event(
+    lines: &mut Lines,
+    word: &str,
+    handle: u32,
+    event: &SharedEvent,
+) -> Result<(), AllocError>
+    ensures { OnOk result
+        (AddsFields lines.old lines.new (event_fields word.now handle event.now)) }
+{
+    lines.text("event", word)?;
+    lines.handle("handle", handle)?;
+    lines.number("sequence", event.sequence)?;
+    lines.number("thread", event.thread as u64)
+}

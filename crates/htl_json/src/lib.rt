@@ -1,0 +1,20 @@
+//! The answers of `htl_report` as JSON, a value a line.
+//!
+//! `specs/Lines` says which values and in which order; `json_lines` writes just their texts. Each
+//! is written as its row is met, a token at a time, so no value is ever held.
+//!
+//! Files, in reading order: `answer.rt` (the lines of each answer); `heads.rt` (their first
+//! lines); a file for the rows of each kind of answer: `events.rt`, `bad.rt`, `counts.rt`,
+//! `summary.rt`; what several of them have: `frames.rt`; and how a line is written: `lines.rt`.
+#![tactic(auto)]
+
+mod answer;
+mod bad;
+mod counts;
+mod events;
+mod frames;
+mod heads;
+mod lines;
+mod summary;
+
+pub use answer::json_lines;

@@ -8,7 +8,7 @@ use Rattle.htl_json.specs.Records.{Field, quantity, record_of, shown_address}
 unfoldable pub address_fields : ℕ → List Field
 address_fields address = (codes "address", shown_address address) ∷ []
 
--- the module and the name of the range that has an address, and how far behind its start the address is
+-- the module and the name of the range that has an address, and how far after its start the address is
 unfoldable pub symbol_fields : List ℕ × List ℕ × ℕ → List Field
 symbol_fields s = (codes "module", string s.0) ∷ (codes "name", string s.1) ∷ (codes "offset", quantity s.2) ∷ []
 

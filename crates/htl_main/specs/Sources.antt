@@ -85,7 +85,7 @@ IsRefusalOf place read (Segment at offset fault) = (at ≡ place) × BundleFault
 IsRefusalOf place read Memory = (offset : ℕ) × SegmentAt read offset
 IsRefusalOf place read fault = ⊥
 
--- Several workers decode reads together, so a read of the source at the place may fail after bytes that have a fault: that is told.
+-- Several workers decode reads together, so a read of the source at the place may fail after bytes that have a fault: that is reported.
 pub record StandsBefore {S : Type 0} (hex : Bool) (workers place : ℕ) (given left : Option (List ℕ)) (result : Result S RunFault)
     : Type 0 where
   pub bytes : hex ≡ false

@@ -20,7 +20,7 @@ of_segment offset fault = Segment offset fault
 abbrev pub IsNoMemory : SourceFault → Type 0
 IsNoMemory fault = fault ≡ NoMemory
 
--- the bytes that were taken in: those of the segments, and others behind them
+-- the bytes that were taken in: those of the segments, and others after them
 abbrev pub taken : List Content → List ℕ → List ℕ
 taken segments bytes = bundle segments ++ bytes
 
@@ -51,7 +51,7 @@ pub record IsGathered (segments : List Content) (offset : ℕ) : Type 0 where
   pub some : 0 < length segments
   pub offset_is : offset ≡ length (bundle segments)
 
--- the block was decoded: its segments stand behind the old ones, and what is left of it begins no whole segment
+-- the block was decoded: its segments stand after the old ones, and what is left of it begins no whole segment
 pub record IsDecoded (segments : List Content) (block : List ℕ) (new : List Content) (offset : ℕ) (rest : List ℕ) : Type 0 where
   pub splits : Splits (taken segments block) new rest
   pub is_rest : IsRest rest

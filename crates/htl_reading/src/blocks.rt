@@ -51,7 +51,7 @@ impl Gathered {
         })
     }
 
-    /// Puts a piece behind the block, and decodes that once it has `block_len` bytes.
+    /// Puts a piece after the block, and decodes that once it has `block_len` bytes.
     fn add<T: Threads + Sync>(
         &mut self,
         rt: &T,

@@ -1,11 +1,11 @@
-//! Where bytes can be cut between segments, as their headers tell.
+//! Where bytes can be cut between segments, as their headers say.
 
 ghost use Rattle.std.specs.Prelude.{◌≤◌, length, take};
 ghost use Rattle.htl_reading.specs.Cuts.{IsCut};
 
 use htl_segment::whole_len;
 
-/// Where the first segment ends that ends at `least` or after it, as the headers tell; or where
+/// Where the first segment ends that ends at `least` or after it, as the headers say; or where
 /// they stop telling.
 pub fn cut(bytes: &[u8], least: usize) -> usize
     ensures inside { result ≤ length bytes.now }

@@ -30,11 +30,6 @@ pub fn decode_bundle_by<T: Threads + Sync>(
         BundleFault bytes.now refused.0 refused.1
         ⊎ ((refused.1 ≡ Fault.NoMemory) × SegmentAt bytes.now refused.0)) }
 {
-    let workers = if bytes.len() < MIN_SHARED_LEN {
-        1
-    } else {
-        workers
-    };
     let mut caches = new_caches(alloc, workers);
     let (segments, rest) = decode_shared(rt, alloc, &mut caches, bytes)?;
     if rest.is_empty() {
@@ -57,8 +52,8 @@ pub fn new_caches(alloc: Global, workers: u32) -> Vec<StackCache> {
 /// The segments that some bytes of a bundle begin with, and the bytes left, of which more bytes may
 /// make one. A refusal names the offset of the refused segment.
 ///
-/// As many workers take part as there are caches, each with one of its own. A worker for which no
-/// thread can be made works in this one.
+/// As many workers take part as there are caches, each with one of its own, but for bytes that are
+/// few. A worker for which no thread can be made works in this one.
 pub fn decode_shared<'a, T: Threads + Sync>(
     rt: &T,
     alloc: Global,
@@ -92,7 +87,7 @@ fn decode_all<'a, T: Threads + Sync>(
         let (_, outcome) = decode_alone(alloc, StackCache::new(alloc), bytes);
         return (caches, outcome);
     };
-    if caches.is_empty() {
+    if caches.is_empty() || bytes.len() < MIN_SHARED_LEN {
         let (cache, outcome) = decode_alone(alloc, cache, bytes);
         caches.push_reserved(cache);
         return (caches, outcome);

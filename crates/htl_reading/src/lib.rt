@@ -1,7 +1,7 @@
 //! The segments that a source gives, by one worker or by several.
 //!
 //! One worker splits each read at once. Several gather reads to a block: it is cut between segments, as
-//! their headers tell, each part is decoded by a thread with a cache of stacks of its own, and what the
+//! their headers say, each part is decoded by a thread with a cache of stacks of its own, and what the
 //! threads give is put together in order. Segments and faults are those of one worker.
 //!
 //! Files, in reading order: `fault.rt` (why a reading ends), `reading.rt` (a source to its end),

@@ -49,11 +49,11 @@ fn expected(alloc: Global, source: Pieces) -> Result<u64, SourceFault> {
     }
 }
 
-/// Reads by every number of workers, in blocks of a few bytes.
+/// Reads by every number of workers, in blocks of a few bytes and of many.
 fn by_all(rt: &(impl Abort + Threads + Sync), alloc: Global, source: Pieces) {
     let expected = expected(alloc, source);
     for workers in [1, 2, 3, 8] {
-        for block_len in [0, 100, 1_000] {
+        for block_len in [0, 100, 100_000] {
             let read = read_in_blocks(rt, alloc, workers, &mut Reading::new(source), block_len);
             let found = read.map(|segments| told(&segments));
             assert_eq!(rt; found, expected, "{workers} workers, blocks of {block_len}");
@@ -62,26 +62,46 @@ fn by_all(rt: &(impl Abort + Threads + Sync), alloc: Global, source: Pieces) {
 }
 
 #[test]
-fn read_by_any_number_of_workers(rt: HostRuntime) {
+fn pieces_of_a_few_bytes(rt: HostRuntime) {
     let alloc = rt.alloc();
     let mut bytes = bundle(&rt, alloc, 40);
-    for place in [1_280, 1_000, 352, 3] {
-        for piece in [7, 64] {
-            for reads_left in [3, 11, 16, 1_000] {
-                by_all(
-                    &rt,
-                    alloc,
-                    Pieces {
-                        bytes: &bytes,
-                        piece,
-                        reads_left,
-                    },
-                );
-            }
+    for place in [1_280, 996, 352, 3] {
+        for (piece, reads_left) in [(7, 9), (7, 1_000), (64, 3), (64, 11), (64, 1_000)] {
+            by_all(
+                &rt,
+                alloc,
+                Pieces {
+                    bytes: &bytes,
+                    piece,
+                    reads_left,
+                },
+            );
         }
         if let Some(cell) = bytes.get_mut(place) {
             *cell = 0xFF;
         }
         bytes.truncate(1_275);
+    }
+}
+
+#[test]
+fn pieces_that_workers_share(rt: HostRuntime) {
+    let alloc = rt.alloc();
+    let mut bytes = bundle(&rt, alloc, 8_000);
+    for place in [256_000, 189_988, 149_988] {
+        for reads_left in [3, 1_000] {
+            by_all(
+                &rt,
+                alloc,
+                Pieces {
+                    bytes: &bytes,
+                    piece: 65_536,
+                    reads_left,
+                },
+            );
+        }
+        if let Some(cell) = bytes.get_mut(place) {
+            *cell = 0xFF;
+        }
     }
 }

@@ -1,4 +1,4 @@
--- What was passed so far are whole segments, as their headers tell.
+-- What was passed so far are whole segments, as their headers say.
 use Rattle.std.proofs.Common.{◌-◌, ◌≤◌, length, take}
 use Rattle.htl_reading.specs.Cuts.{IsCut}
 use Rattle.htl_reading.proofs.cutting.cut.Given as goal

@@ -6,7 +6,7 @@ ghost use Rattle.htl_reading.specs.Cuts.{IsCut};
 use htl_segment::whole_len;
 
 /// Where the first segment ends that ends at `least` or after it, as the headers say; or where
-/// they stop telling.
+/// they say no more.
 pub fn cut(bytes: &[u8], least: usize) -> usize
     ensures inside { result ≤ length bytes.now }
     ensures cut { IsCut (take result bytes.now) }

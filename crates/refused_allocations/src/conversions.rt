@@ -38,23 +38,23 @@ impl Same for Converting {
 }
 
 /// There is room for all that is written, so that only the run itself needs memory.
-fn converting(alloc: Global, input: Vec<u8>, early: Vec<u8>) -> Result<Converting, Refusal> {
+fn given_input(alloc: Global, input: Vec<u8>, early: Vec<u8>) -> Result<Converting, Refusal> {
     let out = Vec::with_capacity(alloc, 65_536)?;
     Ok(Converting { input, out, early })
 }
 
 /// The texts of the segments go out one by one.
 fn undumped(alloc: Global) -> Result<Converting, Refusal> {
-    converting(alloc, bundle(alloc)?, text(alloc)?)
+    given_input(alloc, bundle(alloc)?, text(alloc)?)
 }
 
 fn undumped_digits(alloc: Global) -> Result<Converting, Refusal> {
-    converting(alloc, digits(alloc)?, text(alloc)?)
+    given_input(alloc, digits(alloc)?, text(alloc)?)
 }
 
 /// Nothing is written before all is encoded.
 fn unencoded(alloc: Global) -> Result<Converting, Refusal> {
-    converting(alloc, text(alloc)?, Vec::new(alloc))
+    given_input(alloc, text(alloc)?, Vec::new(alloc))
 }
 
 /// The digits of the bundle.

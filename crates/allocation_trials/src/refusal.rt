@@ -15,6 +15,7 @@ ghost use Rattle.htl_samples.specs.declared.fault.SampleFault.TheVariants as sam
 ghost use Rattle.htl_segment.specs.declared.fault.Fault.TheVariants as segments;
 ghost use Rattle.htl_segment.specs.declared.hexadecimal.HexFault.TheVariants as digits;
 ghost use Rattle.htl_symbols.specs.declared.fault.SymbolFault.TheVariants as tables;
+ghost use Rattle.htl_text.specs.declared.fault.TextFault.TheVariants as lines;
 
 use htl_analyst::{AnalystFault, MergeFault, TakeFault};
 use htl_case::{CaseFault, PlayFault};
@@ -25,6 +26,7 @@ use htl_main::RunFault;
 use htl_samples::SampleFault;
 use htl_segment::{Fault, HexFault};
 use htl_symbols::SymbolFault;
+use htl_text::TextFault;
 use std::alloc::{AllocError, AllocFailed};
 
 /// Why a call gives no answer.
@@ -102,6 +104,14 @@ impl From<HexFault> for Refusal {
 
     fn from(fault: HexFault) -> Refusal {
         Refusal::of(fault == HexFault::NoMemory)
+    }
+}
+
+impl From<TextFault> for Refusal {
+    ghost from_gives = { λ fault refusal. IsOutOfMemory refusal ↔ (fault ≡ lines.NoMemory) };
+
+    fn from(fault: TextFault) -> Refusal {
+        Refusal::of(fault == TextFault::NoMemory)
     }
 }
 

@@ -7,6 +7,7 @@
 
 mod analysts;
 mod cases;
+mod conversions;
 mod desks;
 mod runs;
 mod segments;
@@ -28,5 +29,6 @@ fn main(rt: HostRuntime) -> anyhow::Result<()> {
     desks::try_all(&rt, &mut trials)?;
     texts::try_all(&mut trials)?;
     runs::try_all(&rt, &mut trials)?;
+    conversions::try_all(&mut trials)?;
     trials.print_sum()
 }

@@ -1,10 +1,11 @@
-//! Calls on segments and on their bytes.
+//! Calls on segments, on their bytes and on their texts.
 
 use allocation_trials::{Equal, Refusal, Same, Trials};
 use anyhow::Result;
 use htl_event::Event;
 use htl_samples::{SMALL, TRACE};
 use htl_segment::{Fault, Segment, Splitter, decode, decode_bundle, encode, from_hex};
+use htl_text::dump;
 use std::alloc::Global;
 use std::mem;
 
@@ -16,7 +17,8 @@ pub fn try_all(trials: &mut Trials<'_, HostRuntime>) -> Result<()> {
     trials.changes("feed", half_fed, feed)?;
     trials.changes("build", events, build)?;
     trials.changes("build2", events, build2)?;
-    Ok(())
+    trials.reads("dump", segment, dumped)?;
+    trials.reads("encode of a text", text, bytes_of_text)
 }
 
 fn segment(alloc: Global) -> Result<Segment, Refusal> {
@@ -27,7 +29,7 @@ fn encoding(alloc: Global) -> Result<Vec<u8>, Refusal> {
     Ok(encode(alloc, &segment(alloc)?)?)
 }
 
-fn bundle(alloc: Global) -> Result<Vec<u8>, Refusal> {
+pub fn bundle(alloc: Global) -> Result<Vec<u8>, Refusal> {
     Ok(SMALL.bundle(alloc)?)
 }
 
@@ -124,4 +126,21 @@ fn handed_back(
             Err(Refusal::from(fault))
         }
     }
+}
+
+fn dumped(alloc: Global, segment: &Segment) -> Result<Equal<Vec<u8>>, Refusal> {
+    Ok(Equal(dump(alloc, segment)?))
+}
+
+/// The text of all segments.
+pub fn text(alloc: Global) -> Result<Vec<u8>, Refusal> {
+    let mut text = Vec::new(alloc);
+    for segment in &SMALL.segments(alloc)? {
+        text.extend_from_slice(&dump(alloc, segment)?)?;
+    }
+    Ok(text)
+}
+
+fn bytes_of_text(alloc: Global, text: &Vec<u8>) -> Result<Equal<Vec<u8>>, Refusal> {
+    Ok(Equal(htl_text::encode(alloc, text)?))
 }

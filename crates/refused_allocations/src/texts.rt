@@ -73,12 +73,23 @@ fn symbols_of(alloc: Global, text: &String) -> Result<Symbols, Refusal> {
 type Shown = (Answer, Symbols);
 
 fn shown(alloc: Global, question: Question) -> Result<Shown, Refusal> {
-    let symbols = symbols_of(alloc, &symbol_text(alloc)?)?;
+    let symbols = symbols(alloc)?;
     Ok((answer(alloc, question)?, symbols))
 }
 
+fn symbols(alloc: Global) -> Result<Symbols, Refusal> {
+    symbols_of(alloc, &symbol_text(alloc)?)
+}
+
 fn answer(alloc: Global, question: Question) -> Result<Answer, Refusal> {
-    let analyst = analyst(alloc)?;
+    answer_of(alloc, &analyst(alloc)?, question)
+}
+
+fn answer_of(
+    alloc: Global,
+    analyst: &Analyst<Global>,
+    question: Question,
+) -> Result<Answer, Refusal> {
     Ok(match question {
         Question::Outstanding { process } => Answer::Outstanding {
             process,
@@ -115,7 +126,7 @@ fn answer(alloc: Global, question: Question) -> Result<Answer, Refusal> {
             handle,
             rows: case(alloc)?.trace(alloc, process, handle)?,
         },
-        Question::Summary => summary(alloc, &analyst)?,
+        Question::Summary => summary(alloc, analyst)?,
     })
 }
 

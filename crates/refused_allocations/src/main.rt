@@ -7,7 +7,6 @@
 
 mod analysts;
 mod cases;
-mod conversions;
 mod desks;
 mod runs;
 mod segments;
@@ -29,6 +28,5 @@ fn main(rt: HostRuntime) -> anyhow::Result<()> {
     desks::try_all(&rt, &mut trials)?;
     texts::try_all(&mut trials)?;
     runs::try_all(&rt, &mut trials)?;
-    conversions::try_all(&mut trials)?;
     trials.print_sum()
 }

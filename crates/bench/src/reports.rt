@@ -1,10 +1,12 @@
-//! How long it takes to read a symbol table and to print an answer under it. The size is the number
-//! of the answer's rows, of 16 frames each, and the table has half as many ranges.
+//! How long it takes to read a symbol table and to print answers under it, as text, as JSON and
+//! folded. The size is the number of an answer's rows, of 16 frames each, and the table has half as
+//! many ranges.
 
 use crate::stopwatch::Stopwatch;
 use anyhow::Result;
 use htl_event::{Kind, NoMemory, SharedEvent, SharedStack};
-use htl_report::{Answer, text};
+use htl_json::json_lines;
+use htl_report::{Answer, folded, text};
 use htl_symbols::Symbols;
 use std::alloc::{AllocError, Global};
 
@@ -16,15 +18,41 @@ const FRAMES: usize = 16;
 pub fn measure(rt: &HostRuntime, size: u32) -> Result<()> {
     let alloc = rt.alloc();
     let table = table(alloc, size / 2)?;
+    let mut watch = Stopwatch::start(rt)?;
+    let symbols = Symbols::read(alloc, table.as_bytes())?;
+    watch.lap("bytes of a symbol table", table.len() as u64)?;
+    measure_answer(alloc, &mut watch, &symbols, size)?;
+    measure_folded(alloc, &mut watch, &symbols, size)
+}
+
+fn measure_answer(
+    alloc: Global,
+    watch: &mut Stopwatch<'_>,
+    symbols: &Symbols,
+    size: u32,
+) -> Result<()> {
     let answer = Answer::Outstanding {
         process: 4,
         rows: rows(alloc, size)?,
     };
-    let mut watch = Stopwatch::start(rt)?;
-    let symbols = Symbols::read(alloc, table.as_bytes())?;
-    watch.lap("bytes of a symbol table", table.len() as u64)?;
-    let printed = text(alloc, &answer, &symbols, None)?;
+    watch.restart()?;
+    let printed = text(alloc, &answer, symbols, None)?;
     watch.lap("bytes of text", printed.len() as u64)?;
+    let lines = json_lines(alloc, &answer, symbols, None)?;
+    watch.lap("bytes of JSON", lines.len() as u64)?;
+    Ok(())
+}
+
+fn measure_folded(
+    alloc: Global,
+    watch: &mut Stopwatch<'_>,
+    symbols: &Symbols,
+    size: u32,
+) -> Result<()> {
+    let rows = leaks(alloc, size)?;
+    watch.restart()?;
+    let stacks = folded(alloc, &rows, symbols, None)?;
+    watch.lap("bytes of folded stacks", stacks.len() as u64)?;
     Ok(())
 }
 
@@ -52,7 +80,6 @@ fn rows(alloc: Global, count: u32) -> Result<Vec<SharedEvent>, NoMemory> {
 }
 
 fn open(alloc: Global, row: u32, ranges: u32) -> Result<SharedEvent, NoMemory> {
-    let addresses = Vec::from_array(alloc, addresses(row, ranges))?;
     Ok(SharedEvent {
         sequence: u64::from(row) + 1,
         kind: Kind::Opened,
@@ -61,8 +88,22 @@ fn open(alloc: Global, row: u32, ranges: u32) -> Result<SharedEvent, NoMemory> {
         handle: row,
         object: 0,
         tag: [0; 4],
-        stack: SharedStack::of(alloc, addresses, u64::from(row))?,
+        stack: stack(alloc, row, ranges)?,
     })
+}
+
+/// So many leaking stacks, those of the opens.
+fn leaks(alloc: Global, count: u32) -> Result<Vec<(SharedStack, u64)>, NoMemory> {
+    let mut rows = Vec::with_capacity(alloc, count as usize)?;
+    for row in 0..count {
+        rows.push((stack(alloc, row, count / 2)?, u64::from(row)))?;
+    }
+    Ok(rows)
+}
+
+fn stack(alloc: Global, row: u32, ranges: u32) -> Result<SharedStack, NoMemory> {
+    let addresses = Vec::from_array(alloc, addresses(row, ranges))?;
+    SharedStack::of(alloc, addresses, u64::from(row))
 }
 
 /// The innermost address is the start of a range, twelve are inside one, and the three outermost in

@@ -1,5 +1,5 @@
 -- What a fault is about, as a person calls it (this project's own).
-use Rattle.std.specs.Prelude.{ℕ, List, Some, codes, slice_get, string_bytes}
+use Rattle.std.specs.Prelude.{ℕ, List, codes, slice_get, string_bytes}
 use Rattle.std.specs.Option.{option_map_or}
 use Rattle.htl_main.specs.declared.fault.RunFault.{RunFault}
 use Rattle.htl_main.specs.declared.fault.RunFault.TheVariants.{Segment, Hex, Text, Symbols, Read}

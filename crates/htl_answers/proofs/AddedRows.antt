@@ -1,8 +1,7 @@
 -- One row more, joined to the last sum or put after it.
-use Rattle.std.proofs.Common.{◌≡◌, ℕ, suc, ◌+◌, ◌-◌, ◌<◌, true, false, cond, List, [], ◌∷◌, ◌++◌, length, get_or, take, set}
+use Rattle.std.proofs.Common.{◌≡◌, suc, ◌+◌, ◌-◌, ◌<◌, true, false, List, [], ◌∷◌, ◌++◌, length, get_or, take, set}
 use Rattle.std.proofs.Common.{refl, sym, ap, subst, ◌∙◌, arith, inl, inr}
 use Rattle.std.specs.Prelude.{Contains}
-use Rattle.std.specs.List.{sum_by}
 use Rattle.std.specs.List.Sorted.{IsPermutation}
 use Rattle.std.specs.Cmp.{IsTotalOrder}
 use Rattle.std.specs.Ordering.{is_eq, is_lt, ordering_reverse}
@@ -12,12 +11,12 @@ use Rattle.std.proofs.lemmas.Bool.{false≢true}
 use Rattle.std.proofs.lemmas.List.{take_more, take_all, drop_all, set_split}
 use Rattle.std.proofs.lemmas.List.Elements.{Contains-append_cases, Contains-append_left, Contains-append_right}
 use Rattle.std.proofs.lemmas.List.Sorted.{Contains-permutation, IsPermutation-sym, sum_by-IsPermutation}
-use Rattle.std.proofs.lemmas.List.Sums.{sum_by-cons, sum_by-append}
+use Rattle.std.proofs.lemmas.List.Sums.{sum_by-append}
 use Rattle.htl_event.specs.declared.slot.Count.{Count}
 use Rattle.htl_event.specs.Members.{IsRising}
-use Rattle.htl_event.specs.Tallies.{plus_count, total_of, IsPositive}
+use Rattle.htl_event.specs.Tallies.{plus_count, total_of}
 use Rattle.htl_event.proofs.Members.{Contains-here, Contains-there, Contains-cases, Contains-nil, at_member, each_member}
-use Rattle.htl_answers.specs.Rows.{count_of, EachPositive, ByKey, AreSums, CountAlike}
+use Rattle.htl_answers.specs.Rows.{count_of, ByKey, AreSums, CountAlike}
 use Rattle.htl_answers.proofs.RowCounts.{count_of-append, count_of-moved}
 use Rattle.htl_answers.proofs.CountedAlike.{joined_alike, positive_both}
 

@@ -1,7 +1,6 @@
 -- Rows that count what others do, while more is counted in them.
 use Rattle.std.proofs.Common.{◌≡◌, ℕ, suc, ◌+◌, ◌<◌, true, false, cond, List, [], ◌∷◌, ◌++◌, length, get_or, take, drop, set}
 use Rattle.std.proofs.Common.{refl, sym, ap, subst, ◌∙◌, arith, inl, inr}
-use Rattle.std.specs.Prelude.{Contains}
 use Rattle.std.specs.List.{sum_by}
 use Rattle.std.specs.Ordering.{is_eq}
 use Rattle.std.specs.declared.cmp.Ordering.{Ordering}
@@ -11,7 +10,7 @@ use Rattle.std.proofs.lemmas.List.Sums.{sum_by-cons, sum_by-append}
 use Rattle.htl_event.specs.declared.slot.Count.{Count}
 use Rattle.htl_event.specs.Tallies.{plus_count, total_of, IsPositive}
 use Rattle.htl_event.proofs.Members.{Contains-here, Contains-there, Contains-cases}
-use Rattle.htl_answers.specs.Rows.{at_key, count_of, total_in, EachPositive, CountAlike}
+use Rattle.htl_answers.specs.Rows.{at_key, count_of, EachPositive, CountAlike}
 use Rattle.htl_answers.proofs.RowCounts.{plus_side, minus_side, count_of-append}
 
 pub positive_both : {K : Type 0} (xs ys : List (K × Count)) → EachPositive xs → EachPositive ys → EachPositive (xs ++ ys)

@@ -2,7 +2,7 @@
 use Rattle.std.specs.Prelude.{ℕ, Bool, true, false, List, [], ◌∷◌, Option, codes, find}
 use Rattle.std.specs.Str.{bytes_eq}
 use Rattle.htl_command.specs.declared.commands.CommandFlag.{CommandFlag}
-use Rattle.htl_command.specs.declared.commands.CommandFlag.TheVariants.{ExitCode, Complete, Hex}
+use Rattle.htl_command.specs.declared.commands.CommandFlag.TheVariants.{ExitCode, Folded, Json, Complete, Hex}
 use Rattle.htl_command.specs.declared.commands.CommandName.{CommandName}
 use Rattle.htl_command.specs.declared.commands.CommandName.TheVariants.{Ask, Explain, Dump, Encode}
 use Rattle.htl_command.specs.declared.commands.CommandOption.{CommandOption}
@@ -45,6 +45,7 @@ own_options question = (question_row question).1
 
 -- the options without a value that not every question has
 abbrev pub own_flags : QuestionName → List CommandFlag
+own_flags Leaks = ExitCode ∷ Folded ∷ []
 own_flags Stacks = []
 own_flags Trace = []
 own_flags question = ExitCode ∷ []
@@ -64,6 +65,8 @@ is_required option = (option_row option).1
 -- each option without a value: its name without the dashes
 abbrev pub flag_name : CommandFlag → List ℕ
 flag_name ExitCode = codes "exit-code"
+flag_name Folded = codes "folded"
+flag_name Json = codes "json"
 flag_name Complete = codes "complete"
 flag_name Hex = codes "hex"
 

@@ -6,7 +6,7 @@ use Rattle.clap.specs.Words.{App, Kinds, Row, Rule, Text, fault_of, new_app, new
 use Rattle.clap.specs.declared.builder.ArgAction.TheVariants.{SetTrue}
 use Rattle.htl_command.specs.Commands.{commands, flag_name, is_required, name_of, option_name, own_flags, own_options}
 use Rattle.htl_command.specs.declared.commands.CommandFlag.{CommandFlag}
-use Rattle.htl_command.specs.declared.commands.CommandFlag.TheVariants.{Complete, Hex}
+use Rattle.htl_command.specs.declared.commands.CommandFlag.TheVariants.{Complete, Hex, Json}
 use Rattle.htl_command.specs.declared.commands.CommandName.{CommandName}
 use Rattle.htl_command.specs.declared.commands.CommandName.TheVariants.{Ask, Explain, Dump, Encode}
 use Rattle.htl_command.specs.declared.commands.CommandOption.{CommandOption}
@@ -33,7 +33,7 @@ files_rule = record (new_rule (codes "files")) {
 
 -- what every question has
 abbrev pub common_rules : List Rule
-common_rules = option_rule Symbols ∷ option_rule Workers ∷ flag_rule Complete ∷ flag_rule Hex ∷ files_rule ∷ []
+common_rules = option_rule Symbols ∷ option_rule Workers ∷ flag_rule Json ∷ flag_rule Complete ∷ flag_rule Hex ∷ files_rule ∷ []
 
 -- with these rules, in order
 abbrev pub with_rules : App → List Rule → App

@@ -20,6 +20,8 @@ use Rattle.htl_command.specs.declared.commands.QuestionName.{QuestionName}
 use Rattle.htl_command.specs.declared.commands.QuestionName.TheVariants as name
 use Rattle.htl_command.specs.declared.commands.CommandOption.{CommandOption}
 use Rattle.htl_command.specs.declared.commands.CommandOption.TheVariants.{Process, Since, Object, Tag, Handle, Top, Symbols, Workers}
+use Rattle.htl_command.specs.declared.question.Format.{Format}
+use Rattle.htl_command.specs.declared.question.Format.TheVariants.{Plain, Json, Folded}
 use Rattle.htl_command.specs.declared.question.Job.{Job}
 use Rattle.htl_command.specs.declared.question.Question.{Question}
 use Rattle.htl_command.specs.declared.question.Question.TheVariants.{Summary, Outstanding, Diff, Tags, Bad, Leaks, Stacks, Trace}
@@ -59,16 +61,23 @@ workers rows = option_map (λ n. unwrap_or n 1) (optional workers_in Workers row
 abbrev pub is_given : CommandFlag → List Row → Bool
 is_given flag rows = option_map_or (λ text. bytes_eq text (codes "true")) (first_of (flag_name flag) rows) false
 
+-- the form of the answer, of which one alone can be asked for
+abbrev pub format_of : List Row → Option Format
+format_of rows =
+    if is_given flag.Json rows then (if is_given flag.Folded rows then None else Some Json)
+    else (if is_given flag.Folded rows then Some Folded else Some Plain)
+
 unfoldable pub job_of : QuestionName → List Row → Option Job
 job_of name rows =
-    option_and_then (λ question. both (λ n t. record {
+    option_and_then (λ question. option_and_then (λ format. both (λ n t. record {
       question = question;
       hex = is_given flag.Hex rows;
       workers = n;
       top = t;
       complete = is_given flag.Complete rows;
       exit_code = is_given flag.ExitCode rows;
-    }) (workers rows) (optional top_in Top rows)) (question_of name rows)
+      format = format;
+    }) (workers rows) (optional top_in Top rows)) (format_of rows)) (question_of name rows)
 
 -- the code that is to be explained
 abbrev pub code_of : List Row → Option Code
@@ -107,7 +116,15 @@ request_met met = option_and_then (λ p. option_and_then (λ command. request_of
 -- what no arguments ask for
 abbrev pub stored : Work
 stored = record {
-  job = record { question = Outstanding 4; hex = true; workers = 1; top = None; complete = false; exit_code = false };
+  job = record {
+    question = Outstanding 4;
+    hex = true;
+    workers = 1;
+    top = None;
+    complete = false;
+    exit_code = false;
+    format = Plain;
+  };
   files = [];
   symbols = None;
 }

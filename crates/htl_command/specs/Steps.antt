@@ -7,8 +7,11 @@ use Rattle.clap.specs.declared.error.ErrorKind.{ErrorKind}
 use Rattle.clap.specs.declared.error.ErrorKind.TheVariants.{OutOfMemory}
 use Rattle.clap.specs.declared.parser.ArgMatches.{ArgMatches}
 use Rattle.htl_command.specs.Refusals.{HasReason, IsUsageText, is_mistake, is_wish}
-use Rattle.htl_command.specs.Requests.{given as given_in}
+use Rattle.htl_command.specs.Requests.{given as given_in, is_given}
+use Rattle.htl_command.specs.declared.commands.CommandFlag.TheVariants as flag
 use Rattle.htl_command.specs.declared.commands.CommandOption.{CommandOption}
+use Rattle.htl_command.specs.declared.reading.NoJob.{NoJob}
+use Rattle.htl_command.specs.declared.reading.NoJob.TheVariants.{Value, Formats}
 use Rattle.htl_command.specs.declared.reading.Refused.{Refused}
 use Rattle.htl_command.specs.declared.fault.ParseFault.{ParseFault}
 use Rattle.htl_command.specs.declared.fault.ParseFault.TheVariants.{Help, Usage, Memory}
@@ -22,6 +25,11 @@ pub record Describes (a : App) (command : Command) : Type 0 where
 pub record Names (wanted : CommandOption) (rows : List Row) (refused : Refused) : Type 0 where
   pub option : refused.option ≡ wanted
   pub given : refused.given.now ≡ unwrap_or (given_in wanted rows) []
+
+-- the entries are no job, since a value breaks its rule, or two forms of an answer are asked for
+abbrev pub IsNoJob : List Row → NoJob → Type 0
+IsNoJob rows (Value refused) = Names refused.option rows refused
+IsNoJob rows Formats = (is_given flag.Json rows ≡ true) × (is_given flag.Folded rows ≡ true)
 
 -- the entries that `clap` found
 abbrev pub entries_of : ArgMatches → List Row

@@ -14,8 +14,8 @@ ghost use Rattle.htl_command.specs.declared.commands.CommandFlag.TheVariants as 
 use crate::builder::program;
 use crate::code::Code;
 use crate::commands::{CommandFlag, CommandName, QuestionName};
-use crate::fault::{ParseFault, no_command, of_clap, of_code, of_value};
-use crate::question::{Job, Question};
+use crate::fault::{ParseFault, no_command, of_clap, of_code, of_entries};
+use crate::question::{Format, Job, Question};
 use crate::reading::{code, files, is_given, job, symbols};
 use clap::ArgMatches;
 use std::alloc::{AllocError, Global};
@@ -86,6 +86,7 @@ fn stored(alloc: Global) -> Asked
             top: None,
             complete: false,
             exit_code: false,
+            format: Format::Plain,
         },
         files: Vec::new(alloc),
         symbols: None,
@@ -187,7 +188,7 @@ fn read_question(
 {
     match job(name, entries) {
         Ok(job) => Ok(with_files(alloc, job, entries)?),
-        Err(refused) => Err(of_value(alloc, name, refused)),
+        Err(refused) => Err(of_entries(alloc, name, refused)),
     }
 }
 

@@ -95,7 +95,11 @@ fn with_common_options<'a>(alloc: Global, command: Command<'a>) -> Result<Comman
         command,
         &[CommandOption::Symbols, CommandOption::Workers],
     )?;
-    let command = with_flags(alloc, command, &[CommandFlag::Complete, CommandFlag::Hex])?;
+    let command = with_flags(
+        alloc,
+        command,
+        &[CommandFlag::Json, CommandFlag::Complete, CommandFlag::Hex],
+    )?;
     command.arg(files(alloc, FILES_HELP))
 }
 

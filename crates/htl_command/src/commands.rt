@@ -47,6 +47,8 @@ pub(crate) enum CommandOption {
 #[derive(Clone, Copy)]
 pub(crate) enum CommandFlag {
     ExitCode,
+    Folded,
+    Json,
     Complete,
     Hex,
 }
@@ -143,8 +145,8 @@ impl QuestionName {
             | QuestionName::Outstanding
             | QuestionName::Diff
             | QuestionName::Tags
-            | QuestionName::Bad
-            | QuestionName::Leaks => &[CommandFlag::ExitCode],
+            | QuestionName::Bad => &[CommandFlag::ExitCode],
+            QuestionName::Leaks => &[CommandFlag::ExitCode, CommandFlag::Folded],
             QuestionName::Stacks | QuestionName::Trace => &[],
         }
     }
@@ -197,6 +199,8 @@ impl CommandFlag {
     {
         match self {
             CommandFlag::ExitCode => "exit-code",
+            CommandFlag::Folded => "folded",
+            CommandFlag::Json => "json",
             CommandFlag::Complete => "complete",
             CommandFlag::Hex => "hex",
         }

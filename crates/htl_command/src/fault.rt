@@ -6,7 +6,7 @@ ghost use Rattle.htl_command.specs.Steps.{Reports};
 
 use crate::commands::QuestionName;
 use crate::help::CODE_EXPECTED;
-use crate::reading::Refused;
+use crate::reading::NoJob;
 use clap::error::ErrorKind;
 use std::alloc::{AllocError, Global};
 use thiserror::Error;
@@ -91,8 +91,8 @@ pub(crate) fn of_clap(alloc: Global, error: &clap::Error, tip: &str) -> ParseFau
     }
 }
 
-/// The fault of a value that breaks its rule, in the form of `clap`'s texts.
-pub(crate) fn of_value(alloc: Global, name: QuestionName, refused: Refused) -> ParseFault
+/// The fault of entries that are no job, in the form of `clap`'s texts.
+pub(crate) fn of_entries(alloc: Global, name: QuestionName, refused: NoJob) -> ParseFault
     ensures { IsUsageWith ⊤ result }
 {
     let why = format!(in alloc;

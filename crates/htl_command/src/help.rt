@@ -12,7 +12,8 @@ debugger's !htrace and !obtrace.";
 pub(crate) const AFTER_HELP: &str = "\
 Options of every question, from summary to trace:
       --symbols <FILE>  Names for addresses: CSV of start,end,module,name
-      --workers <N>     How many threads take in segments: 1 to 8 [default: 1]
+      --workers <N>     How many threads decode segments: 1 to 8 [default: 1]
+      --json            One JSON object a line, for other programs
       --complete        Refuse segments of which one is missing (C8)
       --hex             The files hold hexadecimal digits, not bytes
   [FILES]...            Trace segments; standard input where no file is given
@@ -185,7 +186,7 @@ The handle: 1 to 16 hexadecimal digits, with or without
             }
             CommandOption::Top => "At most N rows: decimal, 1 to 4294967295",
             CommandOption::Symbols => "Names for addresses: CSV of start,end,module,name",
-            CommandOption::Workers => "How many threads take in segments: 1 to 8 [default: 1]",
+            CommandOption::Workers => "How many threads decode segments: 1 to 8 [default: 1]",
         }
     }
 
@@ -210,6 +211,8 @@ impl CommandFlag {
     pub(crate) fn help<'a>(self) -> &'a str {
         match self {
             CommandFlag::ExitCode => "End with status 1 where the answer finds something",
+            CommandFlag::Folded => "Folded stacks, for flame graph programs",
+            CommandFlag::Json => "One JSON object a line, for other programs",
             CommandFlag::Complete => "Refuse segments of which one is missing (C8)",
             CommandFlag::Hex => "The files hold hexadecimal digits, not bytes",
         }

@@ -24,4 +24,4 @@ mod values;
 pub use asked::{Asked, Command, Conversion, parse};
 pub use code::Code;
 pub use fault::ParseFault;
-pub use question::{Job, Question};
+pub use question::{Format, Job, Question};

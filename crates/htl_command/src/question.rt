@@ -24,13 +24,25 @@ pub enum Question {
     Trace { process: u32, handle: u32 },
 }
 
+/// The form in which an answer is printed.
+#[derive(Clone, Copy, Debug, PartialEq, Eq)]
+pub enum Format {
+    /// Lines for a person.
+    Plain,
+    /// A JSON object a line.
+    Json,
+    /// Folded stacks, for flame graph programs. Only an answer to `Leaks` has them; every other one
+    /// is printed in plain lines.
+    Folded,
+}
+
 /// A question with how it is answered.
 #[derive(Clone, Copy, Debug, PartialEq, Eq)]
 pub struct Job {
     pub question: Question,
     /// Whether the inputs are digits in hexadecimal.
     pub hex: bool,
-    /// How many threads take in segments, 1 to 8.
+    /// How many threads decode segments, 1 to 8.
     pub workers: u32,
     /// How many rows are printed at most, 1 or more, and of a summary how many of each kind. `None`
     /// stands for all.
@@ -39,4 +51,5 @@ pub struct Job {
     pub complete: bool,
     /// Whether the exit status says that the answer finds something. The text is the same.
     pub exit_code: bool,
+    pub format: Format,
 }

@@ -2,8 +2,8 @@
 ghost use Rattle.std.specs.Prelude.{◌≡◌, IfErr, IfOk, map, option_map, string_bytes};
 ghost use Rattle.std.specs.Result.{result_ok};
 ghost use Rattle.clap.specs.Words.{all_of, first_of};
-ghost use Rattle.htl_command.specs.Steps.{Names, entries_of};
-ghost use Rattle.htl_command.specs.Requests.{code_of, file_names, given as given_in};
+ghost use Rattle.htl_command.specs.Steps.{IsNoJob, Names, entries_of};
+ghost use Rattle.htl_command.specs.Requests.{code_of, file_names, format_of, given as given_in};
 ghost use Rattle.htl_command.specs.Requests.{is_given as is_given_in, job_of, optional, question_of};
 ghost use Rattle.htl_command.specs.Requests.{value, workers as workers_given};
 ghost use Rattle.htl_command.specs.Values.{handle_in, object_in, process_in, sequence_in, tag_in};
@@ -12,7 +12,7 @@ ghost use Rattle.htl_command.specs.declared.commands.CommandOption.TheVariants a
 
 use crate::code::Code;
 use crate::commands::{CommandFlag, CommandOption, QuestionName};
-use crate::question::{Job, Question};
+use crate::question::{Format, Job, Question};
 use crate::values;
 use clap::ArgMatches;
 use std::alloc::{AllocError, Global};
@@ -24,6 +24,35 @@ pub(crate) struct Refused<'a> {
     pub option: CommandOption,
     /// The text that was given; empty where there is none.
     pub given: &'a str,
+}
+
+/// Why entries are no job.
+#[derive(Clone, Copy)]
+pub(crate) enum NoJob<'a> {
+    /// A value breaks the rule of its option.
+    Value(Refused<'a>),
+    /// Two forms of an answer are asked for.
+    Formats,
+}
+
+impl<'a> From<Refused<'a>> for NoJob<'a> {
+    ghost use Rattle.std.specs.Prelude.{◌≡◌};
+    ghost use Rattle.htl_command.specs.declared.reading.NoJob.TheVariants.{Value};
+
+    ghost from_gives = { λ refused why. why ≡ Value refused };
+
+    fn from(refused: Refused<'a>) -> NoJob<'a> {
+        NoJob::Value(refused)
+    }
+}
+
+impl fmt::Display for NoJob<'_> {
+    fn fmt<W: fmt::Write>(&self, f: &mut fmt::Formatter<W>) -> fmt::Result {
+        match self {
+            NoJob::Value(refused) => write!(f, "{refused}"),
+            NoJob::Formats => { write!(f, "the argument '--json' cannot be used with '--folded'") }
+        }
+    }
 }
 
 impl fmt::Display for Refused<'_> {
@@ -185,11 +214,26 @@ pub(crate) fn is_given(entries: &ArgMatches, flag: CommandFlag) -> bool
     }
 }
 
+/// The form of the answer.
+fn format<'a>(entries: &ArgMatches<'a>) -> Result<Format, NoJob<'a>>
+    ensures ok { result_ok result ≡ format_of (entries_of entries.now) }
+    ensures err { IfErr result (IsNoJob (entries_of entries.now)) }
+{
+    let json = is_given(entries, CommandFlag::Json);
+    let folded = is_given(entries, CommandFlag::Folded);
+    match (json, folded) {
+        (false, false) => Ok(Format::Plain),
+        (true, false) => Ok(Format::Json),
+        (false, true) => Ok(Format::Folded),
+        (true, true) => Err(NoJob::Formats),
+    }
+}
+
 /// The job of the question with these entries.
 #[tactic(auto, unfolding(crate::specs::Requests::job_of))]
-pub(crate) fn job<'a>(name: QuestionName, entries: &ArgMatches<'a>) -> Result<Job, Refused<'a>>
+pub(crate) fn job<'a>(name: QuestionName, entries: &ArgMatches<'a>) -> Result<Job, NoJob<'a>>
     ensures ok { result_ok result ≡ job_of name (entries_of entries.now) }
-    ensures err { IfErr result (λ refused. Names refused.option (entries_of entries.now) refused) }
+    ensures err { IfErr result (IsNoJob (entries_of entries.now)) }
 {
     Ok(Job {
         question: question(name, entries)?,
@@ -198,6 +242,7 @@ pub(crate) fn job<'a>(name: QuestionName, entries: &ArgMatches<'a>) -> Result<Jo
         top: top(entries)?,
         complete: is_given(entries, CommandFlag::Complete),
         exit_code: is_given(entries, CommandFlag::ExitCode),
+        format: format(entries)?,
     })
 }
 

@@ -5,7 +5,7 @@ ghost use Rattle.htl_command.specs.Values.{positive_in, top_in, workers_in};
 
 use htl_numbers::{decimal, hexadecimal};
 
-/// How many threads take in segments at most.
+/// How many threads decode segments at most.
 const MOST_WORKERS: u32 = 8;
 
 pub(crate) fn process(text: &str) -> Option<u32>

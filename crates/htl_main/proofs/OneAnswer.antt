@@ -1,6 +1,6 @@
 -- A trace has one answer to a question: of two only where their rows lie in memory may differ.
-use Rattle.std.proofs.Common.{◌≡◌, ℕ, List, Option, Some, None, refl, sym, subst, ◌∙◌}
-use Rattle.std.specs.Prelude.{Contains}
+use Rattle.std.proofs.Common.{◌≡◌, ℕ, List, Option, Some, None, ap, refl, sym, subst, ◌∙◌}
+use Rattle.std.specs.Prelude.{Contains, flat_map}
 use Rattle.std.proofs.lemmas.List.Sorted.{IsPermutation-refl}
 use Rattle.htl_event.specs.Events.{Event}
 use Rattle.htl_event.specs.Handles.{IsDiff}
@@ -14,6 +14,10 @@ use Rattle.htl_report.specs.declared.answer.Answer.{Answer}
 use Rattle.htl_report.specs.declared.answer.Answer.TheVariants.{Outstanding, Diff, Tags, Bad, Leaks, Stacks, Trace as Listing, Summary}
 use Rattle.htl_command.specs.declared.question.Question.{Question}
 use Rattle.htl_command.specs.declared.question.Question.TheVariants as asked
+use Rattle.htl_command.specs.declared.question.Format.{Format}
+use Rattle.htl_command.specs.declared.question.Format.TheVariants.{Plain, Json, Folded}
+use Rattle.htl_json.specs.Lines.{json_line, values_of}
+use Rattle.htl_main.specs.Printed.{lines_of}
 use Rattle.htl_main.specs.Answers.{IsAnswer, IsAnswerOver, IsDiffSince, has_finding}
 use Rattle.htl_main.proofs.OneSummary.{one_gaps, one_objects, one_processes, one_totals}
 
@@ -91,7 +95,7 @@ one_answer T (asked.Leaks process) a b p q = over_events (all_events T.segments)
 one_answer T (asked.Stacks object tag) a b p q = over_events (all_events T.segments) (asked.Stacks object tag) a b p q
 one_answer T (asked.Trace process handle) a b p q = over_events (all_events T.segments) (asked.Trace process handle) a b p q
 
-pub same_text : (table : List Range) (top : Option ℕ) (a b : Answer) → AreSame a b → text_of table top a ≡ text_of table top b
+same_text : (table : List Range) (top : Option ℕ) (a b : Answer) → AreSame a b → text_of table top a ≡ text_of table top b
 same_text table top (Outstanding p rs) (Outstanding q ss) same = rw (same.0, same.1) refl
 same_text table top (Outstanding p rs) other same = absurd same
 same_text table top (Diff p m rs) (Diff q n ss) same = rw (same.0, same.1, same.2) refl
@@ -126,3 +130,46 @@ same_finding (Listing p m rs) (Listing q n ss) same = rw (same.2) refl
 same_finding (Listing p m rs) other same = absurd same
 same_finding (Summary t gs ps os) (Summary u hs qs ns) same = rw (same.2, same.3) refl
 same_finding (Summary t gs ps os) other same = absurd same
+
+same_values : (table : List Range) (top : Option ℕ) (a b : Answer) → AreSame a b → values_of table top a ≡ values_of table top b
+same_values table top (Outstanding p rs) (Outstanding q ss) same = rw (same.0, same.1) refl
+same_values table top (Outstanding p rs) other same = absurd same
+same_values table top (Diff p m rs) (Diff q n ss) same = rw (same.0, same.1, same.2) refl
+same_values table top (Diff p m rs) other same = absurd same
+same_values table top (Tags p rs) (Tags q ss) same = rw (same.0, same.1) refl
+same_values table top (Tags p rs) other same = absurd same
+same_values table top (Bad p rs) (Bad q ss) same = rw (same.0, same.1) refl
+same_values table top (Bad p rs) other same = absurd same
+same_values table top (Leaks p rs) (Leaks q ss) same = rw (same.0, same.1) refl
+same_values table top (Leaks p rs) other same = absurd same
+same_values table top (Stacks p m rs) (Stacks q n ss) same = rw (same.0, same.1, same.2) refl
+same_values table top (Stacks p m rs) other same = absurd same
+same_values table top (Listing p m rs) (Listing q n ss) same = rw (same.0, same.1, same.2) refl
+same_values table top (Listing p m rs) other same = absurd same
+same_values table top (Summary t gs ps os) (Summary u hs qs ns) same = rw (same.0, same.1, same.2, same.3) refl
+same_values table top (Summary t gs ps os) other same = absurd same
+
+same_folded : (table : List Range) (top : Option ℕ) (a b : Answer) → AreSame a b → lines_of Folded table top a ≡ lines_of Folded table top b
+same_folded table top (Leaks p rs) (Leaks q ss) same = rw (same.1) refl
+same_folded table top (Leaks p rs) other same = absurd same
+same_folded table top (Outstanding p rs) (Outstanding q ss) same = same_text table top (Outstanding p rs) (Outstanding q ss) same
+same_folded table top (Outstanding p rs) other same = absurd same
+same_folded table top (Diff p m rs) (Diff q n ss) same = same_text table top (Diff p m rs) (Diff q n ss) same
+same_folded table top (Diff p m rs) other same = absurd same
+same_folded table top (Tags p rs) (Tags q ss) same = same_text table top (Tags p rs) (Tags q ss) same
+same_folded table top (Tags p rs) other same = absurd same
+same_folded table top (Bad p rs) (Bad q ss) same = same_text table top (Bad p rs) (Bad q ss) same
+same_folded table top (Bad p rs) other same = absurd same
+same_folded table top (Stacks p m rs) (Stacks q n ss) same = same_text table top (Stacks p m rs) (Stacks q n ss) same
+same_folded table top (Stacks p m rs) other same = absurd same
+same_folded table top (Listing p m rs) (Listing q n ss) same = same_text table top (Listing p m rs) (Listing q n ss) same
+same_folded table top (Listing p m rs) other same = absurd same
+same_folded table top (Summary t gs ps os) (Summary u hs qs ns) same = same_text table top (Summary t gs ps os) (Summary u hs qs ns) same
+same_folded table top (Summary t gs ps os) other same = absurd same
+
+-- what is printed is the same in each form
+pub same_lines : (format : Format) (table : List Range) (top : Option ℕ) (a b : Answer) → AreSame a b
+    → lines_of format table top a ≡ lines_of format table top b
+same_lines Plain table top a b same = same_text table top a b same
+same_lines Json table top a b same = ap (flat_map json_line) (same_values table top a b same)
+same_lines Folded table top a b same = same_folded table top a b same

@@ -29,7 +29,7 @@ use Rattle.htl_main.specs.Summaries.{IsFirstMissing}
 use Rattle.htl_main.specs.declared.fault.RunFault.{RunFault}
 use Rattle.htl_main.specs.declared.fault.RunFault.TheVariants.{Workers, Segment, Hex, Case, Incomplete, Symbols, Memory}
 use Rattle.htl_main.proofs.Covered.{one_first}
-use Rattle.htl_main.proofs.OneAnswer.{one_answer, same_finding, same_text}
+use Rattle.htl_main.proofs.OneAnswer.{one_answer, same_finding, same_lines}
 use Rattle.htl_symbols.proofs.OneTable.{one_table, one_symbol_fault, table_has_no_fault}
 
 -- ---- one input
@@ -187,7 +187,7 @@ one_lines segments symbols job a b p q =
     let trace = one_case segments p.trace q.trace p.taken.0 q.taken.0 in
     let table = one_symbols symbols p.table q.table p.named q.named in
     let is = subst (λ (t : List Range). IsText q.trace t job a) table (subst (λ (T : Trace). IsText T p.table job a) trace p.is) in
-    is.2 ∙ same_text q.table job.top is.0 q.is.0 (one_answer q.trace job.question is.0 q.is.0 is.1 q.is.1) ∙ sym q.is.2
+    is.2 ∙ same_lines job.format q.table job.top is.0 q.is.0 (one_answer q.trace job.question is.0 q.is.0 is.1 q.is.1) ∙ sym q.is.2
 
 -- a key that is missing is that of a gap
 complete_or_missing : (segments : List Content) (job : Job) (T U : Trace) (p n : ℕ) → IsTaken segments job T → job.complete ≡ true

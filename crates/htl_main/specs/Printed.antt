@@ -1,5 +1,5 @@
 -- What a run prints for a job, its inputs and its symbol table, or why it is refused.
-use Rattle.std.specs.Prelude.{◌≡◌, ◌≢◌, ℕ, true, ◌<◌, ◌≤◌, List, [], Option, Some, None, Result, Ok, Err}
+use Rattle.std.specs.Prelude.{◌≡◌, ◌≢◌, ℕ, true, ◌<◌, ◌≤◌, List, [], flat_map, Option, Some, None, Result, Ok, Err}
 use Rattle.htl_segment.specs.Content.{Content}
 use Rattle.htl_segment.specs.Traces.{Trace}
 use Rattle.htl_case.specs.Cases.{IsCaseOf}
@@ -8,8 +8,13 @@ use Rattle.htl_symbols.specs.Ranges.{Range}
 use Rattle.htl_symbols.specs.Reading.{Reads, records_of}
 use Rattle.htl_symbols.specs.declared.fault.SymbolFault.{SymbolFault}
 use Rattle.htl_symbols.specs.declared.fault.SymbolFault.TheVariants as symbol_faults
+use Rattle.htl_report.specs.Folded.{folded_text}
 use Rattle.htl_report.specs.Texts.{text_of}
 use Rattle.htl_report.specs.declared.answer.Answer.{Answer}
+use Rattle.htl_report.specs.declared.answer.Answer.TheVariants.{Leaks}
+use Rattle.htl_json.specs.Lines.{json_line, values_of}
+use Rattle.htl_command.specs.declared.question.Format.{Format}
+use Rattle.htl_command.specs.declared.question.Format.TheVariants.{Json, Folded}
 use Rattle.htl_command.specs.declared.question.Job.{Job}
 use Rattle.htl_main.specs.Answers.{IsAnswer}
 use Rattle.htl_main.specs.Completeness.{IsComplete, IsLeastMissing}
@@ -17,9 +22,15 @@ use Rattle.htl_main.specs.Inputs.{DecodeAll, IsReported, StopsAt}
 use Rattle.htl_main.specs.declared.fault.RunFault.{RunFault}
 use Rattle.htl_main.specs.declared.fault.RunFault.TheVariants.{Workers, Segment, Hex, Case, Incomplete, Symbols}
 
--- the lines of the answer to the job's question over a trace, with all rows or the first so many
+-- the lines of an answer in each form, with all rows or the first so many; only leaking stacks are folded
+abbrev pub lines_of : Format → List Range → Option ℕ → Answer → List ℕ
+lines_of Json table top answer = flat_map json_line (values_of table top answer)
+lines_of Folded table top (Leaks process rows) = folded_text table top rows.items
+lines_of format table top answer = text_of table top answer
+
+-- those of the answer to the job's question over a trace
 abbrev pub IsText : Trace → List Range → Job → List ℕ → Type 0
-IsText T table job lines = (answer : Answer) × IsAnswer T job.question answer × (lines ≡ text_of table job.top answer)
+IsText T table job lines = (answer : Answer) × IsAnswer T job.question answer × (lines ≡ lines_of job.format table job.top answer)
 
 -- the table of symbols, which has no range where none is given
 abbrev pub HasSymbols : Option (List ℕ) → List Range → Type 0

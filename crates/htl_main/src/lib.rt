@@ -41,7 +41,7 @@ pub use coverage::Coverage;
 pub use dumping::dump_from;
 pub use encoding::encode_from;
 pub use fault::RunFault;
-pub use htl_command::{Asked, Code, Command, Conversion, Job, ParseFault, Question, parse};
+pub use htl_command::{Asked, Code, Command, Conversion, Format, Job, ParseFault, Question, parse};
 pub use htl_device::{Failed, Reading, Sink, Source, Writing};
 pub use printing::run;
 pub use streaming::run_from;

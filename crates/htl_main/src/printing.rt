@@ -8,6 +8,7 @@ ghost use Rattle.htl_main.specs.Answers.{Finds, FindsIn};
 ghost use Rattle.htl_main.specs.Completeness.{IsComplete, ReportsMissing};
 ghost use Rattle.htl_main.specs.Coverages.{Covers, CoversSegments};
 ghost use Rattle.htl_main.specs.Printed.{AreAnswerLines, HasSymbols, HasSymbolFault, WorkersFit};
+ghost use Rattle.htl_main.specs.Printed.{lines_of};
 ghost use Rattle.htl_main.specs.Causes.{Prints, PrintsPart, IsCause, IsCauseAfter};
 ghost use Rattle.htl_main.specs.Subjects.{ReportsSubject, has_subject as has_subject_of};
 
@@ -17,17 +18,19 @@ use crate::coverage::{Coverage, first_missing};
 use crate::fault::RunFault;
 use crate::inputs::decode_all;
 use htl_case::Case;
-use htl_command::Job;
+use htl_command::{Format, Job};
 use htl_device::{Sink, write_whole};
-use htl_report::text;
+use htl_event::NoMemory;
+use htl_json::json_lines;
+use htl_report::{Answer, folded, text};
 use htl_segment::Segment;
 use htl_symbols::{SymbolFault, Symbols};
 use std::alloc::Global;
 use std::sync::Wait;
 use std::thread::Threads;
 
-/// Prints the answer to the job's question over the segments of all inputs, with addresses by name
-/// where the symbol table has them.
+/// Prints the answer to the job's question over the segments of all inputs, in the job's form and
+/// with addresses by name where the symbol table has them.
 ///
 /// The number of workers is tested first; then each input in order is decoded, the segments are
 /// made a case, which is refused where it has a gap and the job asks for a complete one, the symbols
@@ -106,7 +109,7 @@ pub(crate) fn answered(
     let symbols = read_symbols(alloc, symbols)?;
     let coverage = Coverage::of(&case);
     let answer = answer(alloc, job.question, &case, coverage)?;
-    let lines = text(alloc, &answer, &symbols, job.top)?;
+    let lines = lines(alloc, job, &answer, &symbols)?;
     let has_subject = has_subject(job.question, &case);
     Ok((
         lines,
@@ -116,6 +119,18 @@ pub(crate) fn answered(
             has_finding: has_finding(&answer),
         },
     ))
+}
+
+/// The lines of an answer in the job's form.
+fn lines(alloc: Global, job: &Job, answer: &Answer, symbols: &Symbols) -> Result<Vec<u8>, NoMemory>
+    ensures { IfOk result (λ lines.
+        lines.items ≡ lines_of job.now.format symbols.now job.now.top answer.now) }
+{
+    match (job.format, answer) {
+        (Format::Json, _) => json_lines(alloc, answer, symbols, job.top),
+        (Format::Folded, Answer::Leaks { rows, .. }) => folded(alloc, rows, symbols, job.top),
+        (Format::Plain | Format::Folded, _) => text(alloc, answer, symbols, job.top),
+    }
 }
 
 /// Refuses a case with a gap where a complete one is asked for. Takes no memory.

@@ -6,7 +6,7 @@ ghost use Rattle.std.specs.Prelude.{length, map, slice_get, IfOk, IfErr, IfSome,
 ghost use Rattle.htl_segment.specs.Bundles.{Splits};
 ghost use Rattle.htl_reading.specs.Sources.{IsReadToFault, read_ahead};
 ghost use Rattle.htl_reading.specs.declared.reading.TheConstants.{BLOCK_LEN};
-ghost use Rattle.htl_main.specs.Inputs.{Decodes, DecodeAll, StopsAt};
+ghost use Rattle.htl_main.specs.Inputs.{Decodes, DecodeAll, IsReported, StopsAt};
 ghost use Rattle.htl_main.specs.Reads.{FailsOnly, NamesOnly, NeverWrite};
 ghost use Rattle.htl_main.specs.Reads.{ReportsFailure};
 ghost use Rattle.htl_main.specs.Sources.{AreReadInOrder, AreReadToFault, AreReadWithin};
@@ -15,10 +15,9 @@ ghost use Rattle.htl_main.specs.Sources.{StandsBefore};
 ghost use Rattle.htl_main.specs.Sources.{IsReportedAt, IsReportedOfSource, IsTrueAt};
 
 use crate::fault::RunFault;
-use crate::inputs::decode_input;
 use htl_device::{MAX_READS, Source, read_whole};
-use htl_reading::read_bundle;
-use htl_segment::Segment;
+use htl_reading::{decode_bundle_by, read_bundle};
+use htl_segment::{Segment, from_hex};
 use std::alloc::Global;
 use std::thread::Threads;
 
@@ -91,15 +90,18 @@ fn read_input<Rt: Threads + Sync, R: Source>(
     ensures no_write { NeverWrite result }
 {
     if hex {
-        read_digits(alloc, place, source)
+        read_digits(rt, alloc, workers, place, source)
     } else {
         read_bundle_at(rt, alloc, workers, place, source)
     }
 }
 
-/// The segments that the source at a place writes in hexadecimal. Its text is gathered whole first.
-fn read_digits<R: Source>(
+/// The segments that the source at a place writes in hexadecimal, by so many workers. Its text is
+/// gathered whole first.
+fn read_digits<Rt: Threads + Sync, R: Source>(
+    rt: &Rt,
     alloc: Global,
+    workers: u32,
     place: u64,
     source: &mut R,
 ) -> Result<Vec<Segment>, RunFault>
@@ -117,8 +119,43 @@ fn read_digits<R: Source>(
     ensures no_write { NeverWrite result }
 {
     match read_whole(alloc, source) {
-        Ok(text) => decode_input(alloc, true, place, &text),
+        Ok(text) => decode_digits(rt, alloc, workers, place, &text),
         Err(fault) => Err(RunFault::of_read(place, fault)),
+    }
+}
+
+/// The segments that the text of the input at a place writes in hexadecimal, by so many workers.
+fn decode_digits<Rt: Threads + Sync>(
+    rt: &Rt,
+    alloc: Global,
+    workers: u32,
+    place: u64,
+    text: &[u8],
+) -> Result<Vec<Segment>, RunFault>
+    ensures ok { IfOk result (λ segments. Decodes true text.now segments.items) }
+    ensures err { IfErr result (IsReported true place text.now) }
+{
+    match from_hex(alloc, text) {
+        Ok(bytes) => decode_bytes_by(rt, alloc, workers, place, &bytes),
+        Err(fault) => Err(RunFault::of_hex(place, fault)),
+    }
+}
+
+/// The segments that the bytes of the input at a place encode, by so many workers.
+#[tactic(auto, using(crate::proofs::InputLaws::reported_bytes))]
+fn decode_bytes_by<Rt: Threads + Sync>(
+    rt: &Rt,
+    alloc: Global,
+    workers: u32,
+    place: u64,
+    bytes: &[u8],
+) -> Result<Vec<Segment>, RunFault>
+    ensures ok { IfOk result (λ segments. Decodes false bytes.now segments.items) }
+    ensures err { IfErr result (IsReported false place bytes.now) }
+{
+    match decode_bundle_by(rt, alloc, workers, bytes) {
+        Ok(segments) => Ok(segments),
+        Err((offset, fault)) => Err(RunFault::of_segment(place, offset, fault)),
     }
 }
 

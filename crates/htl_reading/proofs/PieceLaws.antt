@@ -1,7 +1,7 @@
 -- Reads that are split at once: what they come to is what the source's bytes come to.
 use Rattle.std.proofs.Common.{◌≡◌, ◌+◌, ◌*◌, ◌<◌, ◌≤◌, ℕ, Bool, true, false, List, [], ◌++◌, length, All, refl, sym, ap, ◌∙◌, append_assoc}
-use Rattle.std.proofs.Common.{arith, inl, inr, subst, Option, Some, None, IfSome, append-nil, Result, Ok, Err, Vec, Global}
-use Rattle.std.specs.Prelude.{IfOk, IfErr, is_err}
+use Rattle.std.proofs.Common.{arith, inl, inr, subst, Option, Some, None, IfSome, append-nil, Result, Ok, Err}
+use Rattle.std.specs.Prelude.{is_err}
 use Rattle.std.proofs.KnownBytes.{Consumes-kept, Consumes-whole, Consumes-trans}
 use Rattle.std.proofs.lemmas.List.{length-append}
 use Rattle.std.specs.Io.KnownBytes.{Consumes, IsAtEnd, ReadConsumes}
@@ -12,7 +12,6 @@ use Rattle.htl_segment.specs.declared.fault.Fault.{Fault}
 use Rattle.htl_segment.specs.declared.fault.Fault.TheVariants as faults
 use Rattle.htl_segment.proofs.BundleLaws.{first_fault-rest, first_fault-no_memory}
 use Rattle.htl_segment.proofs.PiecesLaws.{Brought, segment_more, splits_next}
-use Rattle.htl_reading.specs.declared.fault.SourceFault.{SourceFault}
 use Rattle.htl_reading.specs.declared.fault.SourceFault.TheVariants.{Segment}
 use Rattle.htl_reading.specs.Blocks.{of_segment, taken}
 use Rattle.htl_reading.specs.Sources.{IsReadToFault, IsReported}
@@ -103,6 +102,10 @@ read_before first mid last read buffer (Err e) failed next given = Consumes-kept
 -- one more read
 pub read_bounded : (i size fed n : ℕ) → fed ≤ i * size → n ≤ size → fed + n ≤ (i + 1) * size
 read_bounded i size fed n bounded short = grind arith
+
+-- or after some before
+pub read_more_bounded : (i before size fed n : ℕ) → fed + before * size ≤ i * size → n ≤ size → (fed + n) + before * size ≤ (i + 1) * size
+read_more_bounded i before size fed n bounded short = grind arith
 
 -- ---- the end of a source
 

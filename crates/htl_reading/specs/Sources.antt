@@ -1,5 +1,5 @@
 -- Why the reading of one source ends, and how far it is read (this project's own). What a source gives is known where it reports its bytes.
-use Rattle.std.specs.Prelude.{◌≡◌, ◌<◌, ◌≤◌, ◌+◌, ◌⊎◌, ⊤, ℕ, Bool, true, false, List, ◌++◌, length, Option, Some, IfSome, Result, Err}
+use Rattle.std.specs.Prelude.{◌≡◌, ◌<◌, ◌≤◌, ◌+◌, ◌*◌, ◌⊎◌, ⊤, ℕ, Bool, true, false, List, ◌++◌, length, Option, Some, IfSome, Result, Err}
 use Rattle.std.specs.Prelude.{nat_le, if◌then◌else◌}
 use Rattle.std.specs.Io.KnownBytes.{Consumes}
 use Rattle.htl_device.specs.declared.source.TheConstants.{MAX_READ_LEN}
@@ -45,9 +45,10 @@ abbrev pub ReportsFailure : {S : Type 0} → ℕ → Bool → Option (List ℕ) 
 ReportsFailure workers failed given left result =
     failed ≡ true → (result ≡ Err Read) ⊎ ((1 < workers) × StandsBefore given left result)
 
--- how many bytes are read before they are decoded, in blocks of at least so many: one read by one worker, and a block by several
+-- How many bytes are read before they are decoded, in blocks of at least so many: one read by one worker; and by several a block, of
+-- which a read may make more, and the next one, which is read while that is decoded.
 abbrev pub read_ahead : ℕ → ℕ → ℕ
-read_ahead workers block = if nat_le workers 1 then MAX_READ_LEN else block + MAX_READ_LEN
+read_ahead workers block = if nat_le workers 1 then MAX_READ_LEN else 2 * (block + MAX_READ_LEN)
 
 -- What was read of a source: segments and the beginning of one more, and after these so many bytes at most. So it is read
 -- no further once a fault was read.

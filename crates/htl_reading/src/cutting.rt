@@ -1,7 +1,7 @@
 //! Where bytes can be cut between segments, as their headers say.
 
-ghost use Rattle.std.specs.Prelude.{◌≤◌, length, take};
-ghost use Rattle.htl_reading.specs.Cuts.{IsCut};
+ghost use Rattle.std.specs.Prelude.{◌≤◌, ◌⊎◌, length, drop, take};
+ghost use Rattle.htl_reading.specs.Cuts.{BeginsNoWhole, IsCut};
 
 use htl_segment::whole_len;
 
@@ -10,6 +10,7 @@ use htl_segment::whole_len;
 pub fn cut(bytes: &[u8], least: usize) -> usize
     ensures inside { result ≤ length bytes.now }
     ensures cut { IsCut (take result bytes.now) }
+    ensures least { (least ≤ result) ⊎ BeginsNoWhole (drop result bytes.now) }
 {
     let mut place = 0;
     loop {

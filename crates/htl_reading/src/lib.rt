@@ -2,12 +2,13 @@
 //!
 //! One worker splits each read at once. Several gather reads to a block: it is cut between segments, as
 //! their headers say, each part is decoded by a thread with a cache of stacks of its own, and what the
-//! threads give is put together in order. Segments and faults are those of one worker.
+//! threads give is put together in order. While they decode a block the next one is read. Segments and
+//! faults are those of one worker.
 //!
 //! Files, in reading order: `fault.rt` (why a reading ends), `reading.rt` (a source to its end),
-//! `pieces.rt` (in reads that are split at once), `blocks.rt` (in blocks), `decoding.rt`, `cutting.rt`
-//! and `joining.rt` (bytes that several workers decode: the workers, where the bytes are cut, and what
-//! two parts come to together).
+//! `pieces.rt` (in reads that are split at once), `filling.rt` and `blocks.rt` (in blocks),
+//! `decoding.rt`, `cutting.rt` and `joining.rt` (bytes that several workers decode: the workers, where
+//! the bytes are cut, and what two parts come to together).
 //!
 //! `specs/Sources` says what is reported and how far a source is read. In `proofs/`, `PieceLaws` and
 //! `BlockLaws` show what reads come to, `CutLaws` that what headers cut leaves no rest, and `JoinLaws`
@@ -18,6 +19,7 @@ mod blocks;
 mod cutting;
 mod decoding;
 mod fault;
+mod filling;
 mod joining;
 mod pieces;
 mod reading;

@@ -9,6 +9,7 @@ ghost use Rattle.htl_reading.specs.declared.fault.SourceFault.TheVariants.{Read}
 
 use crate::blocks::{Gathered, read_blocks};
 use crate::fault::SourceFault;
+use crate::filling::Limits;
 use crate::pieces::{Begun, Until, finish, read_pieces};
 use htl_device::{MAX_READ_LEN, MAX_READS, Source};
 use htl_segment::Segment;
@@ -22,8 +23,9 @@ pub const BLOCK_LEN: usize = 4_194_304;
 /// They are the same for every number of workers, and the first fault of the bytes is reported
 /// wherever it was found. A read that fails is reported where no fault stands before it.
 ///
-/// One worker splits each read at once. Several begin so, and read what comes after the first segment
-/// in blocks, of which the last may have fewer bytes.
+/// One worker splits each read at once. Several begin so, and decode what comes after the first
+/// segment in blocks, of which the last may have fewer bytes. While they decode one, this thread reads
+/// the next.
 pub fn read_bundle<T: Threads + Sync, R: Source>(
     rt: &T,
     alloc: Global,
@@ -127,5 +129,9 @@ fn read_within<T: Threads + Sync, R: Source>(
     }
     let before = begun.reads;
     let gathered = Gathered::new(alloc, workers, begun)?;
-    read_blocks(rt, alloc, source, buffer, gathered, block_len, before, most)
+    let limits = Limits {
+        block_len,
+        reads: most,
+    };
+    read_blocks(rt, alloc, source, buffer, gathered, limits, before)
 }

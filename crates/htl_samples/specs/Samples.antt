@@ -1,5 +1,5 @@
 -- What segments made for tests are of.
-use Rattle.std.specs.Prelude.{◌≡◌, ℕ}
+use Rattle.std.specs.Prelude.{◌≡◌}
 use Rattle.htl_segment.specs.Content.{Content}
 use Rattle.htl_samples.specs.declared.trace.Trace.{Trace}
 

@@ -7,6 +7,7 @@
 
 mod analysts;
 mod cases;
+mod conversions;
 mod desks;
 mod runs;
 mod segments;
@@ -19,7 +20,7 @@ use allocation_trials::Trials;
 
 fn main(rt: HostRuntime) -> anyhow::Result<()> {
     let mut trials = Trials::new(&rt);
-    segments::try_all(&mut trials)?;
+    segments::try_all(&rt, &mut trials)?;
     trees::try_all(&mut trials)?;
     tables::try_all(&mut trials)?;
     sets::try_all(&mut trials)?;
@@ -28,5 +29,6 @@ fn main(rt: HostRuntime) -> anyhow::Result<()> {
     desks::try_all(&rt, &mut trials)?;
     texts::try_all(&mut trials)?;
     runs::try_all(&rt, &mut trials)?;
+    conversions::try_all(&mut trials)?;
     trials.print_sum()
 }

@@ -3,7 +3,7 @@
 use crate::texts::SYMBOLS;
 use allocation_trials::{Equal, Refusal, Same, Trials};
 use anyhow::Result;
-use htl_command::{Job, Question};
+use htl_command::{Format, Job, Question};
 use htl_device::Writing;
 use htl_main::run;
 use htl_samples::SMALL;
@@ -36,6 +36,7 @@ pub fn try_all<R: Threads + Wait + Sync>(
             top: None,
             complete: true,
             exit_code: false,
+            format: Format::Plain,
         };
         trials.changes(name, unread, |alloc, running: &mut Running| {
             printed(rt, alloc, &job, running)

@@ -3,15 +3,28 @@
 use allocation_trials::{Equal, Refusal, Same, Trials};
 use anyhow::Result;
 use htl_event::Event;
-use htl_samples::{SMALL, TRACE};
+use htl_reading::decode_bundle_by;
+use htl_samples::{RandomTrace, SMALL, TRACE};
 use htl_segment::{Fault, Segment, Splitter, decode, decode_bundle, encode, from_hex};
 use htl_text::dump;
 use std::alloc::Global;
 use std::mem;
+use std::thread::Threads;
 
-pub fn try_all(trials: &mut Trials<'_, HostRuntime>) -> Result<()> {
+/// A trace whose bundle is long enough for workers to share it.
+const LONG: RandomTrace = RandomTrace {
+    events: 400,
+    ..SMALL
+};
+
+pub fn try_all<R: Threads + Sync>(rt: &R, trials: &mut Trials<'_, HostRuntime>) -> Result<()> {
     trials.reads("decode", encoding, decoded)?;
     trials.reads("decode_bundle", bundle, decoded_bundle)?;
+    trials.reads(
+        "decode_bundle_by two workers",
+        long_bundle,
+        |alloc, bytes: &Vec<u8>| decoded_by_two(rt, alloc, bytes),
+    )?;
     trials.reads("from_hex", digits, bytes_of_digits)?;
     trials.reads("encode", segment, encoded)?;
     trials.changes("feed", half_fed, feed)?;
@@ -33,6 +46,10 @@ pub fn bundle(alloc: Global) -> Result<Vec<u8>, Refusal> {
     Ok(SMALL.bundle(alloc)?)
 }
 
+fn long_bundle(alloc: Global) -> Result<Vec<u8>, Refusal> {
+    Ok(LONG.bundle(alloc)?)
+}
+
 fn digits(alloc: Global) -> Result<String, Refusal> {
     Ok(String::from_str(alloc, "48 4c 53 31\n01 00")?)
 }
@@ -44,6 +61,14 @@ fn decoded(alloc: Global, bytes: &Vec<u8>) -> Result<Segment, Refusal> {
 
 fn decoded_bundle(alloc: Global, bytes: &Vec<u8>) -> Result<Vec<Segment>, Refusal> {
     Ok(decode_bundle(alloc, bytes)?)
+}
+
+fn decoded_by_two<R: Threads + Sync>(
+    rt: &R,
+    alloc: Global,
+    bytes: &[u8],
+) -> Result<Vec<Segment>, Refusal> {
+    Ok(decode_bundle_by(rt, alloc, 2, bytes)?)
 }
 
 fn bytes_of_digits(alloc: Global, text: &String) -> Result<Equal<Vec<u8>>, Refusal> {

@@ -6,7 +6,9 @@ use allocation_trials::{Equal, Refusal, Spent, Trials};
 use anyhow::Result;
 use htl_analyst::Analyst;
 use htl_command::{Command, Question, parse};
-use htl_report::{Answer, Totals, text};
+use htl_event::SharedStack;
+use htl_json::json_lines;
+use htl_report::{Answer, Totals, folded, text};
 use htl_symbols::Symbols;
 use std::alloc::Global;
 
@@ -25,23 +27,38 @@ const TAG: [u8; 4] = *b"Lky8";
 
 pub fn try_all(trials: &mut Trials<'_, HostRuntime>) -> Result<()> {
     trials.reads("Symbols::read", symbol_text, symbols_of)?;
-    for (name, question) in [
+    for (text_name, json_name, question) in [
         (
             "text of outstanding",
+            "JSON of outstanding",
             Question::Outstanding { process: PROCESS },
         ),
         (
             "text of diff",
+            "JSON of diff",
             Question::Diff {
                 process: PROCESS,
                 since: Some(30),
             },
         ),
-        ("text of tags", Question::Tags { object: OBJECT }),
-        ("text of bad", Question::Bad { process: PROCESS }),
-        ("text of leaks", Question::Leaks { process: PROCESS }),
+        (
+            "text of tags",
+            "JSON of tags",
+            Question::Tags { object: OBJECT },
+        ),
+        (
+            "text of bad",
+            "JSON of bad",
+            Question::Bad { process: PROCESS },
+        ),
+        (
+            "text of leaks",
+            "JSON of leaks",
+            Question::Leaks { process: PROCESS },
+        ),
         (
             "text of stacks",
+            "JSON of stacks",
             Question::Stacks {
                 object: OBJECT,
                 tag: TAG,
@@ -49,15 +66,18 @@ pub fn try_all(trials: &mut Trials<'_, HostRuntime>) -> Result<()> {
         ),
         (
             "text of trace",
+            "JSON of trace",
             Question::Trace {
                 process: PROCESS,
                 handle: 8,
             },
         ),
-        ("text of summary", Question::Summary),
+        ("text of summary", "JSON of summary", Question::Summary),
     ] {
-        trials.reads(name, |alloc| shown(alloc, question), text_of)?;
+        trials.reads(text_name, |alloc| shown(alloc, question), text_of)?;
+        trials.reads(json_name, |alloc| shown(alloc, question), json_of)?;
     }
+    trials.reads("folded stacks of leaks", leaks, folded_of)?;
     trials.changes("parse", words, parsed)
 }
 
@@ -152,6 +172,22 @@ fn summary(alloc: Global, analyst: &Analyst<Global>) -> Result<Answer, Refusal> 
 
 fn text_of(alloc: Global, (answer, symbols): &Shown) -> Result<Equal<Vec<u8>>, Refusal> {
     Ok(Equal(text(alloc, answer, symbols, None)?))
+}
+
+fn json_of(alloc: Global, (answer, symbols): &Shown) -> Result<Equal<Vec<u8>>, Refusal> {
+    Ok(Equal(json_lines(alloc, answer, symbols, None)?))
+}
+
+/// Leaking stacks and the names to print them with.
+type Leaks = (Vec<(SharedStack, u64)>, Symbols);
+
+fn leaks(alloc: Global) -> Result<Leaks, Refusal> {
+    let symbols = symbols(alloc)?;
+    Ok((analyst(alloc)?.leaks(alloc, PROCESS)?, symbols))
+}
+
+fn folded_of(alloc: Global, (rows, symbols): &Leaks) -> Result<Equal<Vec<u8>>, Refusal> {
+    Ok(Equal(folded(alloc, rows, symbols, None)?))
 }
 
 /// A command line for each time that it is read.

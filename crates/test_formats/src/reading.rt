@@ -66,7 +66,15 @@ fn pieces_of_a_few_bytes(rt: HostRuntime) {
     let alloc = rt.alloc();
     let mut bytes = bundle(&rt, alloc, 40);
     for place in [1_280, 996, 352, 3] {
-        for (piece, reads_left) in [(7, 9), (7, 1_000), (64, 3), (64, 11), (64, 1_000)] {
+        for (piece, reads_left) in [
+            (7, 9),
+            (7, 1_000),
+            (64, 3),
+            (64, 7),
+            (64, 11),
+            (64, 17),
+            (64, 1_000),
+        ] {
             by_all(
                 &rt,
                 alloc,

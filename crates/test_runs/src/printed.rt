@@ -1,7 +1,7 @@
 //! What a run prints, and why it is refused, for whole inputs.
 
 use crate::rows::{PRINTED, Printed, REFUSED, Refused, STORED, STORED_COMPLETED, STORED_TEXT};
-use htl_command::{Job, Question};
+use htl_command::{Format, Job, Question};
 use htl_main::{Completed, RunFault, Writing, run};
 use htl_samples::TRACE;
 use htl_segment::encode;
@@ -22,6 +22,7 @@ pub fn over_bytes(question: Question) -> Job {
         top: None,
         complete: false,
         exit_code: false,
+        format: Format::Plain,
     }
 }
 

@@ -1,6 +1,6 @@
 // What a line asks for, and which lines are refused.
 use super::{fault_of, text_of, words};
-use htl_command::{Asked, Code, Command, Conversion, Job, ParseFault, Question, parse};
+use htl_command::{Asked, Code, Command, Conversion, Format, Job, ParseFault, Question, parse};
 use std::alloc::Global;
 use std::process::Abort;
 
@@ -211,6 +211,15 @@ const CHECKS: [(&str, bool, bool); 8] = [
     ("trace|--process|4|--handle|44|--complete", true, false),
 ];
 
+/// Lines that want an answer in another form.
+const FORMATS: [(&str, Format); 5] = [
+    ("summary|--json", Format::Json),
+    ("tags|--json|--object|1|--exit-code", Format::Json),
+    ("trace|--process|4|--handle|44|a.hls|--json", Format::Json),
+    ("leaks|--process|4|--folded|--top|5", Format::Folded),
+    ("leaks|--process|4", Format::Plain),
+];
+
 /// Lines that ask what a code means.
 const EXPLAINED: [(&str, Code); 5] = [
     ("explain|S1", Code::S1),
@@ -229,7 +238,7 @@ const CONVERTED: [(&str, bool, &[&str]); 4] = [
 ];
 
 /// Lines that are refused, and what their text names.
-const REFUSED: [(&str, &str); 73] = [
+const REFUSED: [(&str, &str); 78] = [
     // values
     (
         "bad|--process|4294967296",
@@ -332,6 +341,14 @@ const REFUSED: [(&str, &str); 73] = [
     ("stacks|--object|1|--tag|Lky8|--exit-code", "'--exit-code'"),
     ("trace|--process|4|--handle|44|--exit-code", "'--exit-code'"),
     ("dump|--complete", "'--complete'"),
+    ("dump|--json", "'--json'"),
+    ("summary|--json|--json", "'--json'"),
+    ("summary|--folded", "'--folded'"),
+    ("bad|--process|4|--folded", "'--folded'"),
+    (
+        "leaks|--process|4|--folded|--json",
+        "'--json' cannot be used with '--folded'",
+    ),
     ("bad|--process|4|--workers", "'--workers <N>'"),
     // commands
     ("", "''"),
@@ -376,6 +393,7 @@ fn lines_ask_questions(rt: HostRuntime) {
             top: None,
             complete: false,
             exit_code: false,
+            format: Format::Plain,
         };
         assert_eq!(rt; asked(&rt, rt.alloc(), line).job, job, "of {line}");
     }
@@ -405,6 +423,17 @@ fn lines_check(rt: HostRuntime) {
         let job = asked(&rt, rt.alloc(), line).job;
         assert_eq!(rt; job.complete, complete, "of {line}");
         assert_eq!(rt; job.exit_code, exit_code, "of {line}");
+    }
+}
+
+#[test]
+fn lines_choose_a_form(rt: HostRuntime) {
+    for (line, format) in FORMATS {
+        assert_eq!(rt;
+            asked(&rt, rt.alloc(), line).job.format,
+            format,
+            "of {line}"
+        );
     }
 }
 

@@ -31,7 +31,8 @@ Options:
 
 Options of every question, from summary to trace:
       --symbols <FILE>  Names for addresses: CSV of start,end,module,name
-      --workers <N>     How many threads take in segments: 1 to 8 [default: 1]
+      --workers <N>     How many threads decode segments: 1 to 8 [default: 1]
+      --json            One JSON object a line, for other programs
       --complete        Refuse segments of which one is missing (C8)
       --hex             The files hold hexadecimal digits, not bytes
   [FILES]...            Trace segments; standard input where no file is given
@@ -67,7 +68,8 @@ Options:
       --top <N>         At most N rows: decimal, 1 to 4294967295
       --exit-code       End with status 1 where the answer finds something
       --symbols <FILE>  Names for addresses: CSV of start,end,module,name
-      --workers <N>     How many threads take in segments: 1 to 8 [default: 1]
+      --workers <N>     How many threads decode segments: 1 to 8 [default: 1]
+      --json            One JSON object a line, for other programs
       --complete        Refuse segments of which one is missing (C8)
       --hex             The files hold hexadecimal digits, not bytes
   -h, --help            Print help
@@ -89,7 +91,8 @@ Options:
       --top <N>         At most N rows: decimal, 1 to 4294967295
       --exit-code       End with status 1 where the answer finds something
       --symbols <FILE>  Names for addresses: CSV of start,end,module,name
-      --workers <N>     How many threads take in segments: 1 to 8 [default: 1]
+      --workers <N>     How many threads decode segments: 1 to 8 [default: 1]
+      --json            One JSON object a line, for other programs
       --complete        Refuse segments of which one is missing (C8)
       --hex             The files hold hexadecimal digits, not bytes
   -h, --help            Print help
@@ -113,7 +116,8 @@ Options:
       --top <N>         At most N rows: decimal, 1 to 4294967295
       --exit-code       End with status 1 where the answer finds something
       --symbols <FILE>  Names for addresses: CSV of start,end,module,name
-      --workers <N>     How many threads take in segments: 1 to 8 [default: 1]
+      --workers <N>     How many threads decode segments: 1 to 8 [default: 1]
+      --json            One JSON object a line, for other programs
       --complete        Refuse segments of which one is missing (C8)
       --hex             The files hold hexadecimal digits, not bytes
   -h, --help            Print help
@@ -135,7 +139,8 @@ Options:
                         or without 0x
       --exit-code       End with status 1 where the answer finds something
       --symbols <FILE>  Names for addresses: CSV of start,end,module,name
-      --workers <N>     How many threads take in segments: 1 to 8 [default: 1]
+      --workers <N>     How many threads decode segments: 1 to 8 [default: 1]
+      --json            One JSON object a line, for other programs
       --complete        Refuse segments of which one is missing (C8)
       --hex             The files hold hexadecimal digits, not bytes
   -h, --help            Print help
@@ -157,7 +162,8 @@ Options:
       --top <N>         At most N rows: decimal, 1 to 4294967295
       --exit-code       End with status 1 where the answer finds something
       --symbols <FILE>  Names for addresses: CSV of start,end,module,name
-      --workers <N>     How many threads take in segments: 1 to 8 [default: 1]
+      --workers <N>     How many threads decode segments: 1 to 8 [default: 1]
+      --json            One JSON object a line, for other programs
       --complete        Refuse segments of which one is missing (C8)
       --hex             The files hold hexadecimal digits, not bytes
   -h, --help            Print help
@@ -178,8 +184,10 @@ Options:
       --process <N>     The process: decimal, at most 4294967295
       --top <N>         At most N rows: decimal, 1 to 4294967295
       --exit-code       End with status 1 where the answer finds something
+      --folded          Folded stacks, for flame graph programs
       --symbols <FILE>  Names for addresses: CSV of start,end,module,name
-      --workers <N>     How many threads take in segments: 1 to 8 [default: 1]
+      --workers <N>     How many threads decode segments: 1 to 8 [default: 1]
+      --json            One JSON object a line, for other programs
       --complete        Refuse segments of which one is missing (C8)
       --hex             The files hold hexadecimal digits, not bytes
   -h, --help            Print help
@@ -203,7 +211,8 @@ Options:
                         hexadecimal digits, as 0x4c6b7938
       --top <N>         At most N rows: decimal, 1 to 4294967295
       --symbols <FILE>  Names for addresses: CSV of start,end,module,name
-      --workers <N>     How many threads take in segments: 1 to 8 [default: 1]
+      --workers <N>     How many threads decode segments: 1 to 8 [default: 1]
+      --json            One JSON object a line, for other programs
       --complete        Refuse segments of which one is missing (C8)
       --hex             The files hold hexadecimal digits, not bytes
   -h, --help            Print help
@@ -226,7 +235,8 @@ Options:
                         0x, at most 0xffffffff
       --top <N>         At most N rows: decimal, 1 to 4294967295
       --symbols <FILE>  Names for addresses: CSV of start,end,module,name
-      --workers <N>     How many threads take in segments: 1 to 8 [default: 1]
+      --workers <N>     How many threads decode segments: 1 to 8 [default: 1]
+      --json            One JSON object a line, for other programs
       --complete        Refuse segments of which one is missing (C8)
       --hex             The files hold hexadecimal digits, not bytes
   -h, --help            Print help

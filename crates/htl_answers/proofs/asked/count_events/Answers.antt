@@ -1,5 +1,5 @@
 -- One event more.
-use Rattle.std.proofs.Common.{◌≡◌, ◌+◌, ◌++◌, ◌∷◌, [], length, take, sym, ap, subst, ◌∙◌, append_assoc, arith}
+use Rattle.std.proofs.Common.{◌≡◌, ◌+◌, ◌++◌, ◌∷◌, [], take, sym, ap, subst, ◌∙◌, append_assoc, arith}
 use Rattle.std.specs.List.{filter_map}
 use Rattle.std.specs.Option.{option_map}
 use Rattle.std.proofs.lemmas.List.{take_more, length-take-le}
@@ -7,7 +7,7 @@ use Rattle.htl_event.specs.declared.slot.Slot.{Slot}
 use Rattle.htl_event.specs.declared.slot.Sign.{Sign}
 use Rattle.htl_event.specs.declared.slot.Count.{Count}
 use Rattle.htl_answers.specs.Counts.{one_count}
-use Rattle.htl_answers.specs.Rows.{row_of, rows_of, CountAlike}
+use Rattle.htl_answers.specs.Rows.{row_of, CountAlike}
 use Rattle.htl_answers.proofs.CountedAlike.{alike_more}
 use Rattle.htl_answers.proofs.FilterMaps.{one_row_more, no_row_more}
 use Rattle.htl_answers.proofs.EventRows.{no_row}

@@ -1,5 +1,5 @@
 -- What the first reads came to is whole, or is read on in blocks.
-use Rattle.std.proofs.Common.{◌≡◌, ◌+◌, length, arith, true, false}
+use Rattle.std.proofs.Common.{◌≡◌, arith, true, false}
 use Rattle.std.proofs.lemmas.Grind.{common_steps}
 use Rattle.std.proofs.lemmas.List.{length-append}
 use Rattle.std.proofs.lemmas.Result.{err_from_is_err_and}

@@ -13,16 +13,10 @@ returns-in-Err-clause-err g c =
     let refused : IsRefused block c.in-Err.inside c.in-Err.fault = search rules in
     rw (c.of_segment.ensures) (block_refused c.args.self.now.segments.items block c.args.self.now.offset c.in-Err.inside c.in-Err.fault at refused)
 
-pub returns-in_err-extend_from_slice-clause-err : goal.returns-in_err-extend_from_slice-clause-err
-returns-in_err-extend_from_slice-clause-err g c =
-    let at = c.requires.gathered in
-    let p = err_from_is_err_and c.from_residual.result c.from_residual.ensures.1 in
-    rw (p.1, p.2) (memory_refused c.args.self.now.segments.items c.args.self.now.block.items at.fits at.some)
-
 pub returns-in_err-append-clause-err : goal.returns-in_err-append-clause-err
 returns-in_err-append-clause-err g c =
     let at = c.requires.gathered in
-    let p = err_from_is_err_and c.from_residual-in_err-append.result c.from_residual-in_err-append.ensures.1 in
+    let p = err_from_is_err_and c.from_residual.result c.from_residual.ensures.1 in
     rw (p.1, p.2) (memory_refused c.args.self.now.segments.items c.args.self.now.block.items at.fits at.some)
 
 pub returns-clause-ok : goal.returns-clause-ok
@@ -32,6 +26,5 @@ returns-clause-ok g c =
     let split : Splits block found.0.items found.1.now × IsRest found.1.now = search rules in
     let items : c.append.new.self.items ≡ c.args.self.now.segments.items ++ found.0.items = grind (arith, common_steps) in
     let len : c.len.result ≡ length block = grind (arith, common_steps) in
-    let rest : c.extend_from_slice-2.new.self.items ≡ found.1.now = grind (arith, common_steps) in
-    rw (items, len, rest) (block_decoded c.args.self.now.segments.items found.0.items block found.1.now c.args.self.now.offset
+    rw (items, len) (block_decoded c.args.self.now.segments.items found.0.items block found.1.now c.args.self.now.offset
     c.requires.gathered split.0 split.1)

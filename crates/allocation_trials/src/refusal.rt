@@ -22,7 +22,7 @@ use htl_case::{CaseFault, PlayFault};
 use htl_command::ParseFault;
 use htl_event::NoMemory;
 use htl_exchange::{StartFault, SurveyFault};
-use htl_main::RunFault;
+use htl_main::{Refused, RunFault};
 use htl_samples::SampleFault;
 use htl_segment::{Fault, HexFault};
 use htl_symbols::SymbolFault;
@@ -194,5 +194,14 @@ impl From<RunFault> for Refusal {
 
     fn from(fault: RunFault) -> Refusal {
         Refusal::of(fault == RunFault::Memory || fault == RunFault::NoThread)
+    }
+}
+
+impl From<Refused> for Refusal {
+    ghost from_gives = { λ refused refusal. IsOutOfMemory refusal
+        ↔ ((refused.fault ≡ runs.Memory) ⊎ (refused.fault ≡ runs.NoThread)) };
+
+    fn from(refused: Refused) -> Refusal {
+        Refusal::from(refused.fault)
     }
 }

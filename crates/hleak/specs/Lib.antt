@@ -5,4 +5,5 @@ pub mod Notes
 pub mod Openings
 pub mod Stages
 pub mod Subjects
+pub mod Sides
 pub mod Words

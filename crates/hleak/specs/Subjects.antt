@@ -4,8 +4,8 @@ use Rattle.std.specs.Option.{option_map_or}
 use Rattle.htl_main.specs.declared.fault.RunFault.{RunFault}
 use Rattle.htl_main.specs.declared.fault.RunFault.TheVariants.{Segment, Hex, Text, Symbols, Read}
 use Rattle.htl_main.specs.declared.fault.RunFault.TheVariants.{SymbolsRead, Write}
-use Rattle.hleak.specs.declared.explanation.Task.{Task}
-use Rattle.hleak.specs.declared.explanation.Task.TheVariants.{Answer, Convert}
+use Rattle.hleak.specs.declared.task.Task.{Task}
+use Rattle.hleak.specs.declared.task.Task.TheVariants.{Answer, Convert}
 
 -- the input at a place: the file of that place, or standard input where no file is named
 abbrev pub input_name : Task → ℕ → List ℕ

@@ -1,32 +1,39 @@
 //! What a person at a terminal reads after a fault's line.
 
 ghost use Rattle.std.specs.Prelude.{◌≡◌};
-ghost use Rattle.hleak.specs.Subjects.{input_name, subject_of, symbols_name};
+ghost use Rattle.hleak.specs.Subjects.{subject_of};
 
 use crate::meaning::Meaning;
 use crate::shown::Shown;
+use crate::sides::Side;
+use crate::task::Task;
 use crate::words::FREE_MEMORY;
-use htl_command::{Asked, Conversion};
-use htl_main::{Question, RunFault};
+use htl_main::{Between, Question, RunFault};
 use std::fmt;
 
-/// A fault in words: the file that it is about, what its code means, and what to do.
+/// A fault in words: the file or the two segments that it is about, what its code means, and what to
+/// do.
 #[derive(Clone, Copy)]
 pub struct Explanation<'a> {
-    pub fault: RunFault,
     pub task: Task<'a>,
-}
-
-/// What was being done.
-#[derive(Clone, Copy)]
-pub enum Task<'a> {
-    Answer(&'a Asked),
-    Convert(&'a Conversion),
+    pub fault: RunFault,
+    /// Which two segments it is about.
+    pub between: Between,
 }
 
 impl fmt::Display for Explanation<'_> {
     fn fmt<W: fmt::Write>(&self, f: &mut fmt::Formatter<W>) -> fmt::Result {
-        write!(f, "{}: {}", Shown::name(self.subject()), self.meaning())
+        match (self.fault, self.between) {
+            (RunFault::Case(fault), Between::Two(first, second)) => {
+                let (first, second) = (
+                    Side::of(self.task, fault, first),
+                    Side::of(self.task, fault, second),
+                );
+                write!(f, "{first} and {second}")?;
+            }
+            _ => write!(f, "{}", Shown::name(self.subject()))?,
+        }
+        write!(f, ": {}", self.meaning())
     }
 }
 
@@ -89,46 +96,17 @@ impl<'a> Explanation<'a> {
         ensures { result.now ≡ subject_of self.now.task self.now.fault }
     {
         match self.fault {
-            RunFault::Segment { input, .. } => self.input(input),
-            RunFault::Hex { input, .. } => self.input(input),
-            RunFault::Text { input, .. } => self.input(input),
-            RunFault::Read { input } => self.input(input),
-            RunFault::Symbols(_) | RunFault::SymbolsRead => self.symbols(),
+            RunFault::Segment { input, .. } => self.task.input(input),
+            RunFault::Hex { input, .. } => self.task.input(input),
+            RunFault::Text { input, .. } => self.task.input(input),
+            RunFault::Read { input } => self.task.input(input),
+            RunFault::Symbols(_) | RunFault::SymbolsRead => self.task.symbols(),
             RunFault::Write => "standard output",
             RunFault::Workers
             | RunFault::Case(_)
             | RunFault::Incomplete { .. }
             | RunFault::Memory
             | RunFault::NoThread => "hleak",
-        }
-    }
-
-    /// What a person calls the input at a place.
-    fn input(&self, place: u64) -> &'a str
-        ensures { result.now ≡ input_name self.now.task place }
-    {
-        let files = match self.task {
-            Task::Answer(asked) => &asked.files,
-            Task::Convert(of) => &of.files,
-        };
-        match files.get(place as usize) {
-            Some(name) => name.as_str(),
-            None => "standard input",
-        }
-    }
-
-    /// What a person calls the table of symbols.
-    fn symbols(&self) -> &'a str
-        ensures { result.now ≡ symbols_name self.now.task }
-    {
-        match self.task {
-            Task::Answer(
-                Asked {
-                    symbols: Some(name),
-                    ..
-                },
-            ) => name.as_str(),
-            _ => "the table of symbols",
         }
     }
 }

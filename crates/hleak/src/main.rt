@@ -8,13 +8,15 @@
 //!
 //! Where standard error is a terminal, a person reads more: `progress.rt` shows how much was read,
 //! `absence.rt` says that what was asked about has no event, `note.rt` that segments are missing, and
-//! `explanation.rt` and `meaning.rt` say a fault in words, those that `words.rt` has for its code.
-//! `shown.rt` keeps control characters of names from the terminal.
+//! `explanation.rt` and `meaning.rt` say a fault in words, those that `words.rt` has for its code, of
+//! which file it is (`task.rt`) or of which two segments (`sides.rt`). `shown.rt` keeps control
+//! characters of names from the terminal.
 #![tactic(auto)]
 
 ghost use Rattle.std.specs.Prelude.{◌≡◌, ⊤, All, IfErr, IfOk, false};
 ghost use Rattle.std.specs.Process.{exit_status};
 ghost use Rattle.htl_command.specs.Refusals.{IsUsageWith};
+ghost use Rattle.htl_main.specs.Origins.{by_fault};
 ghost use Rattle.hleak.specs.Arguments.{AreArguments};
 ghost use Rattle.hleak.specs.Endings.{EndsRefusal, IsTextStatus, conversion_status, end_status};
 
@@ -30,15 +32,17 @@ mod note;
 mod opening;
 mod progress;
 mod shown;
+mod sides;
+mod task;
 mod words;
 
 use absence::Absence;
 use conversion::{Direction, converted};
 use ending::Ending;
 use explained::Explained;
-use explanation::{Explanation, Task};
+use explanation::Explanation;
 use htl_command::{Asked, Command, Conversion, ParseFault, parse};
-use htl_main::{Completed, Reading, RunFault, Source, Writing, run_from};
+use htl_main::{Between, Completed, Reading, Refused, RunFault, Source, Writing, run_from};
 use input::{Device, Input};
 use note::Note;
 use opening::{opened, symbols};
@@ -51,6 +55,7 @@ use std::process::ExitCode;
 use std::sync::Wait;
 use std::thread::Threads;
 use std::{env, io};
+use task::Task;
 
 fn main(rt: HostRuntime) -> ExitCode {
     match wanted(&rt) {
@@ -161,9 +166,9 @@ fn end(
     rt: &HostRuntime,
     asked: &Asked,
     is_watched: bool,
-    ended: Result<Completed, RunFault>,
+    ended: Result<Completed, Refused>,
 ) -> ExitCode
-    ensures { exit_status result ≡ end_status asked.now.job.exit_code ended }
+    ensures { exit_status result ≡ end_status asked.now.job.exit_code (by_fault ended) }
 {
     let ending = Ending::of(asked.job.exit_code, ended);
     if let Some(line) = ending.line {
@@ -189,15 +194,19 @@ fn end_conversion(
     };
     let _ = eprintln!(rt; "{fault}");
     if is_watched {
-        let task = Task::Convert(of);
-        let _ = eprintln!(rt; "{}", Explanation { fault, task });
+        let explanation = Explanation {
+            task: Task::Convert(of),
+            fault,
+            between: Between::Nothing,
+        };
+        let _ = eprintln!(rt; "{explanation}");
     }
     ExitCode::from(fault.status())
 }
 
 /// Writes what a person at a terminal reads after a run: what its fault means, or that what was asked
 /// about has no event, and that segments are missing.
-fn explain(rt: &HostRuntime, asked: &Asked, ended: Result<Completed, RunFault>) {
+fn explain(rt: &HostRuntime, asked: &Asked, ended: Result<Completed, Refused>) {
     match ended {
         Ok(completed) => {
             if let Some(absence) = Absence::after(asked.job.question, completed) {
@@ -207,9 +216,13 @@ fn explain(rt: &HostRuntime, asked: &Asked, ended: Result<Completed, RunFault>) 
                 let _ = eprintln!(rt; "{note}");
             }
         }
-        Err(fault) => {
-            let task = Task::Answer(asked);
-            let _ = eprintln!(rt; "{}", Explanation { fault, task });
+        Err(refused) => {
+            let explanation = Explanation {
+                task: Task::Answer(asked),
+                fault: refused.fault,
+                between: refused.between,
+            };
+            let _ = eprintln!(rt; "{explanation}");
         }
     }
 }
@@ -220,7 +233,7 @@ fn answered(
     rt: &(impl Threads + Wait + Sync),
     asked: &Asked,
     is_watched: bool,
-) -> Result<Completed, RunFault> {
+) -> Result<Completed, Refused> {
     let progress = if is_watched {
         Progress::begin(*host).ok()
     } else {
@@ -239,7 +252,7 @@ fn opened_and_run(
     rt: &(impl Threads + Wait + Sync),
     asked: &Asked,
     progress: Option<&Progress>,
-) -> Result<Completed, RunFault> {
+) -> Result<Completed, Refused> {
     let mut inputs = opened(host, &asked.files, progress)?;
     read_and_run(host, rt, asked, &mut inputs)
 }
@@ -250,7 +263,7 @@ fn read_and_run<'a>(
     rt: &(impl Threads + Wait + Sync),
     asked: &Asked,
     inputs: &mut [Reading<Input<'a, Device<'a>>>],
-) -> Result<Completed, RunFault>
+) -> Result<Completed, Refused>
     requires { All (λ input.
         ⟦<Reading<Input<'a, Device<'a>>> as Source>⟧.has_failed input ≡ false) inputs.old }
 {

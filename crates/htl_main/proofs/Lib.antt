@@ -15,3 +15,7 @@ pub mod OneCoverage
 pub mod UnfoldedLaws
 pub mod AnyEvents
 pub mod OneSource
+pub mod PartLaws
+pub mod PairLaws
+pub mod CaseRefused
+pub mod AfterDecoding

@@ -11,6 +11,7 @@ pub mod Sources
 pub mod Readings
 pub mod Dumps
 pub mod Encodings
+pub mod Origins
 pub mod Statuses
 -- What only private contracts cite.
 pub mod Faults
@@ -19,3 +20,5 @@ pub mod Reads
 pub mod Dumping
 pub mod Unfolded
 pub mod Numbers
+pub mod Parts
+pub mod Pairs

@@ -3,27 +3,27 @@
 ghost use Rattle.std.specs.Prelude.{◌≡◌, false, true, IfOk, IfErr, map};
 ghost use Rattle.htl_segment.specs.Bundles.{Splits, BundleFault};
 ghost use Rattle.htl_main.specs.Inputs.{Decodes, DecodeAll, IsReported, StopsAt};
+ghost use Rattle.htl_main.specs.Parts.{AreParts};
 
+use crate::decoded::Decoded;
 use crate::fault::RunFault;
 use htl_segment::{Segment, decode_bundle, from_hex};
 use std::alloc::Global;
 
 /// The segments of all inputs, those of the first input first. The first fault is reported.
-pub(crate) fn decode_all(
-    alloc: Global,
-    hex: bool,
-    inputs: &[Vec<u8>],
-) -> Result<Vec<Segment>, RunFault>
-    ensures ok { IfOk result (λ segments.
-        DecodeAll hex (map (λ input. input.items) inputs.now) segments.items) }
+pub(crate) fn decode_all(alloc: Global, hex: bool, inputs: &[Vec<u8>]) -> Result<Decoded, RunFault>
+    ensures ok { IfOk result (λ decoded.
+        DecodeAll hex (map (λ input. input.items) inputs.now) decoded.segments.items) }
+    ensures parts { IfOk result (λ decoded. AreParts hex (map (λ input. input.items) inputs.now)
+        decoded.segments.items decoded.parts.items) }
     ensures err { IfErr result (StopsAt hex (IsReported hex) (map (λ input. input.items) inputs.now)) }
 {
-    let mut segments = Vec::new(alloc);
+    let mut decoded = Decoded::new(alloc);
     for (place, input) in inputs.iter().enumerate() {
-        let mut more = decode_input(alloc, hex, place as u64, input)?;
-        segments.append(&mut more)?;
+        let more = decode_input(alloc, hex, place as u64, input)?;
+        decoded.add(place as u64, more)?;
     }
-    Ok(segments)
+    Ok(decoded)
 }
 
 /// The segments of the input at a place.

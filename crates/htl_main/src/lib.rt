@@ -5,32 +5,40 @@
 //! memory. `dump_from` writes the segments of sources as text, and `encode_from` those of texts as
 //! bytes.
 //!
-//! Files, in reading order: `streaming.rt` and `printing.rt` (the steps of the two runs in
-//! order), `sources.rt` and `inputs.rt` (the segments of what comes in reads and of what lies in
-//! memory), `answering.rt` (the answer over a case), `unfolded.rt` (the segments of a case as they
-//! are, which every question but that for a summary is asked), `summarizing.rt` (the sizes of a
-//! case, and its summary by workers), `coverage.rt` (how much of its trace a case has),
-//! `completed.rt` (what a run reports beside its answer), `dumping.rt` and `encoding.rt` (the runs of
-//! `dump` and `encode`), `fault.rt` (the faults, their lines and statuses), `laws.rt` (a run has one
-//! outcome, and inputs have one coverage).
+//! Files, in reading order: `streaming.rt` and `printing.rt` (the steps of the two runs in order),
+//! `sources.rt` and `inputs.rt` (the segments of what comes in reads and of what lies in memory),
+//! `decoded.rt` (which input each segment is of), `casing.rt` and `pairing.rt` (the case of all
+//! segments, or the two that a fault is about), `origin.rt` (where these came from), `answering.rt`
+//! (the answer over a case), `unfolded.rt` (the segments of a case as they are, which every
+//! question but that for a summary is asked), `summarizing.rt` (the sizes of a case, and its
+//! summary by workers), `coverage.rt` (how much of its trace a case has), `completed.rt` (what a
+//! run reports beside its answer), `dumping.rt` and `encoding.rt` (the runs of `dump` and
+//! `encode`), `fault.rt` (the faults, their lines and statuses), `refused.rt` (a fault and which
+//! two segments it is about), `laws.rt` (a run has one outcome, and inputs have one coverage).
 //!
 //! `specs/` is read in this order: `Inputs` (which segments the inputs encode, and which input is
-//! refused first), `Summaries` (what a summary says of a trace), `Coverages` (how much of its
-//! trace a case has), `Subjects` (whether what was asked about has an event), `Printed` (the lines
-//! of the answer, or the first fault in the order of a run), `Causes` and `Sources` (how a run ends
-//! for out of memory or by a failing device, and how far it reads), `Readings`, `Dumps` and
-//! `Encodings` (the same of the runs of `dump` and `encode`, and what these write).
+//! refused first), `Summaries` (what a summary says of a trace), `Coverages` (how much of its trace
+//! a case has), `Subjects` (whether what was asked about has an event), `Printed` (the lines of the
+//! answer, or the first fault in the order of a run), `Origins` (which two segments a fault is
+//! about), `Causes` and `Sources` (how a run ends for out of memory or by a failing device, and how
+//! far it reads), `Readings`, `Dumps` and `Encodings` (the same of the runs of `dump` and `encode`,
+//! and what these write).
 #![tactic(auto)]
 
 mod answering;
+mod casing;
 mod completed;
 mod coverage;
+mod decoded;
 mod dumping;
 mod encoding;
 mod fault;
 mod inputs;
 pub mod laws;
+mod origin;
+mod pairing;
 mod printing;
+mod refused;
 mod sources;
 mod streaming;
 mod summarizing;
@@ -43,5 +51,7 @@ pub use encoding::encode_from;
 pub use fault::RunFault;
 pub use htl_command::{Asked, Code, Command, Conversion, Format, Job, ParseFault, Question, parse};
 pub use htl_device::{Failed, Reading, Sink, Source, Writing};
+pub use origin::{Between, Origin};
 pub use printing::run;
+pub use refused::Refused;
 pub use streaming::run_from;

@@ -1,29 +1,33 @@
 //! The run over inputs that lie in memory, and the steps that both runs share.
 
-ghost use Rattle.std.specs.Prelude.{◌≡◌, ◌≢◌, ◌⊎◌, false, true, map, IfOk, IfErr, OnOk};
+ghost use Rattle.std.specs.Prelude.{◌≡◌, ◌≢◌, ◌⊎◌, List, false, true, map, IfOk, IfErr, OnOk};
 ghost use Rattle.std.specs.Io.KnownBytes.{Appends};
 ghost use Rattle.std.specs.Option.{option_copied};
 ghost use Rattle.htl_device.specs.Devices.{AppendsPrefix};
+ghost use Rattle.htl_segment.specs.Content.{Content};
+ghost use Rattle.htl_case.specs.Cases.{IsCaseOf};
 ghost use Rattle.htl_main.specs.Answers.{Finds, FindsIn};
 ghost use Rattle.htl_main.specs.Completeness.{IsComplete, ReportsMissing};
 ghost use Rattle.htl_main.specs.Coverages.{Covers, CoversSegments};
 ghost use Rattle.htl_main.specs.Printed.{AreAnswerLines, HasSymbols, HasSymbolFault, WorkersFit};
 ghost use Rattle.htl_main.specs.Printed.{lines_of};
 ghost use Rattle.htl_main.specs.Causes.{Prints, PrintsPart, IsCause, IsCauseAfter};
+ghost use Rattle.htl_main.specs.Origins.{IsBetween, by_fault};
 ghost use Rattle.htl_main.specs.Subjects.{ReportsSubject, has_subject as has_subject_of};
 
 use crate::answering::answer;
+use crate::casing::case_of;
 use crate::completed::{Completed, has_finding, has_subject};
 use crate::coverage::{Coverage, first_missing};
 use crate::fault::RunFault;
 use crate::inputs::decode_all;
+use crate::refused::Refused;
 use htl_case::Case;
 use htl_command::{Format, Job};
 use htl_device::{Sink, write_whole};
 use htl_event::NoMemory;
 use htl_json::json_lines;
 use htl_report::{Answer, folded, text};
-use htl_segment::Segment;
 use htl_symbols::{SymbolFault, Symbols};
 use std::alloc::Global;
 use std::sync::Wait;
@@ -46,7 +50,7 @@ pub fn run<Rt: Threads + Wait + Sync, W: Sink>(
     inputs: &[Vec<u8>],
     symbols: Option<&[u8]>,
     out: &mut W,
-) -> Result<Completed, RunFault>
+) -> Result<Completed, Refused>
     requires { W.has_failed out.old ≡ false }
     ensures ok { OnOk result (Prints job.now (map (λ input. input.items) inputs.now)
         (option_copied symbols.entry) (W.contents out.old) (W.contents out.new)) }
@@ -57,17 +61,20 @@ pub fn run<Rt: Threads + Wait + Sync, W: Sink>(
     ensures finding { IfOk result (λ completed. Finds job.now.hex
         (map (λ input. input.items) inputs.now) job.now.question completed.has_finding) }
     ensures fine { OnOk result (W.has_failed out.new ≡ false) }
-    ensures cause { IfErr result (IsCause job.now (map (λ input. input.items) inputs.now)
+    ensures cause { IfErr (by_fault result) (IsCause job.now (map (λ input. input.items) inputs.now)
         (option_copied symbols.entry)) }
-    ensures write { result ≡ Err RunFault.Write
+    ensures between { IfErr result (λ refused. IsBetween job.now.hex
+        (map (λ input. input.items) inputs.now) refused.fault refused.between) }
+    ensures write { by_fault result ≡ Err RunFault.Write
         → PrintsPart job.now (map (λ input. input.items) inputs.now)
         (option_copied symbols.entry) (W.contents out.old) (W.contents out.new)
         × (W.has_failed out.new ≡ true) }
-    ensures untouched { IfErr result (λ fault. fault ≢ RunFault.Write → out.new ≡ out.old) }
+    ensures untouched { IfErr (by_fault result) (λ fault. fault ≢ RunFault.Write → out.new ≡ out.old) }
 {
     check_workers(job.workers)?;
-    let segments = decode_all(alloc, job.hex, inputs)?;
-    let (lines, completed) = answered(alloc, job, segments, symbols)?;
+    let decoded = decode_all(alloc, job.hex, inputs)?;
+    let case = case_of(alloc, decoded)?;
+    let (lines, completed) = answered(alloc, job, &case, symbols)?;
     write_lines(out, &lines)?;
     Ok(completed)
 }
@@ -84,33 +91,36 @@ pub(crate) fn check_workers(workers: u32) -> Result<(), RunFault>
     }
 }
 
-/// The lines of the answer to the job's question over the decoded segments, and what is reported
-/// beside them.
+/// The lines of the answer to the job's question over a case, and what is reported beside them. A case
+/// with a gap is refused where the job asks for a complete one.
 #[tactic(auto, using(crate::proofs::Missing::missing_cause))]
 pub(crate) fn answered(
     alloc: Global,
     job: &Job,
-    segments: Vec<Segment>,
+    case: &Case,
     symbols: Option<&[u8]>,
 ) -> Result<(Vec<u8>, Completed), RunFault>
     requires { WorkersFit job.now.workers }
-    ensures ok { IfOk result (λ answered.
-        AreAnswerLines segments.items (option_copied symbols.entry) job.now answered.0.items) }
-    ensures coverage { IfOk result (λ answered. CoversSegments segments.items answered.1.coverage) }
-    ensures subject { IfOk result (λ answered.
-        answered.1.has_subject ≡ has_subject_of job.now.question segments.items) }
-    ensures finding { IfOk result (λ answered.
-        FindsIn segments.items job.now.question answered.1.has_finding) }
-    ensures err { IfErr result
-        (IsCauseAfter segments.items (option_copied symbols.entry) job.now) }
+    ensures ok { IfOk result (λ answered. (segments : List Content)
+        → IsCaseOf segments case.now
+        → AreAnswerLines segments (option_copied symbols.entry) job.now answered.0.items) }
+    ensures coverage { IfOk result (λ answered. (segments : List Content)
+        → IsCaseOf segments case.now → CoversSegments segments answered.1.coverage) }
+    ensures subject { IfOk result (λ answered. (segments : List Content)
+        → IsCaseOf segments case.now
+        → answered.1.has_subject ≡ has_subject_of job.now.question segments) }
+    ensures finding { IfOk result (λ answered. (segments : List Content)
+        → IsCaseOf segments case.now
+        → FindsIn segments job.now.question answered.1.has_finding) }
+    ensures err { IfErr result (λ fault. (segments : List Content) → IsCaseOf segments case.now
+        → IsCauseAfter segments (option_copied symbols.entry) job.now fault) }
 {
-    let case = Case::of(alloc, segments)?;
-    check_gaps(job.complete, &case)?;
+    check_gaps(job.complete, case)?;
     let symbols = read_symbols(alloc, symbols)?;
-    let coverage = Coverage::of(&case);
-    let answer = answer(alloc, job.question, &case, coverage)?;
+    let coverage = Coverage::of(case);
+    let answer = answer(alloc, job.question, case, coverage)?;
     let lines = lines(alloc, job, &answer, &symbols)?;
-    let has_subject = has_subject(job.question, &case);
+    let has_subject = has_subject(job.question, case);
     Ok((
         lines,
         Completed {

@@ -7,6 +7,7 @@ ghost use Rattle.htl_segment.specs.Bundles.{Splits};
 ghost use Rattle.htl_reading.specs.Sources.{IsReadToFault, read_ahead};
 ghost use Rattle.htl_reading.specs.declared.reading.TheConstants.{BLOCK_LEN};
 ghost use Rattle.htl_main.specs.Inputs.{Decodes, DecodeAll, IsReported, StopsAt};
+ghost use Rattle.htl_main.specs.Parts.{AreParts};
 ghost use Rattle.htl_main.specs.Reads.{FailsOnly, NamesOnly, NeverWrite};
 ghost use Rattle.htl_main.specs.Reads.{ReportsFailure};
 ghost use Rattle.htl_main.specs.Sources.{AreReadInOrder, AreReadToFault, AreReadWithin};
@@ -14,6 +15,7 @@ ghost use Rattle.htl_main.specs.Sources.{EndsBefore, IsEndless, ReadsNoFault, Re
 ghost use Rattle.htl_main.specs.Sources.{StandsBefore};
 ghost use Rattle.htl_main.specs.Sources.{IsReportedAt, IsReportedOfSource, IsTrueAt};
 
+use crate::decoded::Decoded;
 use crate::fault::RunFault;
 use htl_device::{MAX_READS, Source, read_whole};
 use htl_reading::{decode_bundle_by, read_bundle};
@@ -29,10 +31,13 @@ pub(crate) fn read_all<Rt: Threads + Sync, R: Source>(
     hex: bool,
     workers: u32,
     sources: &mut [R],
-) -> Result<Vec<Segment>, RunFault>
+) -> Result<Decoded, RunFault>
     requires { All (λ source. R.has_failed source ≡ false) sources.old }
     ensures ok { (inputs : List (List ℕ)) → map R.remaining sources.old ≡ map Some inputs
-        → IfOk result (λ segments. DecodeAll hex inputs segments.items) }
+        → IfOk result (λ decoded. DecodeAll hex inputs decoded.segments.items) }
+    ensures parts { (inputs : List (List ℕ)) → map R.remaining sources.old ≡ map Some inputs
+        → IfOk result (λ decoded.
+        AreParts hex inputs decoded.segments.items decoded.parts.items) }
     ensures err { (inputs : List (List ℕ)) → map R.remaining sources.old ≡ map Some inputs
         → IfErr result (StopsAt hex (IsReportedAt hex (map R.remaining sources.new)
         (map R.has_ended sources.new)) inputs) }
@@ -53,12 +58,12 @@ pub(crate) fn read_all<Rt: Threads + Sync, R: Source>(
         (map R.remaining sources.new) }
     ensures no_write { NeverWrite result }
 {
-    let mut segments = Vec::new(alloc);
+    let mut decoded = Decoded::new(alloc);
     for (place, source) in sources.iter_mut().enumerate() {
-        let mut more = read_input(rt, alloc, hex, workers, place as u64, source)?;
-        segments.append(&mut more)?;
+        let more = read_input(rt, alloc, hex, workers, place as u64, source)?;
+        decoded.add(place as u64, more)?;
     }
-    Ok(segments)
+    Ok(decoded)
 }
 
 /// The segments of the source at a place.

@@ -8,14 +8,17 @@ ghost use Rattle.htl_reading.specs.declared.reading.TheConstants.{BLOCK_LEN};
 ghost use Rattle.htl_main.specs.Answers.{Finds};
 ghost use Rattle.htl_main.specs.Causes.{Prints, PrintsPart};
 ghost use Rattle.htl_main.specs.Coverages.{Covers};
+ghost use Rattle.htl_main.specs.Origins.{IsBetween, by_fault};
 ghost use Rattle.htl_main.specs.Sources.{AreReadInOrder, AreReadToFault, AreReadWithin};
 ghost use Rattle.htl_main.specs.Sources.{EndsBefore, IsEndless, IsSourcesCause, IsTrueAt};
 ghost use Rattle.htl_main.specs.Sources.{ReadsNoFault, ReportsFailed};
 ghost use Rattle.htl_main.specs.Subjects.{ReportsSubject};
 
+use crate::casing::case_of;
 use crate::completed::Completed;
 use crate::fault::RunFault;
 use crate::printing::{answered, check_workers, write_lines};
+use crate::refused::Refused;
 use crate::sources::read_all;
 use htl_command::Job;
 use htl_device::{Sink, Source};
@@ -37,7 +40,7 @@ pub fn run_from<Rt: Threads + Wait + Sync, R: Source, W: Sink>(
     inputs: &mut [R],
     symbols: Option<&[u8]>,
     out: &mut W,
-) -> Result<Completed, RunFault>
+) -> Result<Completed, Refused>
     requires inputs { All (λ source. R.has_failed source ≡ false) inputs.old }
     requires out { W.has_failed out.old ≡ false }
     // What the sources' bytes come to is printed, or reported.
@@ -53,37 +56,42 @@ pub fn run_from<Rt: Threads + Wait + Sync, R: Source, W: Sink>(
         → IfOk result (λ completed. Finds job.now.hex texts job.now.question completed.has_finding) }
     ensures fine { OnOk result (W.has_failed out.new ≡ false) }
     ensures cause { (texts : List (List ℕ)) → map R.remaining inputs.old ≡ map Some texts
-        → IfErr result (IsSourcesCause job.now texts (map R.remaining inputs.new)
+        → IfErr (by_fault result) (IsSourcesCause job.now texts (map R.remaining inputs.new)
         (map R.has_ended inputs.new) (option_copied symbols.entry)) }
     ensures write { (texts : List (List ℕ)) → map R.remaining inputs.old ≡ map Some texts
-        → result ≡ Err RunFault.Write
+        → by_fault result ≡ Err RunFault.Write
         → PrintsPart job.now texts (option_copied symbols.entry)
         (W.contents out.old) (W.contents out.new) }
-    ensures failed { result ≡ Err RunFault.Write → W.has_failed out.new ≡ true }
+    // Where a fault is about two segments, they are named.
+    ensures between { (texts : List (List ℕ)) → map R.remaining inputs.old ≡ map Some texts
+        → IfErr result (λ refused.
+        IsBetween job.now.hex texts refused.fault refused.between) }
+    ensures failed { by_fault result ≡ Err RunFault.Write → W.has_failed out.new ≡ true }
     // Each source is read to its end before the next.
     ensures ended { OnOk result (All (λ source. R.has_ended source ≡ true) inputs.new) }
     ensures in_order { AreReadInOrder R.has_ended inputs.old inputs.new }
     // A read that failed is reported, and reported only then or after too many reads. Several workers
     // may find a fault of the bytes before it first, and report that.
     ensures reported { ReportsFailed job.now.hex job.now.workers (map R.has_failed inputs.new)
-        (map R.remaining inputs.old) (map R.remaining inputs.new) result }
-    ensures read { (place : ℕ) → result ≡ Err (RunFault.Read place)
+        (map R.remaining inputs.old) (map R.remaining inputs.new) (by_fault result) }
+    ensures read { (place : ℕ) → by_fault result ≡ Err (RunFault.Read place)
         → IsTrueAt (map R.has_failed inputs.new) place
         ⊎ IsEndless (map R.good_reads inputs.new) (map R.remaining inputs.old) place }
-    ensures no_fault { (place : ℕ) → result ≡ Err (RunFault.Read place) → job.now.hex ≡ false
+    ensures no_fault { (place : ℕ) → by_fault result ≡ Err (RunFault.Read place) → job.now.hex ≡ false
         → ReadsNoFault (map R.remaining inputs.old) (map R.remaining inputs.new) place }
     ensures bounded { AreReadWithin (map R.good_reads inputs.old) (map R.good_reads inputs.new) }
     // A fault ends the reading.
-    ensures unread { IfErr result (λ fault. (place : ℕ) → EndsBefore fault place
+    ensures unread { IfErr (by_fault result) (λ fault. (place : ℕ) → EndsBefore fault place
         → slice_get inputs.new place ≡ slice_get inputs.old place) }
     ensures to_fault { job.now.hex ≡ false
         → AreReadToFault (read_ahead job.now.workers BLOCK_LEN) (map R.remaining inputs.old)
         (map R.remaining inputs.new) }
-    ensures untouched { IfErr result (λ fault. fault ≢ RunFault.Write → out.new ≡ out.old) }
+    ensures untouched { IfErr (by_fault result) (λ fault. fault ≢ RunFault.Write → out.new ≡ out.old) }
 {
     check_workers(job.workers)?;
-    let segments = read_all(rt, alloc, job.hex, job.workers, inputs)?;
-    let (lines, completed) = answered(alloc, job, segments, symbols)?;
+    let decoded = read_all(rt, alloc, job.hex, job.workers, inputs)?;
+    let case = case_of(alloc, decoded)?;
+    let (lines, completed) = answered(alloc, job, &case, symbols)?;
     write_lines(out, &lines)?;
     Ok(completed)
 }

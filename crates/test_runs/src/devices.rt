@@ -6,7 +6,7 @@ use crate::pieces::Pieces;
 use crate::printed::{OUTSTANDING, bundles, over_bytes, refusal};
 use crate::rows::{PRINTED, Printed, STORED, STORED_COMPLETED, STORED_TEXT};
 use htl_command::Job;
-use htl_main::{Completed, Reading, RunFault, Source, Writing, run_from};
+use htl_main::{Completed, Reading, Refused, RunFault, Source, Writing, run_from};
 use htl_segment::{Fault, from_hex};
 use std::alloc::Global;
 use std::io;
@@ -52,7 +52,7 @@ fn printed_from<'a>(
     job: &Job,
     sources: &mut [Reading<Pieces<'a>>],
     symbols: Option<&str>,
-) -> (Vec<u8>, Result<Completed, RunFault>)
+) -> (Vec<u8>, Result<Completed, Refused>)
     requires { All (λ source. ⟦<Reading<Pieces<'a>> as Source>⟧.has_failed source ≡ false)
         sources.old }
 {
@@ -126,7 +126,7 @@ fn refused_from(
     };
     let mut sources = [Reading::new(first), Reading::new(second)];
     let (written, ended) = printed_from(rt, alloc, &job, &mut sources, None);
-    refusal(&written, ended)
+    Ok(refusal(&written, ended)?.fault)
 }
 
 #[test]
@@ -210,7 +210,7 @@ fn printed_into(
     alloc: Global,
     piece: usize,
     most: usize,
-) -> Result<(Vec<u8>, Result<Completed, RunFault>), Fail> {
+) -> Result<(Vec<u8>, Result<Completed, Refused>), Fail> {
     let bytes = stored(alloc)?;
     let mut sources = [Reading::new(Pieces::new(&bytes, 7, 10_000))];
     let mut narrow = Narrow {
@@ -233,7 +233,7 @@ fn printed_into(
 fn reports_failed_writes(rt: HostRuntime) -> Result<(), Fail> {
     for (piece, most, went) in [(10, 10, "outstandin"), (0, 10, ""), (1, 0, "")] {
         let (held, ended) = printed_into(&rt, rt.alloc(), piece, most)?;
-        assert_eq!(rt; ended, Err(RunFault::Write));
+        assert_eq!(rt; ended, Err(RunFault::Write.into()));
         assert_eq!(rt; held.as_slice(), went.as_bytes());
     }
     Ok(())

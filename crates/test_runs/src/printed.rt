@@ -2,7 +2,7 @@
 
 use crate::rows::{PRINTED, Printed, REFUSED, Refused, STORED, STORED_COMPLETED, STORED_TEXT};
 use htl_command::{Format, Job, Question};
-use htl_main::{Completed, RunFault, Writing, run};
+use htl_main::{Between, Completed, Origin, Refused as Refusal, RunFault, Writing, run};
 use htl_samples::TRACE;
 use htl_segment::encode;
 use std::alloc::Global;
@@ -53,7 +53,7 @@ pub fn printed(
     job: &Job,
     inputs: &[Vec<u8>],
     symbols: Option<&str>,
-) -> (Vec<u8>, Result<Completed, RunFault>) {
+) -> (Vec<u8>, Result<Completed, Refusal>) {
     let mut written = Vec::new(alloc);
     let symbols = symbols.map(|text| text.as_bytes());
     let ended = run(
@@ -84,8 +84,8 @@ fn printed_row(
     Ok(written)
 }
 
-/// The fault of a run that writes nothing.
-pub fn refusal(written: &[u8], ended: Result<Completed, RunFault>) -> Result<RunFault, Fail> {
+/// The refusal of a run that writes nothing.
+pub fn refusal(written: &[u8], ended: Result<Completed, Refusal>) -> Result<Refusal, Fail> {
     if !written.is_empty() {
         return Err("something was written".into());
     }
@@ -132,7 +132,7 @@ fn refused_row(
         ..over_bytes(OUTSTANDING)
     };
     let (written, ended) = printed(rt, alloc, &job, &inputs, row.symbols);
-    refusal(&written, ended)
+    Ok(refusal(&written, ended)?.fault)
 }
 
 /// Lines of segments, a question, and whether its answer finds something. Tags alone have a row that
@@ -191,12 +191,12 @@ fn refuses_with_a_line_and_a_status(rt: HostRuntime) -> Result<(), Fail> {
     Ok(())
 }
 
-/// The fault of a run over inputs that are given by lines. Its symbols have a fault too.
+/// The refusal of a run over inputs that are given by lines. Its symbols have a fault too.
 fn refused_lines(
     rt: &(impl Threads + Wait + Sync),
     alloc: Global,
     inputs: &[&str],
-) -> Result<RunFault, Fail> {
+) -> Result<Refusal, Fail> {
     let inputs = bundles(alloc, inputs)?;
     let (written, ended) = printed(rt, alloc, &over_bytes(OUTSTANDING), &inputs, Some(""));
     refusal(&written, ended)
@@ -204,20 +204,42 @@ fn refused_lines(
 
 #[test]
 fn refuses_what_is_no_case(rt: HostRuntime) -> Result<(), Fail> {
-    let table: [(&[&str], &str); 5] = [
-        (&[], "hleak: case: C1"),
-        (&["0/3: O 1 0x44", "0/3: O 2 0x44"], "hleak: case: C4(0, 3)"),
-        (&["0/0: O 1 0x44; 0/1: O 1 0x48"], "hleak: case: C5(1)"),
+    let nothing = Between::Nothing;
+    let table: [(&[&str], &str, Between); 5] = [
+        (&[], "hleak: case: C1", nothing),
         (
-            &["0/0: O 5 0x44; 0/1:; 0/2: O 4 0x48"],
-            "hleak: case: C7(0, 2)",
+            &["0/3: O 1 0x44", "", "0/2:; 0/3: O 2 0x44"],
+            "hleak: case: C4(0, 3)",
+            Between::Two(origin(0, 3), origin(2, 3)),
         ),
-        (&["", ""], "hleak: case: C1"),
+        (
+            &["0/0: O 1 0x44; 0/1: O 1 0x48"],
+            "hleak: case: C5(1)",
+            Between::Two(origin(0, 0), origin(0, 1)),
+        ),
+        (
+            &["0/0: O 5 0x44; 0/1:", "0/2: O 4 0x48"],
+            "hleak: case: C7(0, 2)",
+            Between::Two(origin(1, 2), origin(0, 0)),
+        ),
+        (&["", ""], "hleak: case: C1", nothing),
     ];
-    for (inputs, line) in table {
-        let fault = refused_lines(&rt, rt.alloc(), inputs)?;
-        assert_eq!(rt; fault.to_string(rt.alloc())?.as_str(), line);
-        assert_eq!(rt; fault.status(), 4);
+    for (inputs, line, between) in table {
+        let refused = refused_lines(&rt, rt.alloc(), inputs)?;
+        assert_eq!(rt; refused.to_string(rt.alloc())?.as_str(), line);
+        assert_eq!(rt; refused.fault.status(), 4);
+        assert_eq!(rt; refused.between, between);
     }
     Ok(())
+}
+
+/// That of segment `number` of processor 0, of an input.
+fn origin(input: u64, number: u32) -> Origin {
+    Origin {
+        input,
+        trace_id: TRACE.id,
+        processors: TRACE.processors,
+        processor: 0,
+        number,
+    }
 }

@@ -4,7 +4,7 @@ use crate::commands::{COMMANDS, COMPLETED, Command, INPUTS, SYMBOLS, bytes_of};
 use crate::pieces::Pieces;
 use crate::printed::over_bytes;
 use htl_command::Job;
-use htl_main::{Completed, Reading, RunFault, Writing, run_from};
+use htl_main::{Completed, Reading, Refused, RunFault, Writing, run_from};
 use htl_samples::SampleFault;
 use std::alloc::Global;
 use std::process::Abort;
@@ -37,7 +37,7 @@ impl<'a> Sources<'a> {
         alloc: Global,
         job: &Job,
         reads: usize,
-    ) -> (Vec<u8>, Result<Completed, RunFault>) {
+    ) -> (Vec<u8>, Result<Completed, Refused>) {
         let reads_left = reads.saturating_sub(self.reads_of(self.first));
         let mut sources = [
             Reading::new(self.source(self.first, reads)),
@@ -70,7 +70,7 @@ fn fail_reads(
     for read in 0..reads {
         let input = if read < reads_of_first { 0 } else { 1 };
         let (written, ended) = sources.run(rt, alloc, job, read);
-        assert_eq!(rt; ended, Err(RunFault::Read { input }), "read {read}");
+        assert_eq!(rt; ended, Err(RunFault::Read { input }.into()), "read {read}");
         assert!(rt; written.is_empty(), "read {read}");
     }
     let (written, ended) = sources.run(rt, alloc, job, reads);

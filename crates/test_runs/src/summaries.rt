@@ -151,7 +151,7 @@ fn refuses_gaps_before_faulty_symbols(rt: HostRuntime) -> Result<(), Fail> {
         let (written, ended) = printed(&rt, rt.alloc(), &job, &inputs, symbols);
         match row.missing {
             Some(line) => {
-                let fault = refusal(&written, ended)?;
+                let fault = refusal(&written, ended)?.fault;
                 assert_eq!(rt; fault.to_string(rt.alloc())?.as_str(), line);
                 assert_eq!(rt; fault.status(), 4);
             }

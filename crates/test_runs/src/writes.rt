@@ -2,7 +2,7 @@
 
 use crate::commands::{COMMANDS, COMPLETED, Command, INPUTS, SYMBOLS, bytes_of};
 use crate::printed::over_bytes;
-use htl_main::{Completed, RunFault, Writing, run};
+use htl_main::{Completed, Refused, RunFault, Writing, run};
 use std::alloc::Global;
 use std::io;
 use std::io::Write;
@@ -55,7 +55,7 @@ fn run_into(
     command: Command,
     inputs: &[Vec<u8>],
     mut narrow: Narrow,
-) -> (Vec<u8>, Result<Completed, RunFault>) {
+) -> (Vec<u8>, Result<Completed, Refused>) {
     let job = over_bytes(command.question);
     let ended = run(
         rt,
@@ -88,7 +88,7 @@ fn fail_writes(
             failure,
         };
         let (held, ended) = run_into(rt, alloc, command, inputs, narrow);
-        assert_eq!(rt; ended, Err(RunFault::Write), "write {writes}");
+        assert_eq!(rt; ended, Err(RunFault::Write.into()), "write {writes}");
         let went = writes.saturating_mul(piece);
         assert_eq!(rt; Some(held.as_slice()), text.get(..went), "write {writes}");
         writes = writes.wrapping_add(1);

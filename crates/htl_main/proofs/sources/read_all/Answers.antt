@@ -32,7 +32,7 @@ returns-in_err-more-clause-err g c =
       place = place;
       input = knows.input;
       here = knows.here;
-      segments = c.loop-place.segments.items;
+      segments = c.loop-place.decoded.segments.items;
       before = inv.decoded inputs all;
       reported = (
         g.R.Source.remaining new,
@@ -44,16 +44,16 @@ returns-in_err-more-clause-err g c =
       );
     }
 
-pub returns-in_err-append-clause-err : goal.returns-in_err-append-clause-err
-returns-in_err-append-clause-err g c =
-    let p = err_from_is_err_and c.from_residual-in_err-append.result c.from_residual-in_err-append.ensures.1 in
+pub returns-in_err-add-clause-err : goal.returns-in_err-add-clause-err
+returns-in_err-add-clause-err g c =
+    let p = err_from_is_err_and c.from_residual-in_err-add.result c.from_residual-in_err-add.ensures.1 in
     let inv = c.loop-place.invariant in
     let place = c.loop-place.place in
     let more = c.in_ok-more.more.items in
     let within : place < length c.loop-place.sources = omega arith in
     let source = get_or c.loop-place.sources place c.index-sources-place.result in
     let here = slice_get-get_or c.loop-place.sources place c.index-sources-place.result within in
-    let some : 0 < length more = omega (arith, c.in_err-append.ensures.full) in
+    let some : 0 < length more = c.in_err-add.ensures.full in
     let new = c.read_input.new.source in
     λ inputs all.
     let knows = knows_now g.R.Source.remaining c.args.sources.now c.loop-place.sources inputs place source
@@ -62,7 +62,7 @@ returns-in_err-append-clause-err g c =
       place = place;
       input = knows.input;
       here = knows.here;
-      segments = c.loop-place.segments.items;
+      segments = c.loop-place.decoded.segments.items;
       before = inv.decoded inputs all;
       reported = (
         g.R.Source.remaining new,
@@ -143,8 +143,8 @@ returns-in_err-more-clause-to_fault g c =
     (inv.to_fault bytes) (known_now g.R.Source.remaining c.args.sources.now c.loop-place.sources place source
     (inv.left place (omega arith)) here) (c.in_err-more.ensures.to_fault bytes)
 
-pub returns-in_err-append-clause-to_fault : goal.returns-in_err-append-clause-to_fault
-returns-in_err-append-clause-to_fault g c =
+pub returns-in_err-add-clause-to_fault : goal.returns-in_err-add-clause-to_fault
+returns-in_err-add-clause-to_fault g c =
     let inv = c.loop-place.invariant in
     let place = c.loop-place.place in
     let within : place < length c.loop-place.sources = omega arith in
@@ -156,8 +156,8 @@ returns-in_err-append-clause-to_fault g c =
     (inv.to_fault bytes) (known_now g.R.Source.remaining c.args.sources.now c.loop-place.sources place source
     (inv.left place (omega arith)) here) (c.in_ok-more.ensures.to_fault bytes)
 
-pub returns-in_err-append-clause-reported : goal.returns-in_err-append-clause-reported
-returns-in_err-append-clause-reported g c =
+pub returns-in_err-add-clause-reported : goal.returns-in_err-add-clause-reported
+returns-in_err-add-clause-reported g c =
     λ place failed.
     let new = true_of_new g.R.Source.has_failed c.loop-place.sources c.loop-place.place place c.read_input.new.source
     c.loop-place.invariant.fine failed in
@@ -180,8 +180,8 @@ returns-in_err-more-clause-in_order g c =
     let inv = c.loop-place.invariant in
     stopped_at g.R.Source.has_ended c.args.sources.now c.loop-place.sources c.loop-place.place c.read_input.new.source inv.ended inv.left
 
-pub returns-in_err-append-clause-bounded : goal.returns-in_err-append-clause-bounded
-returns-in_err-append-clause-bounded g c =
+pub returns-in_err-add-clause-bounded : goal.returns-in_err-add-clause-bounded
+returns-in_err-add-clause-bounded g c =
     let inv = c.loop-place.invariant in
     let place = c.loop-place.place in
     let within : place < length c.loop-place.sources = omega arith in
@@ -192,8 +192,8 @@ returns-in_err-append-clause-bounded g c =
     (inv.left place (omega arith)) here)
     c.in_ok-more.ensures.bounded
 
-pub returns-in_err-append-clause-in_order : goal.returns-in_err-append-clause-in_order
-returns-in_err-append-clause-in_order g c =
+pub returns-in_err-add-clause-in_order : goal.returns-in_err-add-clause-in_order
+returns-in_err-add-clause-in_order g c =
     let inv = c.loop-place.invariant in
     stopped_at g.R.Source.has_ended c.args.sources.now c.loop-place.sources c.loop-place.place c.read_input.new.source inv.ended inv.left
 
@@ -212,7 +212,8 @@ loop-place-init g c = record {
   left = λ k above. refl;
   ended = λ k below. absurd (omega (arith, below));
   fine = c.requires;
-  decoded = λ inputs all. c.new-segments.ensures.items;
+  decoded = λ inputs all. c.new-decoded.ensures.segments;
+  parts = λ inputs all. c.new-decoded.ensures.parts c.args.hex inputs;
   bounded = none_read_within (map g.R.Source.good_reads c.args.sources.now);
   to_fault = λ bytes. none_read (read_ahead c.args.workers BLOCK_LEN) (map g.R.Source.remaining c.args.sources.now);
 }
@@ -236,10 +237,15 @@ loop-place-preserved g c =
       decoded = λ inputs all.
           let knows = knows_now g.R.Source.remaining c.args.sources.now c.loop-place.sources inputs place source
           (inv.left place (omega arith)) here all in
-          rw (c.in_ok-append.ensures.items) (decode_next c.args.hex inputs place knows.input c.loop-place.segments.items
+          rw (c.in_ok-add.ensures.segments) (decode_next c.args.hex inputs place knows.input c.loop-place.decoded.segments.items
           c.in_ok-more.more.items knows.here (inv.decoded inputs all) (at_known inputs place
           (g.R.Source.remaining source) (λ bytes. Decodes c.args.hex bytes c.in_ok-more.more.items) knows
           c.in_ok-more.ensures.ok));
+      parts = λ inputs all.
+          let knows = knows_now g.R.Source.remaining c.args.sources.now c.loop-place.sources inputs place source
+          (inv.left place (omega arith)) here all in
+          c.in_ok-add.ensures.parts c.args.hex inputs knows.input knows.here (at_known inputs place (g.R.Source.remaining source)
+          (λ bytes. Decodes c.args.hex bytes c.in_ok-more.more.items) knows c.in_ok-more.ensures.ok) (inv.parts inputs all);
       bounded = one_read_within g.R.Source.good_reads (map g.R.Source.good_reads c.args.sources.now) c.loop-place.sources place source
           c.read_input.new.source within inv.bounded (known_now g.R.Source.good_reads c.args.sources.now c.loop-place.sources place
           source (inv.left place (omega arith)) here) c.in_ok-more.ensures.bounded;

@@ -1,0 +1,72 @@
+//! The two segments that a fault is about, as a person finds them.
+
+ghost use Rattle.std.specs.Prelude.{◌≡◌};
+ghost use Rattle.hleak.specs.Subjects.{input_name};
+ghost use Rattle.hleak.specs.Sides.{sign_of};
+
+use crate::shown::Shown;
+use crate::task::Task;
+use htl_case::CaseFault;
+use htl_main::Origin;
+use std::fmt;
+
+/// What tells a segment from the one that a fault sets against it.
+#[derive(Clone, Copy, Debug, PartialEq, Eq)]
+pub enum Sign {
+    Trace(u64),
+    Processors(u16),
+    Key { processor: u16, number: u32 },
+}
+
+impl Sign {
+    fn of(fault: CaseFault, origin: Origin) -> Sign
+        ensures { result ≡ sign_of fault origin }
+    {
+        match fault {
+            CaseFault::OtherTrace(_) => Sign::Trace(origin.trace_id),
+            CaseFault::OtherProcessors(_) => Sign::Processors(origin.processors),
+            _ => Sign::Key {
+                processor: origin.processor,
+                number: origin.number,
+            },
+        }
+    }
+}
+
+impl fmt::Display for Sign {
+    fn fmt<W: fmt::Write>(&self, f: &mut fmt::Formatter<W>) -> fmt::Result {
+        match *self {
+            Sign::Trace(id) => write!(f, "trace 0x{id:016x}"),
+            Sign::Processors(1) => f.write_str("1 processor"),
+            Sign::Processors(count) => write!(f, "{count} processors"),
+            Sign::Key { processor, number } => {
+                write!(f, "processor {processor}, segment {number}")
+            }
+        }
+    }
+}
+
+/// A segment that a fault is about: its file, and what tells it from the other one.
+#[derive(Clone, Copy)]
+pub struct Side<'a> {
+    file: &'a str,
+    sign: Sign,
+}
+
+impl<'a> Side<'a> {
+    pub fn of(task: Task<'a>, fault: CaseFault, origin: Origin) -> Side<'a>
+        ensures file { result.file.now ≡ input_name task.entry origin.input }
+        ensures sign { result.sign ≡ sign_of fault origin }
+    {
+        Side {
+            file: task.input(origin.input),
+            sign: Sign::of(fault, origin),
+        }
+    }
+}
+
+impl fmt::Display for Side<'_> {
+    fn fmt<W: fmt::Write>(&self, f: &mut fmt::Formatter<W>) -> fmt::Result {
+        write!(f, "{} ({})", Shown::name(self.file), self.sign)
+    }
+}

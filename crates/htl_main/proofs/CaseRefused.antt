@@ -1,0 +1,45 @@
+-- A fault of all segments as one of the run, and that no other fault is about two segments.
+use Rattle.std.proofs.Common.{◌≡◌, ℕ, Bool, List, Option, refl, inl, inr}
+use Rattle.std.specs.Prelude.{Err}
+use Rattle.htl_segment.specs.Content.{Content}
+use Rattle.htl_segment.specs.Traces.{Trace}
+use Rattle.htl_case.specs.Cases.{IsCaseOf}
+use Rattle.htl_case.specs.Faults.{IsRefusal}
+use Rattle.htl_case.specs.declared.fault.CaseFault.{CaseFault}
+use Rattle.htl_case.specs.declared.fault.CaseFault.TheVariants.{NoMemory}
+use Rattle.htl_case.proofs.Outcomes.{exact_case}
+use Rattle.htl_command.specs.declared.question.Job.{Job}
+use Rattle.htl_main.specs.Faults.{of_case}
+use Rattle.htl_main.specs.Causes.{IsCauseAfter}
+use Rattle.htl_main.specs.Inputs.{DecodeAll}
+use Rattle.htl_main.specs.Origins.{IsBetween, IsBetweenOf}
+use Rattle.htl_main.specs.declared.fault.RunFault.{RunFault}
+use Rattle.htl_main.specs.declared.fault.RunFault.TheVariants.{Case}
+use Rattle.htl_main.specs.declared.origin.Between.{Between}
+use Rattle.htl_main.specs.declared.origin.Between.TheVariants.{Nothing, Two, Unknown}
+
+pub cause_of_case : (segments : List Content) (fault : CaseFault) → IsRefusal segments fault
+    → (symbols : Option (List ℕ)) (job : Job) → IsCauseAfter segments symbols job (of_case fault)
+cause_of_case segments NoMemory refusal symbols job = inl refusal
+cause_of_case segments fault refusal symbols job = ((λ same. cc), refusal)
+
+no_memory_between : (hex : Bool) (inputs : List (List ℕ)) (segments : List Content) (between : Between)
+    → IsBetweenOf hex inputs segments NoMemory between → between ≡ Nothing
+no_memory_between hex inputs segments Nothing is = refl
+no_memory_between hex inputs segments (Two first second) is = absurd is.broken
+no_memory_between hex inputs segments Unknown is = absurd cc
+
+pub between_of_case : (hex : Bool) (inputs : List (List ℕ)) (segments : List Content) (fault : CaseFault) (between : Between)
+    → DecodeAll hex inputs segments → IsBetweenOf hex inputs segments fault between → IsBetween hex inputs (of_case fault) between
+between_of_case hex inputs segments NoMemory between decoded is = no_memory_between hex inputs segments between is
+between_of_case hex inputs segments fault between decoded is = (segments, decoded, is)
+
+-- what ends a run after the case was made is about no two segments
+pub none_after : (hex : Bool) (all : List (List ℕ)) (segments : List Content) (T : Trace) (symbols : Option (List ℕ)) (job : Job)
+    (fault : RunFault) → IsCaseOf segments T → IsCauseAfter segments symbols job fault
+    → IsBetween hex all fault Nothing
+none_after hex all segments T symbols job (Case fault) is cause = absurd (elim (exact_case segments T (Err fault) is cause) [
+  | inl same ↦ cc
+  | inr same ↦ cc
+])
+none_after hex all segments T symbols job fault is cause = refl

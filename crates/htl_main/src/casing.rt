@@ -1,0 +1,102 @@
+//! The case of decoded segments, or which two of them are against it.
+
+ghost use Rattle.std.specs.Prelude.{◌≡◌, ℕ, Bool, List, Option, IfOk, IfErr, IfNone, IfSome};
+ghost use Rattle.std.specs.Prelude.{Some, slice_get};
+ghost use Rattle.htl_segment.specs.Content.{Content};
+ghost use Rattle.htl_case.specs.Cases.{IsCaseOf};
+ghost use Rattle.htl_case.specs.Faults.{IsRefusal};
+ghost use Rattle.htl_command.specs.declared.question.Job.{Job};
+ghost use Rattle.htl_main.specs.Causes.{IsCauseAfter};
+ghost use Rattle.htl_main.specs.Inputs.{DecodeAll};
+ghost use Rattle.htl_main.specs.Origins.{IsBetween, IsBetweenOf, IsOriginOf};
+ghost use Rattle.htl_main.specs.Parts.{AreParts};
+
+use crate::decoded::{Decoded, Part, part_at};
+use crate::fault::RunFault;
+use crate::origin::{Between, Origin};
+use crate::pairing::pair;
+use crate::refused::Refused;
+use htl_case::{Case, CaseFault};
+use htl_event::NoMemory;
+use htl_segment::Segment;
+use std::alloc::Global;
+
+/// The case of decoded segments. Since a refusal drops them, copies are kept until then, which take 32
+/// bytes a segment. Where memory for these is refused, the case or the fault is the same.
+#[tactic(auto, using(crate::proofs::CaseRefused::cause_of_case))]
+pub(crate) fn case_of(alloc: Global, decoded: Decoded) -> Result<Case, Refused>
+    ensures ok { IfOk result (IsCaseOf decoded.segments.items) }
+    ensures err { IfErr result (λ refused.
+        (symbols : Option (List ℕ)) (job : Job)
+        → IsCauseAfter decoded.segments.items symbols job refused.fault) }
+    ensures between { IfErr result (λ refused. (hex : Bool) (inputs : List (List ℕ))
+        → DecodeAll hex inputs decoded.segments.items
+        → AreParts hex inputs decoded.segments.items decoded.parts.items
+        → IsBetween hex inputs refused.fault refused.between) }
+{
+    let Decoded { segments, parts } = decoded;
+    let kept = copies(alloc, &segments);
+    match Case::of(alloc, segments) {
+        Ok(case) => Ok(case),
+        Err(fault) => Err(Refused {
+            fault: RunFault::from(fault),
+            between: match kept {
+                Ok(kept) => between(&kept, &parts, fault),
+                Err(_) => unknown(fault),
+            },
+        }),
+    }
+}
+
+/// The same segments, in the same memory.
+fn copies(alloc: Global, segments: &[Segment]) -> Result<Vec<Segment>, NoMemory>
+    ensures { IfOk result (λ copies. copies.items ≡ segments.now) }
+{
+    let mut copies = Vec::with_capacity(alloc, segments.len())?;
+    for segment in segments {
+        copies.push(segment.copy()?)?;
+    }
+    Ok(copies)
+}
+
+/// The two segments that a fault of all is about.
+fn between(segments: &[Segment], parts: &[Part], fault: CaseFault) -> Between
+    requires { IsRefusal segments.now fault }
+    ensures { (hex : Bool) (inputs : List (List ℕ)) → AreParts hex inputs segments.now parts.now
+        → IsBetweenOf hex inputs segments.now fault result }
+{
+    let Some((first, second)) = pair(segments, fault) else {
+        return Between::Nothing;
+    };
+    match (
+        origin(segments, parts, first),
+        origin(segments, parts, second),
+    ) {
+        (Some(first), Some(second)) => Between::Two(first, second),
+        _ => Between::Nothing,
+    }
+}
+
+/// What is known of the two segments that a fault is about, where none were kept.
+fn unknown(fault: CaseFault) -> Between
+    ensures { (hex : Bool) (inputs : List (List ℕ)) (segments : List Content)
+        → IsBetweenOf hex inputs segments fault result }
+{
+    match fault {
+        CaseFault::Empty | CaseFault::NoMemory => Between::Nothing,
+        _ => Between::Unknown,
+    }
+}
+
+/// The origin of the segment at a place.
+fn origin(segments: &[Segment], parts: &[Part], place: usize) -> Option<Origin>
+    ensures some { IfSome result (λ origin. (hex : Bool) (inputs : List (List ℕ)) (s : Content)
+        → AreParts hex inputs segments.now parts.now → slice_get segments.now place ≡ Some s
+        → IsOriginOf hex inputs s origin) }
+    ensures none { IfNone result ((hex : Bool) (inputs : List (List ℕ)) (s : Content)
+        → AreParts hex inputs segments.now parts.now → slice_get segments.now place ≡ Some s → ⊥) }
+{
+    let segment = segments.get(place)?;
+    let part = part_at(parts, place)?;
+    Some(Origin::of(part.input, segment))
+}

@@ -1,0 +1,46 @@
+//! Where segments came from, and which two of them a fault is about.
+
+use htl_segment::Segment;
+
+/// The input that a segment came from, and of which trace and which place in it the segment is.
+#[derive(Clone, Copy, Debug, PartialEq, Eq)]
+pub struct Origin {
+    /// The input, counted from 0.
+    pub input: u64,
+    pub trace_id: u64,
+    /// How many processors the trace has.
+    pub processors: u16,
+    pub processor: u16,
+    pub number: u32,
+}
+
+impl Origin {
+    ghost use Rattle.std.specs.Prelude.{◌≡◌};
+    ghost use Rattle.htl_main.specs.Origins.{IsHeaderOf};
+
+    /// That of a segment of this input.
+    pub(crate) fn of(input: u64, segment: &Segment) -> Origin
+        ensures input { result.input ≡ input }
+        ensures header { IsHeaderOf segment.now result }
+    {
+        Origin {
+            input,
+            trace_id: segment.trace_id(),
+            processors: segment.processors(),
+            processor: segment.processor(),
+            number: segment.number(),
+        }
+    }
+}
+
+/// Which two segments a fault is about.
+#[derive(Clone, Copy, Debug, PartialEq, Eq)]
+pub enum Between {
+    /// The fault is about no two segments.
+    Nothing,
+    /// The first breaks the rule that the fault names, and the second is the one against which it
+    /// does.
+    Two(Origin, Origin),
+    /// It is about two, and memory to keep the segments was refused.
+    Unknown,
+}

@@ -238,7 +238,7 @@ const CONVERTED: [(&str, bool, &[&str]); 4] = [
 ];
 
 /// Lines that are refused, and what their text names.
-const REFUSED: [(&str, &str); 78] = [
+const REFUSED: &[(&str, &str)] = &[
     // values
     (
         "bad|--process|4294967296",
@@ -479,8 +479,8 @@ fn no_words_ask_for_the_stored_job(rt: HostRuntime) {
 #[test]
 fn refused_lines_name_what_is_wrong(rt: HostRuntime) {
     for (line, named) in REFUSED {
-        let text = usage_text(&rt, rt.alloc(), line);
-        assert!(rt; text.as_str().contains(named), "of {line}: {text}");
+        let text = usage_text(&rt, rt.alloc(), *line);
+        assert!(rt; text.as_str().contains(*named), "of {line}: {text}");
         assert!(rt; text.as_str().ends_with("--help'.\n"), "of {line}: {text}");
     }
 }

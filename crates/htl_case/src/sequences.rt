@@ -21,7 +21,7 @@ pub fn repeated_sequence(alloc: Global, segments: &[Segment]) -> Result<Option<u
     ensures fit { OnOk result (All Fits segments.now) }
 {
     let mut sequences = sequences_of(alloc, segments)?;
-    sequences.sort_unstable();
+    sequences.sort()?;
     Ok(first_repeated(&sequences))
 }
 

@@ -31,8 +31,9 @@ use std::thread::Threads;
 ///
 /// A fault of a source ends the run: no later source is read, and of its own bytes, which are
 /// decoded as they come, none after the read that gave the fault, or after the block of reads that
-/// several workers decode together. They report the same fault as one worker, and a read that failed
-/// where none stands before it. A text in hexadecimal is gathered whole first.
+/// several workers decode together and the next one, which is read meanwhile. They report the same
+/// fault as one worker, and a read that failed where none stands before it. A text in hexadecimal is
+/// gathered whole first.
 pub fn run_from<Rt: Threads + Wait + Sync, R: Source, W: Sink>(
     rt: &Rt,
     alloc: Global,

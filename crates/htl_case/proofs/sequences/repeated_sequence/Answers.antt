@@ -6,10 +6,10 @@ use Rattle.htl_case.proofs.sequences.repeated_sequence.Goals as goal
 
 pub first_repeated-requires : goal.first_repeated-requires
 first_repeated-requires c =
-    rw c.deref.ensures.value (IsNonDecreasingBy-from_sort (λ (x : ℕ). x) _ c.sort_unstable.ensures.sorted)
+    rw c.deref.ensures.value (IsNonDecreasingBy-from_sort (λ (x : ℕ). x) _ c.in_ok-sort.ensures.sorted)
 
 pub returns-clause-found : goal.returns-clause-found
 returns-clause-found c =
-    told_twice c.args.segments.now c.in_ok-sequences.sequences.items c.sort_unstable.new.self.items c.first_repeated.result c.requires
-    c.in_ok-sequences.ensures.fit c.in_ok-sequences.ensures.value c.sort_unstable.ensures.permutation
+    told_twice c.args.segments.now c.in_ok-sequences.sequences.items c.sort.new.self.items c.first_repeated.result c.requires
+    c.in_ok-sequences.ensures.fit c.in_ok-sequences.ensures.value c.in_ok-sort.ensures.permutation
     (rw c.deref.ensures.value at c.first_repeated.ensures)

@@ -2,10 +2,11 @@
 
 ghost use Rattle.std.specs.Prelude.{◌≡◌, false};
 
+use crate::rows::assert_row;
 use htl_device::{Failed, ReadFault, Reading, Sink, Source, Writing, read_whole, write_whole};
+use std::alloc::Global;
 use std::io;
 use std::io::{Read, Write};
-use std::test::Fail;
 
 /// A reader over memory that gives a few bytes a read and fails at one of its calls. The next call
 /// would succeed, so that a read that is tried again silently shows.
@@ -58,55 +59,59 @@ impl Write for Narrow {
 
 const TEXT: &[u8] = b"outstanding process=4 count=0\n";
 
+/// What comes of a reader that gives so many bytes a read and fails after so many calls, and whether
+/// it failed.
+fn read_by(alloc: Global, piece: usize, calls_left: usize) -> (Result<Vec<u8>, ReadFault>, bool) {
+    let mut source = Reading::new(Pieces {
+        bytes: TEXT,
+        piece,
+        calls_left,
+    });
+    let read = read_whole(alloc, &mut source);
+    (read, source.failed())
+}
+
 #[test]
-fn reads_pieces(rt: HostRuntime) -> Result<(), Fail> {
+fn reads_pieces(rt: HostRuntime) {
     for piece in [1, 7, 65_536] {
-        let mut source = Reading::new(Pieces {
-            bytes: TEXT,
-            piece,
-            calls_left: 100,
-        });
-        assert_eq!(rt; read_whole(rt.alloc(), &mut source)?.as_slice(), TEXT);
-        assert!(rt; !source.failed());
+        let (read, failed) = read_by(rt.alloc(), piece, 100);
+        let read = read.expect(&rt, "what is read");
+        assert_row(&rt, piece, (read.as_slice(), failed), (TEXT, false));
     }
-    Ok(())
 }
 
 #[test]
 fn reports_a_failed_read(rt: HostRuntime) {
-    let mut source = Reading::new(Pieces {
-        bytes: TEXT,
-        piece: 7,
-        calls_left: 1,
-    });
-    let read = read_whole(rt.alloc(), &mut source);
-    assert!(rt; matches!(read, Err(ReadFault::Failed)));
-    assert!(rt; source.failed());
+    let (read, failed) = read_by(rt.alloc(), 7, 1);
+    assert!(rt; matches!(read, Err(ReadFault::Failed)) && failed);
+}
+
+/// What comes of a writer that takes so many bytes a write and fails when it holds `most`, whether it
+/// failed, and the bytes that it took.
+fn write_by(alloc: Global, piece: usize, most: usize) -> (Result<(), Failed>, bool, Vec<u8>) {
+    let mut narrow = Narrow {
+        held: Vec::new(alloc),
+        piece,
+        most,
+    };
+    let mut sink = Writing::new(&mut narrow);
+    let written = write_whole(&mut sink, TEXT);
+    let failed = sink.failed();
+    (written, failed, narrow.held)
 }
 
 #[test]
 fn writes_pieces(rt: HostRuntime) {
-    let mut narrow = Narrow {
-        held: Vec::new(rt.alloc()),
-        piece: 1,
-        most: 100,
-    };
-    let written = write_whole(&mut Writing::new(&mut narrow), TEXT);
-    assert_eq!(rt; written, Ok(()));
-    assert_eq!(rt; narrow.held.as_slice(), TEXT);
+    let (written, failed, held) = write_by(rt.alloc(), 1, 100);
+    let found = (written, failed, held.as_slice());
+    assert_row(&rt, "a byte a write", found, (Ok(()), false, TEXT));
 }
 
 #[test]
 fn reports_a_failed_write(rt: HostRuntime) {
     for (piece, went) in [(10, "outstandin"), (0, "")] {
-        let mut narrow = Narrow {
-            held: Vec::new(rt.alloc()),
-            piece,
-            most: 10,
-        };
-        let mut sink = Writing::new(&mut narrow);
-        assert_eq!(rt; write_whole(&mut sink, TEXT), Err(Failed));
-        assert!(rt; sink.failed());
-        assert_eq!(rt; narrow.held.as_slice(), went.as_bytes());
+        let (written, failed, held) = write_by(rt.alloc(), piece, 10);
+        let found = (written, failed, held.as_slice());
+        assert_row(&rt, piece, found, (Err(Failed), true, went.as_bytes()));
     }
 }

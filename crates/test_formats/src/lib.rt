@@ -3,7 +3,7 @@
 //!
 //! Each file tests the crate of its name by what that crate makes public: outside vectors, printed
 //! texts, faults and refused allocations. They stand here, over proved crates, so that no crate is
-//! proved a second time with its tests.
+//! proved a second time with its tests. `rows` has what tests of a table assert of each row.
 #![tactic(auto)]
 
 #[cfg(test)]
@@ -14,6 +14,8 @@ mod devices;
 mod reading;
 #[cfg(test)]
 mod reports;
+#[cfg(test)]
+mod rows;
 #[cfg(test)]
 mod samples;
 #[cfg(test)]

@@ -1,4 +1,5 @@
 //! The eight texts, and how addresses print.
+use crate::rows::assert_row;
 use htl_event::{Count, ObjectRow, ProcessRow, SharedEvent, SharedStack};
 use htl_report::{Answer, Totals, text};
 use htl_samples::{shared_events, shared_stack};
@@ -229,7 +230,7 @@ OBJECT object=0xffffa00000001000 tags=3 unbalanced=2 refs=6 derefs=5
 /// The answer's text, without symbols, is the one beside it.
 fn assert_text(rt: &impl Abort, alloc: Global, (answer, wanted): &(Answer, &'static str)) {
     let bytes = text(alloc, answer, &Symbols::none(alloc), None).expect(rt, "the text");
-    assert_eq!(rt; bytes.as_slice(), wanted.as_bytes(), "instead of {wanted}");
+    assert_row(rt, *wanted, bytes.as_slice(), wanted.as_bytes());
 }
 
 #[test]
@@ -271,13 +272,12 @@ fn names_of(rt: &impl Abort, alloc: Global, rows: &[u8], addresses: &[u64]) -> V
     text(alloc, &leak_of(rt, alloc, addresses), &symbols, None).expect(rt, "the text")
 }
 
-#[test]
-fn texts_of_addresses(rt: HostRuntime) {
-    let table: [(&[u8], &[u64], &str); 3] = [
-        (
-            b"0x1000,0x1020,ntdll,NtCreateFile\n2000,2001,app,main\n",
-            &[0x1000, 0x1010, 0x101f, 0x1020, 0x2000, u64::MAX],
-            "leaks process=4 count=1
+/// Rows of a table, addresses, and what is printed of these.
+const ADDRESSES: &[(&[u8], &[u64], &str)] = &[
+    (
+        b"0x1000,0x1020,ntdll,NtCreateFile\n2000,2001,app,main\n",
+        &[0x1000, 0x1010, 0x101f, 0x1020, 0x2000, u64::MAX],
+        "leaks process=4 count=1
 LEAK handles=1
   ntdll!NtCreateFile
   ntdll!NtCreateFile+0x10
@@ -286,26 +286,29 @@ LEAK handles=1
   app!main
   0xffffffffffffffff
 ",
-        ),
-        (
-            b"1,2,a,b\n2,3,c,d\n",
-            &[2],
-            "leaks process=4 count=1
+    ),
+    (
+        b"1,2,a,b\n2,3,c,d\n",
+        &[2],
+        "leaks process=4 count=1
 LEAK handles=1
   c!d
 ",
-        ),
-        (
-            b"0,1,,\n",
-            &[0],
-            "leaks process=4 count=1
+    ),
+    (
+        b"0,1,,\n",
+        &[0],
+        "leaks process=4 count=1
 LEAK handles=1
   !
 ",
-        ),
-    ];
-    for (rows, addresses, wanted) in table {
+    ),
+];
+
+#[test]
+fn texts_of_addresses(rt: HostRuntime) {
+    for (rows, addresses, wanted) in ADDRESSES {
         let bytes = names_of(&rt, rt.alloc(), rows, addresses);
-        assert_eq!(rt; bytes.as_slice(), wanted.as_bytes(), "instead of {wanted}");
+        assert_row(&rt, *wanted, bytes.as_slice(), wanted.as_bytes());
     }
 }

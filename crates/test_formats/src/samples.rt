@@ -1,4 +1,5 @@
 //! What lines write, and that generated segments rise.
+use crate::rows::assert_row;
 use htl_event::{Event, Kind};
 use htl_samples::{SMALL, SampleFault, TRACE, Trace, event, events, shared_events};
 use htl_segment::{Segment, decode_bundle};
@@ -13,44 +14,64 @@ fn written(rt: &impl Abort, line: &str) -> Event {
 #[test]
 fn lines_of_events(rt: HostRuntime) {
     let open = written(&rt, "O 1 0x44 process=5 [0x50 0x20]");
-    assert_eq!(rt;
+    assert_row(
+        &rt,
+        "an open",
         (
             open.sequence,
             open.kind,
             open.process,
             open.thread,
-            open.handle
+            open.handle,
         ),
-        (1, Kind::Opened, 5, 12, 0x44)
+        (1, Kind::Opened, 5, 12, 0x44),
     );
-    assert_eq!(rt; open.stack.frames(), [0x50, 0x20].as_slice());
-    let last = written(&rt, "D 6 0x1000 0x01414243");
-    assert_eq!(rt; (last.kind, last.object), (Kind::Deref, 0x1000));
-    assert_eq!(rt; last.tag, [1, 0x41, 0x42, 0x43]);
-    assert_eq!(rt; written(&rt, "R 5 0x1000 Lky8").tag, *b"Lky8");
-    for (line, kind) in [
-        ("C 2 0x44", Kind::Closed),
-        ("B 3 0x7", Kind::BadRef),
-        ("S 4", Kind::Snapshot),
-        ("exit 7", Kind::Exited),
-    ] {
-        assert_eq!(rt; written(&rt, line).kind, kind);
-    }
-    refuses_other_lines(&rt);
+    assert!(rt; open.stack.frames() == [0x50, 0x20].as_slice());
+    has_tag(
+        &rt,
+        "D 6 0x1000 0x01414243",
+        Kind::Deref,
+        [1, 0x41, 0x42, 0x43],
+    );
+    has_tag(&rt, "R 5 0x1000 Lky8", Kind::Ref, *b"Lky8");
 }
 
-fn refuses_other_lines(rt: &impl Abort) {
-    for line in [
-        "",
-        "O",
-        "O 1",
-        "O 1 0x",
-        "Z 1",
-        "S 1 2 3",
-        "O 1 0x44 [0x10",
-        "R 1 0x10 Lky",
-    ] {
-        assert_eq!(rt; event(line).err(), Some(SampleFault::Line), "of {line}");
+/// The line is a reference or a dereference of object 0x1000 with this tag.
+fn has_tag(rt: &impl Abort, line: &str, kind: Kind, tag: [u8; 4]) {
+    let event = written(rt, line);
+    assert_row(rt, line, (event.kind, event.object), (kind, 0x1000));
+    assert!(rt; event.tag == tag, "of {line}");
+}
+
+const KINDS: &[(&str, Kind)] = &[
+    ("C 2 0x44", Kind::Closed),
+    ("B 3 0x7", Kind::BadRef),
+    ("S 4", Kind::Snapshot),
+    ("exit 7", Kind::Exited),
+];
+
+#[test]
+fn kinds_of_events(rt: HostRuntime) {
+    for (line, kind) in KINDS {
+        assert_row(&rt, *line, written(&rt, line).kind, *kind);
+    }
+}
+
+const OTHER_LINES: &[&str] = &[
+    "",
+    "O",
+    "O 1",
+    "O 1 0x",
+    "Z 1",
+    "S 1 2 3",
+    "O 1 0x44 [0x10",
+    "R 1 0x10 Lky",
+];
+
+#[test]
+fn lines_that_are_no_event(rt: HostRuntime) {
+    for line in OTHER_LINES {
+        assert_row(&rt, *line, event(line).err(), Some(SampleFault::Line));
     }
 }
 

@@ -2,6 +2,7 @@
 
 mod refused;
 
+use crate::rows::assert_row;
 use htl_event::{Event, Kind, MAX_FRAMES, SharedEvent, Stack};
 use htl_segment::{
     Fault, HexFault, Segment, SegmentBytes, Splitter, decode, decode_bundle, decode_pieces, encode,
@@ -24,18 +25,32 @@ const STORED: &str = "484c5331 0100 0100 0000 0000 00000000 0700000000000000 030
 /// An empty segment of processor 255 of 256, in version 2.
 const WIDE: &str = "484c5331 0200 0001 ff00 0000 00000000 0700000000000000 00000000 20000000";
 
-/// The bytes of the texts, with each change written over them at its place.
-fn changed(rt: &impl Abort, alloc: Global, texts: &[&str], changes: &[(usize, &str)]) -> Vec<u8> {
+/// The bytes of hexadecimal digits.
+fn hex(rt: &impl Abort, alloc: Global, digits: &str) -> Vec<u8> {
+    from_hex(alloc, digits.as_bytes()).expect(rt, "hexadecimal digits")
+}
+
+fn write_at(bytes: &mut [u8], place: usize, written: &[u8]) {
+    for (cell, byte) in bytes.iter_mut().skip(place).zip(written) {
+        *cell = *byte;
+    }
+}
+
+/// The bytes of the texts, one after another.
+fn joined(rt: &impl Abort, alloc: Global, texts: &[&str]) -> Vec<u8> {
     let mut bytes = Vec::new(alloc);
     for text in texts {
-        let more = from_hex(alloc, text.as_bytes()).expect(rt, "the bytes");
+        let more = hex(rt, alloc, text);
         bytes.extend_from_slice(&more).expect(rt, "the memory");
     }
+    bytes
+}
+
+/// The bytes of the texts, with each change written over them at its place.
+fn changed(rt: &impl Abort, alloc: Global, texts: &[&str], changes: &[(usize, &str)]) -> Vec<u8> {
+    let mut bytes = joined(rt, alloc, texts);
     for (place, change) in changes {
-        let written = from_hex(alloc, change.as_bytes()).expect(rt, "the change");
-        for (cell, byte) in bytes.iter_mut().skip(*place).zip(&written) {
-            *cell = *byte;
-        }
+        write_at(&mut bytes, *place, &hex(rt, alloc, change));
     }
     bytes
 }
@@ -59,15 +74,12 @@ fn stored_events(rt: &impl Abort, alloc: Global) -> Vec<Event> {
     let mut last = event(3, Kind::Opened, 0x48);
     last.stack.push(0x1010);
     last.stack.push(0x2000);
-    let mut events = Vec::new(alloc);
-    events
-        .push(event(1, Kind::Opened, 0x44))
-        .expect(rt, "the memory");
-    events
-        .push(event(2, Kind::Closed, 0x44))
-        .expect(rt, "the memory");
-    events.push(last).expect(rt, "the memory");
-    events
+    let first = event(1, Kind::Opened, 0x44);
+    list(rt, alloc, [first, event(2, Kind::Closed, 0x44), last])
+}
+
+fn list<const N: usize>(rt: &impl Abort, alloc: Global, events: [Event; N]) -> Vec<Event> {
+    Vec::from_array(alloc, events).expect(rt, "the memory")
 }
 
 /// Whether these are the same events, whichever stacks they share.
@@ -86,77 +98,82 @@ fn same_event(shared: &SharedEvent, event: &Event) -> bool {
         && shared.stack.frames() == event.stack.frames()
 }
 
+/// Texts, changes of their bytes, and the fault of what comes of them.
+const FAULTS: &[(&[&str], &[(usize, &str)], &str)] = &[
+    (&[STORED], &[(0, "00")], "S2"),
+    (&[STORED], &[(0, "00"), (4, "03")], "S2"),
+    (&[STORED], &[(4, "03")], "S3"),
+    (&[STORED], &[(6, "00")], "S4"),
+    (&[STORED], &[(6, "41")], "S4"),
+    (&[STORED], &[(8, "01")], "S5"),
+    (&[STORED], &[(10, "01")], "S6"),
+    (&[STORED], &[(12, "ffffffff")], "S7"),
+    (&[STORED], &[(24, "01100000")], "S8"),
+    (&[STORED], &[(28, "1f000000")], "S9"),
+    (&[STORED], &[(28, "21401200")], "S9"),
+    (&[STORED], &[(28, "ffffffff")], "S9"),
+    (&[STORED], &[(28, "9d000000")], "S10"),
+    (&[STORED], &[(28, "43000000")], "S11(0)"),
+    (&[STORED], &[(28, "8b000000")], "S11(2)"),
+    (&[STORED], &[(32, "00")], "S12(0)"),
+    (&[STORED], &[(68, "01")], "S12(1)"),
+    (&[STORED], &[(40, "00")], "S13(0)"),
+    (&[STORED], &[(40, "07")], "S13(0)"),
+    (&[STORED], &[(40, "08")], "S13(0)"),
+    (&[STORED], &[(41, "21")], "S14(0)"),
+    (&[STORED], &[(113, "03")], "S14(2)"),
+    (&[STORED], &[(42, "01")], "S15(0)"),
+    (&[STORED], &[(52, "03")], "S15(0)"),
+    (&[STORED], &[(56, "01")], "S15(0)"),
+    (&[STORED, "00"], &[(28, "9d000000")], "S16"),
+    (&[STORED], &[(24, "02000000")], "S16"),
+    (&[EMPTY], &[(12, "ffffffff")], "S7"),
+    (&[EMPTY], &[(24, "00100000")], "S11(0)"),
+    (&[WIDE], &[(4, "0100")], "S4"),
+    (&[WIDE], &[(6, "0101")], "S4"),
+    (&[STORED], &[(4, "02"), (40, "07")], "S15(0)"),
+    (&[STORED], &[(4, "02"), (40, "08")], "S13(0)"),
+    (&[STORED], &[(4, "02"), (41, "41")], "S14(0)"),
+    (&[STORED], &[(4, "02"), (41, "21")], "S14(0)"),
+    (&[STORED], &[(4, "02"), (28, "21402200")], "S9"),
+    (&[STORED], &[(4, "02"), (28, "21401200")], "S10"),
+];
+
 #[test]
 fn faults_of_changed_bytes(rt: HostRuntime) {
-    let alloc = rt.alloc();
-    let table: [(&[&str], &[(usize, &str)], &str); 37] = [
-        (&[STORED], &[(0, "00")], "S2"),
-        (&[STORED], &[(0, "00"), (4, "03")], "S2"),
-        (&[STORED], &[(4, "03")], "S3"),
-        (&[STORED], &[(6, "00")], "S4"),
-        (&[STORED], &[(6, "41")], "S4"),
-        (&[STORED], &[(8, "01")], "S5"),
-        (&[STORED], &[(10, "01")], "S6"),
-        (&[STORED], &[(12, "ffffffff")], "S7"),
-        (&[STORED], &[(24, "01100000")], "S8"),
-        (&[STORED], &[(28, "1f000000")], "S9"),
-        (&[STORED], &[(28, "21401200")], "S9"),
-        (&[STORED], &[(28, "ffffffff")], "S9"),
-        (&[STORED], &[(28, "9d000000")], "S10"),
-        (&[STORED], &[(28, "43000000")], "S11(0)"),
-        (&[STORED], &[(28, "8b000000")], "S11(2)"),
-        (&[STORED], &[(32, "00")], "S12(0)"),
-        (&[STORED], &[(68, "01")], "S12(1)"),
-        (&[STORED], &[(40, "00")], "S13(0)"),
-        (&[STORED], &[(40, "07")], "S13(0)"),
-        (&[STORED], &[(40, "08")], "S13(0)"),
-        (&[STORED], &[(41, "21")], "S14(0)"),
-        (&[STORED], &[(113, "03")], "S14(2)"),
-        (&[STORED], &[(42, "01")], "S15(0)"),
-        (&[STORED], &[(52, "03")], "S15(0)"),
-        (&[STORED], &[(56, "01")], "S15(0)"),
-        (&[STORED, "00"], &[(28, "9d000000")], "S16"),
-        (&[STORED], &[(24, "02000000")], "S16"),
-        (&[EMPTY], &[(12, "ffffffff")], "S7"),
-        (&[EMPTY], &[(24, "00100000")], "S11(0)"),
-        (&[WIDE], &[(4, "0100")], "S4"),
-        (&[WIDE], &[(6, "0101")], "S4"),
-        (&[STORED], &[(4, "02"), (40, "07")], "S15(0)"),
-        (&[STORED], &[(4, "02"), (40, "08")], "S13(0)"),
-        (&[STORED], &[(4, "02"), (41, "41")], "S14(0)"),
-        (&[STORED], &[(4, "02"), (41, "21")], "S14(0)"),
-        (&[STORED], &[(4, "02"), (28, "21402200")], "S9"),
-        (&[STORED], &[(4, "02"), (28, "21401200")], "S10"),
-    ];
-    for (texts, changes, wanted) in table {
-        let fault = fault_of(&rt, alloc, texts, changes).expect(&rt, "a fault");
-        let code = format!(in alloc; "{fault}").expect(&rt, "the code");
-        assert_eq!(rt; code.as_str(), wanted, "{changes:?}");
+    for (texts, changes, wanted) in FAULTS {
+        let code = code_of(&rt, rt.alloc(), texts, changes);
+        assert_row(&rt, *changes, code.as_str(), *wanted);
     }
 }
 
-/// The fault of the changed bytes, if they have one.
-fn fault_of(
-    rt: &impl Abort,
-    alloc: Global,
-    texts: &[&str],
-    changes: &[(usize, &str)],
-) -> Option<Fault> {
+/// The code of the changed bytes' fault.
+fn code_of(rt: &impl Abort, alloc: Global, texts: &[&str], changes: &[(usize, &str)]) -> String {
     let bytes = changed(rt, alloc, texts, changes);
-    decode(alloc, &bytes).err()
+    let fault = decode(alloc, &bytes).err().expect(rt, "a fault");
+    format!(in alloc; "{fault}").expect(rt, "the code")
 }
 
 #[test]
 fn cut_bytes(rt: HostRuntime) {
-    let alloc = rt.alloc();
-    let bytes = changed(&rt, alloc, &[STORED], &[]);
+    let bytes = joined(&rt, rt.alloc(), &[STORED]);
     for len in 0..bytes.len() {
         let fault = if len < 32 { Fault::Short } else { Fault::Cut };
         let ended = if len == 0 { Ok(()) } else { Err((0, fault)) };
-        let cut = &bytes[..len];
-        assert_eq!(rt; decode(alloc, cut).err(), Some(fault), "{len}");
-        assert_eq!(rt; split(&rt, alloc, cut), (0, ended), "{len}");
+        is_cut(&rt, rt.alloc(), &bytes[..len], fault, ended);
     }
+}
+
+/// The bytes are no segment, and a splitter that was fed with them ends so.
+fn is_cut(
+    rt: &impl Abort,
+    alloc: Global,
+    bytes: &[u8],
+    fault: Fault,
+    ended: Result<(), (u64, Fault)>,
+) {
+    let found = (decode(alloc, bytes).err(), split(rt, alloc, bytes));
+    assert_row(rt, bytes.len(), found, (Some(fault), (0, ended)));
 }
 
 /// How many segments bytes without a fault have, and what ends them.
@@ -166,51 +183,45 @@ fn split(rt: &impl Abort, alloc: Global, bytes: &[u8]) -> (usize, Result<(), (u6
     (segments.len(), splitter.finish())
 }
 
+/// Texts and changes, the version, the processor and the number of the segment that they are, and
+/// how many of the stored events it has.
+const SEGMENTS: &[(&[&str], &[(usize, &str)], (u16, u16, u32), usize)] = &[
+    (&[EMPTY], &[(4, "01")], (1, 0, 0), 0),
+    (&[EMPTY], &[(12, "feffffff")], (1, 0, 0xffff_fffe), 0),
+    (&[STORED], &[(4, "01")], (1, 0, 0), 3),
+    (&[STORED], &[(4, "02")], (2, 0, 0), 3),
+    (&[WIDE], &[(4, "02")], (2, 255, 0), 0),
+];
+
 #[test]
 fn encoded_segments(rt: HostRuntime) {
-    let alloc = rt.alloc();
-    let stored = stored_events(&rt, alloc);
-    let table: [(&[&str], &[(usize, &str)], u16, u16, u32, usize); 5] = [
-        (&[EMPTY], &[(4, "01")], 1, 0, 0, 0),
-        (&[EMPTY], &[(12, "feffffff")], 1, 0, 0xffff_fffe, 0),
-        (&[STORED], &[(4, "01")], 1, 0, 0, 3),
-        (&[STORED], &[(4, "02")], 2, 0, 0, 3),
-        (&[WIDE], &[(4, "02")], 2, 255, 0, 0),
-    ];
-    for (texts, changes, version, processor, number, count) in table {
-        let bytes = changed(&rt, alloc, texts, changes);
-        let events = &stored[..count.min(stored.len())];
-        is_segment(&rt, alloc, &bytes, (version, 7, processor, number), events);
+    let stored = stored_events(&rt, rt.alloc());
+    for (texts, changes, place, count) in SEGMENTS {
+        let bytes = changed(&rt, rt.alloc(), texts, changes);
+        let events = &stored[..(*count).min(stored.len())];
+        is_segment(&rt, rt.alloc(), &bytes, *place, events);
     }
 }
 
-/// The bytes are those of a segment of this version, trace, processor and number, with these events.
+/// The bytes are those of a segment of trace 7 of this version, processor and number, with these
+/// events.
 fn is_segment(
     rt: &impl Abort,
     alloc: Global,
     bytes: &[u8],
-    place: (u16, u64, u16, u32),
+    place: (u16, u16, u32),
     events: &[Event],
 ) {
     let segment = whole(rt, alloc, bytes);
-    assert_eq!(rt;
-        (
-            segment.version(),
-            segment.trace_id(),
-            segment.processor(),
-            segment.number()
-        ),
-        place
-    );
-    assert_eq!(rt;
-        [
-            same_events(segment.events(), events),
-            is_encoded(rt, alloc, &segment, bytes),
-            is_copied(rt, &segment),
-            is_checked(rt, alloc, &segment, bytes)
-        ],
-        [true; 4]
-    );
+    let found = (segment.version(), segment.processor(), segment.number());
+    assert_row(rt, place, (segment.trace_id(), found), (7, place));
+    let are_so = [
+        same_events(segment.events(), events),
+        is_encoded(rt, alloc, &segment, bytes),
+        is_copied(rt, &segment),
+        is_checked(rt, alloc, &segment, bytes),
+    ];
+    assert_row(rt, place, are_so, [true; 4]);
 }
 
 /// The segment that ends with the bytes.
@@ -252,103 +263,112 @@ fn two_versions_differ(rt: HostRuntime) {
     assert!(rt; !first.same(&second));
 }
 
+const HEXADECIMAL: &[(&str, Result<&[u8], HexFault>)] = &[
+    ("4g", Err(HexFault::BadDigit(1))),
+    ("48 4", Err(HexFault::Odd)),
+    ("4\t8", Err(HexFault::BadDigit(1))),
+    ("4 8\r\n", Ok(&[0x48])),
+    ("aF 09", Ok(&[0xaf, 0x09])),
+    ("", Ok(&[])),
+];
+
 #[test]
 fn hexadecimal(rt: HostRuntime) {
-    let alloc = rt.alloc();
-    let table: [(&str, Result<&[u8], HexFault>); 6] = [
-        ("4g", Err(HexFault::BadDigit(1))),
-        ("48 4", Err(HexFault::Odd)),
-        ("4\t8", Err(HexFault::BadDigit(1))),
-        ("4 8\r\n", Ok(&[0x48])),
-        ("aF 09", Ok(&[0xaf, 0x09])),
-        ("", Ok(&[])),
-    ];
-    for (text, wanted) in table {
-        let read = from_hex(alloc, text.as_bytes());
-        match (read, wanted) {
-            (Ok(bytes), Ok(wanted)) => assert!(rt; bytes.as_slice() == wanted, "{text}"),
-            (Err(fault), Err(wanted)) => assert_eq!(rt; fault, wanted, "{text}"),
-            _ => assert!(rt; false, "{text}"),
+    for (text, wanted) in HEXADECIMAL {
+        match from_hex(rt.alloc(), text.as_bytes()) {
+            Ok(bytes) => assert_row(&rt, *text, Ok(bytes.as_slice()), *wanted),
+            Err(fault) => assert_row(&rt, *text, Err(fault), *wanted),
         }
     }
-    let fault = format!(in alloc; "{}", HexFault::BadDigit(1)).expect(&rt, "the code");
-    assert_eq!(rt; fault.as_str(), "H1(1)");
+    let fault = format!(in rt.alloc(); "{}", HexFault::BadDigit(1)).expect(&rt, "the code");
+    assert!(rt; fault.as_str() == "H1(1)");
 }
 
 #[test]
 fn built_segments(rt: HostRuntime) {
-    let alloc = rt.alloc();
-    let bytes = changed(&rt, alloc, &[STORED], &[]);
-    let (stored, _) = decode(alloc, &bytes).expect(&rt, "a segment");
-    let built = Segment::build(alloc, 7, 1, 0, 0, stored_events(&rt, alloc));
+    let stored = decoded(&rt, rt.alloc(), &[]);
+    let events = stored_events(&rt, rt.alloc());
+    let built = Segment::build(rt.alloc(), 7, 1, 0, 0, events);
     assert!(rt; built.is_ok_and(|segment| segment.same(&stored)));
 }
 
-/// The fault that building a segment at the place is refused with. All the events are handed back.
-fn build_fault(
+/// Building a segment at the place is refused with the fault. All the events are handed back.
+fn is_refused(
     rt: &impl Abort,
     alloc: Global,
     place: (u16, u16, u32),
     events: Vec<Event>,
-) -> Option<Fault> {
+    fault: Fault,
+) {
     let (processors, processor, number) = place;
     let count = events.len();
-    let (fault, events) = Segment::build(alloc, 7, processors, processor, number, events).err()?;
-    assert_eq!(rt; events.len(), count);
-    Some(fault)
+    let built = Segment::build(alloc, 7, processors, processor, number, events);
+    let (found, events) = built.err().expect(rt, "a refusal");
+    assert_row(rt, place, (found, events.len()), (fault, count));
 }
+
+/// The number of processors, the processor and the number.
+const PLACES: &[((u16, u16, u32), Fault)] = &[
+    ((0, 0, 0), Fault::Processors),
+    ((65, 0, 0), Fault::Processors),
+    ((1, 1, 0), Fault::Processor),
+    ((1, 0, 0xffff_ffff), Fault::Number),
+];
 
 #[test]
 fn places_that_no_segment_has(rt: HostRuntime) {
-    for (processors, processor, number, wanted) in [
-        (0, 0, 0, Fault::Processors),
-        (65, 0, 0, Fault::Processors),
-        (1, 1, 0, Fault::Processor),
-        (1, 0, 0xffff_ffff, Fault::Number),
-    ] {
+    for (place, fault) in PLACES {
         let events = stored_events(&rt, rt.alloc());
-        let fault = build_fault(&rt, rt.alloc(), (processors, processor, number), events);
-        assert_eq!(rt; fault, Some(wanted));
+        is_refused(&rt, rt.alloc(), *place, events, *fault);
     }
+}
+
+/// Building a segment of one processor is refused with the fault.
+fn are_refused(rt: &impl Abort, alloc: Global, events: Vec<Event>, fault: Fault) {
+    is_refused(rt, alloc, (1, 0, 0), events, fault);
+}
+
+/// The same of one event.
+fn event_is_refused(rt: &impl Abort, alloc: Global, event: Event, fault: Fault) {
+    are_refused(rt, alloc, list(rt, alloc, [event]), fault);
 }
 
 #[test]
 fn events_that_no_segment_has(rt: HostRuntime) {
-    for (event, wanted) in [
-        (event(0, Kind::Snapshot, 0), Fault::Sequence(0)),
-        (event(1, Kind::Exited, 0), Fault::Kind(0)),
-        (deep_event(), Fault::Frames(0)),
-        (event(1, Kind::Opened, 3), Fault::Field(0)),
-    ] {
-        let events = list(&rt, rt.alloc(), event);
-        let fault = build_fault(&rt, rt.alloc(), (1, 0, 0), events);
-        assert_eq!(rt; fault, Some(wanted));
-    }
+    let alloc = rt.alloc();
+    event_is_refused(&rt, alloc, event(0, Kind::Snapshot, 0), Fault::Sequence(0));
+    event_is_refused(&rt, alloc, event(1, Kind::Exited, 0), Fault::Kind(0));
+    event_is_refused(&rt, alloc, deep_event(), Fault::Frames(0));
+    event_is_refused(&rt, alloc, event(1, Kind::Opened, 3), Fault::Field(0));
 }
 
 #[test]
 fn lists_that_no_segment_has(rt: HostRuntime) {
-    let many = too_many(&rt, rt.alloc());
-    let fault = build_fault(&rt, rt.alloc(), (1, 0, 0), many);
-    assert_eq!(rt; fault, Some(Fault::Count));
+    are_refused(&rt, rt.alloc(), too_many(&rt, rt.alloc()), Fault::Count);
     let twice = [event(1, Kind::Opened, 0x44), event(1, Kind::Closed, 0x44)];
-    let twice = Vec::from_array(rt.alloc(), twice).expect(&rt, "the memory");
-    let fault = build_fault(&rt, rt.alloc(), (1, 0, 0), twice);
-    assert_eq!(rt; fault, Some(Fault::Sequence(1)));
+    are_refused(
+        &rt,
+        rt.alloc(),
+        list(&rt, rt.alloc(), twice),
+        Fault::Sequence(1),
+    );
+}
+
+/// A segment of an event with as many frames as a stack has room for.
+fn deepest(rt: &impl Abort, alloc: Global) -> Segment {
+    let events = list(rt, alloc, [deep_event()]);
+    let built = Segment::build2(alloc, 7, 1, 0, 0, events);
+    built.ok().expect(rt, "a segment")
 }
 
 #[test]
 fn deepest_stack(rt: HostRuntime) {
-    let alloc = rt.alloc();
-    let events = list(&rt, alloc, deep_event());
-    let segment = Segment::build2(alloc, 7, 1, 0, 0, events)
-        .ok()
-        .expect(&rt, "a segment");
-    assert!(rt; is_copied(&rt, &segment) && !deep_event().stack.push(64));
-    let bytes = encode(alloc, &segment).expect(&rt, "the memory");
-    assert_eq!(rt; bytes.len(), 580);
-    assert!(rt; bytes[28..32] == [0x44, 2, 0, 0]);
-    assert!(rt; whole(&rt, alloc, &bytes).same(&segment));
+    assert!(rt; !deep_event().stack.push(64));
+    let segment = deepest(&rt, rt.alloc());
+    assert!(rt; is_copied(&rt, &segment));
+    let bytes = encode(rt.alloc(), &segment).expect(&rt, "the memory");
+    assert!(rt; bytes.len() == 580 && bytes[28..32] == [0x44, 2, 0, 0]);
+    assert!(rt; whole(&rt, rt.alloc(), &bytes).same(&segment));
 }
 
 /// Opens of stacks that come again and again, so many of them.
@@ -369,17 +389,23 @@ fn repeating(rt: &impl Abort, alloc: Global, stacks: u64) -> Vec<Event> {
 /// one another out, and the cache is made larger.
 #[test]
 fn stacks_through_two_cells(rt: HostRuntime) {
-    let alloc = rt.alloc();
     for stacks in [7, 60, 1500] {
-        let events = repeating(&rt, alloc, stacks);
-        let segment = Segment::build(alloc, 7, 1, 0, 0, repeating(&rt, alloc, stacks))
-            .ok()
-            .expect(&rt, "a segment");
-        let read = read_back(&rt, alloc, &segment);
-        assert!(rt; same_events(segment.events(), &events), "{stacks}");
-        assert!(rt; read.same(&segment), "{stacks}");
-        assert!(rt; same_events(read.events(), &events), "{stacks}");
+        are_kept(&rt, rt.alloc(), stacks);
     }
+}
+
+/// A segment of so many stacks has its events, and so has what is read from its bytes.
+fn are_kept(rt: &impl Abort, alloc: Global, stacks: u64) {
+    let events = repeating(rt, alloc, stacks);
+    let built = Segment::build(alloc, 7, 1, 0, 0, repeating(rt, alloc, stacks));
+    let segment = built.ok().expect(rt, "a segment");
+    let read = read_back(rt, alloc, &segment);
+    let are_same = [
+        same_events(segment.events(), &events),
+        read.same(&segment),
+        same_events(read.events(), &events),
+    ];
+    assert_row(rt, stacks, are_same, [true; 3]);
 }
 
 /// The segment that is read from this one's bytes.
@@ -390,14 +416,13 @@ fn read_back(rt: &impl Abort, alloc: Global, segment: &Segment) -> Segment {
 }
 
 /// The bytes of an empty segment, which ends at 32, and of the stored run after it.
-fn bundle(rt: &impl Abort, alloc: Global, changes: &[(usize, &str)]) -> Vec<u8> {
-    changed(rt, alloc, &[EMPTY, STORED], changes)
+fn bundle(rt: &impl Abort, alloc: Global) -> Vec<u8> {
+    joined(rt, alloc, &[EMPTY, STORED])
 }
 
 /// Whether these are the bundle's two segments.
 fn are_of_bundle(rt: &impl Abort, alloc: Global, segments: &[Segment]) -> bool {
-    let bytes = bundle(rt, alloc, &[]);
-    let whole = decode_bundle(alloc, &bytes).expect(rt, "a bundle");
+    let whole = decode_bundle(alloc, &bundle(rt, alloc)).expect(rt, "a bundle");
     whole.len() == 2
         && segments.len() == 2
         && segments
@@ -414,72 +439,78 @@ fn a_bundle_of_nothing(rt: HostRuntime) {
 
 #[test]
 fn a_bundle_in_three_pieces(rt: HostRuntime) {
-    let alloc = rt.alloc();
-    let bundle = bundle(&rt, alloc, &[]);
-    let bytes = bundle.as_slice();
-    assert_eq!(rt; bytes.len(), 188);
-    let (empty, stored) = bytes.split_at(32);
+    let bundle = bundle(&rt, rt.alloc());
+    assert_eq!(rt; bundle.len(), 188);
+    let (empty, stored) = bundle.split_at(32);
     let (front, last) = empty.split_at(31);
-    let mut splitter = Splitter::new(alloc);
-    for (piece, count) in [front, last, stored].iter().zip([0, 1, 1]) {
-        let segments = fed(&rt, alloc, &mut splitter, piece);
-        assert_eq!(rt; segments.len(), count);
-    }
-    assert_eq!(rt; splitter.fed(), 188);
-    assert_eq!(rt; splitter.finish(), Ok(()));
+    let mut splitter = Splitter::new(rt.alloc());
+    let counts = [
+        fed(&rt, rt.alloc(), &mut splitter, front).len(),
+        fed(&rt, rt.alloc(), &mut splitter, last).len(),
+        fed(&rt, rt.alloc(), &mut splitter, stored).len(),
+    ];
+    let found = (counts, splitter.fed(), splitter.finish());
+    assert_row(&rt, "three pieces", found, ([0, 1, 1], 188, Ok(())));
 }
 
 #[test]
 fn pieces_of_a_bundle(rt: HostRuntime) {
-    let alloc = rt.alloc();
-    let bundle = bundle(&rt, alloc, &[]);
-    let bytes = bundle.as_slice();
-    assert_eq!(rt; bytes.len(), 188);
-    let (empty, stored) = bytes.split_at(32);
+    let bundle = bundle(&rt, rt.alloc());
+    assert_eq!(rt; bundle.len(), 188);
+    let (empty, stored) = bundle.split_at(32);
     let (front, last) = empty.split_at(31);
-    let joined = decode_pieces(alloc, &[front, last, stored]).expect(&rt, "a bundle");
-    assert!(rt; are_of_bundle(&rt, alloc, &joined));
+    let joined = decode_pieces(rt.alloc(), &[front, last, stored]).expect(&rt, "a bundle");
+    assert!(rt; are_of_bundle(&rt, rt.alloc(), &joined));
+}
+
+/// The segments of bytes without a fault that are fed one by one.
+fn fed_by_bytes(rt: &impl Abort, alloc: Global, bytes: &[u8]) -> Vec<Segment> {
+    let mut splitter = Splitter::new(alloc);
+    let mut segments = Vec::new(alloc);
+    for piece in bytes.chunks(1) {
+        let mut more = fed(rt, alloc, &mut splitter, piece);
+        segments.append(&mut more).expect(rt, "the memory");
+    }
+    assert!(rt; splitter.finish() == Ok(()));
+    segments
 }
 
 #[test]
 fn a_bundle_byte_by_byte(rt: HostRuntime) {
-    let alloc = rt.alloc();
-    let bytes = bundle(&rt, alloc, &[]);
+    let segments = fed_by_bytes(&rt, rt.alloc(), &bundle(&rt, rt.alloc()));
+    assert!(rt; are_of_bundle(&rt, rt.alloc(), &segments));
+}
+
+/// Why a splitter refuses the bytes, twice, and how it ends.
+fn refusals(alloc: Global, bytes: &[u8]) -> [Option<(u64, Fault)>; 3] {
     let mut splitter = Splitter::new(alloc);
-    let mut segments = Vec::new(alloc);
-    for piece in bytes.chunks(1) {
-        for segment in fed(&rt, alloc, &mut splitter, piece) {
-            segments.push(segment).expect(&rt, "the memory");
-        }
-    }
-    assert_eq!(rt; splitter.finish(), Ok(()));
-    assert!(rt; are_of_bundle(&rt, alloc, &segments));
+    [
+        splitter.feed(alloc, bytes).err(),
+        splitter.feed(alloc, bytes).err(),
+        splitter.finish().err(),
+    ]
 }
 
 #[test]
 fn a_fault_is_reported_for_good(rt: HostRuntime) {
-    let alloc = rt.alloc();
-    let bytes = bundle(&rt, alloc, &[(100, "01")]);
-    let fault = (32, Fault::Sequence(1));
-    assert_eq!(rt; decode_bundle(alloc, &bytes).err(), Some(fault));
-    let mut splitter = Splitter::new(alloc);
-    assert_eq!(rt; splitter.feed(alloc, &bytes).err(), Some(fault));
-    assert_eq!(rt; splitter.feed(alloc, &bytes).err(), Some(fault));
-    assert_eq!(rt; splitter.finish(), Err(fault));
+    let bytes = changed(&rt, rt.alloc(), &[EMPTY, STORED], &[(100, "01")]);
+    let fault = Some((32, Fault::Sequence(1)));
+    assert_row(
+        &rt,
+        "at once",
+        decode_bundle(rt.alloc(), &bytes).err(),
+        fault,
+    );
+    assert_row(&rt, "fed", refusals(rt.alloc(), &bytes), [fault; 3]);
 }
 
 #[test]
 fn bytes_that_end_inside_a_segment(rt: HostRuntime) {
-    let alloc = rt.alloc();
-    let bundle = bundle(&rt, alloc, &[]);
-    let bytes = bundle.as_slice();
-    assert_eq!(rt; bytes.len(), 188);
+    let bundle = bundle(&rt, rt.alloc());
+    assert_eq!(rt; bundle.len(), 188);
     for (len, fault) in [(40, Fault::Short), (70, Fault::Cut)] {
-        let mut splitter = Splitter::new(alloc);
-        let segments = splitter
-            .feed(alloc, &bytes[..len])
-            .expect(&rt, "no fault yet");
-        assert_eq!(rt; (segments.len(), splitter.finish()), (1, Err((32, fault))));
+        let found = split(&rt, rt.alloc(), &bundle[..len]);
+        assert_row(&rt, len, found, (1, Err((32, fault))));
     }
 }
 
@@ -487,12 +518,6 @@ fn bytes_that_end_inside_a_segment(rt: HostRuntime) {
 fn fed(rt: &impl Abort, alloc: Global, splitter: &mut Splitter, piece: &[u8]) -> Vec<Segment> {
     assert!(rt; splitter.fed() < 1_000_000 && piece.len() < 1_000_000);
     splitter.feed(alloc, piece).expect(rt, "no fault")
-}
-
-fn list(rt: &impl Abort, alloc: Global, event: Event) -> Vec<Event> {
-    let mut events = Vec::new(alloc);
-    events.push(event).expect(rt, "the memory");
-    events
 }
 
 /// One event more than a segment has room for.

@@ -1,5 +1,6 @@
 //! Segments as text, and texts as segments.
 
+use crate::rows::assert_row;
 use htl_samples::RandomTrace;
 use htl_segment::{Fault, decode_bundle, from_hex};
 use htl_text::{LineFault, TextFault, dump, encode};
@@ -95,15 +96,19 @@ fn a_text_as_people_write_it(rt: HostRuntime) {
     assert!(rt; encoded(&rt, rt.alloc(), WRITTEN.as_bytes()) == bytes);
 }
 
-/// So many lines after a first one.
-fn repeated(rt: &impl Abort, alloc: Global, first: &str, line: &str, count: usize) -> Vec<u8> {
-    let mut text = Vec::new(alloc);
-    text.extend_from_slice(first.as_bytes())
-        .expect(rt, "the memory");
+/// Puts so many of these lines after a text.
+fn add(rt: &impl Abort, text: &mut Vec<u8>, line: &str, count: usize) {
     for _ in 0..count {
         text.extend_from_slice(line.as_bytes())
             .expect(rt, "the memory");
     }
+}
+
+/// So many lines after a first one.
+fn repeated(rt: &impl Abort, alloc: Global, first: &str, line: &str, count: usize) -> Vec<u8> {
+    let mut text = Vec::new(alloc);
+    add(rt, &mut text, first, 1);
+    add(rt, &mut text, line, count);
     text
 }
 
@@ -116,16 +121,10 @@ fn texts_without_an_event(rt: HostRuntime) {
     assert_eq!(rt; encoded(&rt, rt.alloc(), &three).len(), 96);
 }
 
-/// Events of one line after the first line of a segment, with so many frames.
+/// An open with so many frames after the first line of a segment.
 fn deep_text(rt: &impl Abort, alloc: Global, head: &str, frames: usize) -> Vec<u8> {
-    let mut text = Vec::new(alloc);
-    for line in [head, OPEN] {
-        text.extend_from_slice(line.as_bytes())
-            .expect(rt, "the memory");
-    }
-    for _ in 0..frames {
-        text.extend_from_slice(b"  0x10\n").expect(rt, "the memory");
-    }
+    let mut text = repeated(rt, alloc, head, OPEN, 1);
+    add(rt, &mut text, "  0x10\n", frames);
     text
 }
 
@@ -134,126 +133,136 @@ fn the_deepest_stack(rt: HostRuntime) {
     let bytes = encoded(&rt, rt.alloc(), &deep_text(&rt, rt.alloc(), DEEP, 64));
     assert_eq!(rt; bytes.len(), 580);
     assert_eq!(rt; dumped(&rt, rt.alloc(), &bytes).len(), 77 + 43 + 64 * 21);
-    for (head, frames) in [(SEGMENT, 33), (SEGMENT, 70), (DEEP, 65), (DEEP, 200)] {
-        let fault = encode(rt.alloc(), &deep_text(&rt, rt.alloc(), head, frames)).err();
-        let wanted = TextFault::Line(1, LineFault::Segment(Fault::Frames(0)));
-        assert_eq!(rt; fault, Some(wanted), "{frames}");
-    }
 }
 
 #[test]
-fn the_first_fault_and_its_line(rt: HostRuntime) {
-    let table: [(&[&str], &str); 24] = [
-        (&["segment\n"], "line 1: E1"),
-        (&["\n", SEGMENT, OPEN, "  0x1 0x2"], "line 4: E1"),
-        (&[SEGMENT, OPEN, "0x11111111111111111\n"], "line 3: E1"),
-        (&[SEGMENT, OPEN, "1010\n"], "line 3: E1"),
-        (
-            &[SEGMENT, "open handle=0x44 seq=1 process=4 thread=12\n"],
-            "line 2: E1",
-        ),
-        (
-            &[SEGMENT, "OPEN seq=1 handle=0x44 process=4 thread=12\n"],
-            "line 2: E1",
-        ),
-        (
-            &[SEGMENT, "OPEN handle=0x44 seq=1 process=4 thread=12 #\n"],
-            "line 2: E1",
-        ),
-        (
-            &[
-                SEGMENT,
-                "OPEN handle=0x123456789 seq=1 process=4 thread=12\n",
-            ],
-            "line 2: E1",
-        ),
-        (
-            &[SEGMENT, "OPEN handle=0x44 seq=0x1 process=4 thread=12\n"],
-            "line 2: E1",
-        ),
-        (
-            &[
-                SEGMENT,
-                "OPEN handle=0x44 seq=1 process=4294967296 thread=12\n",
-            ],
-            "line 2: E1",
-        ),
-        (
-            &[
-                SEGMENT,
-                "SNAPSHOT seq=18446744073709551616 process=4 thread=12\n",
-            ],
-            "line 2: E1",
-        ),
-        (
-            &[
-                SEGMENT,
-                "REF object=0x1 tag=abc seq=1 process=4 thread=12\n",
-            ],
-            "line 2: E1",
-        ),
-        (
-            &[
-                SEGMENT,
-                "REF object=0x1 tag=0x1234567 seq=1 process=4 thread=12\n",
-            ],
-            "line 2: E1",
-        ),
-        (
-            &["segment version=65537 trace=0x7 processors=1 processor=0 number=0\n"],
-            "line 1: E1",
-        ),
-        (&[OPEN], "line 1: E2"),
-        (&["# a story\n", "\r\n", "  0x10"], "line 3: E2"),
-        (&[SEGMENT, "  0x10\n"], "line 2: E2"),
-        (&[SEGMENT, OPEN, SEGMENT, "  0x10"], "line 4: E2"),
-        (
-            &["segment version=3 trace=0x7 processors=1 processor=0 number=0\n"],
-            "line 1: S3",
-        ),
-        (
-            &[
-                "\n",
-                "segment version=1 trace=0x7 processors=65 processor=0 number=0\n",
-            ],
-            "line 2: S4",
-        ),
-        (
-            &[SEGMENT, OPEN, SEGMENT, "# a story\n", OPEN, OPEN, "x"],
-            "line 7: E1",
-        ),
-        (
-            &[
-                SEGMENT,
-                OPEN,
-                SEGMENT,
-                "# a story\n",
-                OPEN,
-                OPEN,
-                SEGMENT,
-                "x",
-            ],
-            "line 3: S12(1)",
-        ),
-        (&[SEGMENT, OPEN, OPEN], "line 1: S12(1)"),
-        (
-            &[SEGMENT, "OPEN handle=0x3 seq=1 process=4 thread=12\n"],
-            "line 1: S15(0)",
-        ),
-    ];
-    for (lines, wanted) in table {
-        let fault = fault_of(&rt, rt.alloc(), lines).expect(&rt, "a fault");
-        let line = format!(in rt.alloc(); "{fault}").expect(&rt, "the line");
-        assert_eq!(rt; line.as_str(), wanted, "{lines:?}");
+fn stacks_that_are_too_deep(rt: HostRuntime) {
+    let wanted = TextFault::Line(1, LineFault::Segment(Fault::Frames(0)));
+    for (head, frames) in [(SEGMENT, 33), (SEGMENT, 70), (DEEP, 65), (DEEP, 200)] {
+        let text = deep_text(&rt, rt.alloc(), head, frames);
+        assert_row(&rt, frames, encode(rt.alloc(), &text).err(), Some(wanted));
     }
+}
+
+/// The parts of texts, and the first fault of each with its line.
+const FAULTS: &[(&[&str], &str)] = &[
+    (&["segment\n"], "line 1: E1"),
+    (&["\n", SEGMENT, OPEN, "  0x1 0x2"], "line 4: E1"),
+    (&[SEGMENT, OPEN, "0x11111111111111111\n"], "line 3: E1"),
+    (&[SEGMENT, OPEN, "1010\n"], "line 3: E1"),
+    (
+        &[SEGMENT, "open handle=0x44 seq=1 process=4 thread=12\n"],
+        "line 2: E1",
+    ),
+    (
+        &[SEGMENT, "OPEN seq=1 handle=0x44 process=4 thread=12\n"],
+        "line 2: E1",
+    ),
+    (
+        &[SEGMENT, "OPEN handle=0x44 seq=1 process=4 thread=12 #\n"],
+        "line 2: E1",
+    ),
+    (
+        &[
+            SEGMENT,
+            "OPEN handle=0x123456789 seq=1 process=4 thread=12\n",
+        ],
+        "line 2: E1",
+    ),
+    (
+        &[SEGMENT, "OPEN handle=0x44 seq=0x1 process=4 thread=12\n"],
+        "line 2: E1",
+    ),
+    (
+        &[
+            SEGMENT,
+            "OPEN handle=0x44 seq=1 process=4294967296 thread=12\n",
+        ],
+        "line 2: E1",
+    ),
+    (
+        &[
+            SEGMENT,
+            "SNAPSHOT seq=18446744073709551616 process=4 thread=12\n",
+        ],
+        "line 2: E1",
+    ),
+    (
+        &[
+            SEGMENT,
+            "REF object=0x1 tag=abc seq=1 process=4 thread=12\n",
+        ],
+        "line 2: E1",
+    ),
+    (
+        &[
+            SEGMENT,
+            "REF object=0x1 tag=0x1234567 seq=1 process=4 thread=12\n",
+        ],
+        "line 2: E1",
+    ),
+    (
+        &["segment version=65537 trace=0x7 processors=1 processor=0 number=0\n"],
+        "line 1: E1",
+    ),
+    (&[OPEN], "line 1: E2"),
+    (&["# a story\n", "\r\n", "  0x10"], "line 3: E2"),
+    (&[SEGMENT, "  0x10\n"], "line 2: E2"),
+    (&[SEGMENT, OPEN, SEGMENT, "  0x10"], "line 4: E2"),
+    (
+        &["segment version=3 trace=0x7 processors=1 processor=0 number=0\n"],
+        "line 1: S3",
+    ),
+    (
+        &[
+            "\n",
+            "segment version=1 trace=0x7 processors=65 processor=0 number=0\n",
+        ],
+        "line 2: S4",
+    ),
+    (
+        &[SEGMENT, OPEN, SEGMENT, "# a story\n", OPEN, OPEN, "x"],
+        "line 7: E1",
+    ),
+    (
+        &[
+            SEGMENT,
+            OPEN,
+            SEGMENT,
+            "# a story\n",
+            OPEN,
+            OPEN,
+            SEGMENT,
+            "x",
+        ],
+        "line 3: S12(1)",
+    ),
+    (&[SEGMENT, OPEN, OPEN], "line 1: S12(1)"),
+    (
+        &[SEGMENT, "OPEN handle=0x3 seq=1 process=4 thread=12\n"],
+        "line 1: S15(0)",
+    ),
+];
+
+#[test]
+fn the_first_fault_and_its_line(rt: HostRuntime) {
+    for (parts, wanted) in FAULTS {
+        let line = fault_line(&rt, rt.alloc(), parts);
+        assert_row(&rt, *parts, line.as_str(), *wanted);
+    }
+}
+
+/// What is printed of the fault of a text of these parts.
+fn fault_line(rt: &impl Abort, alloc: Global, parts: &[&str]) -> String {
+    let fault = fault_of(rt, alloc, parts).expect(rt, "a fault");
+    format!(in alloc; "{fault}").expect(rt, "the line")
 }
 
 /// The fault of a text of these parts, if it has one.
 fn fault_of(rt: &impl Abort, alloc: Global, parts: &[&str]) -> Option<TextFault> {
     let mut text = Vec::new(alloc);
     for part in parts {
-        text.extend_from_slice(part.as_bytes())
-            .expect(rt, "the memory");
+        add(rt, &mut text, part, 1);
     }
     encode(alloc, &text).err()
 }

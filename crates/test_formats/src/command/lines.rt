@@ -1,11 +1,12 @@
 // What a line asks for, and which lines are refused.
 use super::{fault_of, text_of, words};
+use crate::rows::assert_row;
 use htl_command::{Asked, Code, Command, Conversion, Format, Job, ParseFault, Question, parse};
 use std::alloc::Global;
 use std::process::Abort;
 
 /// Lines and their questions.
-const QUESTIONS: [(&str, Question); 29] = [
+const QUESTIONS: &[(&str, Question)] = &[
     ("summary", Question::Summary),
     ("summary|a.hls", Question::Summary),
     (
@@ -150,7 +151,7 @@ const QUESTIONS: [(&str, Question); 29] = [
 ];
 
 /// Lines with the options that every question has.
-const OPTIONS: [(&str, bool, u32, &[&str], Option<&str>); 9] = [
+const OPTIONS: &[(&str, bool, u32, &[&str], Option<&str>)] = &[
     ("summary|--workers|4|a.hls", false, 4, &["a.hls"], None),
     ("bad|--process|4", false, 1, &[], None),
     ("bad|--process|4|--hex", true, 1, &[], None),
@@ -187,7 +188,7 @@ const OPTIONS: [(&str, bool, u32, &[&str], Option<&str>); 9] = [
 ];
 
 /// Lines that want so many rows at most.
-const TOPS: [(&str, Option<u32>); 9] = [
+const TOPS: &[(&str, Option<u32>)] = &[
     ("summary", None),
     ("tags|--object|1", None),
     ("summary|--top|1", Some(1)),
@@ -200,7 +201,7 @@ const TOPS: [(&str, Option<u32>); 9] = [
 ];
 
 /// Lines that want a complete trace, and the exit status to say what was found.
-const CHECKS: [(&str, bool, bool); 8] = [
+const CHECKS: &[(&str, bool, bool)] = &[
     ("summary|--exit-code", false, true),
     ("outstanding|--exit-code|--process|4", false, true),
     ("diff|--process|4|a.hls|--exit-code", false, true),
@@ -212,7 +213,7 @@ const CHECKS: [(&str, bool, bool); 8] = [
 ];
 
 /// Lines that want an answer in another form.
-const FORMATS: [(&str, Format); 5] = [
+const FORMATS: &[(&str, Format)] = &[
     ("summary|--json", Format::Json),
     ("tags|--json|--object|1|--exit-code", Format::Json),
     ("trace|--process|4|--handle|44|a.hls|--json", Format::Json),
@@ -221,7 +222,7 @@ const FORMATS: [(&str, Format); 5] = [
 ];
 
 /// Lines that ask what a code means.
-const EXPLAINED: [(&str, Code); 5] = [
+const EXPLAINED: &[(&str, Code)] = &[
     ("explain|S1", Code::S1),
     ("explain|C7", Code::C7),
     ("explain|C8", Code::C8),
@@ -230,7 +231,7 @@ const EXPLAINED: [(&str, Code); 5] = [
 ];
 
 /// Lines that convert files: whether segments are digits, and the files.
-const CONVERTED: [(&str, bool, &[&str]); 4] = [
+const CONVERTED: &[(&str, bool, &[&str])] = &[
     ("dump", false, &[]),
     ("dump|--hex|a.hls|b.hls", true, &["a.hls", "b.hls"]),
     ("encode|a.txt", false, &["a.txt"]),
@@ -386,16 +387,21 @@ fn are_files(names: &[&str], files: &[String]) -> bool {
 #[test]
 fn lines_ask_questions(rt: HostRuntime) {
     for (line, question) in QUESTIONS {
-        let job = Job {
-            question,
-            hex: false,
-            workers: 1,
-            top: None,
-            complete: false,
-            exit_code: false,
-            format: Format::Plain,
-        };
-        assert_eq!(rt; asked(&rt, rt.alloc(), line).job, job, "of {line}");
+        let job = asked(&rt, rt.alloc(), line).job;
+        assert_row(&rt, *line, job, plain_job(*question));
+    }
+}
+
+/// The job of a line that has no option beside its question's.
+fn plain_job(question: Question) -> Job {
+    Job {
+        question,
+        hex: false,
+        workers: 1,
+        top: None,
+        complete: false,
+        exit_code: false,
+        format: Format::Plain,
     }
 }
 
@@ -403,17 +409,16 @@ fn lines_ask_questions(rt: HostRuntime) {
 fn lines_have_options(rt: HostRuntime) {
     for (line, hex, workers, files, symbols) in OPTIONS {
         let asked = asked(&rt, rt.alloc(), line);
-        assert_eq!(rt; asked.job.hex, hex, "of {line}");
-        assert_eq!(rt; asked.job.workers, workers, "of {line}");
+        let found = (asked.job.hex, asked.job.workers, asked.symbols.as_deref());
+        assert_row(&rt, *line, found, (*hex, *workers, *symbols));
         assert!(rt; are_files(files, &asked.files), "the files of {line}");
-        assert_eq!(rt; asked.symbols.as_deref(), symbols, "of {line}");
     }
 }
 
 #[test]
 fn lines_limit_rows(rt: HostRuntime) {
     for (line, top) in TOPS {
-        assert_eq!(rt; asked(&rt, rt.alloc(), line).job.top, top, "of {line}");
+        assert_row(&rt, *line, asked(&rt, rt.alloc(), line).job.top, *top);
     }
 }
 
@@ -421,30 +426,27 @@ fn lines_limit_rows(rt: HostRuntime) {
 fn lines_check(rt: HostRuntime) {
     for (line, complete, exit_code) in CHECKS {
         let job = asked(&rt, rt.alloc(), line).job;
-        assert_eq!(rt; job.complete, complete, "of {line}");
-        assert_eq!(rt; job.exit_code, exit_code, "of {line}");
+        assert_row(
+            &rt,
+            *line,
+            (job.complete, job.exit_code),
+            (*complete, *exit_code),
+        );
     }
 }
 
 #[test]
 fn lines_choose_a_form(rt: HostRuntime) {
     for (line, format) in FORMATS {
-        assert_eq!(rt;
-            asked(&rt, rt.alloc(), line).job.format,
-            format,
-            "of {line}"
-        );
+        assert_row(&rt, *line, asked(&rt, rt.alloc(), line).job.format, *format);
     }
 }
 
 #[test]
 fn lines_ask_for_codes(rt: HostRuntime) {
     for (line, code) in EXPLAINED {
-        assert_eq!(rt;
-            command(&rt, rt.alloc(), line),
-            Command::Explain(code),
-            "of {line}"
-        );
+        let command = command(&rt, rt.alloc(), line);
+        assert_row(&rt, *line, command, Command::Explain(*code));
     }
 }
 
@@ -461,26 +463,37 @@ fn conversion(command: Command) -> Option<(bool, Conversion)> {
 fn lines_convert_files(rt: HostRuntime) {
     for (line, hex, files) in CONVERTED {
         let (dumps, of) = conversion(command(&rt, rt.alloc(), line)).expect(&rt, line);
-        assert_eq!(rt; dumps, line.starts_with("dump"), "of {line}");
-        assert_eq!(rt; of.hex, hex, "of {line}");
+        assert_row(
+            &rt,
+            *line,
+            (dumps, of.hex),
+            (line.starts_with("dump"), *hex),
+        );
         assert!(rt; are_files(files, &of.files), "the files of {line}");
     }
 }
 
 #[test]
 fn no_words_ask_for_the_stored_job(rt: HostRuntime) {
-    let stored = parse(rt.alloc(), Vec::new(rt.alloc())).expect(&rt, "a command");
     let written = asked(&rt, rt.alloc(), "outstanding|--process|4|--hex");
-    assert_eq!(rt; written.job.workers, 1);
-    assert!(rt; written.files.is_empty());
-    assert_eq!(rt; stored, Command::Answer(written));
+    assert!(rt; written.job.workers == 1 && written.files.is_empty());
+    let stored = parse(rt.alloc(), Vec::new(rt.alloc())).expect(&rt, "a command");
+    assert_row(&rt, "no words", stored, Command::Answer(written));
 }
 
 #[test]
 fn refused_lines_name_what_is_wrong(rt: HostRuntime) {
     for (line, named) in REFUSED {
-        let text = usage_text(&rt, rt.alloc(), *line);
-        assert!(rt; text.as_str().contains(*named), "of {line}: {text}");
-        assert!(rt; text.as_str().ends_with("--help'.\n"), "of {line}: {text}");
+        names_what_is_wrong(&rt, rt.alloc(), *line, *named);
     }
+}
+
+/// The text that the line is refused with names this, and ends with where to read more.
+fn names_what_is_wrong(rt: &impl Abort, alloc: Global, line: &str, named: &str) {
+    let text = usage_text(rt, alloc, line);
+    let (text, ending) = (text.as_str(), "--help'.\n");
+    assert!(rt;
+        text.contains(named) && text.ends_with(ending),
+        "of {line}: {text}"
+    );
 }

@@ -1,5 +1,6 @@
 // The texts of help and of refusals, as a person reads them in a terminal of 80 columns.
 use super::{fault_of, text_of};
+use crate::rows::assert_row;
 use htl_command::ParseFault;
 use std::alloc::Global;
 use std::process::Abort;
@@ -353,7 +354,7 @@ For more information, try '--help'.
 ";
 
 /// Lines that ask for help, and what they are answered.
-const HELP: [(&str, &str); 16] = [
+const HELP: &[(&str, &str)] = &[
     ("--help", PROGRAM),
     ("--version", VERSION),
     ("summary|--help", SUMMARY),
@@ -373,7 +374,7 @@ const HELP: [(&str, &str); 16] = [
 ];
 
 /// Lines that are refused, and what they are answered.
-const USAGE: [(&str, &str); 6] = [
+const USAGE: &[(&str, &str)] = &[
     ("trace|--process|4|--handle|100000000", VALUE),
     ("explain|S18", CODE),
     ("outstandin", MISSPELT_COMMAND),
@@ -387,35 +388,35 @@ fn fits(text: &str) -> bool {
     text.lines().all(|line| line.chars().count() <= 80)
 }
 
-/// The line's answer has this status and this text, which fits.
-fn is_answered(
-    rt: &impl Abort,
-    alloc: Global,
-    line: &str,
-    fault: &ParseFault,
-    status: u8,
-    text: &str,
-) {
-    assert_eq!(rt; fault.status(), status, "of {line}");
-    assert_eq!(rt; text_of(rt, alloc, fault).as_str(), text, "of {line}");
+/// Which kind of answer it is.
+fn kind_of(fault: &ParseFault) -> &'static str {
+    match fault {
+        ParseFault::Help(_) => "help",
+        ParseFault::Usage(_) => "usage",
+        ParseFault::Memory => "memory",
+    }
+}
+
+/// The line's answer is of this kind and has this status and this text, which fits.
+fn is_answered(rt: &impl Abort, alloc: Global, line: &str, kind: &str, status: u8, text: &str) {
+    let fault = fault_of(rt, alloc, line);
+    let found = text_of(rt, alloc, &fault);
+    let found = (kind_of(&fault), fault.status(), found.as_str());
+    assert_row(rt, line, found, (kind, status, text));
     assert!(rt; fits(text), "of {line}");
 }
 
 #[test]
 fn help_is_shown(rt: HostRuntime) {
     for (line, help) in HELP {
-        let fault = fault_of(&rt, rt.alloc(), line);
-        assert!(rt; matches!(fault, ParseFault::Help(_)), "of {line}");
-        is_answered(&rt, rt.alloc(), line, &fault, 0, help);
+        is_answered(&rt, rt.alloc(), line, "help", 0, help);
     }
 }
 
 #[test]
 fn refusals_say_what_is_wrong(rt: HostRuntime) {
     for (line, usage) in USAGE {
-        let fault = fault_of(&rt, rt.alloc(), line);
-        assert!(rt; matches!(fault, ParseFault::Usage(_)), "of {line}");
-        is_answered(&rt, rt.alloc(), line, &fault, 2, usage);
+        is_answered(&rt, rt.alloc(), line, "usage", 2, usage);
     }
 }
 
@@ -423,5 +424,5 @@ fn refusals_say_what_is_wrong(rt: HostRuntime) {
 fn want_of_memory_has_a_line(rt: HostRuntime) {
     assert_eq!(rt; ParseFault::Memory.status(), 6);
     let text = text_of(&rt, rt.alloc(), &ParseFault::Memory);
-    assert_eq!(rt; text.as_str(), "hleak: out of memory");
+    assert!(rt; text.as_str() == "hleak: out of memory");
 }

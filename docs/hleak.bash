@@ -29,6 +29,7 @@ _hleak_command() {
     leaks) options='--process --top --exit-code --folded --symbols --workers --json --complete --hex --help' needed='--process' words='' ;;
     stacks) options='--object --tag --top --symbols --workers --json --complete --hex --help' needed='--object --tag' words='' ;;
     trace) options='--process --handle --top --symbols --workers --json --complete --hex --help' needed='--process --handle' words='' ;;
+    ask) options='--symbols --workers --complete --hex --help' needed='' words='' ;;
     explain) options='--help' needed='' words='S1 S2 S3 S4 S5 S6 S7 S8 S9 S10 S11 S12 S13 S14 S15 S16 S17 H1 H2 H3 C1 C2 C3 C4 C5 C6 C7 C8 Y1 Y2 Y3 Y4 Y5 Y6 Y7 E1 E2' ;;
     dump) options='--hex --help' needed='' words='' ;;
     encode) options='--hex --help' needed='' words='' ;;
@@ -43,12 +44,12 @@ _hleak() {
   if ((COMP_CWORD == 1)); then
     case $typed in
       -*) _hleak_offer '--help --version' ;;
-      *) _hleak_offer 'summary outstanding diff tags bad leaks stacks trace explain dump encode help' ;;
+      *) _hleak_offer 'summary outstanding diff tags bad leaks stacks trace ask explain dump encode help' ;;
     esac
     return
   fi
   if [[ $command == help ]]; then
-    ((COMP_CWORD > 2)) || _hleak_offer 'summary outstanding diff tags bad leaks stacks trace explain dump encode'
+    ((COMP_CWORD > 2)) || _hleak_offer 'summary outstanding diff tags bad leaks stacks trace ask explain dump encode'
     return
   fi
   _hleak_command "$command" || return

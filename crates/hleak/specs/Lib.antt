@@ -7,3 +7,4 @@ pub mod Stages
 pub mod Subjects
 pub mod Sides
 pub mod Words
+pub mod Wrongs

@@ -5,16 +5,18 @@ use Rattle.htl_main.specs.declared.fault.RunFault.{RunFault}
 use Rattle.htl_main.specs.declared.fault.RunFault.TheVariants.{Segment, Hex, Text, Symbols, Read}
 use Rattle.htl_main.specs.declared.fault.RunFault.TheVariants.{SymbolsRead, Write}
 use Rattle.hleak.specs.declared.task.Task.{Task}
-use Rattle.hleak.specs.declared.task.Task.TheVariants.{Answer, Convert}
+use Rattle.hleak.specs.declared.task.Task.TheVariants.{Answer, Convert, Converse}
 
 -- the input at a place: the file of that place, or standard input where no file is named
 abbrev pub input_name : Task → ℕ → List ℕ
 input_name (Answer asked) place = option_map_or string_bytes (slice_get asked.now.files.items place) (codes "standard input")
 input_name (Convert of) place = option_map_or string_bytes (slice_get of.now.files.items place) (codes "standard input")
+input_name (Converse of) place = option_map_or string_bytes (slice_get of.now.files.items place) (codes "standard input")
 
 -- the file with the symbols
 abbrev pub symbols_name : Task → List ℕ
 symbols_name (Answer asked) = option_map_or string_bytes asked.now.symbols (codes "the table of symbols")
+symbols_name (Converse of) = option_map_or string_bytes of.now.symbols (codes "the table of symbols")
 symbols_name (Convert of) = codes "the table of symbols"
 
 abbrev pub subject_of : Task → RunFault → List ℕ

@@ -103,6 +103,16 @@ impl Absence {
         if completed.has_subject {
             return None;
         }
+        Absence::on(question)
+    }
+
+    /// The note on a question whose subject has no event. There is none where the question is about
+    /// all events.
+    pub fn on(question: Question) -> Option<Absence>
+        ensures some { IfSome result (λ absence.
+            subject_of_question question ≡ Some absence.subject) }
+        ensures none { IfNone result (subject_of_question question ≡ None) }
+    {
         match Subject::of(question) {
             Some(subject) => Some(Absence { subject }),
             None => None,

@@ -37,13 +37,21 @@ impl fmt::Display for Explanation<'_> {
     }
 }
 
-/// What helps where memory is refused. A summary takes more of it than other questions do, and alone
-/// has workers.
+/// What helps where memory is refused.
 fn memory_advice(task: Task) -> &'static str {
-    let Task::Answer(asked) = task else {
-        return FREE_MEMORY;
-    };
-    match (asked.job.question, asked.job.workers) {
+    match task {
+        Task::Answer(asked) => question_advice(asked.job.question, asked.job.workers),
+        Task::Convert(_) => FREE_MEMORY,
+        Task::Converse(_) => {
+            "free some, raise its limit, or ask each question alone, which takes less"
+        }
+    }
+}
+
+/// What helps where memory is refused to the answer to one question. A summary takes more of it than
+/// other questions do, and alone has workers.
+fn question_advice(question: Question, workers: u32) -> &'static str {
+    match (question, workers) {
         (Question::Summary, 0..=1) => {
             "free some, raise its limit, or ask about one process or object, which takes less"
         }
@@ -56,10 +64,13 @@ fn memory_advice(task: Task) -> &'static str {
 
 /// What helps where no thread is started.
 fn thread_advice(task: Task) -> &'static str {
-    match task {
-        Task::Answer(asked) if asked.job.workers > 1 => {
-            "ask for fewer workers, or raise the limit of threads"
-        }
+    let workers = match task {
+        Task::Answer(asked) => asked.job.workers,
+        Task::Convert(_) => 1,
+        Task::Converse(of) => of.setting.workers,
+    };
+    match workers {
+        2.. => "ask for fewer workers, or raise the limit of threads",
         _ => "raise the limit of threads, or end some other program",
     }
 }
@@ -75,15 +86,9 @@ impl<'a> Explanation<'a> {
             RunFault::Case(fault) => Meaning::of_case(fault),
             RunFault::Incomplete { processor, number } => Meaning::of_missing(processor, number),
             RunFault::Symbols(fault) => Meaning::of_symbols(fault),
-            RunFault::Read { .. } | RunFault::SymbolsRead => Meaning::new(
-                "it can't be opened or read",
-                "is it a file, is it there, and may you read it?",
-            ),
-            RunFault::Write => Meaning::new(
-                "it didn't take the whole answer",
-                "is a disk full, or its reader gone?",
-            ),
-            RunFault::Memory => Meaning::new("the system refused memory", memory_advice(self.task)),
+            RunFault::Read { .. } | RunFault::SymbolsRead => Meaning::unread(),
+            RunFault::Write => Meaning::untaken(),
+            RunFault::Memory => Meaning::no_memory(memory_advice(self.task)),
             RunFault::NoThread => Meaning::new(
                 "the system started no thread",
                 thread_advice(self.task),

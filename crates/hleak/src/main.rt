@@ -1,16 +1,18 @@
-//! The program: answers one question over trace segments in files or from standard input, prints
-//! segments as text or makes them of text (`conversion.rt`), or explains a code (`explained.rt`).
+//! The program: answers one question over trace segments in files or from standard input, or many
+//! over those in files (`conversing.rt`), prints segments as text or makes them of text
+//! (`conversion.rt`), or explains a code (`explained.rt`).
 //!
 //! The arguments ask for a job (`htl_command`). The files are looked for in order (`opening.rt`), the
 //! symbol table is read, and the job is run (`htl_main`), which opens each file (`file.rt`, `input.rt`)
 //! once it is read. A fault's line goes to standard error, and the program ends with its status
-//! (`ending.rt`).
+//! (`ending.rt`). A dialogue reads the same files and then questions from standard input (`htl_ask`,
+//! `conversing.rt`); what goes to standard error beside its replies is the matter of `listener.rt`.
 //!
 //! Where standard error is a terminal, a person reads more: `progress.rt` shows how much was read,
 //! `absence.rt` says that what was asked about has no event, `note.rt` that segments are missing, and
 //! `explanation.rt` and `meaning.rt` say a fault in words, those that `words.rt` has for its code, of
-//! which file it is (`task.rt`) or of which two segments (`sides.rt`). `shown.rt` keeps control
-//! characters of names from the terminal.
+//! which file it is (`task.rt`) or of which two segments (`sides.rt`). `stopped.rt` says why a
+//! dialogue stopped. `shown.rt` keeps control characters of names from the terminal.
 #![tactic(auto)]
 
 ghost use Rattle.std.specs.Prelude.{◌≡◌, ⊤, All, IfErr, IfOk, false};
@@ -21,22 +23,26 @@ ghost use Rattle.hleak.specs.Arguments.{AreArguments};
 ghost use Rattle.hleak.specs.Endings.{EndsRefusal, IsTextStatus, conversion_status, end_status};
 
 mod absence;
+mod conversing;
 mod conversion;
 mod ending;
 mod explained;
 mod explanation;
 mod file;
 mod input;
+mod listener;
 mod meaning;
 mod note;
 mod opening;
 mod progress;
 mod shown;
 mod sides;
+mod stopped;
 mod task;
 mod words;
 
 use absence::Absence;
+use conversing::converse;
 use conversion::{Direction, converted};
 use ending::Ending;
 use explained::Explained;
@@ -63,6 +69,7 @@ fn main(rt: HostRuntime) -> ExitCode {
         Ok(Command::Explain(code)) => written(&rt, &Explained { code }),
         Ok(Command::Dump(of)) => convert(&rt, Direction::Dump, &of),
         Ok(Command::Encode(of)) => encode(&rt, &of),
+        Ok(Command::Converse(of)) => converse(&rt, &rt, &of),
         Err(fault) => refused(&rt, &fault),
     }
 }

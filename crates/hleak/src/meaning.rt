@@ -34,6 +34,27 @@ impl Meaning {
         }
     }
 
+    /// That of what can't be read.
+    pub fn unread() -> Meaning {
+        Meaning::new(
+            "it can't be opened or read",
+            "is it a file, is it there, and may you read it?",
+        )
+    }
+
+    /// That of an output that failed.
+    pub fn untaken() -> Meaning {
+        Meaning::new(
+            "it didn't take the whole answer",
+            "is a disk full, or its reader gone?",
+        )
+    }
+
+    /// That of want of memory.
+    pub fn no_memory(advice: &'static str) -> Meaning {
+        Meaning::new("the system refused memory", advice)
+    }
+
     fn of_code(code: Code, numbers: Numbers) -> Meaning {
         Meaning {
             what: meaning(code),

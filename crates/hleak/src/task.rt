@@ -3,13 +3,14 @@
 ghost use Rattle.std.specs.Prelude.{◌≡◌};
 ghost use Rattle.hleak.specs.Subjects.{input_name, symbols_name};
 
-use htl_command::{Asked, Conversion};
+use htl_command::{Asked, Conversion, Dialogue};
 
 /// What was being done.
 #[derive(Clone, Copy)]
 pub enum Task<'a> {
     Answer(&'a Asked),
     Convert(&'a Conversion),
+    Converse(&'a Dialogue),
 }
 
 impl<'a> Task<'a> {
@@ -20,6 +21,7 @@ impl<'a> Task<'a> {
         let files = match self {
             Task::Answer(asked) => &asked.files,
             Task::Convert(of) => &of.files,
+            Task::Converse(of) => &of.files,
         };
         match files.get(place as usize) {
             Some(name) => name.as_str(),
@@ -34,6 +36,12 @@ impl<'a> Task<'a> {
         match self {
             Task::Answer(
                 Asked {
+                    symbols: Some(name),
+                    ..
+                },
+            ) => name.as_str(),
+            Task::Converse(
+                Dialogue {
                     symbols: Some(name),
                     ..
                 },

@@ -5,9 +5,9 @@ use Rattle.std.specs.List.{list_any}
 use Rattle.clap.specs.Words.{Kinds, Text}
 use Rattle.clap.specs.declared.error.ErrorKind.{ErrorKind}
 use Rattle.htl_command.specs.Entries.{entries, refusals}
-use Rattle.htl_command.specs.Refusals.{IsUsageWith, RefusesArguments, is_mistake, is_wish}
+use Rattle.htl_command.specs.Refusals.{IsUsageWith, RefusesArguments, RefusesQuestion, is_mistake, is_wish}
 use Rattle.htl_command.specs.Steps.{IsRefused}
-use Rattle.htl_command.specs.Requests.{is_nothing, request_met, answers, requested, stored}
+use Rattle.htl_command.specs.Requests.{asked_in, asked_met, is_nothing, request_met, answers, requested, stored}
 use Rattle.htl_command.specs.declared.fault.ParseFault.{ParseFault}
 use Rattle.htl_command.specs.declared.fault.ParseFault.TheVariants.{Help, Usage, Memory}
 
@@ -49,3 +49,28 @@ pub broken : (arguments : List Text) (fault : ParseFault) → arguments ≢ [] �
 broken arguments (Help text) some none why = absurd why
 broken arguments (Usage text) some none why = (taken arguments some none ∙ why.0, (inl none, why.1))
 broken arguments Memory some none why = tt
+
+-- ---- the same of a question of a dialogue
+
+pub asked_taken : (arguments : List Text) → refusals arguments ≡ [] → asked_in arguments ≡ asked_met (entries arguments)
+unfolding asked_in
+asked_taken arguments none = rw none refl
+
+asked-none : (test : ErrorKind → Bool) (arguments : List Text) → list_any test (refusals arguments) ≡ true → asked_in arguments ≡ None
+unfolding asked_in
+asked-none test arguments why = go (refusals arguments) why
+  where
+    go : (kinds : Kinds) → list_any test kinds ≡ true → (if is_nothing kinds then asked_met (entries arguments) else None) ≡ None
+    go [] why = let bad : false ≡ true = why in cc
+    go (kind ∷ kinds) why = refl
+
+pub asked_refused : (arguments : List Text) (fault : ParseFault) → IsRefused arguments fault → RefusesQuestion arguments fault
+asked_refused arguments (Help text) why = (asked-none is_wish arguments why, why)
+asked_refused arguments (Usage text) why = (asked-none is_mistake arguments why.0, (inr why.0, why.1))
+asked_refused arguments Memory why = tt
+
+pub asked_broken : (arguments : List Text) (fault : ParseFault) → refusals arguments ≡ []
+    → IsUsageWith (asked_met (entries arguments) ≡ None) fault → RefusesQuestion arguments fault
+asked_broken arguments (Help text) none why = absurd why
+asked_broken arguments (Usage text) none why = (asked_taken arguments none ∙ why.0, (inl none, why.1))
+asked_broken arguments Memory none why = tt

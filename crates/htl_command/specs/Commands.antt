@@ -4,7 +4,7 @@ use Rattle.std.specs.Str.{bytes_eq}
 use Rattle.htl_command.specs.declared.commands.CommandFlag.{CommandFlag}
 use Rattle.htl_command.specs.declared.commands.CommandFlag.TheVariants.{ExitCode, Folded, Json, Complete, Hex}
 use Rattle.htl_command.specs.declared.commands.CommandName.{CommandName}
-use Rattle.htl_command.specs.declared.commands.CommandName.TheVariants.{Ask, Explain, Dump, Encode}
+use Rattle.htl_command.specs.declared.commands.CommandName.TheVariants.{Ask, Explain, Dump, Encode, Converse}
 use Rattle.htl_command.specs.declared.commands.CommandOption.{CommandOption}
 use Rattle.htl_command.specs.declared.commands.CommandOption.TheVariants.{Process, Since, Object, Tag, Handle, Top, Symbols, Workers}
 use Rattle.htl_command.specs.declared.commands.QuestionName.{QuestionName}
@@ -12,8 +12,8 @@ use Rattle.htl_command.specs.declared.commands.QuestionName.TheVariants.{Summary
 
 abbrev pub commands : List CommandName
 commands =
-    Ask Summary ∷ Ask Outstanding ∷ Ask Diff ∷ Ask Tags ∷ Ask Bad ∷ Ask Leaks ∷ Ask Stacks ∷ Ask Trace ∷ Explain
-    ∷ Dump ∷ Encode ∷ []
+    Ask Summary ∷ Ask Outstanding ∷ Ask Diff ∷ Ask Tags ∷ Ask Bad ∷ Ask Leaks ∷ Ask Stacks ∷ Ask Trace ∷ Converse
+    ∷ Explain ∷ Dump ∷ Encode ∷ []
 
 -- each question: the name of its command, and the options that not every question has
 abbrev pub question_row : QuestionName → List ℕ × List CommandOption
@@ -55,6 +55,7 @@ name_of (Ask question) = question_name question
 name_of Explain = codes "explain"
 name_of Dump = codes "dump"
 name_of Encode = codes "encode"
+name_of Converse = codes "ask"
 
 abbrev pub option_name : CommandOption → List ℕ
 option_name option = (option_row option).0

@@ -8,7 +8,7 @@ use Rattle.htl_command.specs.Commands.{commands, flag_name, is_required, name_of
 use Rattle.htl_command.specs.declared.commands.CommandFlag.{CommandFlag}
 use Rattle.htl_command.specs.declared.commands.CommandFlag.TheVariants.{Complete, Hex, Json}
 use Rattle.htl_command.specs.declared.commands.CommandName.{CommandName}
-use Rattle.htl_command.specs.declared.commands.CommandName.TheVariants.{Ask, Explain, Dump, Encode}
+use Rattle.htl_command.specs.declared.commands.CommandName.TheVariants.{Ask, Explain, Dump, Encode, Converse}
 use Rattle.htl_command.specs.declared.commands.CommandOption.{CommandOption}
 use Rattle.htl_command.specs.declared.commands.CommandOption.TheVariants.{Symbols, Workers}
 
@@ -44,6 +44,11 @@ with_rules a (rule ∷ more) = with_rules (with_rule a rule) more
 abbrev pub text_rules : List Rule
 text_rules = flag_rule Hex ∷ files_rule ∷ []
 
+-- what a dialogue has: at least one file, since questions come from standard input
+abbrev pub dialogue_rules : List Rule
+dialogue_rules =
+    option_rule Symbols ∷ option_rule Workers ∷ flag_rule Complete ∷ flag_rule Hex ∷ record files_rule { required = true } ∷ []
+
 -- a code is one argument
 abbrev pub code_rule : Rule
 code_rule = record (new_rule (codes "code")) { value_names = 1; required = true }
@@ -54,6 +59,7 @@ rules_of (Ask question) a =
 rules_of Explain a = with_rules a (code_rule ∷ [])
 rules_of Dump a = with_rules a text_rules
 rules_of Encode a = with_rules a text_rules
+rules_of Converse a = with_rules a dialogue_rules
 
 abbrev pub command_app : CommandName → App
 command_app command = rules_of command (new_app (name_of command))

@@ -5,7 +5,7 @@ use Rattle.clap.specs.Words.{Text}
 use Rattle.clap.specs.declared.error.ErrorKind.{ErrorKind}
 use Rattle.clap.specs.declared.error.ErrorKind.TheVariants.{DisplayHelp, DisplayVersion}
 use Rattle.htl_command.specs.Entries.{refusals}
-use Rattle.htl_command.specs.Requests.{requested}
+use Rattle.htl_command.specs.Requests.{asked_in, requested}
 use Rattle.htl_command.specs.declared.fault.ParseFault.{ParseFault}
 use Rattle.htl_command.specs.declared.fault.ParseFault.TheVariants.{Help, Usage, Memory}
 
@@ -39,3 +39,10 @@ RefusesArguments arguments (Help text) = (requested arguments ≡ None) × HasRe
 RefusesArguments arguments (Usage text) =
     (requested arguments ≡ None) × (((refusals arguments ≡ []) ⊎ HasReason is_mistake arguments) × IsUsageText (string_bytes text))
 RefusesArguments arguments Memory = ⊤
+
+-- The same in a dialogue, where arguments ask for no job.
+abbrev pub RefusesQuestion : List Text → ParseFault → Type 0
+RefusesQuestion arguments (Help text) = (asked_in arguments ≡ None) × HasReason is_wish arguments
+RefusesQuestion arguments (Usage text) =
+    (asked_in arguments ≡ None) × (((refusals arguments ≡ []) ⊎ HasReason is_mistake arguments) × IsUsageText (string_bytes text))
+RefusesQuestion arguments Memory = ⊤

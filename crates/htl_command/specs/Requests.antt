@@ -1,5 +1,5 @@
 -- What arguments ask for: of the entries that `clap` finds in them, each value is read by its rule.
-use Rattle.std.specs.Prelude.{ℕ, Bool, true, false, List, [], ◌∷◌, Option, Some, None, codes, if◌then◌else◌, map, option_and_then}
+use Rattle.std.specs.Prelude.{ℕ, ◌==◌, ◌||◌, Bool, true, false, List, [], ◌∷◌, Option, Some, None, codes, if◌then◌else◌, is_some, length, map, not, option_and_then}
 use Rattle.std.specs.Prelude.{option_map, string_bytes, unwrap_or}
 use Rattle.std.specs.Option.{option_map_or}
 use Rattle.std.specs.Str.{bytes_eq}
@@ -24,6 +24,7 @@ use Rattle.htl_command.specs.declared.question.Format.{Format}
 use Rattle.htl_command.specs.declared.question.Format.TheVariants.{Plain, Json, Folded}
 use Rattle.htl_command.specs.declared.question.Job.{Job}
 use Rattle.htl_command.specs.declared.question.Question.{Question}
+use Rattle.htl_command.specs.declared.question.Setting.{Setting}
 use Rattle.htl_command.specs.declared.question.Question.TheVariants.{Summary, Outstanding, Diff, Tags, Bad, Leaks, Stacks, Trace}
 
 -- the text that was given for an option
@@ -95,6 +96,7 @@ pub data Request : Type 0 where
   explains : Code → Request
   dumps : Bool → List Text → Request
   encodes : Bool → List Text → Request
+  converses : Setting → List Text → Option Text → Request
 
 abbrev pub file_names : List Row → List Text
 file_names rows = unwrap_or (all_of (codes "files") rows) []
@@ -102,12 +104,18 @@ file_names rows = unwrap_or (all_of (codes "files") rows) []
 abbrev pub with_files : List Row → Job → Work
 with_files rows job = record { job = job; files = file_names rows; symbols = given Symbols rows }
 
+-- how the segments of a dialogue are read
+abbrev pub setting_of : List Row → Option Setting
+setting_of rows =
+    option_map (λ n. record { hex = is_given flag.Hex rows; workers = n; complete = is_given flag.Complete rows }) (workers rows)
+
 -- what a command asks for
 abbrev pub request_of : CommandName → List Row → Option Request
 request_of (command.Ask name) rows = option_map (λ job. answers (with_files rows job)) (job_of name rows)
 request_of command.Explain rows = option_map (λ code. explains code) (code_of rows)
 request_of command.Dump rows = Some (dumps (is_given flag.Hex rows) (file_names rows))
 request_of command.Encode rows = Some (encodes (is_given flag.Hex rows) (file_names rows))
+request_of command.Converse rows = option_map (λ setting. converses setting (file_names rows) (given Symbols rows)) (setting_of rows)
 
 -- what a command's name and its entries ask for
 abbrev pub request_met : Option (Text × List Row) → Option Request
@@ -138,6 +146,24 @@ unfoldable pub requested : List Text → Option Request
 requested [] = Some (answers stored)
 requested (argument ∷ more) = if is_nothing (refusals (argument ∷ more)) then request_met (entries (argument ∷ more)) else None
 
+-- an option or a file that a run alone has, and no question of a dialogue
+abbrev pub is_of_run : List Row → Bool
+is_of_run rows =
+    is_given flag.Hex rows || (is_given flag.Complete rows || (is_given flag.ExitCode rows
+    || (is_some (given Symbols rows) || (is_some (given Workers rows) || not (length (file_names rows) == 0)))))
+
+-- the job of a question with these entries
+abbrev pub asked_by : CommandName → List Row → Option Job
+asked_by (command.Ask name) rows = if is_of_run rows then None else job_of name rows
+asked_by other rows = None
+
+abbrev pub asked_met : Option (Text × List Row) → Option Job
+asked_met met = option_and_then (λ p. option_and_then (λ command. asked_by command p.1) (command_named p.0)) met
+
+-- what arguments ask for in a dialogue, where `clap` refuses nothing
+unfoldable pub asked_in : List Text → Option Job
+asked_in arguments = if is_nothing (refusals arguments) then asked_met (entries arguments) else None
+
 -- the same of the program's own types
 abbrev pub work : Asked → Work
 work asked = record {
@@ -151,3 +177,4 @@ request (wish.Answer asked) = answers (work asked)
 request (wish.Explain code) = explains code
 request (wish.Dump of) = dumps of.hex (map string_bytes of.files.items)
 request (wish.Encode of) = encodes of.hex (map string_bytes of.files.items)
+request (wish.Converse of) = converses of.setting (map string_bytes of.files.items) (option_map string_bytes of.symbols)

@@ -4,19 +4,23 @@ ghost use Rattle.std.specs.Prelude.{string_bytes};
 ghost use Rattle.clap.specs.Words.{subcommand_rows_of};
 ghost use Rattle.htl_command.specs.Entries.{entries as entries_in, refusals};
 ghost use Rattle.htl_command.specs.Refusals.{IsUsageWith, RefusesArguments};
-ghost use Rattle.htl_command.specs.Requests.{file_names, is_given as is_given_in};
+ghost use Rattle.htl_command.specs.Requests.{converses, file_names, given as given_in};
+ghost use Rattle.htl_command.specs.Requests.{is_given as is_given_in, setting_of};
 ghost use Rattle.htl_command.specs.Requests.{job_of, request, request_met, request_of};
 ghost use Rattle.htl_command.specs.Requests.{requested, stored as stored_work, work};
 ghost use Rattle.htl_command.specs.Requests.{with_files as with_files_in};
 ghost use Rattle.htl_command.specs.Steps.{IsRefused, entries_of};
+ghost use Rattle.htl_command.specs.declared.asked.Command.TheVariants as wish;
 ghost use Rattle.htl_command.specs.declared.commands.CommandFlag.TheVariants as flag;
+ghost use Rattle.htl_command.specs.declared.commands.CommandName.TheVariants as command;
+ghost use Rattle.htl_command.specs.declared.commands.CommandOption.TheVariants as option;
 
 use crate::builder::program;
 use crate::code::Code;
 use crate::commands::{CommandFlag, CommandName, QuestionName};
 use crate::fault::{ParseFault, no_command, of_clap, of_code, of_entries};
-use crate::question::{Format, Job, Question};
-use crate::reading::{code, files, is_given, job, symbols};
+use crate::question::{Format, Job, Question, Setting};
+use crate::reading::{NoJob, code, files, is_given, job, setting, symbols};
 use clap::ArgMatches;
 use std::alloc::{AllocError, Global};
 
@@ -31,6 +35,8 @@ pub enum Command {
     Dump(Conversion),
     /// The segments of a text.
     Encode(Conversion),
+    /// The answers to questions that come line by line.
+    Converse(Dialogue),
 }
 
 /// A question, and what it is asked of.
@@ -50,6 +56,16 @@ pub struct Conversion {
     pub hex: bool,
     /// The names of the inputs, in order. Where there is none, standard input is read.
     pub files: Vec<String>,
+}
+
+/// What the questions of a dialogue are asked of.
+#[derive(Debug, PartialEq, Eq, Drop)]
+pub struct Dialogue {
+    pub setting: Setting,
+    /// The names of the inputs, in order. There is at least one.
+    pub files: Vec<String>,
+    /// The name of the file with the symbol table.
+    pub symbols: Option<String>,
 }
 
 /// What the arguments after the program's name ask for. No arguments ask for the stored job: the
@@ -106,7 +122,10 @@ fn read_arguments(alloc: Global, arguments: &[String]) -> Result<Command, ParseF
 }
 
 /// What `clap` finds in the arguments.
-fn matches<'a>(alloc: Global, arguments: &'a [String]) -> Result<ArgMatches<'a>, ParseFault>
+pub(crate) fn matches<'a>(
+    alloc: Global,
+    arguments: &'a [String],
+) -> Result<ArgMatches<'a>, ParseFault>
     ensures ok { IfOk result (λ matches. (refusals (map string_bytes arguments.entry.now) ≡ [])
         × (subcommand_rows_of matches ≡ entries_in (map string_bytes arguments.entry.now))) }
     ensures err { IfErr result (IsRefused (map string_bytes arguments.entry.now)) }
@@ -173,6 +192,10 @@ fn read_command(
         },
         CommandName::Dump => Ok(Command::Dump(read_conversion(alloc, entries)?)),
         CommandName::Encode => Ok(Command::Encode(read_conversion(alloc, entries)?)),
+        CommandName::Converse => {
+            let dialogue = read_dialogue(alloc, entries)?;
+            Ok(Command::Converse(dialogue))
+        }
     }
 }
 
@@ -188,8 +211,35 @@ fn read_question(
 {
     match job(name, entries) {
         Ok(job) => Ok(with_files(alloc, job, entries)?),
-        Err(refused) => Err(of_entries(alloc, name, refused)),
+        Err(refused) => Err(of_entries(alloc, CommandName::Ask(name), refused)),
     }
+}
+
+fn read_dialogue(alloc: Global, entries: &ArgMatches) -> Result<Dialogue, ParseFault>
+    ensures ok { IfOk result (λ of. request_of command.Converse (entries_of entries.now)
+        ≡ Some (request (wish.Converse of))) }
+    ensures err { IfErr result (IsUsageWith (setting_of (entries_of entries.now) ≡ None)) }
+{
+    match setting(entries) {
+        Ok(setting) => Ok(with_inputs(alloc, setting, entries)?),
+        Err(refused) => Err(of_entries(alloc, CommandName::Converse, NoJob::Value(refused))),
+    }
+}
+
+fn with_inputs(
+    alloc: Global,
+    setting: Setting,
+    entries: &ArgMatches,
+) -> Result<Dialogue, AllocError>
+    ensures { IfOk result (λ of. request (wish.Converse of)
+        ≡ converses setting (file_names (entries_of entries.now))
+        (given_in option.Symbols (entries_of entries.now))) }
+{
+    Ok(Dialogue {
+        setting,
+        files: files(alloc, entries)?,
+        symbols: symbols(alloc, entries)?,
+    })
 }
 
 fn with_files(alloc: Global, job: Job, entries: &ArgMatches) -> Result<Asked, AllocError>

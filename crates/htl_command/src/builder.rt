@@ -3,13 +3,17 @@ ghost use Rattle.std.specs.Prelude.{◌≡◌, IfOk, false, map};
 ghost use Rattle.clap.specs.Words.{app_of, rule_of, with_subcommand};
 ghost use Rattle.clap.specs.declared.builder.Command.TheViews.{out-Command as fields_of};
 ghost use Rattle.htl_command.specs.Steps.{Describes};
-ghost use Rattle.htl_command.specs.Entries.{code_rule, common_rules, command_app, files_rule};
+ghost use Rattle.htl_command.specs.Entries.{code_rule, common_rules, command_app, dialogue_rules};
+ghost use Rattle.htl_command.specs.Entries.{files_rule};
 ghost use Rattle.htl_command.specs.Entries.{flag_rule, hleak_app, option_rule, program_app};
 ghost use Rattle.htl_command.specs.Entries.{text_rules};
 ghost use Rattle.htl_command.specs.Entries.{with_commands as with_commands_of, with_rules};
 
 use crate::commands::{COMMANDS, CommandFlag, CommandName, CommandOption};
-use crate::help::{ABOUT, AFTER_HELP, CODE_HELP, FILES_HELP, HEX_TEXT_HELP, TEXTS_HELP, VERSION};
+use crate::help::{
+    ABOUT, AFTER_HELP, CODE_HELP, DIALOGUE_FILES_HELP, FILES_HELP, HEX_TEXT_HELP, TEXTS_HELP,
+    VERSION,
+};
 use clap::{Arg, ArgAction, Command};
 use std::alloc::{AllocError, Global};
 
@@ -117,6 +121,19 @@ fn with_text_options<'a>(
         .arg(files(alloc, files_help))
 }
 
+fn with_dialogue_options<'a>(alloc: Global, command: Command<'a>) -> Result<Command<'a>, AllocError>
+    requires { (fields_of command).has_globals ≡ false }
+    ensures { IfOk result (Describes (with_rules (app_of command.entry) dialogue_rules)) }
+{
+    let command = with_options(
+        alloc,
+        command,
+        &[CommandOption::Symbols, CommandOption::Workers],
+    )?;
+    let command = with_flags(alloc, command, &[CommandFlag::Complete, CommandFlag::Hex])?;
+    command.arg(files(alloc, DIALOGUE_FILES_HELP).required(true))
+}
+
 fn command<'a>(alloc: Global, name: CommandName) -> Result<Command<'a>, AllocError>
     ensures { IfOk result (Describes (command_app name)) }
 {
@@ -132,6 +149,7 @@ fn command<'a>(alloc: Global, name: CommandName) -> Result<Command<'a>, AllocErr
         CommandName::Explain => bare.arg(code(alloc)),
         CommandName::Dump => with_text_options(alloc, bare, CommandFlag::Hex.help(), FILES_HELP),
         CommandName::Encode => with_text_options(alloc, bare, HEX_TEXT_HELP, TEXTS_HELP),
+        CommandName::Converse => with_dialogue_options(alloc, bare),
     }
 }
 

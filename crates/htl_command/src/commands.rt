@@ -15,6 +15,8 @@ pub(crate) enum CommandName {
     Dump,
     /// Makes segments of text.
     Encode,
+    /// Answers many questions over the same segments.
+    Converse,
 }
 
 /// A question, by the name of its command.
@@ -54,7 +56,7 @@ pub(crate) enum CommandFlag {
 }
 
 /// All commands, as help lists them.
-pub(crate) const COMMANDS: [CommandName; 11] = [
+pub(crate) const COMMANDS: [CommandName; 12] = [
     CommandName::Ask(QuestionName::Summary),
     CommandName::Ask(QuestionName::Outstanding),
     CommandName::Ask(QuestionName::Diff),
@@ -63,6 +65,7 @@ pub(crate) const COMMANDS: [CommandName; 11] = [
     CommandName::Ask(QuestionName::Leaks),
     CommandName::Ask(QuestionName::Stacks),
     CommandName::Ask(QuestionName::Trace),
+    CommandName::Converse,
     CommandName::Explain,
     CommandName::Dump,
     CommandName::Encode,
@@ -80,6 +83,7 @@ impl CommandName {
             CommandName::Explain => "explain",
             CommandName::Dump => "dump",
             CommandName::Encode => "encode",
+            CommandName::Converse => "ask",
         }
     }
 

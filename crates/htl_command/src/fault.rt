@@ -4,7 +4,7 @@ ghost use Rattle.clap.specs.Words.{kind_of};
 ghost use Rattle.htl_command.specs.Refusals.{IsUsageWith};
 ghost use Rattle.htl_command.specs.Steps.{Reports};
 
-use crate::commands::QuestionName;
+use crate::commands::CommandName;
 use crate::help::CODE_EXPECTED;
 use crate::reading::NoJob;
 use clap::error::ErrorKind;
@@ -53,6 +53,20 @@ For more information, try 'hleak encode --help'.";
         usage(alloc, why, "")
     }
 
+    /// The fault of a line in which a quote is not ended.
+    pub fn open_quote(alloc: Global) -> ParseFault
+        ensures { IsUsageWith ⊤ result }
+    {
+        of_line(alloc, "a quote is not ended")
+    }
+
+    /// The fault of a line that is too long.
+    pub fn long_line(alloc: Global) -> ParseFault
+        ensures { IsUsageWith ⊤ result }
+    {
+        of_line(alloc, "a line has at most 65536 bytes")
+    }
+
     /// The exit status of the program: 0 for help, 2 for arguments that are no command line, 6 for
     /// memory.
     pub fn status(&self) -> u8
@@ -92,7 +106,7 @@ pub(crate) fn of_clap(alloc: Global, error: &clap::Error, tip: &str) -> ParseFau
 }
 
 /// The fault of entries that are no job, in the form of `clap`'s texts.
-pub(crate) fn of_entries(alloc: Global, name: QuestionName, refused: NoJob) -> ParseFault
+pub(crate) fn of_entries(alloc: Global, name: CommandName, refused: NoJob) -> ParseFault
     ensures { IsUsageWith ⊤ result }
 {
     let why = format!(in alloc;
@@ -125,6 +139,28 @@ pub(crate) fn no_command(alloc: Global) -> ParseFault
 {
     let why = "a command is missing\n\nFor more information, try 'hleak --help'.";
     usage(alloc, why, "")
+}
+
+/// The fault of a line of a dialogue that has what a run alone has, or another command.
+pub(crate) fn no_question(alloc: Global) -> ParseFault
+    ensures { IsUsageWith ⊤ result }
+{
+    let why = "\
+a line is a question with its own options
+
+  tip: files, --symbols, --workers, --complete and --hex stand after 'hleak ask'";
+    of_line(alloc, why)
+}
+
+/// The fault of a line of a dialogue.
+fn of_line(alloc: Global, why: &str) -> ParseFault
+    ensures { IsUsageWith ⊤ result }
+{
+    usage(
+        alloc,
+        why,
+        "\n\nFor more information, try 'hleak ask --help'.",
+    )
 }
 
 /// What an error of `clap`'s says, without the frame that every usage fault has.

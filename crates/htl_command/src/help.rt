@@ -38,6 +38,8 @@ pub(crate) const HEX_TEXT_HELP: &str = "Write hexadecimal digits, not bytes";
 
 pub(crate) const TEXTS_HELP: &str = "Texts of segments; standard input where no file is given";
 
+pub(crate) const DIALOGUE_FILES_HELP: &str = "Trace segments";
+
 pub(crate) const CODE_HELP: &str = "\
 The code of a fault, as S10, without the numbers that
 may follow it";
@@ -53,6 +55,7 @@ impl CommandName {
             CommandName::Explain => "What the code of a fault means, and what to do",
             CommandName::Dump => "Segments as text, to read, compare and change",
             CommandName::Encode => "The bytes of segments that are given as text",
+            CommandName::Converse => "Many questions over the same segments, a line each",
         }
     }
 
@@ -76,6 +79,16 @@ Bytes are not written to a terminal.
 
 Example:
   hleak encode cpu0.txt > cpu0.hls"
+            }
+            CommandName::Converse => {
+                "\
+Each line of standard input is a question with its options, as
+'leaks --process 4 --top 5'. An argument with blanks stands in double quotes.
+The answer is written with an empty line after it. A line that is no question
+gets the empty line alone, and status 2 at the end. 'quit' ends.
+
+Example:
+  hleak ask --symbols names.csv cpu0.hls cpu1.hls"
             }
         }
     }

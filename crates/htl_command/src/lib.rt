@@ -7,8 +7,8 @@
 //!
 //! Files, in reading order: `question.rt` (what can be asked), `code.rt` (the codes of faults),
 //! `commands.rt` (the table of commands), `builder.rt` (the commands as `clap` gets them),
-//! `asked.rt` (`parse`), `reading.rt` and `values.rt` (entries and values), `help.rt` and `fault.rt`
-//! (what a person reads).
+//! `asked.rt` (`parse`), `line.rt` (a question of a dialogue), `reading.rt` and `values.rt` (entries
+//! and values), `help.rt` and `fault.rt` (what a person reads).
 #![tactic(auto)]
 
 mod asked;
@@ -17,11 +17,13 @@ mod code;
 mod commands;
 mod fault;
 mod help;
+mod line;
 mod question;
 mod reading;
 mod values;
 
-pub use asked::{Asked, Command, Conversion, parse};
+pub use asked::{Asked, Command, Conversion, Dialogue, parse};
 pub use code::Code;
 pub use fault::ParseFault;
-pub use question::{Format, Job, Question};
+pub use line::parse_question;
+pub use question::{Format, Job, Question, Setting};

@@ -24,6 +24,17 @@ pub enum Question {
     Trace { process: u32, handle: u32 },
 }
 
+/// How the segments are read of which many questions are asked.
+#[derive(Clone, Copy, Debug, PartialEq, Eq)]
+pub struct Setting {
+    /// Whether the inputs are digits in hexadecimal.
+    pub hex: bool,
+    /// How many threads decode and fold segments, 1 to 8.
+    pub workers: u32,
+    /// Whether segments of which one is missing are refused.
+    pub complete: bool,
+}
+
 /// The form in which an answer is printed.
 #[derive(Clone, Copy, Debug, PartialEq, Eq)]
 pub enum Format {

@@ -1,18 +1,20 @@
 //! The job of a command, read from the entries that `clap` gives.
-ghost use Rattle.std.specs.Prelude.{◌≡◌, IfErr, IfOk, map, option_map, string_bytes};
+ghost use Rattle.std.specs.Prelude.{◌≡◌, ◌==◌, IfErr, IfOk, is_some, length, map, not, option_map};
+ghost use Rattle.std.specs.Prelude.{string_bytes};
 ghost use Rattle.std.specs.Result.{result_ok};
 ghost use Rattle.clap.specs.Words.{all_of, first_of};
 ghost use Rattle.htl_command.specs.Steps.{IsNoJob, Names, entries_of};
 ghost use Rattle.htl_command.specs.Requests.{code_of, file_names, format_of, given as given_in};
 ghost use Rattle.htl_command.specs.Requests.{is_given as is_given_in, job_of, optional, question_of};
-ghost use Rattle.htl_command.specs.Requests.{value, workers as workers_given};
+ghost use Rattle.htl_command.specs.Requests.{is_of_run, setting_of, value};
+ghost use Rattle.htl_command.specs.Requests.{workers as workers_given};
 ghost use Rattle.htl_command.specs.Values.{handle_in, object_in, process_in, sequence_in, tag_in};
 ghost use Rattle.htl_command.specs.Values.{top_in};
 ghost use Rattle.htl_command.specs.declared.commands.CommandOption.TheVariants as option;
 
 use crate::code::Code;
 use crate::commands::{CommandFlag, CommandOption, QuestionName};
-use crate::question::{Format, Job, Question};
+use crate::question::{Format, Job, Question, Setting};
 use crate::values;
 use clap::ArgMatches;
 use std::alloc::{AllocError, Global};
@@ -201,6 +203,47 @@ fn question<'a>(name: QuestionName, entries: &ArgMatches<'a>) -> Result<Question
             process: process(entries)?,
             handle: handle(entries)?,
         },
+    })
+}
+
+/// Whether an option or a file is given that a run alone has, and no question of a dialogue.
+pub(crate) fn is_of_run(entries: &ArgMatches) -> bool
+    ensures { result ≡ is_of_run (entries_of entries.now) }
+{
+    is_given(entries, CommandFlag::Hex)
+        || is_given(entries, CommandFlag::Complete)
+        || is_given(entries, CommandFlag::ExitCode)
+        || has_option(entries, CommandOption::Symbols)
+        || has_option(entries, CommandOption::Workers)
+        || has_files(entries)
+}
+
+/// Whether an option is given.
+fn has_option(entries: &ArgMatches, option: CommandOption) -> bool
+    ensures { result ≡ is_some (given_in option (entries_of entries.now)) }
+{
+    given(entries, option).is_some()
+}
+
+/// Whether a file is given.
+fn has_files(entries: &ArgMatches) -> bool
+    ensures { result ≡ not (length (file_names (entries_of entries.now)) == 0) }
+{
+    match entry_list(entries, "files") {
+        None => false,
+        Some(texts) => !texts.is_empty(),
+    }
+}
+
+/// How the segments of a dialogue are read.
+pub(crate) fn setting<'a>(entries: &ArgMatches<'a>) -> Result<Setting, Refused<'a>>
+    ensures ok { result_ok result ≡ setting_of (entries_of entries.now) }
+    ensures err { IfErr result (Names option.Workers (entries_of entries.now)) }
+{
+    Ok(Setting {
+        hex: is_given(entries, CommandFlag::Hex),
+        workers: workers(entries)?,
+        complete: is_given(entries, CommandFlag::Complete),
     })
 }
 

@@ -17,7 +17,7 @@ use Rattle.htl_main.specs.declared.refused.Refused.{Refused}
 abbrev ill : {S : Type 0} → RunFault → Result S RunFault
 ill fault = Err fault
 
-not_write : (segments : List Content) (symbols : Option (List ℕ)) (job : Job) (fault : RunFault) → IsCauseAfter segments symbols job fault
+pub not_write : (segments : List Content) (symbols : Option (List ℕ)) (job : Job) (fault : RunFault) → IsCauseAfter segments symbols job fault
     → fault ≢ Write
 not_write segments symbols job Write cause is = cause
 not_write segments symbols job fault cause is = cc is
@@ -45,7 +45,7 @@ cause_of job inputs symbols segments (Symbols found) fit decoded cause = (fit, s
 cause_of job inputs symbols segments Memory fit decoded cause = (fit, inr (segments, decoded, cause))
 cause_of job inputs symbols segments fault fit decoded cause = absurd cause
 
-sources_cause_of : (job : Job) (inputs : List (List ℕ)) (lefts : List (Option (List ℕ))) (ends : List Bool) (symbols : Option (List ℕ))
+pub sources_cause_of : (job : Job) (inputs : List (List ℕ)) (lefts : List (Option (List ℕ))) (ends : List Bool) (symbols : Option (List ℕ))
     (segments : List Content) (fault : RunFault) → WorkersFit job.workers → DecodeAll job.hex inputs segments
     → IsCauseAfter segments symbols job fault → IsSourcesCause job inputs lefts ends symbols fault
 sources_cause_of job inputs lefts ends symbols segments (Case found) fit decoded cause = (fit, segments, decoded, cause)

@@ -19,3 +19,4 @@ pub mod PartLaws
 pub mod PairLaws
 pub mod CaseRefused
 pub mod AfterDecoding
+pub mod AfterStanding

@@ -1,5 +1,5 @@
 -- The least key that a case misses, processor by processor.
-use Rattle.std.proofs.Common.{◌≡◌, ℕ, ◌+◌, ◌-◌, ◌^◌, ◌<◌, ◌≤◌, true, List, [], ◌∷◌, length, take, Option, refl, subst, arith, inl, inr}
+use Rattle.std.proofs.Common.{◌≡◌, ℕ, ◌+◌, ◌-◌, ◌^◌, ◌<◌, ◌≤◌, true, List, [], ◌∷◌, length, take, Option, ◌⊎◌, refl, subst, sym, arith, inl, inr}
 use Rattle.std.proofs.lemmas.Bool.{cases_eq, cases_lt}
 use Rattle.std.proofs.lemmas.List.{length-take-le}
 use Rattle.htl_event.proofs.Members.{Contains-cons, Contains-nil, at_member}
@@ -18,6 +18,10 @@ use Rattle.htl_main.specs.Completeness.{IsComplete, IsLeastMissing, ReportsMissi
 use Rattle.htl_main.specs.Numbers.{numbers_of}
 use Rattle.htl_main.specs.declared.fault.RunFault.{RunFault}
 use Rattle.htl_main.specs.declared.fault.RunFault.TheVariants.{Incomplete}
+use Rattle.htl_main.specs.Faults.{of_symbols}
+use Rattle.htl_main.specs.Printed.{HasSymbolFault}
+use Rattle.htl_symbols.specs.declared.fault.SymbolFault.{SymbolFault}
+use Rattle.htl_symbols.specs.declared.fault.SymbolFault.TheVariants.{NoMemory}
 use Rattle.htl_main.proofs.Covered.{AreOwn, first_is, more_gaps}
 
 -- a gap is one of its processor, however many processors there are
@@ -103,3 +107,13 @@ pub missing_cause : (segments : List Content) (symbols : Option (List ℕ)) (job
     → job.complete ≡ true → ReportsMissing T fault → IsCauseAfter segments symbols job fault
 missing_cause segments symbols job T (Incomplete p n) case complete missing = (complete, T, case, missing)
 missing_cause segments symbols job T other case complete missing = absurd missing
+
+-- so is the first fault of the symbols, or memory that was refused for them
+pub symbols_cause : (segments : List Content) (symbols : Option (List ℕ)) (job : Job) (T : Trace) (fault : SymbolFault) → IsCaseOf segments T
+    → (job.complete ≡ true → IsComplete T) → ((fault ≡ NoMemory) ⊎ HasSymbolFault symbols fault)
+    → IsCauseAfter segments symbols job (of_symbols fault)
+symbols_cause segments symbols job T NoMemory case ends found = inr (T, (case, ends))
+symbols_cause segments symbols job T other case ends found = elim found [
+  | inl memory ↦ subst (λ fault. IsCauseAfter segments symbols job (of_symbols fault)) (sym memory) (inr (T, (case, ends)))
+  | inr has ↦ (T, (case, ends), has)
+]

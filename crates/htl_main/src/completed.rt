@@ -68,7 +68,7 @@ fn has_use(processes: &[ProcessRow]) -> bool
 
 /// Whether the case has an event of what the question is about. The first that is found ends the
 /// walk.
-pub(crate) fn has_subject(question: Question, case: &Case) -> bool
+pub fn has_subject(question: Question, case: &Case) -> bool
     ensures { (segments : List Content) → IsCaseOf segments case.now
         → result ≡ has_subject question segments }
 {

@@ -3,7 +3,8 @@
 //!
 //! `run_from`, the call that the program makes, reads sources; `run` does the same over bytes in
 //! memory. `dump_from` writes the segments of sources as text, and `encode_from` those of texts as
-//! bytes.
+//! bytes. Where many questions come, `read_standing` reads once what they are asked of; `summary_of`,
+//! `lines` and `has_subject` are the steps of a run that each of them needs.
 //!
 //! Files, in reading order: `streaming.rt` and `printing.rt` (the steps of the two runs in order),
 //! `sources.rt` and `inputs.rt` (the segments of what comes in reads and of what lies in memory),
@@ -13,8 +14,9 @@
 //! question but that for a summary is asked), `summarizing.rt` (the sizes of a case, and its
 //! summary by workers), `coverage.rt` (how much of its trace a case has), `completed.rt` (what a
 //! run reports beside its answer), `dumping.rt` and `encoding.rt` (the runs of `dump` and
-//! `encode`), `fault.rt` (the faults, their lines and statuses), `refused.rt` (a fault and which
-//! two segments it is about), `laws.rt` (a run has one outcome, and inputs have one coverage).
+//! `encode`), `standing.rt` (what many questions are asked of), `fault.rt` (the faults, their lines
+//! and statuses), `refused.rt` (a fault and which two segments it is about), `laws.rt` (a run has one
+//! outcome, and inputs have one coverage).
 //!
 //! `specs/` is read in this order: `Inputs` (which segments the inputs encode, and which input is
 //! refused first), `Summaries` (what a summary says of a trace), `Coverages` (how much of its trace
@@ -22,7 +24,7 @@
 //! answer, or the first fault in the order of a run), `Origins` (which two segments a fault is
 //! about), `Causes` and `Sources` (how a run ends for out of memory or by a failing device, and how
 //! far it reads), `Readings`, `Dumps` and `Encodings` (the same of the runs of `dump` and `encode`,
-//! and what these write).
+//! and what these write), `Standings` (what many questions are asked of).
 #![tactic(auto)]
 
 mod answering;
@@ -40,18 +42,22 @@ mod pairing;
 mod printing;
 mod refused;
 mod sources;
+mod standing;
 mod streaming;
 mod summarizing;
 mod unfolded;
 
-pub use completed::Completed;
+pub use completed::{Completed, has_subject};
 pub use coverage::Coverage;
 pub use dumping::dump_from;
 pub use encoding::encode_from;
 pub use fault::RunFault;
-pub use htl_command::{Asked, Code, Command, Conversion, Format, Job, ParseFault, Question, parse};
+pub use htl_command::{Asked, Code, Command, Conversion, Format, Job, ParseFault, Question};
+pub use htl_command::{Setting, parse};
 pub use htl_device::{Failed, Reading, Sink, Source, Writing};
 pub use origin::{Between, Origin};
-pub use printing::run;
+pub use printing::{lines, run};
 pub use refused::Refused;
+pub use standing::{Standing, read_standing};
 pub use streaming::run_from;
+pub use summarizing::summary_of;

@@ -132,7 +132,12 @@ pub(crate) fn answered(
 }
 
 /// The lines of an answer in the job's form.
-fn lines(alloc: Global, job: &Job, answer: &Answer, symbols: &Symbols) -> Result<Vec<u8>, NoMemory>
+pub fn lines(
+    alloc: Global,
+    job: &Job,
+    answer: &Answer,
+    symbols: &Symbols,
+) -> Result<Vec<u8>, NoMemory>
     ensures { IfOk result (λ lines.
         lines.items ≡ lines_of job.now.format symbols.now job.now.top answer.now) }
 {
@@ -144,7 +149,7 @@ fn lines(alloc: Global, job: &Job, answer: &Answer, symbols: &Symbols) -> Result
 }
 
 /// Refuses a case with a gap where a complete one is asked for. Takes no memory.
-fn check_gaps(complete: bool, case: &Case) -> Result<(), RunFault>
+pub(crate) fn check_gaps(complete: bool, case: &Case) -> Result<(), RunFault>
     ensures ok { OnOk result (complete ≡ true → IsComplete case.now) }
     ensures err { IfErr result (λ fault. (complete ≡ true) × ReportsMissing case.now fault) }
 {
@@ -158,7 +163,7 @@ fn check_gaps(complete: bool, case: &Case) -> Result<(), RunFault>
 }
 
 /// The symbols of a table's bytes, or none where no table is given.
-fn read_symbols(alloc: Global, symbols: Option<&[u8]>) -> Result<Symbols, SymbolFault>
+pub(crate) fn read_symbols(alloc: Global, symbols: Option<&[u8]>) -> Result<Symbols, SymbolFault>
     ensures ok { IfOk result (HasSymbols (option_copied symbols.entry)) }
     ensures err { IfErr result (λ fault. (fault ≡ SymbolFault.NoMemory)
         ⊎ HasSymbolFault (option_copied symbols.entry) fault) }

@@ -2,7 +2,7 @@
 
 ghost use Rattle.std.specs.Prelude.{◌≡◌, ◌<◌, ◌^◌, IfOk, length};
 ghost use Rattle.htl_segment.specs.Traces.{all_events};
-ghost use Rattle.htl_event.specs.Summaries.{IsNumberOfObjects};
+ghost use Rattle.htl_event.specs.Summaries.{IsNumberOfObjects, IsProcesses, IsUnbalanced};
 ghost use Rattle.htl_main.specs.Answers.{IsAnswer};
 ghost use Rattle.htl_main.specs.Coverages.{IsCoverage};
 ghost use Rattle.htl_main.specs.Summaries.{AreTotals};
@@ -11,7 +11,7 @@ ghost use Rattle.htl_command.specs.declared.question.Question.TheVariants as ask
 use crate::coverage::{Coverage, gaps};
 use crate::unfolded::Unfolded;
 use htl_case::Case;
-use htl_event::NoMemory;
+use htl_event::{NoMemory, ProcessRow};
 use htl_report::{Answer, Totals};
 use htl_segment::Segment;
 use htl_summary::{Objects, Summary, summarize};
@@ -24,6 +24,24 @@ pub(crate) fn summary(alloc: Global, case: &Case, coverage: Coverage) -> Result<
 {
     let part = Unfolded::new(alloc, case.segments());
     let Summary { objects, processes } = summarize(alloc, &alloc, &[part])?;
+    let answer = summary_of(alloc, case, coverage, processes, objects)?;
+    Ok(answer)
+}
+
+/// The summary of a case of this coverage, where its processes and objects are known.
+pub fn summary_of(
+    alloc: Global,
+    case: &Case,
+    coverage: Coverage,
+    processes: Vec<ProcessRow>,
+    objects: Objects,
+) -> Result<Answer, NoMemory>
+    requires coverage { IsCoverage case.now coverage }
+    requires processes { IsProcesses (all_events case.now.segments) processes.items }
+    requires number { IsNumberOfObjects (all_events case.now.segments) objects.number }
+    requires unbalanced { IsUnbalanced (all_events case.now.segments) objects.unbalanced.items }
+    ensures { IfOk result (IsAnswer case.now asked.Summary) }
+{
     let Objects { number, unbalanced } = objects;
     let gaps = gaps(alloc, case)?;
     Ok(Answer::Summary {

@@ -16,9 +16,9 @@ pub fn try_all(trials: &mut Trials<'_, HostRuntime>) -> Result<()> {
 
 /// A run's input, and what it wrote.
 #[derive(Drop)]
-struct Converting {
-    input: Vec<u8>,
-    out: Vec<u8>,
+pub struct Converting {
+    pub input: Vec<u8>,
+    pub out: Vec<u8>,
     /// What a run that is refused memory may have written some first part of.
     early: Vec<u8>,
 }
@@ -39,7 +39,7 @@ impl Same for Converting {
 }
 
 /// There is room for all that is written, so that only the run itself needs memory.
-fn given_input(alloc: Global, input: Vec<u8>, early: Vec<u8>) -> Result<Converting, Refusal> {
+pub fn given_input(alloc: Global, input: Vec<u8>, early: Vec<u8>) -> Result<Converting, Refusal> {
     let out = Vec::with_capacity(alloc, 65_536)?;
     Ok(Converting { input, out, early })
 }

@@ -9,6 +9,7 @@ mod analysts;
 mod cases;
 mod conversions;
 mod desks;
+mod dialogues;
 mod runs;
 mod segments;
 mod sets;
@@ -30,5 +31,6 @@ fn main(rt: HostRuntime) -> anyhow::Result<()> {
     texts::try_all(&mut trials)?;
     runs::try_all(&rt, &mut trials)?;
     conversions::try_all(&mut trials)?;
+    dialogues::try_all(&rt, &mut trials)?;
     trials.print_sum()
 }

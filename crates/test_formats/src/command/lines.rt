@@ -1,7 +1,10 @@
 // What a line asks for, and which lines are refused.
 use super::{fault_of, text_of, words};
 use crate::rows::assert_row;
-use htl_command::{Asked, Code, Command, Conversion, Format, Job, ParseFault, Question, parse};
+use htl_command::{
+    Asked, Code, Command, Conversion, Dialogue, Format, Job, ParseFault, Question, Setting, parse,
+    parse_question,
+};
 use std::alloc::Global;
 use std::process::Abort;
 
@@ -238,6 +241,87 @@ const CONVERTED: &[(&str, bool, &[&str])] = &[
     ("encode|a.txt|--hex|--|-b.txt", true, &["a.txt", "-b.txt"]),
 ];
 
+/// Lines that ask for a dialogue: how its files are read, which they are, and its symbols.
+const DIALOGUES: [(&str, Setting, &[&str], Option<&str>); 3] = [
+    (
+        "ask|a.hls",
+        Setting {
+            hex: false,
+            workers: 1,
+            complete: false,
+        },
+        &["a.hls"],
+        None,
+    ),
+    (
+        "ask|--hex|a.hls|--workers=8|--complete|b.hls",
+        Setting {
+            hex: true,
+            workers: 8,
+            complete: true,
+        },
+        &["a.hls", "b.hls"],
+        None,
+    ),
+    (
+        "ask|--symbols|names.csv|--|--hex",
+        Setting {
+            hex: false,
+            workers: 1,
+            complete: false,
+        },
+        &["--hex"],
+        Some("names.csv"),
+    ),
+];
+
+/// Questions of a dialogue: how many rows are asked for, and in which form.
+const ASKED: [(&str, Question, Option<u32>, Format); 4] = [
+    ("summary", Question::Summary, None, Format::Plain),
+    (
+        "leaks|--process|4|--top|5",
+        Question::Leaks { process: 4 },
+        Some(5),
+        Format::Plain,
+    ),
+    (
+        "leaks|--folded|--process=4",
+        Question::Leaks { process: 4 },
+        None,
+        Format::Folded,
+    ),
+    (
+        "tags|--object|ff|--json",
+        Question::Tags { object: 0xff },
+        None,
+        Format::Json,
+    ),
+];
+
+/// Lines that are no question of a dialogue, and what their text names.
+const NO_QUESTIONS: &[(&str, &str)] = &[
+    ("summary|a.hls", "a question with its own options"),
+    ("summary|--hex", "a question with its own options"),
+    ("summary|--complete", "a question with its own options"),
+    ("summary|--exit-code", "a question with its own options"),
+    ("summary|--workers|2", "a question with its own options"),
+    ("summary|--workers|x", "a question with its own options"),
+    (
+        "summary|--symbols|names.csv",
+        "a question with its own options",
+    ),
+    ("explain|S1", "a question with its own options"),
+    ("dump", "a question with its own options"),
+    ("encode", "a question with its own options"),
+    ("ask|a.hls", "a question with its own options"),
+    ("ask", "<FILES>"),
+    ("leaks", "--process <N>"),
+    ("leaks|--process|x", "'x' for '--process <N>'"),
+    ("summary|--top|0", "'0' for '--top <N>'"),
+    ("outstandin", "'outstandin'"),
+    ("quit|now", "'quit'"),
+];
+
 /// Lines that are refused, and what their text names.
 const REFUSED: &[(&str, &str)] = &[
     // values
@@ -320,6 +404,13 @@ const REFUSED: &[(&str, &str)] = &[
     ("dump|--workers|2", "'--workers'"),
     ("encode|--symbols|names.csv", "'--symbols'"),
     ("encode|--hex|--hex", "'--hex'"),
+    ("ask", "<FILES>"),
+    ("ask|--hex", "<FILES>"),
+    ("ask|a.hls|--workers|9", "'9' for '--workers <N>'"),
+    ("ask|a.hls|--json", "'--json'"),
+    ("ask|a.hls|--exit-code", "'--exit-code'"),
+    ("ask|a.hls|--top|1", "'--top'"),
+    ("ask|a.hls|--process|4", "'--process'"),
     ("outstanding", "--process <N>"),
     ("diff|--since|1", "--process <N>"),
     ("tags", "--object <HEX>"),
@@ -470,6 +561,46 @@ fn lines_convert_files(rt: HostRuntime) {
             (line.starts_with("dump"), *hex),
         );
         assert!(rt; are_files(files, &of.files), "the files of {line}");
+    }
+}
+
+/// The dialogue that a line asks for.
+fn dialogue(rt: &impl Abort, alloc: Global, line: &str) -> Dialogue {
+    match command(rt, alloc, line) {
+        Command::Converse(of) => of,
+        _ => panic!(rt; "no dialogue: {line}"),
+    }
+}
+
+#[test]
+fn lines_ask_for_dialogues(rt: HostRuntime) {
+    for (line, setting, files, symbols) in DIALOGUES {
+        let of = dialogue(&rt, rt.alloc(), line);
+        assert_eq!(rt; of.setting, setting, "of {line}");
+        assert!(rt; are_files(files, &of.files), "the files of {line}");
+        assert_eq!(rt; of.symbols.as_deref(), symbols, "of {line}");
+    }
+}
+
+#[test]
+fn lines_of_a_dialogue_ask_questions(rt: HostRuntime) {
+    for (line, question, top, format) in ASKED {
+        let words = words(&rt, rt.alloc(), line);
+        let job = parse_question(rt.alloc(), &words).expect(&rt, "a question");
+        assert_eq!(rt; job.question, question, "of {line}");
+        assert_eq!(rt; job.top, top, "of {line}");
+        assert_eq!(rt; job.format, format, "of {line}");
+    }
+}
+
+#[test]
+fn lines_that_are_no_question_name_what_is_wrong(rt: HostRuntime) {
+    for (line, named) in NO_QUESTIONS {
+        let words = words(&rt, rt.alloc(), *line);
+        let fault = parse_question(rt.alloc(), &words).expect_err(&rt, "no question");
+        assert!(rt; matches!(fault, ParseFault::Usage(_)), "of {line}");
+        let text = text_of(&rt, rt.alloc(), &fault);
+        assert!(rt; text.as_str().contains(*named), "of {line}: {text}");
     }
 }
 

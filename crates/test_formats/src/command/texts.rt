@@ -21,6 +21,7 @@ Commands:
   leaks        Stacks by how many of their handles are still open, most first
   stacks       Stacks behind one tag of an object (!obtrace)
   trace        Each open, close and bad reference of a handle (!htrace HANDLE)
+  ask          Many questions over the same segments, a line each
   explain      What the code of a fault means, and what to do
   dump         Segments as text, to read, compare and change
   encode       The bytes of segments that are given as text
@@ -248,6 +249,30 @@ Example:
   hleak trace --process 4 --handle 0x44 cpu0.hls cpu1.hls
 ";
 
+const ASK: &str = "\
+Many questions over the same segments, a line each
+
+Usage: hleak ask [OPTIONS] <FILES>...
+
+Arguments:
+  <FILES>...  Trace segments
+
+Options:
+      --symbols <FILE>  Names for addresses: CSV of start,end,module,name
+      --workers <N>     How many threads decode segments: 1 to 8 [default: 1]
+      --complete        Refuse segments of which one is missing (C8)
+      --hex             The files hold hexadecimal digits, not bytes
+  -h, --help            Print help
+
+Each line of standard input is a question with its options, as
+'leaks --process 4 --top 5'. An argument with blanks stands in double quotes.
+The answer is written with an empty line after it. A line that is no question
+gets the empty line alone, and status 2 at the end. 'quit' ends.
+
+Example:
+  hleak ask --symbols names.csv cpu0.hls cpu1.hls
+";
+
 const EXPLAIN: &str = "\
 What the code of a fault means, and what to do
 
@@ -365,6 +390,7 @@ const HELP: &[(&str, &str)] = &[
     ("leaks|--help", LEAKS),
     ("stacks|--help", STACKS),
     ("trace|--help", TRACE),
+    ("ask|--help", ASK),
     ("explain|--help", EXPLAIN),
     ("dump|--help", DUMP),
     ("encode|--help", ENCODE),

@@ -1,4 +1,4 @@
--- The case's segments are one part, whose rows are those of all its events; and its gaps are those of its keys.
+-- The case's segments are one part, whose rows are those of all its events.
 use Rattle.htl_segment.specs.Traces.{all_events}
 use Rattle.htl_main.specs.Unfolded.{contents_of}
 use Rattle.htl_main.proofs.UnfoldedLaws.{are_events, size_fits}
@@ -9,20 +9,14 @@ summarize-requires c =
     size_fits c.args.case.now (contents_of c.new-part.result) c.segments.result.now c.new-part.ensures c.segments.ensures.value
     c.segments.ensures.is_case.trace
 
-pub totals-requires-clause-objects : goal.totals-requires-clause-objects
-totals-requires-clause-objects c =
-    let T = c.args.case.now in
-    let are = are_events T (contents_of c.new-part.result) c.segments.result.now c.new-part.ensures c.segments.ensures.value in
-    c.in_ok-objects.ensures.number (all_events T.segments) are
-
-pub returns : goal.returns
-returns c =
+pub summary_of-requires : goal.summary_of-requires
+summary_of-requires c =
     let T = c.args.case.now in
     let events = all_events T.segments in
     let are = are_events T (contents_of c.new-part.result) c.segments.result.now c.new-part.ensures c.segments.ensures.value in
     record {
-      totals_are = c.totals.ensures;
-      gaps_are = c.in_ok-gaps.ensures;
-      processes_are = c.in_ok-objects.ensures.processes events are c.segments.ensures.is_case.trace.sequences;
-      objects_are = c.in_ok-objects.ensures.unbalanced events are;
+      coverage = c.requires;
+      processes = c.in_ok-objects.ensures.processes events are c.segments.ensures.is_case.trace.sequences;
+      number = c.in_ok-objects.ensures.number events are;
+      unbalanced = c.in_ok-objects.ensures.unbalanced events are;
     }

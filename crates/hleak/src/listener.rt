@@ -1,0 +1,116 @@
+//! What is read on standard error beside the replies of a dialogue.
+
+ghost use Rattle.std.specs.Prelude.{◌≡◌, ◌||◌, false, not};
+ghost use Rattle.hleak.specs.Wrongs.{is_refusal};
+
+use crate::absence::Absence;
+use crate::note::Note;
+use crate::shown::Shown;
+use htl_ask::Audience;
+use htl_dialogue::Host;
+use htl_main::{Coverage, ParseFault, Question};
+use std::io::IsTerminal;
+
+/// Whoever reads standard error while a dialogue goes on.
+#[derive(Drop)]
+pub struct Listener {
+    rt: HostRuntime,
+    /// Whether a person at a terminal reads it.
+    is_watched: bool,
+    /// Whether the lines are typed there.
+    is_typed: bool,
+    /// Whether a line was refused. One that asks for help was not.
+    has_refused: bool,
+}
+
+impl Listener {
+    /// Nothing was heard.
+    pub fn new(rt: HostRuntime) -> Listener
+        ensures { result.has_refused ≡ false }
+    {
+        let is_watched = rt.stderr().is_terminal();
+        Listener {
+            rt,
+            is_watched,
+            is_typed: is_watched && rt.stdin().is_terminal(),
+            has_refused: false,
+        }
+    }
+
+    /// Whether a person reads standard error at a terminal.
+    pub fn is_watched(&self) -> bool
+        ensures { result ≡ self.now.is_watched }
+    {
+        self.is_watched
+    }
+
+    /// Whether a person types the lines and reads standard error at a terminal.
+    pub fn is_typed(&self) -> bool
+        ensures { result ≡ self.now.is_typed }
+    {
+        self.is_typed
+    }
+
+    /// Whether wrong lines make the status of a wrong command line: a person may ask for help.
+    pub fn counts_wrong(&self) -> bool
+        ensures { result ≡ (not self.now.is_typed || self.now.has_refused) }
+    {
+        !self.is_typed || self.has_refused
+    }
+
+    /// A line was wrong, for this reason.
+    fn count(&mut self, fault: &ParseFault)
+        ensures { self.new ≡ record self.old {
+          has_refused = self.old.has_refused || is_refusal fault.now;
+        } }
+    {
+        self.has_refused |= is_refusal(fault);
+    }
+}
+
+/// Whether the fault is more than help that was asked for.
+fn is_refusal(fault: &ParseFault) -> bool
+    ensures { result ≡ is_refusal fault.now }
+{
+    !matches!(fault, ParseFault::Help(_))
+}
+
+impl Host for Listener {
+    fn awaits(&mut self) {
+        if self.is_typed {
+            let _ = eprint!(self.rt; "hleak> ");
+        }
+    }
+
+    fn refuses(&mut self, fault: &ParseFault) {
+        self.count(fault);
+        match fault {
+            ParseFault::Help(text) | ParseFault::Usage(text) => {
+                let _ = eprint!(self.rt; "{}", Shown::lines(text));
+            }
+            ParseFault::Memory => {
+                let _ = eprintln!(self.rt; "{fault}");
+            }
+        }
+    }
+
+    fn notes_absence(&self) -> bool {
+        self.is_watched
+    }
+
+    fn lacks(&mut self, question: Question) {
+        if let Some(absence) = Absence::on(question) {
+            let _ = eprintln!(self.rt; "{absence}");
+        }
+    }
+}
+
+impl Audience for Listener {
+    fn begins(&mut self, coverage: Coverage) {
+        if self.is_watched {
+            if let Some(note) = Note::on(coverage) {
+                let _ = eprintln!(self.rt; "{note}");
+            }
+        }
+    }
+}

@@ -1,0 +1,32 @@
+-- What asking comes to (this project's own): the texts that runs of their own print, or why nothing can be asked.
+use Rattle.std.specs.Prelude.{ℕ, Bool, false, List, Option, Result, Ok, Err}
+use Rattle.htl_command.specs.declared.question.Job.{Job}
+use Rattle.htl_command.specs.declared.question.Setting.{Setting}
+use Rattle.htl_main.specs.Printed.{Printed}
+use Rattle.htl_main.specs.Sources.{IsSourcesCause}
+use Rattle.htl_main.specs.Standings.{in_setting}
+use Rattle.htl_main.specs.declared.fault.RunFault.{RunFault}
+use Rattle.htl_main.specs.declared.fault.RunFault.TheVariants.{Memory}
+use Rattle.htl_main.specs.declared.origin.Between.TheVariants.{Nothing}
+use Rattle.htl_main.specs.declared.refused.Refused.{Refused}
+use Rattle.htl_ask.specs.declared.fault.AskFault.{AskFault}
+use Rattle.htl_ask.specs.declared.fault.AskFault.TheVariants.{Run, Dialogue}
+
+-- This is what a run of its own prints for the job, over these inputs and symbols, read in this setting.
+abbrev pub IsRunsText : Setting → List (List ℕ) → Option (List ℕ) → Job → List ℕ → Type 0
+IsRunsText setting inputs symbols job text = Printed (in_setting setting job) inputs symbols (Ok text)
+
+-- why a run of its own over sources of these bytes would end, whatever it is asked
+abbrev pub IsRunsCause : Setting → List (List ℕ) → List (Option (List ℕ)) → List Bool → Option (List ℕ) → RunFault → Type 0
+IsRunsCause setting inputs lefts ends symbols fault =
+    (job : Job) → IsSourcesCause (in_setting setting job) inputs lefts ends symbols fault
+
+-- how what comes before the dialogue ends: what ends the dialogue is no fault of it
+abbrev pub before_dialogue : Result Bool AskFault → Result Bool Refused
+before_dialogue (Ok has_wrong) = Ok has_wrong
+before_dialogue (Err (Run refused)) = Err refused
+before_dialogue (Err (Dialogue fault)) = Ok false
+
+-- memory was refused, which is about no segments
+abbrev pub of_memory : AskFault
+of_memory = Run (record { fault = Memory; between = Nothing })

@@ -1,0 +1,52 @@
+//! Why there are no more answers.
+
+use htl_dialogue::DialogueFault;
+use htl_event::NoMemory;
+use htl_main::{Refused, RunFault};
+use thiserror::Error;
+
+/// Why asking ends before the lines do. Its text is the line that the program prints on standard
+/// error.
+#[derive(Clone, Copy, Debug, PartialEq, Eq, Error)]
+pub enum AskFault {
+    /// There is nothing that can be asked: the inputs or the symbols are refused, or memory was.
+    #[error("{0}")]
+    Run(Refused),
+    /// Replies could be given no longer.
+    #[error("{0}")]
+    Dialogue(DialogueFault),
+}
+
+impl From<Refused> for AskFault {
+    ghost use Rattle.std.specs.Prelude.{◌≡◌};
+    ghost use Rattle.htl_ask.specs.declared.fault.AskFault.TheVariants.{Run};
+
+    ghost from_gives = { λ refused fault. fault ≡ Run refused };
+
+    fn from(refused: Refused) -> AskFault {
+        AskFault::Run(refused)
+    }
+}
+
+/// The inputs could not be folded.
+impl From<NoMemory> for AskFault {
+    ghost use Rattle.std.specs.Prelude.{◌≡◌};
+    ghost use Rattle.htl_ask.specs.Asking.{of_memory};
+
+    ghost from_gives = { λ _ fault. fault ≡ of_memory };
+
+    fn from(_refused: NoMemory) -> AskFault {
+        AskFault::Run(Refused::from(RunFault::Memory))
+    }
+}
+
+impl From<DialogueFault> for AskFault {
+    ghost use Rattle.std.specs.Prelude.{◌≡◌};
+    ghost use Rattle.htl_ask.specs.declared.fault.AskFault.TheVariants.{Dialogue};
+
+    ghost from_gives = { λ ended fault. fault ≡ Dialogue ended };
+
+    fn from(ended: DialogueFault) -> AskFault {
+        AskFault::Dialogue(ended)
+    }
+}

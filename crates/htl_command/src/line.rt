@@ -1,0 +1,60 @@
+//! What a line of a dialogue asks for.
+ghost use Rattle.std.specs.Prelude.{◌≡◌, IfErr, IfOk, None, Some, map, string_bytes};
+ghost use Rattle.clap.specs.Words.{subcommand_rows_of};
+ghost use Rattle.htl_command.specs.Refusals.{IsUsageWith, RefusesQuestion};
+ghost use Rattle.htl_command.specs.Requests.{asked_by, asked_in, asked_met};
+ghost use Rattle.htl_command.specs.Steps.{entries_of};
+ghost use Rattle.htl_command.specs.declared.commands.CommandName.TheVariants as command;
+
+use crate::asked::matches;
+use crate::commands::{CommandName, QuestionName};
+use crate::fault::{ParseFault, no_command, no_question, of_entries};
+use crate::question::Job;
+use crate::reading::{is_of_run, job};
+use clap::ArgMatches;
+use std::alloc::Global;
+
+/// The job that the arguments of a line ask for: a question and its own options, and none that a
+/// whole run has.
+pub fn parse_question(alloc: Global, arguments: &[String]) -> Result<Job, ParseFault>
+    ensures ok { IfOk result (λ job. asked_in (map string_bytes arguments.now) ≡ Some job) }
+    ensures err { IfErr result (RefusesQuestion (map string_bytes arguments.now)) }
+{
+    match matches(alloc, arguments) {
+        Ok(matches) => read_line(alloc, &matches),
+        Err(fault) => Err(fault),
+    }
+}
+
+fn read_line(alloc: Global, matches: &ArgMatches) -> Result<Job, ParseFault>
+    ensures ok { IfOk result (λ job. asked_met (subcommand_rows_of matches.now) ≡ Some job) }
+    ensures err { IfErr result (IsUsageWith (asked_met (subcommand_rows_of matches.now) ≡ None)) }
+{
+    let Some((name, entries)) = matches.subcommand() else {
+        return Err(no_command(alloc));
+    };
+    match CommandName::from_name(name) {
+        Some(CommandName::Ask(question)) => read_entries(alloc, question, entries),
+        Some(_) => Err(no_question(alloc)),
+        None => Err(no_command(alloc)),
+    }
+}
+
+fn read_entries(
+    alloc: Global,
+    question: QuestionName,
+    entries: &ArgMatches,
+) -> Result<Job, ParseFault>
+    ensures ok { IfOk result (λ job.
+        asked_by (command.Ask question) (entries_of entries.now) ≡ Some job) }
+    ensures err { IfErr result
+        (IsUsageWith (asked_by (command.Ask question) (entries_of entries.now) ≡ None)) }
+{
+    if is_of_run(entries) {
+        return Err(no_question(alloc));
+    }
+    match job(question, entries) {
+        Ok(job) => Ok(job),
+        Err(refused) => Err(of_entries(alloc, CommandName::Ask(question), refused)),
+    }
+}

@@ -1,0 +1,4 @@
+pub mod FirstPart
+pub mod Feeds
+pub mod Takings
+pub mod Conversing

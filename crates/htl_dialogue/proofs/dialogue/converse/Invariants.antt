@@ -1,0 +1,14 @@
+-- The lines so far got their replies.
+use Rattle.std.proofs.Common.{◌≡◌, ℕ, List, Some, false}
+use Rattle.std.specs.Io.KnownBytes.{prepend_known}
+use Rattle.htl_dialogue.proofs.Conversing.{Progress}
+use Rattle.htl_dialogue.proofs.dialogue.converse.Given as goal
+
+abbrev pub invariant-loop-line : goal.invariant-loop-line
+invariant-loop-line g l = record {
+  readable : g.Q.Source.has_failed l.questions ≡ false;
+  writable : g.W.Sink.has_failed l.out ≡ false;
+  so_far : (text : List ℕ) → g.Q.Source.remaining l.initial.questions ≡ Some text
+      → Progress (g.A.Answerer.has_text l.answerer) text (prepend_known l.held (g.Q.Source.remaining l.questions))
+      (g.W.Sink.contents l.initial.out) (g.W.Sink.contents l.out) l.has_wrong l._line;
+}

@@ -1,0 +1,12 @@
+-- The line's bytes so far were taken of the text, and each read gave bytes.
+use Rattle.std.proofs.Common.{◌≡◌, false, length}
+use Rattle.std.specs.Io.KnownBytes.{prepend_known}
+use Rattle.htl_dialogue.proofs.Takings.{SoFar}
+use Rattle.htl_dialogue.proofs.reading.next_line.Given as goal
+
+abbrev pub invariant-loop-read : goal.invariant-loop-read
+invariant-loop-read g l = record {
+  fine : g.R.Source.has_failed l.source ≡ false;
+  so_far : SoFar (prepend_known l.initial.held (g.R.Source.remaining l.initial.source))
+      (prepend_known l.held (g.R.Source.remaining l.source)) l.line (length l.held) l._read;
+}

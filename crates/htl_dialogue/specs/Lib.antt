@@ -1,0 +1,8 @@
+-- What public contracts cite.
+pub mod Lines
+pub mod Sayings
+pub mod Dialogues
+-- What only private contracts cite.
+pub mod Parts
+pub mod Reading
+pub mod Replying

@@ -1,0 +1,43 @@
+-- What a line says (this project's own): a question, or that the dialogue ends, or nothing; or it is wrong.
+use Rattle.std.specs.Prelude.{ℕ, ◌&&◌, Bool, false, not, List, [], ◌∷◌, codes, if◌then◌else◌, length, nat_le}
+use Rattle.std.specs.List.{list_all}
+use Rattle.std.specs.Option.{option_map_or}
+use Rattle.std.specs.Str.{bytes_eq, is_utf8}
+use Rattle.htl_command.specs.Requests.{asked_in}
+use Rattle.htl_command.specs.declared.question.Job.{Job}
+use Rattle.htl_dialogue.specs.Lines.{arguments_of, ends_quoted}
+use Rattle.htl_dialogue.specs.declared.line.TheConstants.{MAX_LINE_LEN}
+use Rattle.htl_dialogue.specs.declared.saying.Said.{Said}
+use Rattle.htl_dialogue.specs.declared.saying.Said.TheVariants as said
+
+pub data Saying : Type 0 where
+  nothing : Saying
+  quits : Saying
+  asks : Job → Saying
+  wrong : Saying
+
+-- `quit` alone
+abbrev pub is_quit : List (List ℕ) → Bool
+is_quit (word ∷ []) = bytes_eq word (codes "quit")
+is_quit arguments = false
+
+-- what arguments say
+abbrev pub saying_by : List (List ℕ) → Saying
+saying_by [] = nothing
+saying_by (first ∷ more) =
+    if is_quit (first ∷ more) then quits else option_map_or (λ job. asks job) (asked_in (first ∷ more)) wrong
+
+-- a line can be read: it isn't too long, each quote is ended, and each argument is a text
+abbrev pub is_readable : List ℕ → Bool
+is_readable line = nat_le (length line) MAX_LINE_LEN && (not (ends_quoted false line) && list_all is_utf8 (arguments_of line))
+
+-- What a line says.
+unfoldable pub saying_of : List ℕ → Saying
+saying_of line = if is_readable line then saying_by (arguments_of line) else wrong
+
+-- the same of the program's own type
+abbrev pub saying : Said → Saying
+saying said.Nothing = nothing
+saying said.Quits = quits
+saying (said.Asks job) = asks job
+saying (said.Wrong fault) = wrong

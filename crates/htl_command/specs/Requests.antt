@@ -1,6 +1,6 @@
 -- What arguments ask for: of the entries that `clap` finds in them, each value is read by its rule.
-use Rattle.std.specs.Prelude.{ℕ, ◌==◌, ◌||◌, Bool, true, false, List, [], ◌∷◌, Option, Some, None, codes, if◌then◌else◌, is_some, length, map, not, option_and_then}
-use Rattle.std.specs.Prelude.{option_map, string_bytes, unwrap_or}
+use Rattle.std.specs.Prelude.{ℕ, ◌==◌, ◌||◌, Bool, true, false, List, [], ◌∷◌, Option, Some, None, codes, if◌then◌else◌, is_some}
+use Rattle.std.specs.Prelude.{length, map, not, option_and_then, option_map, string_bytes, unwrap_or}
 use Rattle.std.specs.Option.{option_map_or}
 use Rattle.std.specs.Str.{bytes_eq}
 use Rattle.clap.specs.Words.{Kinds, Row, Text, all_of, first_of}

@@ -52,8 +52,9 @@ pub use coverage::Coverage;
 pub use dumping::dump_from;
 pub use encoding::encode_from;
 pub use fault::RunFault;
-pub use htl_command::{Asked, Code, Command, Conversion, Format, Job, ParseFault, Question};
-pub use htl_command::{Setting, parse};
+pub use htl_command::{
+    Asked, Code, Command, Conversion, Format, Job, ParseFault, Question, Setting, parse,
+};
 pub use htl_device::{Failed, Reading, Sink, Source, Writing};
 pub use origin::{Between, Origin};
 pub use printing::{lines, run};

@@ -85,6 +85,7 @@ fn is_memory(fault: AskFault) -> bool {
 }
 
 /// Who hears nothing of a dialogue.
+#[derive(Drop)]
 struct Nobody;
 
 impl Host for Nobody {

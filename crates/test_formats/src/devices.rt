@@ -59,8 +59,8 @@ impl Write for Narrow {
 
 const TEXT: &[u8] = b"outstanding process=4 count=0\n";
 
-/// What comes of a reader that gives so many bytes a read and fails after so many calls, and whether
-/// it failed.
+/// What comes of a reader that gives so many bytes a read and fails after so many calls, and
+/// whether it failed.
 fn read_by(alloc: Global, piece: usize, calls_left: usize) -> (Result<Vec<u8>, ReadFault>, bool) {
     let mut source = Reading::new(Pieces {
         bytes: TEXT,
@@ -86,8 +86,8 @@ fn reports_a_failed_read(rt: HostRuntime) {
     assert!(rt; matches!(read, Err(ReadFault::Failed)) && failed);
 }
 
-/// What comes of a writer that takes so many bytes a write and fails when it holds `most`, whether it
-/// failed, and the bytes that it took.
+/// What comes of a writer that takes so many bytes a write and fails when it holds `most`, whether
+/// it failed, and the bytes that it took.
 fn write_by(alloc: Global, piece: usize, most: usize) -> (Result<(), Failed>, bool, Vec<u8>) {
     let mut narrow = Narrow {
         held: Vec::new(alloc),

@@ -228,29 +228,29 @@ OBJECT object=0xffffa00000001000 tags=3 unbalanced=2 refs=6 derefs=5
 }
 
 /// The answer's text, without symbols, is the one beside it.
-fn assert_text(rt: &impl Abort, alloc: Global, (answer, wanted): &(Answer, &'static str)) {
-    let bytes = text(alloc, answer, &Symbols::none(alloc), None).expect(rt, "the text");
-    assert_row(rt, *wanted, bytes.as_slice(), wanted.as_bytes());
+fn assert_text(rt: &impl Abort, alloc: Global, (answer, wanted): (Answer, &str)) {
+    let bytes = text(alloc, &answer, &Symbols::none(alloc), None).expect(rt, "the text");
+    assert_row(rt, wanted, bytes.as_slice(), wanted.as_bytes());
 }
 
 #[test]
 fn texts_of_handles(rt: HostRuntime) {
-    assert_text(&rt, rt.alloc(), &outstanding(&rt, rt.alloc()));
-    assert_text(&rt, rt.alloc(), &diff(&rt, rt.alloc()));
-    assert_text(&rt, rt.alloc(), &leaks(&rt, rt.alloc()));
-    assert_text(&rt, rt.alloc(), &bad(&rt, rt.alloc()));
+    assert_text(&rt, rt.alloc(), outstanding(&rt, rt.alloc()));
+    assert_text(&rt, rt.alloc(), diff(&rt, rt.alloc()));
+    assert_text(&rt, rt.alloc(), leaks(&rt, rt.alloc()));
+    assert_text(&rt, rt.alloc(), bad(&rt, rt.alloc()));
 }
 
 #[test]
 fn texts_of_references(rt: HostRuntime) {
-    assert_text(&rt, rt.alloc(), &tags(&rt, rt.alloc()));
-    assert_text(&rt, rt.alloc(), &stacks(&rt, rt.alloc()));
+    assert_text(&rt, rt.alloc(), tags(&rt, rt.alloc()));
+    assert_text(&rt, rt.alloc(), stacks(&rt, rt.alloc()));
 }
 
 #[test]
 fn texts_of_a_trace(rt: HostRuntime) {
-    assert_text(&rt, rt.alloc(), &trace(&rt, rt.alloc()));
-    assert_text(&rt, rt.alloc(), &summary(&rt, rt.alloc()));
+    assert_text(&rt, rt.alloc(), trace(&rt, rt.alloc()));
+    assert_text(&rt, rt.alloc(), summary(&rt, rt.alloc()));
 }
 
 /// The table of these rows.

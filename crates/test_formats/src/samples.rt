@@ -105,24 +105,19 @@ fn agree(rt: &impl Abort, alloc: Global, lines: &str) {
     let alone = events(alloc, lines).expect(rt, "the lines are events");
     let shared = shared_events(alloc, lines).expect(rt, "the lines are events");
     assert_eq!(rt; (alone.len(), shared.len()), (2, 2));
-    let alone = alone
-        .iter()
-        .map(|event| (event.sequence, event.stack.frames()));
-    assert!(rt;
-        alone.eq(
-            shared
-                .iter()
-                .map(|event| (event.sequence, event.stack.frames()))
-        )
-    );
+    for (one, other) in alone.iter().zip(&shared) {
+        assert!(rt; one.sequence == other.sequence && one.stack.frames() == other.stack.frames());
+    }
 }
 
 /// Whether some event has more than one frame.
 fn has_frames(segment: &Segment) -> bool {
-    segment
-        .events()
-        .iter()
-        .any(|event| event.stack.frames().len() > 1)
+    for event in segment.events() {
+        if event.stack.frames().len() > 1 {
+            return true;
+        }
+    }
+    false
 }
 
 /// The segments of the small trace's bundle.

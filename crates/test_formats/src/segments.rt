@@ -31,8 +31,10 @@ fn hex(rt: &impl Abort, alloc: Global, digits: &str) -> Vec<u8> {
 }
 
 fn write_at(bytes: &mut [u8], place: usize, written: &[u8]) {
-    for (cell, byte) in bytes.iter_mut().skip(place).zip(written) {
-        *cell = *byte;
+    for (offset, byte) in written.iter().enumerate() {
+        if let Some(cell) = bytes.get_mut(place.wrapping_add(offset)) {
+            *cell = *byte;
+        }
     }
 }
 
@@ -98,53 +100,77 @@ fn same_event(shared: &SharedEvent, event: &Event) -> bool {
         && shared.stack.frames() == event.stack.frames()
 }
 
-/// Texts, changes of their bytes, and the fault of what comes of them.
-const FAULTS: &[(&[&str], &[(usize, &str)], &str)] = &[
-    (&[STORED], &[(0, "00")], "S2"),
-    (&[STORED], &[(0, "00"), (4, "03")], "S2"),
-    (&[STORED], &[(4, "03")], "S3"),
-    (&[STORED], &[(6, "00")], "S4"),
-    (&[STORED], &[(6, "41")], "S4"),
-    (&[STORED], &[(8, "01")], "S5"),
-    (&[STORED], &[(10, "01")], "S6"),
-    (&[STORED], &[(12, "ffffffff")], "S7"),
-    (&[STORED], &[(24, "01100000")], "S8"),
-    (&[STORED], &[(28, "1f000000")], "S9"),
-    (&[STORED], &[(28, "21401200")], "S9"),
-    (&[STORED], &[(28, "ffffffff")], "S9"),
-    (&[STORED], &[(28, "9d000000")], "S10"),
-    (&[STORED], &[(28, "43000000")], "S11(0)"),
-    (&[STORED], &[(28, "8b000000")], "S11(2)"),
-    (&[STORED], &[(32, "00")], "S12(0)"),
-    (&[STORED], &[(68, "01")], "S12(1)"),
-    (&[STORED], &[(40, "00")], "S13(0)"),
-    (&[STORED], &[(40, "07")], "S13(0)"),
-    (&[STORED], &[(40, "08")], "S13(0)"),
-    (&[STORED], &[(41, "21")], "S14(0)"),
-    (&[STORED], &[(113, "03")], "S14(2)"),
-    (&[STORED], &[(42, "01")], "S15(0)"),
-    (&[STORED], &[(52, "03")], "S15(0)"),
-    (&[STORED], &[(56, "01")], "S15(0)"),
+/// Changes of the bytes of the stored run, and the fault of what comes of them.
+const STORED_FAULTS: &[(&[(usize, &str)], &str)] = &[
+    (&[(0, "00")], "S2"),
+    (&[(0, "00"), (4, "03")], "S2"),
+    (&[(4, "03")], "S3"),
+    (&[(6, "00")], "S4"),
+    (&[(6, "41")], "S4"),
+    (&[(8, "01")], "S5"),
+    (&[(10, "01")], "S6"),
+    (&[(12, "ffffffff")], "S7"),
+    (&[(24, "01100000")], "S8"),
+    (&[(28, "1f000000")], "S9"),
+    (&[(28, "21401200")], "S9"),
+    (&[(28, "ffffffff")], "S9"),
+    (&[(28, "9d000000")], "S10"),
+    (&[(28, "43000000")], "S11(0)"),
+    (&[(28, "8b000000")], "S11(2)"),
+    (&[(32, "00")], "S12(0)"),
+    (&[(68, "01")], "S12(1)"),
+    (&[(40, "00")], "S13(0)"),
+    (&[(40, "07")], "S13(0)"),
+    (&[(40, "08")], "S13(0)"),
+    (&[(41, "21")], "S14(0)"),
+    (&[(113, "03")], "S14(2)"),
+    (&[(42, "01")], "S15(0)"),
+    (&[(52, "03")], "S15(0)"),
+    (&[(56, "01")], "S15(0)"),
+    (&[(24, "02000000")], "S16"),
+];
+
+/// The same in version 2.
+const SECOND_FAULTS: &[(&[(usize, &str)], &str)] = &[
+    (&[(4, "02"), (40, "07")], "S15(0)"),
+    (&[(4, "02"), (40, "08")], "S13(0)"),
+    (&[(4, "02"), (41, "41")], "S14(0)"),
+    (&[(4, "02"), (41, "21")], "S14(0)"),
+    (&[(4, "02"), (28, "21402200")], "S9"),
+    (&[(4, "02"), (28, "21401200")], "S10"),
+];
+
+/// Other texts, changes of their bytes, and the fault of what comes of them.
+const OTHER_FAULTS: &[(&[&str], &[(usize, &str)], &str)] = &[
     (&[STORED, "00"], &[(28, "9d000000")], "S16"),
-    (&[STORED], &[(24, "02000000")], "S16"),
     (&[EMPTY], &[(12, "ffffffff")], "S7"),
     (&[EMPTY], &[(24, "00100000")], "S11(0)"),
     (&[WIDE], &[(4, "0100")], "S4"),
     (&[WIDE], &[(6, "0101")], "S4"),
-    (&[STORED], &[(4, "02"), (40, "07")], "S15(0)"),
-    (&[STORED], &[(4, "02"), (40, "08")], "S13(0)"),
-    (&[STORED], &[(4, "02"), (41, "41")], "S14(0)"),
-    (&[STORED], &[(4, "02"), (41, "21")], "S14(0)"),
-    (&[STORED], &[(4, "02"), (28, "21402200")], "S9"),
-    (&[STORED], &[(4, "02"), (28, "21401200")], "S10"),
 ];
 
 #[test]
 fn faults_of_changed_bytes(rt: HostRuntime) {
-    for (texts, changes, wanted) in FAULTS {
-        let code = code_of(&rt, rt.alloc(), texts, changes);
-        assert_row(&rt, *changes, code.as_str(), *wanted);
+    for rows in [STORED_FAULTS, SECOND_FAULTS] {
+        for (changes, wanted) in rows {
+            has_fault(&rt, rt.alloc(), &[STORED], changes, wanted);
+        }
     }
+    for (texts, changes, wanted) in OTHER_FAULTS {
+        has_fault(&rt, rt.alloc(), texts, changes, wanted);
+    }
+}
+
+/// What comes of the changes has the fault of this code.
+fn has_fault(
+    rt: &impl Abort,
+    alloc: Global,
+    texts: &[&str],
+    changes: &[(usize, &str)],
+    wanted: &str,
+) {
+    let code = code_of(rt, alloc, texts, changes);
+    assert_row(rt, changes, code.as_str(), wanted);
 }
 
 /// The code of the changed bytes' fault.
@@ -444,13 +470,11 @@ fn a_bundle_in_three_pieces(rt: HostRuntime) {
     let (empty, stored) = bundle.split_at(32);
     let (front, last) = empty.split_at(31);
     let mut splitter = Splitter::new(rt.alloc());
-    let counts = [
-        fed(&rt, rt.alloc(), &mut splitter, front).len(),
-        fed(&rt, rt.alloc(), &mut splitter, last).len(),
-        fed(&rt, rt.alloc(), &mut splitter, stored).len(),
-    ];
-    let found = (counts, splitter.fed(), splitter.finish());
-    assert_row(&rt, "three pieces", found, ([0, 1, 1], 188, Ok(())));
+    for (piece, count) in [(front, 0), (last, 1), (stored, 1)] {
+        let segments = fed(&rt, rt.alloc(), &mut splitter, piece);
+        assert_row(&rt, piece.len(), segments.len(), count);
+    }
+    assert!(rt; splitter.fed() == 188 && splitter.finish() == Ok(()));
 }
 
 #[test]

@@ -9,24 +9,31 @@ use std::thread::Threads;
 /// An empty segment, whose number stands at 12.
 const EMPTY: [u8; 32] = *b"HLS1\x01\0\x01\0\0\0\0\0\0\0\0\0\x07\0\0\0\0\0\0\0\0\0\0\0\x20\0\0\0";
 
+/// An empty segment of this number.
+fn empty(number: u32) -> [u8; 32] {
+    let mut segment = EMPTY;
+    segment[12..16].copy_from_slice(&number.to_le_bytes());
+    segment
+}
+
 /// So many empty segments.
 pub fn bundle(rt: &impl Abort, alloc: Global, count: u32) -> Vec<u8> {
     let mut bytes = Vec::new(alloc);
     for number in 0..count {
-        let mut segment = EMPTY;
-        for (cell, byte) in segment.iter_mut().skip(12).zip(&number.to_le_bytes()) {
-            *cell = *byte;
-        }
-        bytes.extend_from_slice(&segment).expect(rt, "the memory");
+        bytes
+            .extend_from_slice(&empty(number))
+            .expect(rt, "the memory");
     }
     bytes
 }
 
 /// A number that tells apart lists of segments.
 pub fn told(segments: &[Segment]) -> u64 {
-    segments.iter().fold(1u64, |told, segment| {
-        told.wrapping_mul(31).wrapping_add(segment.number() as u64)
-    })
+    let mut told: u64 = 1;
+    for segment in segments {
+        told = told.wrapping_mul(31).wrapping_add(segment.number() as u64);
+    }
+    told
 }
 
 /// The same where there are segments, or the fault.

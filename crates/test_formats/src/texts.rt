@@ -112,13 +112,17 @@ fn repeated(rt: &impl Abort, alloc: Global, first: &str, line: &str, count: usiz
     text
 }
 
+/// Texts, and how many bytes they encode.
+const WITHOUT_EVENTS: &[(&str, usize)] = &[("", 0), (" \r\n# nothing\n", 0), (SEGMENT, 32)];
+
 #[test]
 fn texts_without_an_event(rt: HostRuntime) {
-    assert!(rt; encoded(&rt, rt.alloc(), b"").is_empty());
-    assert!(rt; encoded(&rt, rt.alloc(), b" \r\n# nothing\n").is_empty());
-    assert_eq!(rt; encoded(&rt, rt.alloc(), SEGMENT.as_bytes()).len(), 32);
+    for (text, len) in WITHOUT_EVENTS {
+        let bytes = encoded(&rt, rt.alloc(), text.as_bytes());
+        assert_row(&rt, *text, bytes.len(), *len);
+    }
     let three = repeated(&rt, rt.alloc(), SEGMENT, SEGMENT, 2);
-    assert_eq!(rt; encoded(&rt, rt.alloc(), &three).len(), 96);
+    assert_row(&rt, "three", encoded(&rt, rt.alloc(), &three).len(), 96);
 }
 
 /// An open with so many frames after the first line of a segment.

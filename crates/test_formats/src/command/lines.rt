@@ -242,7 +242,7 @@ const CONVERTED: &[(&str, bool, &[&str])] = &[
 ];
 
 /// Lines that ask for a dialogue: how its files are read, which they are, and its symbols.
-const DIALOGUES: [(&str, Setting, &[&str], Option<&str>); 3] = [
+const DIALOGUES: &[(&str, Setting, &[&str], Option<&str>)] = &[
     (
         "ask|a.hls",
         Setting {
@@ -276,7 +276,7 @@ const DIALOGUES: [(&str, Setting, &[&str], Option<&str>); 3] = [
 ];
 
 /// Questions of a dialogue: how many rows are asked for, and in which form.
-const ASKED: [(&str, Question, Option<u32>, Format); 4] = [
+const ASKED: &[(&str, Question, Option<u32>, Format)] = &[
     ("summary", Question::Summary, None, Format::Plain),
     (
         "leaks|--process|4|--top|5",
@@ -298,154 +298,123 @@ const ASKED: [(&str, Question, Option<u32>, Format); 4] = [
     ),
 ];
 
-/// Lines that are no question of a dialogue, and what their text names.
-const NO_QUESTIONS: &[(&str, &str)] = &[
-    ("summary|a.hls", "a question with its own options"),
-    ("summary|--hex", "a question with its own options"),
-    ("summary|--complete", "a question with its own options"),
-    ("summary|--exit-code", "a question with its own options"),
-    ("summary|--workers|2", "a question with its own options"),
-    ("summary|--workers|x", "a question with its own options"),
-    (
-        "summary|--symbols|names.csv",
-        "a question with its own options",
-    ),
-    ("explain|S1", "a question with its own options"),
-    ("dump", "a question with its own options"),
-    ("encode", "a question with its own options"),
-    ("ask|a.hls", "a question with its own options"),
-    ("ask", "<FILES>"),
-    ("leaks", "--process <N>"),
-    ("leaks|--process|x", "'x' for '--process <N>'"),
-    ("summary|--top|0", "'0' for '--top <N>'"),
-    ("outstandin", "'outstandin'"),
-    ("quit|now", "'quit'"),
-];
+/// Lines that are no question of a dialogue, and after an arrow what their text names.
+const NO_QUESTIONS: &str = "\
+summary|a.hls => a question with its own options
+summary|--hex => a question with its own options
+summary|--complete => a question with its own options
+summary|--exit-code => a question with its own options
+summary|--workers|2 => a question with its own options
+summary|--workers|x => a question with its own options
+summary|--symbols|names.csv => a question with its own options
+explain|S1 => a question with its own options
+dump => a question with its own options
+encode => a question with its own options
+ask|a.hls => a question with its own options
+ask => <FILES>
+leaks => --process <N>
+leaks|--process|x => 'x' for '--process <N>'
+summary|--top|0 => '0' for '--top <N>'
+outstandin => 'outstandin'
+quit|now => 'quit'
+";
 
-/// Lines that are refused, and what their text names.
-const REFUSED: &[(&str, &str)] = &[
-    // values
-    (
-        "bad|--process|4294967296",
-        "'4294967296' for '--process <N>'",
-    ),
-    ("bad|--process|", "'' for '--process <N>'"),
-    ("bad|--process|+4", "'+4' for '--process <N>'"),
-    ("bad|--process| 4", "' 4' for '--process <N>'"),
-    ("bad|--process|4 ", "'4 ' for '--process <N>'"),
-    ("bad|--process|4x", "'4x' for '--process <N>'"),
-    ("bad|--process|0x4", "'0x4' for '--process <N>'"),
-    ("bad|--process|4_0", "'4_0' for '--process <N>'"),
-    ("bad|--process|٤", "'٤' for '--process <N>'"),
-    ("bad|--process|-4", "'-4'"),
-    ("outstanding|--process|x", "'x' for '--process <N>'"),
-    ("leaks|--process|x", "'x' for '--process <N>'"),
-    ("diff|--process|x", "'x' for '--process <N>'"),
-    (
-        "diff|--process|4|--since|18446744073709551616",
-        "for '--since <N>'",
-    ),
-    ("diff|--process|4|--since|+1", "'+1' for '--since <N>'"),
-    ("diff|--process|4|--since|", "'' for '--since <N>'"),
-    ("trace|--process|4|--handle|zz", "'zz' for '--handle <HEX>'"),
-    ("trace|--process|4|--handle|0x", "'0x' for '--handle <HEX>'"),
-    (
-        "trace|--process|4|--handle|0X44",
-        "'0X44' for '--handle <HEX>'",
-    ),
-    (
-        "trace|--process|4|--handle|+44",
-        "'+44' for '--handle <HEX>'",
-    ),
-    (
-        "trace|--process|4|--handle|100000000",
-        "'100000000' for '--handle <HEX>'",
-    ),
-    ("tags|--object|", "'' for '--object <HEX>'"),
-    (
-        "tags|--object|00000000000000001",
-        "'00000000000000001' for '--object <HEX>'",
-    ),
-    ("stacks|--object|zz|--tag|Lky8", "'zz' for '--object <HEX>'"),
-    ("stacks|--object|1|--tag|abc", "'abc' for '--tag <TAG>'"),
-    ("stacks|--object|1|--tag|abcde", "'abcde' for '--tag <TAG>'"),
-    ("stacks|--object|1|--tag|", "'' for '--tag <TAG>'"),
-    (
-        "stacks|--object|1|--tag|0xgggggggg",
-        "'0xgggggggg' for '--tag <TAG>'",
-    ),
-    (
-        "stacks|--object|1|--tag|0X4c6b7938",
-        "'0X4c6b7938' for '--tag <TAG>'",
-    ),
-    (
-        "stacks|--object|1|--tag|0x4c6b793",
-        "'0x4c6b793' for '--tag <TAG>'",
-    ),
-    ("bad|--process|4|--workers|0", "'0' for '--workers <N>'"),
-    ("bad|--process|4|--workers|9", "'9' for '--workers <N>'"),
-    ("bad|--process|4|--workers|", "'' for '--workers <N>'"),
-    ("summary|--top|0", "'0' for '--top <N>'"),
-    (
-        "leaks|--process|4|--top|4294967296",
-        "'4294967296' for '--top <N>'",
-    ),
-    ("trace|--process|4|--handle|44|--top|", "'' for '--top <N>'"),
-    ("explain|S0", "'S0' for '<CODE>'"),
-    ("explain|S18", "'S18' for '<CODE>'"),
-    ("explain|S01", "'S01' for '<CODE>'"),
-    ("explain|s1", "'s1' for '<CODE>'"),
-    ("explain|S12(1)", "'S12(1)' for '<CODE>'"),
-    ("explain|", "'' for '<CODE>'"),
-    // options
-    ("explain", "<CODE>"),
-    ("explain|S1|S2", "'S2'"),
-    ("explain|S1|--hex", "'--hex'"),
-    ("dump|--workers|2", "'--workers'"),
-    ("encode|--symbols|names.csv", "'--symbols'"),
-    ("encode|--hex|--hex", "'--hex'"),
-    ("ask", "<FILES>"),
-    ("ask|--hex", "<FILES>"),
-    ("ask|a.hls|--workers|9", "'9' for '--workers <N>'"),
-    ("ask|a.hls|--json", "'--json'"),
-    ("ask|a.hls|--exit-code", "'--exit-code'"),
-    ("ask|a.hls|--top|1", "'--top'"),
-    ("ask|a.hls|--process|4", "'--process'"),
-    ("outstanding", "--process <N>"),
-    ("diff|--since|1", "--process <N>"),
-    ("tags", "--object <HEX>"),
-    ("bad", "--process <N>"),
-    ("leaks|a.hls", "--process <N>"),
-    ("stacks|--tag|Lky8", "--object <HEX>"),
-    ("stacks|--object|1", "--tag <TAG>"),
-    ("trace|--handle|44", "--process <N>"),
-    ("trace|--process|4", "--handle <HEX>"),
-    ("tags|--object|1|--process|4", "'--process'"),
-    ("summary|--process|4", "'--process'"),
-    ("summary|--workers|9", "'9' for '--workers <N>'"),
-    ("bad|--process|4|--process|4", "'--process <N>'"),
-    ("bad|--process|4|--hex|--hex", "'--hex'"),
-    ("tags|--object|1|--top|5", "'--top'"),
-    ("leaks|--process|4|--top|5|--top|5", "'--top <N>'"),
-    ("summary|--hex|--hex", "'--hex'"),
-    ("leaks|--process|4|--exit-code|--exit-code", "'--exit-code'"),
-    ("bad|--process|4|--complete|--complete", "'--complete'"),
-    ("stacks|--object|1|--tag|Lky8|--exit-code", "'--exit-code'"),
-    ("trace|--process|4|--handle|44|--exit-code", "'--exit-code'"),
-    ("dump|--complete", "'--complete'"),
-    ("dump|--json", "'--json'"),
-    ("summary|--json|--json", "'--json'"),
-    ("summary|--folded", "'--folded'"),
-    ("bad|--process|4|--folded", "'--folded'"),
-    (
-        "leaks|--process|4|--folded|--json",
-        "'--json' cannot be used with '--folded'",
-    ),
-    ("bad|--process|4|--workers", "'--workers <N>'"),
-    // commands
-    ("", "''"),
-    ("--process|4", "'--process'"),
-];
+/// Lines with a value that is refused, and after an arrow what their text names.
+const REFUSED_VALUES: &str = "\
+bad|--process|4294967296 => '4294967296' for '--process <N>'
+bad|--process| => '' for '--process <N>'
+bad|--process|+4 => '+4' for '--process <N>'
+bad|--process| 4 => ' 4' for '--process <N>'
+bad|--process|4  => '4 ' for '--process <N>'
+bad|--process|4x => '4x' for '--process <N>'
+bad|--process|0x4 => '0x4' for '--process <N>'
+bad|--process|4_0 => '4_0' for '--process <N>'
+bad|--process|٤ => '٤' for '--process <N>'
+bad|--process|-4 => '-4'
+outstanding|--process|x => 'x' for '--process <N>'
+leaks|--process|x => 'x' for '--process <N>'
+diff|--process|x => 'x' for '--process <N>'
+diff|--process|4|--since|18446744073709551616 => for '--since <N>'
+diff|--process|4|--since|+1 => '+1' for '--since <N>'
+diff|--process|4|--since| => '' for '--since <N>'
+trace|--process|4|--handle|zz => 'zz' for '--handle <HEX>'
+trace|--process|4|--handle|0x => '0x' for '--handle <HEX>'
+trace|--process|4|--handle|0X44 => '0X44' for '--handle <HEX>'
+trace|--process|4|--handle|+44 => '+44' for '--handle <HEX>'
+trace|--process|4|--handle|100000000 => '100000000' for '--handle <HEX>'
+tags|--object| => '' for '--object <HEX>'
+tags|--object|00000000000000001 => '00000000000000001' for '--object <HEX>'
+stacks|--object|zz|--tag|Lky8 => 'zz' for '--object <HEX>'
+stacks|--object|1|--tag|abc => 'abc' for '--tag <TAG>'
+stacks|--object|1|--tag|abcde => 'abcde' for '--tag <TAG>'
+stacks|--object|1|--tag| => '' for '--tag <TAG>'
+stacks|--object|1|--tag|0xgggggggg => '0xgggggggg' for '--tag <TAG>'
+stacks|--object|1|--tag|0X4c6b7938 => '0X4c6b7938' for '--tag <TAG>'
+stacks|--object|1|--tag|0x4c6b793 => '0x4c6b793' for '--tag <TAG>'
+bad|--process|4|--workers|0 => '0' for '--workers <N>'
+bad|--process|4|--workers|9 => '9' for '--workers <N>'
+bad|--process|4|--workers| => '' for '--workers <N>'
+ask|a.hls|--workers|9 => '9' for '--workers <N>'
+summary|--workers|9 => '9' for '--workers <N>'
+summary|--top|0 => '0' for '--top <N>'
+leaks|--process|4|--top|4294967296 => '4294967296' for '--top <N>'
+trace|--process|4|--handle|44|--top| => '' for '--top <N>'
+explain|S0 => 'S0' for '<CODE>'
+explain|S18 => 'S18' for '<CODE>'
+explain|S01 => 'S01' for '<CODE>'
+explain|s1 => 's1' for '<CODE>'
+explain|S12(1) => 'S12(1)' for '<CODE>'
+explain| => '' for '<CODE>'
+";
+
+/// Lines with an option or a file that is refused or missing, and what their text names.
+const REFUSED_OPTIONS: &str = "\
+explain => <CODE>
+explain|S1|S2 => 'S2'
+explain|S1|--hex => '--hex'
+dump|--workers|2 => '--workers'
+encode|--symbols|names.csv => '--symbols'
+encode|--hex|--hex => '--hex'
+ask => <FILES>
+ask|--hex => <FILES>
+ask|a.hls|--json => '--json'
+ask|a.hls|--exit-code => '--exit-code'
+ask|a.hls|--top|1 => '--top'
+ask|a.hls|--process|4 => '--process'
+outstanding => --process <N>
+diff|--since|1 => --process <N>
+tags => --object <HEX>
+bad => --process <N>
+leaks|a.hls => --process <N>
+stacks|--tag|Lky8 => --object <HEX>
+stacks|--object|1 => --tag <TAG>
+trace|--handle|44 => --process <N>
+trace|--process|4 => --handle <HEX>
+tags|--object|1|--process|4 => '--process'
+summary|--process|4 => '--process'
+bad|--process|4|--process|4 => '--process <N>'
+bad|--process|4|--hex|--hex => '--hex'
+tags|--object|1|--top|5 => '--top'
+leaks|--process|4|--top|5|--top|5 => '--top <N>'
+summary|--hex|--hex => '--hex'
+leaks|--process|4|--exit-code|--exit-code => '--exit-code'
+bad|--process|4|--complete|--complete => '--complete'
+stacks|--object|1|--tag|Lky8|--exit-code => '--exit-code'
+trace|--process|4|--handle|44|--exit-code => '--exit-code'
+dump|--complete => '--complete'
+dump|--json => '--json'
+summary|--json|--json => '--json'
+summary|--folded => '--folded'
+bad|--process|4|--folded => '--folded'
+leaks|--process|4|--folded|--json => '--json' cannot be used with '--folded'
+bad|--process|4|--workers => '--workers <N>'
+";
+
+/// Lines that begin with no command, and what their text names.
+const REFUSED_COMMANDS: &str = "\
+--process|4 => '--process'
+ => ''
+";
 
 /// What a line asks for.
 fn command(rt: &impl Abort, alloc: Global, line: &str) -> Command {
@@ -461,18 +430,23 @@ fn asked(rt: &impl Abort, alloc: Global, line: &str) -> Asked {
 }
 
 /// The text of the usage fault that a line is refused with.
-fn usage_text(rt: &impl Abort, alloc: Global, line: &str) -> String {
-    let fault = fault_of(rt, alloc, line);
+fn usage_text(rt: &impl Abort, alloc: Global, line: &str, fault: &ParseFault) -> String {
     assert!(rt; matches!(fault, ParseFault::Usage(_)), "of {line}");
-    text_of(rt, alloc, &fault)
+    text_of(rt, alloc, fault)
 }
 
-/// Whether the names are those of the files.
-fn are_files(names: &[&str], files: &[String]) -> bool {
-    files
+/// The line that stands before the arrow of a row, and what stands after it.
+fn parts<'a>(rt: &impl Abort, row: &'a str) -> (&'a str, &'a str) {
+    row.split_once(" => ").expect(rt, "a row with an arrow")
+}
+
+/// The files of a line have these names.
+fn has_files(rt: &impl Abort, line: &str, files: &[String], names: &[&str]) {
+    let are_so = files
         .iter()
         .map(|file| file.as_str())
-        .eq(names.iter().copied())
+        .eq(names.iter().copied());
+    assert!(rt; are_so, "the files of {line}");
 }
 
 #[test]
@@ -500,9 +474,9 @@ fn plain_job(question: Question) -> Job {
 fn lines_have_options(rt: HostRuntime) {
     for (line, hex, workers, files, symbols) in OPTIONS {
         let asked = asked(&rt, rt.alloc(), line);
+        has_files(&rt, line, &asked.files, files);
         let found = (asked.job.hex, asked.job.workers, asked.symbols.as_deref());
         assert_row(&rt, *line, found, (*hex, *workers, *symbols));
-        assert!(rt; are_files(files, &asked.files), "the files of {line}");
     }
 }
 
@@ -554,13 +528,13 @@ fn conversion(command: Command) -> Option<(bool, Conversion)> {
 fn lines_convert_files(rt: HostRuntime) {
     for (line, hex, files) in CONVERTED {
         let (dumps, of) = conversion(command(&rt, rt.alloc(), line)).expect(&rt, line);
+        has_files(&rt, line, &of.files, files);
         assert_row(
             &rt,
             *line,
             (dumps, of.hex),
             (line.starts_with("dump"), *hex),
         );
-        assert!(rt; are_files(files, &of.files), "the files of {line}");
     }
 }
 
@@ -576,32 +550,48 @@ fn dialogue(rt: &impl Abort, alloc: Global, line: &str) -> Dialogue {
 fn lines_ask_for_dialogues(rt: HostRuntime) {
     for (line, setting, files, symbols) in DIALOGUES {
         let of = dialogue(&rt, rt.alloc(), line);
-        assert_eq!(rt; of.setting, setting, "of {line}");
-        assert!(rt; are_files(files, &of.files), "the files of {line}");
-        assert_eq!(rt; of.symbols.as_deref(), symbols, "of {line}");
+        has_files(&rt, line, &of.files, files);
+        let found = (of.setting, of.symbols.as_deref());
+        assert_row(&rt, *line, found, (*setting, *symbols));
     }
 }
 
 #[test]
 fn lines_of_a_dialogue_ask_questions(rt: HostRuntime) {
     for (line, question, top, format) in ASKED {
-        let words = words(&rt, rt.alloc(), line);
-        let job = parse_question(rt.alloc(), &words).expect(&rt, "a question");
-        assert_eq!(rt; job.question, question, "of {line}");
-        assert_eq!(rt; job.top, top, "of {line}");
-        assert_eq!(rt; job.format, format, "of {line}");
+        let wanted = Job {
+            top: *top,
+            format: *format,
+            ..plain_job(*question)
+        };
+        assert_row(
+            &rt,
+            *line,
+            asked_in_a_dialogue(&rt, rt.alloc(), line),
+            wanted,
+        );
     }
+}
+
+/// The job that a line of a dialogue asks for.
+fn asked_in_a_dialogue(rt: &impl Abort, alloc: Global, line: &str) -> Job {
+    parse_question(alloc, &words(rt, alloc, line)).expect(rt, "a question")
 }
 
 #[test]
 fn lines_that_are_no_question_name_what_is_wrong(rt: HostRuntime) {
-    for (line, named) in NO_QUESTIONS {
-        let words = words(&rt, rt.alloc(), *line);
-        let fault = parse_question(rt.alloc(), &words).expect_err(&rt, "no question");
-        assert!(rt; matches!(fault, ParseFault::Usage(_)), "of {line}");
-        let text = text_of(&rt, rt.alloc(), &fault);
-        assert!(rt; text.as_str().contains(*named), "of {line}: {text}");
+    for row in NO_QUESTIONS.lines() {
+        is_no_question(&rt, rt.alloc(), row);
     }
+}
+
+/// The row's line is no question of a dialogue, and the text of its fault names what it should.
+fn is_no_question(rt: &impl Abort, alloc: Global, row: &str) {
+    let (line, named) = parts(rt, row);
+    let refused = parse_question(alloc, &words(rt, alloc, line));
+    let fault = refused.expect_err(rt, "no question");
+    let text = usage_text(rt, alloc, line, &fault);
+    assert!(rt; text.as_str().contains(named), "of {line}: {text}");
 }
 
 #[test]
@@ -614,14 +604,17 @@ fn no_words_ask_for_the_stored_job(rt: HostRuntime) {
 
 #[test]
 fn refused_lines_name_what_is_wrong(rt: HostRuntime) {
-    for (line, named) in REFUSED {
-        names_what_is_wrong(&rt, rt.alloc(), *line, *named);
+    for rows in [REFUSED_VALUES, REFUSED_OPTIONS, REFUSED_COMMANDS] {
+        for row in rows.lines() {
+            is_refused(&rt, rt.alloc(), row);
+        }
     }
 }
 
-/// The text that the line is refused with names this, and ends with where to read more.
-fn names_what_is_wrong(rt: &impl Abort, alloc: Global, line: &str, named: &str) {
-    let text = usage_text(rt, alloc, line);
+/// The row's line is refused. Its text names what it should, and ends with where to read more.
+fn is_refused(rt: &impl Abort, alloc: Global, row: &str) {
+    let (line, named) = parts(rt, row);
+    let text = usage_text(rt, alloc, line, &fault_of(rt, alloc, line));
     let (text, ending) = (text.as_str(), "--help'.\n");
     assert!(rt;
         text.contains(named) && text.ends_with(ending),

@@ -414,35 +414,28 @@ fn fits(text: &str) -> bool {
     text.lines().all(|line| line.chars().count() <= 80)
 }
 
-/// Which kind of answer it is.
-fn kind_of(fault: &ParseFault) -> &'static str {
-    match fault {
-        ParseFault::Help(_) => "help",
-        ParseFault::Usage(_) => "usage",
-        ParseFault::Memory => "memory",
-    }
-}
-
-/// The line's answer is of this kind and has this status and this text, which fits.
-fn is_answered(rt: &impl Abort, alloc: Global, line: &str, kind: &str, status: u8, text: &str) {
-    let fault = fault_of(rt, alloc, line);
-    let found = text_of(rt, alloc, &fault);
-    let found = (kind_of(&fault), fault.status(), found.as_str());
-    assert_row(rt, line, found, (kind, status, text));
-    assert!(rt; fits(text), "of {line}");
+/// The line's fault has this status and this text, which fits.
+fn has_text(rt: &impl Abort, alloc: Global, line: &str, fault: &ParseFault, wanted: (u8, &str)) {
+    let found = text_of(rt, alloc, fault);
+    assert_row(rt, line, (fault.status(), found.as_str()), wanted);
+    assert!(rt; fits(wanted.1), "of {line}");
 }
 
 #[test]
 fn help_is_shown(rt: HostRuntime) {
     for (line, help) in HELP {
-        is_answered(&rt, rt.alloc(), line, "help", 0, help);
+        let fault = fault_of(&rt, rt.alloc(), line);
+        has_text(&rt, rt.alloc(), line, &fault, (0, help));
+        assert!(rt; matches!(fault, ParseFault::Help(_)), "of {line}");
     }
 }
 
 #[test]
 fn refusals_say_what_is_wrong(rt: HostRuntime) {
     for (line, usage) in USAGE {
-        is_answered(&rt, rt.alloc(), line, "usage", 2, usage);
+        let fault = fault_of(&rt, rt.alloc(), line);
+        has_text(&rt, rt.alloc(), line, &fault, (2, usage));
+        assert!(rt; matches!(fault, ParseFault::Usage(_)), "of {line}");
     }
 }
 

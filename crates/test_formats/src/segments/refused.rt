@@ -10,7 +10,7 @@ use std::alloc::Global;
 use std::process::Abort;
 
 /// The empty segment, and then one with an open of handle 0x44 without frames: 32 and 68 bytes.
-const BUNDLE: [u8; 100] = *b"HLS1\x01\0\x01\0\0\0\0\0\0\0\0\0\x07\0\0\0\0\0\0\0\0\0\0\0\x20\0\0\0\
+const BUNDLE: &[u8; 100] = b"HLS1\x01\0\x01\0\0\0\0\0\0\0\0\0\x07\0\0\0\0\0\0\0\0\0\0\0\x20\0\0\0\
     HLS1\x01\0\x01\0\0\0\0\0\x01\0\0\0\x07\0\0\0\0\0\0\0\x01\0\0\0\x44\0\0\0\
     \x01\0\0\0\0\0\0\0\x01\0\0\0\x04\0\0\0\x0c\0\0\0\x44\0\0\0\0\0\0\0\0\0\0\0\0\0\0\0";
 
@@ -72,17 +72,22 @@ fn bytes_of(rt: &impl Abort, alloc: Global, digits: &[u8]) -> Vec<u8> {
 }
 
 #[test]
-fn refused_allocations_of_reading(rt: HostRuntime) {
-    let alloc = rt.alloc();
-    let bundle = BUNDLE;
-    let bytes = bundle.as_slice();
-    let (_, last) = bytes.split_at(32);
-    let segment = decoded(&rt, alloc, last);
-    assert!(rt; encoded(&rt, alloc, &segment).as_slice() == last);
-    assert_eq!(rt; number_in_bundle(&rt, alloc, bytes), 2);
-    let (front, back) = bytes.split_at(40);
-    assert_eq!(rt; number_in_pieces(&rt, alloc, front, back), 2);
-    let read = bytes_of(&rt, alloc, b"48 4c");
+fn refused_allocations_of_a_segment(rt: HostRuntime) {
+    let (_, last) = BUNDLE.split_at(32);
+    let segment = decoded(&rt, rt.alloc(), last);
+    assert!(rt; encoded(&rt, rt.alloc(), &segment).as_slice() == last);
+}
+
+#[test]
+fn refused_allocations_of_a_bundle(rt: HostRuntime) {
+    assert_eq!(rt; number_in_bundle(&rt, rt.alloc(), BUNDLE), 2);
+    let (front, back) = BUNDLE.split_at(40);
+    assert_eq!(rt; number_in_pieces(&rt, rt.alloc(), front, back), 2);
+}
+
+#[test]
+fn refused_allocations_of_digits(rt: HostRuntime) {
+    let read = bytes_of(&rt, rt.alloc(), b"48 4c");
     assert!(rt; read.as_slice() == b"HL".as_slice());
 }
 
@@ -102,12 +107,10 @@ fn number_fed(rt: &impl Abort, alloc: Global, splitter: &mut Splitter, piece: &[
 
 #[test]
 fn refused_allocations_of_a_splitter(rt: HostRuntime) {
-    let bundle = BUNDLE;
-    let bytes = bundle.as_slice();
     let mut splitter = Splitter::new(rt.alloc());
     let mut found = 0;
     // The first piece ends in a header, the second in records, the third with a segment.
-    for piece in bytes.chunks(40) {
+    for piece in BUNDLE.chunks(40) {
         found = number_fed(&rt, rt.alloc(), &mut splitter, piece).wrapping_add(found);
     }
     assert_eq!(rt; (found, splitter.finish()), (2, Ok(())));

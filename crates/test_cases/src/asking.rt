@@ -1,11 +1,11 @@
 //! Answers after lists of steps: each question once, and questions that are refused.
 
-use htl_case::{AnalystAnswer, AnalystQuestion, Case, PlayFault, Step, answer_after};
+use crate::rows::assert_row;
+use htl_case::{AnalystAnswer, AnalystQuestion as Ask, Case, PlayFault, Step, answer_after};
 use htl_event::Slot;
-use htl_samples::{SampleFault, TRACE, stack};
+use htl_samples::{TRACE, stack};
 use std::alloc::Global;
 use std::process::Abort;
-use std::test::Fail;
 
 const SEGMENTS: [&str; 4] = [
     "0/0: O 1 0x44 [0x30 0x10], S 2, O 3 0x48 [0x30 0x10]",
@@ -75,100 +75,119 @@ fn tens(tens: u64, ones: u64) -> u64 {
     tens.saturating_mul(10).saturating_add(ones)
 }
 
-/// Each question, with what the answers of analysts 0 and 1 come to.
-fn questions(alloc: Global) -> Result<Vec<(AnalystQuestion, [u64; 2])>, SampleFault> {
-    use AnalystQuestion as ask;
-    Ok(vec![in alloc;
+/// What the answer of an analyst after the steps comes to.
+fn answered(
+    alloc: Global,
+    case: &Case,
+    steps: &[Step],
+    asked: u32,
+    question: &Ask,
+) -> Result<u64, PlayFault> {
+    Ok(size(&answer_after(alloc, case, 2, steps, asked, question)?))
+}
+
+/// Questions, with what the answers of analysts 0 and 1 come to.
+fn questions() -> [(Ask, [u64; 2]); 13] {
+    [
         (
-            ask::Has {
+            Ask::Has {
                 processor: 0,
-                number: 2
+                number: 2,
             },
-            [1, 0]
+            [1, 0],
         ),
-        (ask::Taken, [2, 3]),
-        (ask::Gaps, [1, 1]),
+        (Ask::Taken, [2, 3]),
+        (Ask::Gaps, [1, 1]),
         (
-            ask::Latest {
+            Ask::Latest {
                 process: 4,
-                handle: 0x44
+                handle: 0x44,
             },
-            [1, 1]
+            [1, 1],
         ),
-        (ask::Mark { process: 4 }, [2, 2]),
-        (ask::Outstanding { process: 4 }, [2, 2]),
+        (Ask::Mark { process: 4 }, [2, 2]),
+        (Ask::Outstanding { process: 4 }, [2, 2]),
         (
-            ask::Diff {
+            Ask::Diff {
                 process: 4,
-                since: 3
+                since: 3,
             },
-            [0, 1]
+            [0, 1],
         ),
-        (ask::Leaks { process: 4 }, [1, 2]),
-        (ask::Bad { process: 4 }, [0, 1]),
-        (ask::Tags { object: 0x1000 }, [1, 1]),
+        (Ask::Leaks { process: 4 }, [1, 2]),
+        (Ask::Bad { process: 4 }, [0, 1]),
+        (Ask::Tags { object: 0x1000 }, [1, 1]),
         (
-            ask::Stacks {
+            Ask::Stacks {
                 object: 0x1000,
-                tag: *b"Lky8"
+                tag: *b"Lky8",
             },
-            [2, 1]
+            [2, 1],
         ),
-        (
-            ask::Tally {
-                slot: SLOT,
-                stack: stack(&[0x50, 0x20])
-            },
-            [10, 10]
-        ),
-        (
-            ask::Under {
-                path: vec![in alloc; 0x20]?,
-                slot: SLOT
-            },
-            [11, 10]
-        ),
-        (ask::Processes, [1, 1]),
-        (ask::Objects, [21, 11]),
-    ]?)
+        (Ask::Processes, [1, 1]),
+        (Ask::Objects, [21, 11]),
+    ]
 }
 
 #[test]
-fn each_question(rt: HostRuntime) -> Result<(), Fail> {
-    let alloc = rt.alloc();
-    let case = case(&rt, alloc);
-    for (question, sizes) in questions(alloc)? {
-        for (asked, wanted) in (0..2).zip(sizes) {
-            let answer = answer_after(alloc, &case, 2, &STEPS, asked, &question)?;
-            assert_eq!(rt; size(&answer), wanted, "{question:?}");
-        }
+fn each_question(rt: HostRuntime) {
+    let case = case(&rt, rt.alloc());
+    for (question, sizes) in &questions() {
+        is_answered(&rt, rt.alloc(), &case, question, *sizes);
     }
-    Ok(())
+    is_answered(&rt, rt.alloc(), &case, &tally(), [10, 10]);
+    is_answered(&rt, rt.alloc(), &case, &under(&rt, rt.alloc()), [11, 10]);
 }
 
-#[test]
-fn questions_that_are_refused(rt: HostRuntime) -> Result<(), Fail> {
-    let alloc = rt.alloc();
-    let case = case(&rt, alloc);
-    let no_segment = Step::Take {
-        analyst: 0,
-        segment: 4,
-    };
-    let table: [(&[Step], u32, Result<u64, PlayFault>); 6] = [
-        (&STEPS, 1, Ok(3)),
-        (&[], 1, Ok(0)),
-        (&[], 2, Err(PlayFault::NoAnalyst(0))),
-        (&STEPS, 2, Err(PlayFault::NoAnalyst(6))),
-        (&[no_segment], 2, Err(PlayFault::NoSegment(0))),
-        (
-            &[Step::Compact { analyst: 2 }],
-            2,
-            Err(PlayFault::NoAnalyst(0)),
-        ),
-    ];
-    for (steps, asked, wanted) in table {
-        let answered = answer_after(alloc, &case, 2, steps, asked, &AnalystQuestion::Taken);
-        assert_eq!(rt; answered.map(|answer| size(&answer)), wanted, "{steps:?}");
+/// How often one slot came with one stack.
+fn tally() -> Ask {
+    Ask::Tally {
+        slot: SLOT,
+        stack: stack(&[0x50, 0x20]),
     }
-    Ok(())
+}
+
+/// How often one slot came below one frame.
+fn under(rt: &impl Abort, alloc: Global) -> Ask {
+    Ask::Under {
+        path: Vec::from_slice(alloc, &[0x20]).expect(rt, "the memory"),
+        slot: SLOT,
+    }
+}
+
+/// The answers of analysts 0 and 1 come to these numbers.
+fn is_answered(rt: &impl Abort, alloc: Global, case: &Case, question: &Ask, sizes: [u64; 2]) {
+    for (asked, wanted) in (0..2).zip(sizes) {
+        let found = answered(alloc, case, &STEPS, asked, question);
+        assert_row(rt, question, found, Ok(wanted));
+    }
+}
+
+const NO_SEGMENT: Step = Step::Take {
+    analyst: 0,
+    segment: 4,
+};
+
+/// Steps, the analyst that is asked after them, and how many segments it has taken, or why nothing
+/// is asked.
+const REFUSED: &[(&[Step], u32, Result<u64, PlayFault>)] = &[
+    (&STEPS, 1, Ok(3)),
+    (&[], 1, Ok(0)),
+    (&[], 2, Err(PlayFault::NoAnalyst(0))),
+    (&STEPS, 2, Err(PlayFault::NoAnalyst(6))),
+    (&[NO_SEGMENT], 2, Err(PlayFault::NoSegment(0))),
+    (
+        &[Step::Compact { analyst: 2 }],
+        2,
+        Err(PlayFault::NoAnalyst(0)),
+    ),
+];
+
+#[test]
+fn questions_that_are_refused(rt: HostRuntime) {
+    let case = case(&rt, rt.alloc());
+    for (steps, asked, wanted) in REFUSED {
+        let found = answered(rt.alloc(), &case, steps, *asked, &Ask::Taken);
+        assert_row(&rt, *steps, found, *wanted);
+    }
 }

@@ -2,6 +2,7 @@
 
 ghost use Rattle.std.specs.Prelude.{◌<◌};
 
+use crate::rows::{assert_code, assert_row};
 use htl_case::{Case, CaseFault};
 use htl_event::{Event, Kind, Stack};
 use htl_samples::{SampleFault, TRACE, Trace};
@@ -9,15 +10,18 @@ use htl_segment::Segment;
 use std::alloc::Global;
 use std::process::Abort;
 
-/// Another trace id and another processor count than the samples' trace.
-const OTHER: Trace = Trace {
-    id: 8,
-    processors: 2,
-};
+/// Another trace id than the samples' trace.
+const OTHER_ID: Trace = Trace { id: 8, ..TRACE };
 
 const TWO_PROCESSORS: Trace = Trace {
     processors: 2,
     ..TRACE
+};
+
+/// Another trace id and another processor count.
+const OTHER: Trace = Trace {
+    id: 8,
+    processors: 2,
 };
 
 fn segments(rt: &impl Abort, alloc: Global, lines: &[(Trace, &str)]) -> Vec<Segment> {
@@ -36,96 +40,101 @@ fn outcome(rt: &impl Abort, alloc: Global, lines: &[(Trace, &str)]) -> Result<us
     Case::of(alloc, segments(rt, alloc, lines)).map(|case| case.segments().len())
 }
 
+/// Segments by their traces and lines, and how many their case has, or its fault.
+const CASES: &[(&[(Trace, &str)], Result<usize, CaseFault>)] = &[
+    (&[], Err(CaseFault::Empty)),
+    (&[(TRACE, "0/0:")], Ok(1)),
+    (
+        &[(TRACE, "0/3: O 1 0x44"), (TRACE, "0/3: O 2 0x44")],
+        Err(CaseFault::TwoContents(0, 3)),
+    ),
+    (
+        &[(TRACE, "0/0: O 1 0x44"), (TRACE, "0/1: O 1 0x48")],
+        Err(CaseFault::SequenceTwice(1)),
+    ),
+    (
+        &[(TRACE, "0/0:"), (OTHER_ID, "0/1:")],
+        Err(CaseFault::OtherTrace(1)),
+    ),
+    (
+        &[(TRACE, "0/0:"), (TWO_PROCESSORS, "0/1:")],
+        Err(CaseFault::OtherProcessors(1)),
+    ),
+    (
+        &[(TRACE, "0/0:"), (OTHER, "0/1:")],
+        Err(CaseFault::OtherTrace(1)),
+    ),
+    (
+        &[
+            (TWO_PROCESSORS, "1/0: O 1 0x44"),
+            (TWO_PROCESSORS, "1/0: O 2 0x44"),
+            (TWO_PROCESSORS, "0/9: O 3 0x44"),
+            (TWO_PROCESSORS, "0/9: O 4 0x44"),
+        ],
+        Err(CaseFault::TwoContents(0, 9)),
+    ),
+    (
+        &[
+            (TRACE, "0/0: O 3 0x44, O 5 0x48"),
+            (TRACE, "0/1: O 3 0x4c, O 5 0x50"),
+        ],
+        Err(CaseFault::SequenceTwice(3)),
+    ),
+    (&[(TRACE, "0/0: O 3 0x44"), (TRACE, "0/0: O 3 0x44")], Ok(1)),
+    (
+        &[
+            (TRACE, "0/0: O 5 0x44"),
+            (TRACE, "0/1:"),
+            (TRACE, "0/2: O 4 0x48"),
+        ],
+        Err(CaseFault::Falling(0, 2)),
+    ),
+    (
+        &[(TRACE, "0/0: O 5 0x44"), (TRACE, "0/1: O 5 0x48")],
+        Err(CaseFault::SequenceTwice(5)),
+    ),
+    (
+        &[
+            (TWO_PROCESSORS, "1/0: O 4 0x44"),
+            (TWO_PROCESSORS, "0/0: O 5 0x44"),
+        ],
+        Ok(2),
+    ),
+    (
+        &[
+            (TRACE, "0/1: O 6 0x44"),
+            (TRACE, "0/2: O 4 0x44"),
+            (TRACE, "0/0: O 6 0x48"),
+        ],
+        Err(CaseFault::SequenceTwice(6)),
+    ),
+    (
+        &[(TRACE, "0/0: O 3 0x44"), (TRACE, "0/0: O 3 0x44, exit 4")],
+        Err(CaseFault::TwoContents(0, 0)),
+    ),
+];
+
 #[test]
 fn cases_and_conflicts(rt: HostRuntime) {
-    let alloc = rt.alloc();
-    let (one, two) = (TRACE, TWO_PROCESSORS);
-    let table: [(&[(Trace, &str)], Result<usize, CaseFault>); 15] = [
-        (&[], Err(CaseFault::Empty)),
-        (&[(one, "0/0:")], Ok(1)),
-        (
-            &[(one, "0/3: O 1 0x44"), (one, "0/3: O 2 0x44")],
-            Err(CaseFault::TwoContents(0, 3)),
-        ),
-        (
-            &[(one, "0/0: O 1 0x44"), (one, "0/1: O 1 0x48")],
-            Err(CaseFault::SequenceTwice(1)),
-        ),
-        (
-            &[(one, "0/0:"), (Trace { id: 8, ..one }, "0/1:")],
-            Err(CaseFault::OtherTrace(1)),
-        ),
-        (
-            &[(one, "0/0:"), (two, "0/1:")],
-            Err(CaseFault::OtherProcessors(1)),
-        ),
-        (
-            &[(one, "0/0:"), (OTHER, "0/1:")],
-            Err(CaseFault::OtherTrace(1)),
-        ),
-        (
-            &[
-                (two, "1/0: O 1 0x44"),
-                (two, "1/0: O 2 0x44"),
-                (two, "0/9: O 3 0x44"),
-                (two, "0/9: O 4 0x44"),
-            ],
-            Err(CaseFault::TwoContents(0, 9)),
-        ),
-        (
-            &[
-                (one, "0/0: O 3 0x44, O 5 0x48"),
-                (one, "0/1: O 3 0x4c, O 5 0x50"),
-            ],
-            Err(CaseFault::SequenceTwice(3)),
-        ),
-        (&[(one, "0/0: O 3 0x44"), (one, "0/0: O 3 0x44")], Ok(1)),
-        (
-            &[
-                (one, "0/0: O 5 0x44"),
-                (one, "0/1:"),
-                (one, "0/2: O 4 0x48"),
-            ],
-            Err(CaseFault::Falling(0, 2)),
-        ),
-        (
-            &[(one, "0/0: O 5 0x44"), (one, "0/1: O 5 0x48")],
-            Err(CaseFault::SequenceTwice(5)),
-        ),
-        (&[(two, "1/0: O 4 0x44"), (two, "0/0: O 5 0x44")], Ok(2)),
-        (
-            &[
-                (one, "0/1: O 6 0x44"),
-                (one, "0/2: O 4 0x44"),
-                (one, "0/0: O 6 0x48"),
-            ],
-            Err(CaseFault::SequenceTwice(6)),
-        ),
-        (
-            &[(one, "0/0: O 3 0x44"), (one, "0/0: O 3 0x44, exit 4")],
-            Err(CaseFault::TwoContents(0, 0)),
-        ),
-    ];
-    for (lines, wanted) in table {
-        assert_eq!(rt; outcome(&rt, alloc, lines), wanted, "{lines:?}");
+    for (lines, wanted) in CASES {
+        assert_row(&rt, *lines, outcome(&rt, rt.alloc(), lines), *wanted);
     }
 }
 
+const CODES: &[(CaseFault, &str)] = &[
+    (CaseFault::Empty, "C1"),
+    (CaseFault::OtherTrace(1), "C2(1)"),
+    (CaseFault::OtherProcessors(2), "C3(2)"),
+    (CaseFault::TwoContents(0, 3), "C4(0, 3)"),
+    (CaseFault::SequenceTwice(5), "C5(5)"),
+    (CaseFault::NoMemory, "C6"),
+    (CaseFault::Falling(0, 2), "C7(0, 2)"),
+];
+
 #[test]
 fn codes(rt: HostRuntime) {
-    let alloc = rt.alloc();
-    let table = [
-        (CaseFault::Empty, "C1"),
-        (CaseFault::OtherTrace(1), "C2(1)"),
-        (CaseFault::OtherProcessors(2), "C3(2)"),
-        (CaseFault::TwoContents(0, 3), "C4(0, 3)"),
-        (CaseFault::SequenceTwice(5), "C5(5)"),
-        (CaseFault::NoMemory, "C6"),
-        (CaseFault::Falling(0, 2), "C7(0, 2)"),
-    ];
-    for (fault, code) in table {
-        let text = format!(in alloc; "{fault}").expect(&rt, "the memory");
-        assert_eq!(rt; text.as_str(), code);
+    for (fault, code) in CODES {
+        assert_code(&rt, rt.alloc(), fault, code);
     }
 }
 
@@ -137,33 +146,46 @@ fn case_of(rt: &impl Abort, alloc: Global, lines: &[&str]) -> Case {
     Case::of(alloc, segments).expect(rt, "the segments are a case")
 }
 
-/// The handle's listing has these sequences.
+const HANDLE: &str = "0/0: O 1 0x44 [0x10], B 2 0x45, C 3 0x46";
+
+const OTHER_HANDLES: &str = "1/0: O 5 0x44, O 6 0x44 process=8, S 7, B 8 0x40";
+
+/// The lines of a case's segments, a process, a handle, and the sequences that are listed of it.
+const LISTINGS: &[(&[&str], u32, u32, &[u64])] = &[
+    (&[HANDLE], 4, 0x44, &[3, 2, 1]),
+    (&[OTHER_HANDLES, HANDLE], 4, 0x47, &[5, 3, 2, 1]),
+    (&[OTHER_HANDLES, HANDLE], 8, 0x44, &[6]),
+    (&[OTHER_HANDLES, HANDLE], 5, 0x44, &[]),
+];
+
+#[test]
+fn listings_of_handles(rt: HostRuntime) {
+    for (lines, process, handle, sequences) in LISTINGS {
+        let case = case_of(&rt, rt.alloc(), lines);
+        is_listed(&rt, rt.alloc(), &case, (*process, *handle), sequences);
+    }
+}
+
+/// The listing of a process's handle has these sequences.
 fn is_listed(
     rt: &impl Abort,
     alloc: Global,
     case: &Case,
-    process: u32,
-    handle: u32,
+    (process, handle): (u32, u32),
     sequences: &[u64],
 ) {
     let rows = case.trace(alloc, process, handle).expect(rt, "the memory");
-    assert_eq!(rt; rows.len(), sequences.len());
-    for (row, sequence) in rows.iter().zip(sequences) {
-        assert_eq!(rt; row.sequence, *sequence);
-    }
+    let listed = rows.iter().map(|row| row.sequence);
+    assert!(rt;
+        listed.eq(sequences.iter().copied()),
+        "{process} {handle:x}"
+    );
 }
 
 #[test]
-fn a_handles_listing(rt: HostRuntime) {
-    let line = "0/0: O 1 0x44 [0x10], B 2 0x45, C 3 0x46";
-    let case = case_of(&rt, rt.alloc(), &[line]);
-    is_listed(&rt, rt.alloc(), &case, 4, 0x44, &[3, 2, 1]);
-    let lines = ["1/0: O 5 0x44, O 6 0x44 process=8, S 7, B 8 0x40", line];
-    let case = case_of(&rt, rt.alloc(), &lines);
-    assert_eq!(rt; (case.trace_id(), case.processors()), (7, 2));
-    is_listed(&rt, rt.alloc(), &case, 4, 0x47, &[5, 3, 2, 1]);
-    is_listed(&rt, rt.alloc(), &case, 8, 0x44, &[6]);
-    is_listed(&rt, rt.alloc(), &case, 5, 0x44, &[]);
+fn a_case_has_its_traces_numbers(rt: HostRuntime) {
+    let case = case_of(&rt, rt.alloc(), &[OTHER_HANDLES, HANDLE]);
+    assert!(rt; case.trace_id() == 7 && case.processors() == 2);
 }
 
 /// Numbers that follow from a seed, by Sebastiano Vigna's SplitMix64.
@@ -215,6 +237,20 @@ fn least<T: Ord + Copy>(found: Option<T>, next: T) -> Option<T> {
 
 /// What the rules say of a list, each tried on every pair of segments.
 fn plain(segments: &[Segment]) -> Result<(), CaseFault> {
+    of_one_trace(segments)?;
+    let mut seen = Conflicts::default();
+    for one in segments {
+        for other in segments {
+            if !one.same(other) {
+                seen.note(one, other);
+            }
+        }
+    }
+    seen.first()
+}
+
+/// What the rules say of the trace ids and the processor counts.
+fn of_one_trace(segments: &[Segment]) -> Result<(), CaseFault> {
     let first = segments.first().ok_or(CaseFault::Empty)?;
     for (place, segment) in segments.iter().enumerate() {
         if segment.trace_id() != first.trace_id() {
@@ -226,49 +262,72 @@ fn plain(segments: &[Segment]) -> Result<(), CaseFault> {
             return Err(CaseFault::OtherProcessors(place as u64));
         }
     }
-    let (mut contents, mut twice, mut falling) = (None, None, None);
-    for one in segments {
-        for other in segments {
-            if one.same(other) {
-                continue;
-            }
-            let key = (one.processor(), one.number());
-            if key == (other.processor(), other.number()) {
-                contents = least(contents, key);
-            }
-            let follows = one.processor() == other.processor() && one.number() > other.number();
-            for event in one.events() {
-                for earlier in other.events() {
-                    if event.sequence == earlier.sequence {
-                        twice = least(twice, event.sequence);
-                    }
-                    if follows && event.sequence <= earlier.sequence {
-                        falling = least(falling, key);
-                    }
+    Ok(())
+}
+
+/// The least conflicts of each kind that were seen.
+#[derive(Clone, Copy, Default)]
+struct Conflicts {
+    contents: Option<(u16, u32)>,
+    twice: Option<u64>,
+    falling: Option<(u16, u32)>,
+}
+
+impl Conflicts {
+    /// Notes the conflicts of two different segments.
+    fn note(&mut self, one: &Segment, other: &Segment) {
+        let (key, other_key) = (key_of(one), key_of(other));
+        if key == other_key {
+            self.contents = least(self.contents, key);
+        }
+        let follows = key.0 == other_key.0 && key.1 > other_key.1;
+        for event in one.events() {
+            for earlier in other.events() {
+                if event.sequence == earlier.sequence {
+                    self.twice = least(self.twice, event.sequence);
+                }
+                if follows && event.sequence <= earlier.sequence {
+                    self.falling = least(self.falling, key);
                 }
             }
         }
     }
-    match (contents, twice, falling) {
-        (Some((processor, number)), _, _) => Err(CaseFault::TwoContents(processor, number)),
-        (None, Some(sequence), _) => Err(CaseFault::SequenceTwice(sequence)),
-        (None, None, Some((processor, number))) => Err(CaseFault::Falling(processor, number)),
-        (None, None, None) => Ok(()),
+
+    /// The conflict that is reported.
+    fn first(self) -> Result<(), CaseFault> {
+        if let Some((processor, number)) = self.contents {
+            Err(CaseFault::TwoContents(processor, number))
+        } else if let Some(sequence) = self.twice {
+            Err(CaseFault::SequenceTwice(sequence))
+        } else if let Some((processor, number)) = self.falling {
+            Err(CaseFault::Falling(processor, number))
+        } else {
+            Ok(())
+        }
     }
 }
 
-/// Whether the case has each segment of the list, in rising order of their keys.
+fn key_of(segment: &Segment) -> (u16, u32) {
+    (segment.processor(), segment.number())
+}
+
+/// Whether the case has each segment of the list, in rising order of their keys, and no other one.
 fn has_each(case: &Case, segments: &[Segment]) -> bool {
     let kept = case.segments();
-    let rises = kept.windows(2).all(|pair| (pair[0].processor(), pair[0].number())
-        < (pair[1].processor(), pair[1].number()));
-    rises
-        && segments
-            .iter()
-            .all(|segment| kept.iter().any(|other| other.same(segment)))
-        && kept
-            .iter()
-            .all(|segment| segments.iter().any(|other| other.same(segment)))
+    rise(kept) && are_among(segments, kept) && are_among(kept, segments)
+}
+
+fn rise(segments: &[Segment]) -> bool {
+    segments
+        .windows(2)
+        .all(|pair| key_of(&pair[0]) < key_of(&pair[1]))
+}
+
+/// Whether each of the segments is one of the others.
+fn are_among(segments: &[Segment], others: &[Segment]) -> bool {
+    segments
+        .iter()
+        .all(|segment| others.iter().any(|other| other.same(segment)))
 }
 
 fn copies(rt: &impl Abort, alloc: Global, segments: &[Segment]) -> Vec<Segment> {
@@ -282,20 +341,23 @@ fn copies(rt: &impl Abort, alloc: Global, segments: &[Segment]) -> Vec<Segment> 
 
 #[test]
 fn random_lists(rt: HostRuntime) {
-    let alloc = rt.alloc();
     let mut dice = Dice(1);
     let mut seen = [0u32; 7];
     for turn in 0..100u32 {
-        let segments = random_list(&rt, alloc, &mut dice);
-        let made = Case::of(alloc, copies(&rt, alloc, &segments));
-        let kind = kind_of(&made);
+        let segments = random_list(&rt, rt.alloc(), &mut dice);
+        let found = checked(&rt, rt.alloc(), &segments);
+        assert_row(&rt, turn, found, plain(&segments));
+        let kind = kind_of(found);
         seen[kind] = seen[kind].saturating_add(1);
-        if let Ok(case) = &made {
-            assert!(rt; has_each(case, &segments), "{turn}");
-        }
-        assert_eq!(rt; made.map(|_| ()), plain(&segments), "{turn}");
     }
     assert!(rt; seen.iter().all(|count| *count > 0), "{seen:?}");
+}
+
+/// What comes of a list, whose case has each of its segments.
+fn checked(rt: &impl Abort, alloc: Global, segments: &[Segment]) -> Result<(), CaseFault> {
+    let case = Case::of(alloc, copies(rt, alloc, segments))?;
+    assert!(rt; has_each(&case, segments));
+    Ok(())
 }
 
 /// Up to eight random segments, some of them twice.
@@ -313,11 +375,11 @@ fn random_list(rt: &impl Abort, alloc: Global, dice: &mut Dice) -> Vec<Segment> 
 }
 
 /// A number for each kind of outcome.
-fn kind_of(made: &Result<Case, CaseFault>) -> usize
+fn kind_of(found: Result<(), CaseFault>) -> usize
     ensures { result < 7 }
 {
-    match made {
-        Ok(_) | Err(CaseFault::NoMemory) => 0,
+    match found {
+        Ok(()) | Err(CaseFault::NoMemory) => 0,
         Err(CaseFault::Empty) => 1,
         Err(CaseFault::OtherTrace(_)) => 2,
         Err(CaseFault::OtherProcessors(_)) => 3,

@@ -15,6 +15,7 @@ use std::process::Abort;
 use std::sync::Wait;
 use std::sync::atomic::{AtomicU64, Ordering};
 use std::thread;
+use std::thread::Threads;
 
 pub const TWO_PROCESSORS: Trace = Trace {
     processors: 2,
@@ -100,24 +101,34 @@ fn no_desk_and_nine_are_refused(rt: HostRuntime) {
     }
 }
 
+/// What comes of a post.
+pub fn post<R: Wait + Abort>(rt: &R, exchange: &Exchange, desk: &mut Desk) -> Posted
+    requires { IsDeskOf exchange.now desk.old }
+    ensures { IsDeskOf exchange.now desk.new }
+{
+    desk.post(rt, exchange).expect(rt, "there is memory")
+}
+
+/// What is collected.
+pub fn collect<R: Wait + Abort>(rt: &R, exchange: &Exchange, desk: &mut Desk) -> Collected
+    requires { IsDeskOf exchange.now desk.old }
+    ensures { IsDeskOf exchange.now desk.new }
+{
+    desk.collect(rt, exchange).expect(rt, "there is memory")
+}
+
 fn posts<R: Wait + Abort>(rt: &R, exchange: &Exchange, desk: &mut Desk, wanted: Posted)
     requires { IsDeskOf exchange.now desk.old }
     ensures { IsDeskOf exchange.now desk.new }
 {
-    assert_eq!(rt;
-        desk.post(rt, exchange).expect(rt, "there is memory"),
-        wanted
-    );
+    assert!(rt; post(rt, exchange, desk) == wanted, "{wanted:?}");
 }
 
 fn collects<R: Wait + Abort>(rt: &R, exchange: &Exchange, desk: &mut Desk, wanted: Collected)
     requires { IsDeskOf exchange.now desk.old }
     ensures { IsDeskOf exchange.now desk.new }
 {
-    assert_eq!(rt;
-        desk.collect(rt, exchange).expect(rt, "there is memory"),
-        wanted
-    );
+    assert!(rt; collect(rt, exchange, desk) == wanted, "{wanted:?}");
 }
 
 /// Posts until the queue is full, and collects until there is nothing.
@@ -173,6 +184,21 @@ struct TwoFlags {
 }
 
 impl TwoFlags {
+    fn new() -> TwoFlags {
+        TwoFlags {
+            first: AtomicU64::new(0),
+            second: AtomicU64::new(0),
+            gave_up: AtomicU64::new(0),
+            unexpected: AtomicU64::new(0),
+        }
+    }
+
+    /// No worker gave up, and each analyst had what it should.
+    fn has_seen_all(&self, rt: &impl Abort) {
+        assert_eq!(rt; self.gave_up.load(Ordering::SeqCst), 0);
+        assert_eq!(rt; self.unexpected.load(Ordering::SeqCst), 0);
+    }
+
     fn wait_for(&self, flag: &AtomicU64) {
         for _ in 0..PATIENCE {
             if flag.load(Ordering::SeqCst) > 0 {
@@ -210,23 +236,52 @@ impl Gate for TwoFlags {
     }
 }
 
+/// What a survey by so many workers comes to.
+fn surveyed<R: Threads + Wait + Abort + Sync>(
+    rt: &R,
+    alloc: Global,
+    case: &Case,
+    workers: u32,
+    gate: &(impl Gate + Sync),
+) -> Analyst<Global> {
+    survey(rt, alloc, case, workers, gate).expect(rt, "there is memory")
+}
+
+/// The same of two workers that own the case.
+fn surveyed_owned<R: Threads + Wait + Abort + Sync>(
+    rt: &R,
+    alloc: Global,
+    case: Case,
+) -> Analyst<Global> {
+    survey_owned(rt, alloc, case, 2, &Free).expect(rt, "there is memory")
+}
+
+/// So many free workers come to the analyst's state.
+fn workers_come_to<R: Threads + Wait + Abort + Sync>(
+    rt: &R,
+    alloc: Global,
+    case: &Case,
+    workers: u32,
+    analyst: &Analyst<Global>,
+) {
+    let other = surveyed(rt, alloc, case, workers, &Free);
+    assert!(rt; analyst.same(&other), "{workers}");
+}
+
+/// The analyst's state is that of one which took all of the case.
+pub fn is_whole(rt: &impl Abort, alloc: Global, case: &Case, analyst: &Analyst<Global>) {
+    assert!(rt; analyst.same(&alone(rt, alloc, case)));
+}
+
 #[test]
 fn two_workers_at_a_gate(rt: HostRuntime) {
-    let alloc = rt.alloc();
-    let case = case_of(&rt, alloc, TWO_PROCESSORS, &TWO_RUNS);
-    let gate = TwoFlags {
-        first: AtomicU64::new(0),
-        second: AtomicU64::new(0),
-        gave_up: AtomicU64::new(0),
-        unexpected: AtomicU64::new(0),
-    };
-    let two = survey(&rt, alloc, &case, 2, &gate).expect(&rt, "there is memory");
-    assert_eq!(rt; gate.gave_up.load(Ordering::SeqCst), 0);
-    assert_eq!(rt; gate.unexpected.load(Ordering::SeqCst), 0);
-    let one = survey(&rt, alloc, &case, 1, &Free).expect(&rt, "there is memory");
-    assert!(rt; two.same(&one) && two.same(&alone(&rt, alloc, &case)));
-    let owned = survey_owned(&rt, alloc, case, 2, &Free).expect(&rt, "there is memory");
-    assert!(rt; owned.same(&two));
+    let case = case_of(&rt, rt.alloc(), TWO_PROCESSORS, &TWO_RUNS);
+    let gate = TwoFlags::new();
+    let two = surveyed(&rt, rt.alloc(), &case, 2, &gate);
+    gate.has_seen_all(&rt);
+    workers_come_to(&rt, rt.alloc(), &case, 1, &two);
+    is_whole(&rt, rt.alloc(), &case, &two);
+    assert!(rt; surveyed_owned(&rt, rt.alloc(), case).same(&two));
 }
 
 #[test]
@@ -274,24 +329,33 @@ impl Gate for EightTogether {
     }
 }
 
+impl EightTogether {
+    fn new() -> EightTogether {
+        EightTogether {
+            there: AtomicU64::new(0),
+            gave_up: AtomicU64::new(0),
+            runs: AtomicU64::new(0),
+            unexpected: AtomicU64::new(0),
+        }
+    }
+
+    /// No worker gave up, and each analyst had a run of its own.
+    fn has_seen_all(&self, rt: &impl Abort) {
+        assert_eq!(rt; self.gave_up.load(Ordering::SeqCst), 0);
+        assert_eq!(rt; self.unexpected.load(Ordering::SeqCst), 0);
+        assert_eq!(rt; self.runs.load(Ordering::SeqCst), 0x0101_0101_0101_0101);
+    }
+}
+
 #[test]
 fn eight_workers_share_the_runs(rt: HostRuntime) {
-    let alloc = rt.alloc();
-    let case = eight_runs(&rt, alloc);
-    let gate = EightTogether {
-        there: AtomicU64::new(0),
-        gave_up: AtomicU64::new(0),
-        runs: AtomicU64::new(0),
-        unexpected: AtomicU64::new(0),
-    };
-    let eight = survey(&rt, alloc, &case, 8, &gate).expect(&rt, "there is memory");
-    assert_eq!(rt; gate.gave_up.load(Ordering::SeqCst), 0);
-    assert_eq!(rt; gate.unexpected.load(Ordering::SeqCst), 0);
-    assert_eq!(rt; gate.runs.load(Ordering::SeqCst), 0x0101_0101_0101_0101);
+    let case = eight_runs(&rt, rt.alloc());
+    let gate = EightTogether::new();
+    let eight = surveyed(&rt, rt.alloc(), &case, 8, &gate);
+    gate.has_seen_all(&rt);
     assert_eq!(rt; (eight.taken(), eight.held()), (48, 0));
     for workers in [1, 2, 3] {
-        let other = survey(&rt, alloc, &case, workers, &Free).expect(&rt, "there is memory");
-        assert!(rt; eight.same(&other));
+        workers_come_to(&rt, rt.alloc(), &case, workers, &eight);
     }
-    assert!(rt; eight.same(&alone(&rt, alloc, &case)));
+    is_whole(&rt, rt.alloc(), &case, &eight);
 }

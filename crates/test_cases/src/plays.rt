@@ -1,22 +1,23 @@
 //! Lists of steps that lead to analysts, and lists that are refused.
 
+use crate::rows::{assert_code, assert_row};
 use htl_analyst::Analyst;
 use htl_case::{Case, PlayFault, Step, play};
 use htl_samples::TRACE;
 use std::alloc::Global;
 use std::process::Abort;
-use std::test::Fail;
 
-/// A case of four segments with a reference each.
-fn four(rt: &impl Abort, alloc: Global) -> Case {
-    let lines = [
-        "0/0: R 1 0x1000 Lky8",
-        "0/1: R 2 0x1000 Lky8",
-        "0/2: R 3 0x1000 Lky8",
-        "0/3: R 4 0x1000 Lky8",
-    ];
+/// Four segments with a reference each.
+const FOUR: [&str; 4] = [
+    "0/0: R 1 0x1000 Lky8",
+    "0/1: R 2 0x1000 Lky8",
+    "0/2: R 3 0x1000 Lky8",
+    "0/3: R 4 0x1000 Lky8",
+];
+
+fn case_of(rt: &impl Abort, alloc: Global, lines: &[&str]) -> Case {
     let segments = TRACE
-        .segments(alloc, &lines)
+        .segments(alloc, lines)
         .expect(rt, "the lines are segments");
     Case::of(alloc, segments).expect(rt, "the segments are a case")
 }
@@ -39,9 +40,8 @@ fn numbers(analyst: &Analyst<Global>) -> (u32, u64, u64) {
 }
 
 #[test]
-fn a_list_of_steps(rt: HostRuntime) -> Result<(), Fail> {
-    let alloc = rt.alloc();
-    let case = four(&rt, alloc);
+fn a_list_of_steps(rt: HostRuntime) {
+    let case = case_of(&rt, rt.alloc(), &FOUR);
     let steps = [
         take(0, 0),
         take(0, 2),
@@ -50,21 +50,31 @@ fn a_list_of_steps(rt: HostRuntime) -> Result<(), Fail> {
         merge(0, 1),
         compact(0),
     ];
-    let played = play(alloc, &case, 2, &steps)?;
+    let played = play(rt.alloc(), &case, 2, &steps).expect(&rt, "the steps are played");
     assert_eq!(rt; played.len(), 2);
-    assert_eq!(rt; numbers(&played[0]), (4, 0, 4));
-    assert_eq!(rt; numbers(&played[1]), (0, 2, 2));
-    assert!(rt; !played[1].has(0, 0) && played[1].has(0, 1));
-    let tags = played[0].tags(alloc, 0x1000)?;
-    assert_eq!(rt; tags.len(), 1);
-    assert_eq!(rt; (tags[0].1.plus, tags[0].1.minus), (4, 0));
-    Ok(())
+    let (merged, other) = (&played[0], &played[1]);
+    assert_row(&rt, "merged", numbers(merged), (4, 0, 4));
+    assert_row(&rt, "the other", numbers(other), (0, 2, 2));
+    assert!(rt; !other.has(0, 0) && other.has(0, 1));
+    has_tag(&rt, rt.alloc(), merged, (4, 0));
+}
+
+/// The object has one tag, with which it was referenced and dereferenced so often.
+fn has_tag(rt: &impl Abort, alloc: Global, analyst: &Analyst<Global>, counts: (u64, u64)) {
+    let tags = analyst.tags(alloc, 0x1000).expect(rt, "the memory");
+    let found = tags.iter().map(|(_, count)| (count.plus, count.minus));
+    assert!(rt; found.eq([counts]));
+}
+
+/// The only analyst after these steps.
+fn played_alone(rt: &impl Abort, alloc: Global, case: &Case, steps: &[Step]) -> Analyst<Global> {
+    let mut played = play(alloc, case, 1, steps).expect(rt, "the steps are played");
+    played.pop().expect(rt, "an analyst")
 }
 
 #[test]
-fn repeats_count_once(rt: HostRuntime) -> Result<(), Fail> {
-    let alloc = rt.alloc();
-    let case = Case::of(alloc, TRACE.segments(alloc, &["0/0: O 1 0x44"])?)?;
+fn repeats_count_once(rt: HostRuntime) {
+    let case = case_of(&rt, rt.alloc(), &["0/0: O 1 0x44"]);
     let steps = [
         take(0, 0),
         take(0, 0),
@@ -73,49 +83,64 @@ fn repeats_count_once(rt: HostRuntime) -> Result<(), Fail> {
         merge(0, 0),
         compact(0),
     ];
-    let repeated = play(alloc, &case, 1, &steps)?;
-    let once = play(alloc, &case, 1, &[take(0, 0), compact(0)])?;
-    assert!(rt; repeated[0].same(&once[0]));
-    assert_eq!(rt; numbers(&repeated[0]), (1, 0, 1));
-    assert_eq!(rt; repeated[0].outstanding(alloc, 4)?.len(), 1);
-    Ok(())
+    let repeated = played_alone(&rt, rt.alloc(), &case, &steps);
+    assert_row(&rt, "repeated", numbers(&repeated), (1, 0, 1));
+    assert_eq!(rt; outstanding(&rt, rt.alloc(), &repeated), 1);
+    let once = played_alone(&rt, rt.alloc(), &case, &[take(0, 0), compact(0)]);
+    assert!(rt; repeated.same(&once));
+}
+
+/// How many handles of process 4 are open.
+fn outstanding(rt: &impl Abort, alloc: Global, analyst: &Analyst<Global>) -> usize {
+    let rows = analyst.outstanding(alloc, 4).expect(rt, "the memory");
+    rows.len()
+}
+
+/// So many analysts come of the steps of two, or these are refused so.
+fn come_to(
+    rt: &impl Abort,
+    alloc: Global,
+    case: &Case,
+    steps: &[Step],
+    wanted: Result<usize, PlayFault>,
+) {
+    let found = play(alloc, case, 2, steps).map(|analysts| analysts.len());
+    assert_row(rt, steps, found, wanted);
+}
+
+/// The steps of two analysts are refused because one at this place names another analyst.
+fn name_no_analyst(rt: &impl Abort, alloc: Global, case: &Case, steps: &[Step], place: u64) {
+    come_to(rt, alloc, case, steps, Err(PlayFault::NoAnalyst(place)));
+}
+
+/// They are refused because one at this place names no segment.
+fn name_no_segment(rt: &impl Abort, alloc: Global, case: &Case, steps: &[Step], place: u64) {
+    come_to(rt, alloc, case, steps, Err(PlayFault::NoSegment(place)));
 }
 
 #[test]
-fn steps_that_name_what_is_not_there(rt: HostRuntime) -> Result<(), Fail> {
-    let alloc = rt.alloc();
-    let case = four(&rt, alloc);
-    let table: [(&[Step], Result<usize, PlayFault>); 8] = [
-        (&[], Ok(2)),
-        (&[take(2, 0)], Err(PlayFault::NoAnalyst(0))),
-        (&[take(0, 4)], Err(PlayFault::NoSegment(0))),
-        (&[take(2, 4)], Err(PlayFault::NoAnalyst(0))),
-        (&[take(1, 3), merge(0, 2)], Err(PlayFault::NoAnalyst(1))),
-        (&[merge(2, 0), take(0, 4)], Err(PlayFault::NoAnalyst(0))),
-        (
-            &[compact(1), take(0, 4), compact(2)],
-            Err(PlayFault::NoSegment(1)),
-        ),
-        (&[merge(0, 1), compact(2)], Err(PlayFault::NoAnalyst(1))),
-    ];
-    for (steps, wanted) in table {
-        let played = play(alloc, &case, 2, steps).map(|analysts| analysts.len());
-        assert_eq!(rt; played, wanted, "{steps:?}");
-    }
-    Ok(())
+fn steps_that_name_what_is_not_there(rt: HostRuntime) {
+    let (alloc, case) = (rt.alloc(), case_of(&rt, rt.alloc(), &FOUR));
+    come_to(&rt, alloc, &case, &[], Ok(2));
+    name_no_analyst(&rt, alloc, &case, &[take(2, 0)], 0);
+    name_no_segment(&rt, alloc, &case, &[take(0, 4)], 0);
+    name_no_analyst(&rt, alloc, &case, &[take(2, 4)], 0);
+    name_no_analyst(&rt, alloc, &case, &[take(1, 3), merge(0, 2)], 1);
+    name_no_analyst(&rt, alloc, &case, &[merge(2, 0), take(0, 4)], 0);
+    let steps = [compact(1), take(0, 4), compact(2)];
+    name_no_segment(&rt, alloc, &case, &steps, 1);
+    name_no_analyst(&rt, alloc, &case, &[merge(0, 1), compact(2)], 1);
 }
 
+const CODES: &[(PlayFault, &str)] = &[
+    (PlayFault::NoAnalyst(1), "P1(1)"),
+    (PlayFault::NoSegment(2), "P2(2)"),
+    (PlayFault::NoMemory, "P3"),
+];
+
 #[test]
-fn codes_of_faults(rt: HostRuntime) -> Result<(), Fail> {
-    let alloc = rt.alloc();
-    let table = [
-        (PlayFault::NoAnalyst(1), "P1(1)"),
-        (PlayFault::NoSegment(2), "P2(2)"),
-        (PlayFault::NoMemory, "P3"),
-    ];
-    for (fault, code) in table {
-        let text = format!(in alloc; "{fault}")?;
-        assert_eq!(rt; text.as_str(), code);
+fn codes_of_faults(rt: HostRuntime) {
+    for (fault, code) in CODES {
+        assert_code(&rt, rt.alloc(), fault, code);
     }
-    Ok(())
 }

@@ -3,7 +3,8 @@
 ghost use Rattle.std.specs.Prelude.{◌≡◌, ◌<◌, IfSome, vec_len, vec_capacity};
 ghost use Rattle.htl_exchange.specs.Desks.{AreDesksOf, IsDeskOf};
 
-use crate::exchanges::{TWO_PROCESSORS, TWO_RUNS, alone, case_of};
+use crate::exchanges::{TWO_PROCESSORS, TWO_RUNS, alone, case_of, collect, is_whole, post};
+use crate::rows::assert_row;
 use htl_analyst::Analyst;
 use htl_case::Case;
 use htl_exchange::{Collected, Desk, Exchange};
@@ -23,7 +24,7 @@ const TRACE: RandomTrace = RandomTrace {
 const SCHEDULES: u64 = 200;
 
 /// What a desk does between start and close.
-#[derive(Clone, Copy, Debug, PartialEq, Eq)]
+#[derive(Clone, Copy)]
 enum Turn {
     Collect,
     Post,
@@ -31,7 +32,7 @@ enum Turn {
 }
 
 /// What all desks of a schedule do.
-#[derive(Clone, Copy, Debug, PartialEq, Eq)]
+#[derive(Clone, Copy)]
 enum Plan {
     /// Each desk collects until there is nothing, and posts after each run.
     Eager,
@@ -68,10 +69,10 @@ fn take_turn<R: Wait + Abort>(rt: &R, exchange: &Exchange, turn: Turn, desk: &mu
 {
     match turn {
         Turn::Collect => {
-            desk.collect(rt, exchange).expect(rt, "there is memory");
+            collect(rt, exchange, desk);
         }
         Turn::Post => {
-            desk.post(rt, exchange).expect(rt, "there is memory");
+            post(rt, exchange, desk);
         }
         Turn::GiveWay => thread::yield_now(),
     }
@@ -93,7 +94,7 @@ fn play_eagerly<R: Wait + Abort>(rt: &R, exchange: &Exchange, desk: &mut Desk)
     ensures { IsDeskOf exchange.now desk.new }
 {
     for _ in 0..16 {
-        match desk.collect(rt, exchange).expect(rt, "there is memory") {
+        match collect(rt, exchange, desk) {
             Collected::Run => take_turn(rt, exchange, Turn::Post, desk),
             Collected::State => {}
             Collected::Nothing => return,
@@ -203,23 +204,27 @@ fn closed_after<R: Threads + Wait + Abort + Sync>(
 
 #[test]
 fn two_callers_threads(rt: HostRuntime) {
-    let alloc = rt.alloc();
-    let case = case_of(&rt, alloc, TWO_PROCESSORS, &TWO_RUNS);
-    let closed = closed_after(&rt, alloc, &case, 2, Plan::Eager);
-    assert_eq!(rt; (closed.front(0), closed.front(1)), (1, 1));
-    assert_eq!(rt; (closed.held(), closed.taken()), (0, 2));
-    assert!(rt; closed.same(&alone(&rt, alloc, &case)));
+    let case = case_of(&rt, rt.alloc(), TWO_PROCESSORS, &TWO_RUNS);
+    let closed = closed_after(&rt, rt.alloc(), &case, 2, Plan::Eager);
+    let fronts = [closed.front(0), closed.front(1)];
+    let found = (fronts, closed.held(), closed.taken());
+    assert_row(&rt, "both runs", found, ([1, 1], 0, 2));
+    is_whole(&rt, rt.alloc(), &case, &closed);
+}
+
+/// The case of a generated trace.
+fn random_case(rt: &impl Abort, alloc: Global) -> Case {
+    let segments = TRACE.segments(alloc).expect(rt, "there are segments");
+    Case::of(alloc, segments).expect(rt, "the segments are a case")
 }
 
 #[test]
 fn random_schedules(rt: HostRuntime) {
-    let alloc = rt.alloc();
-    let segments = TRACE.segments(alloc).expect(&rt, "there are segments");
-    let case = Case::of(alloc, segments).expect(&rt, "the segments are a case");
-    let whole = alone(&rt, alloc, &case);
+    let case = random_case(&rt, rt.alloc());
+    let whole = alone(&rt, rt.alloc(), &case);
     for number in 0..SCHEDULES {
         let desks = 1 + number as u32 % 4;
-        let closed = closed_after(&rt, alloc, &case, desks, Plan::Random(number));
-        assert!(rt; closed.same(&whole));
+        let closed = closed_after(&rt, rt.alloc(), &case, desks, Plan::Random(number));
+        assert!(rt; closed.same(&whole), "{number}");
     }
 }

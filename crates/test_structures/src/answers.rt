@@ -1,13 +1,15 @@
 //! Worked answers over parts that folded some events and hold others.
 
-ghost use Rattle.std.specs.Prelude.{◌≤◌, length, flat_map};
+ghost use Rattle.std.specs.Prelude.{◌≤◌, ◌<◌, ◌^◌, length, map, flat_map};
 ghost use Rattle.htl_tree.specs.Trees.{total_count};
+ghost use Rattle.htl_answers.specs.Parts.{size_of_all};
 
+use crate::lines::events_of;
+use crate::rows::{assert_counted, assert_is, assert_list};
 use htl_answers::{
     Part, bad, diff, last_exit, latest, leaks, mark, outstanding, stacks, tags, under, whole_tree,
 };
-use htl_event::{Count, SharedEvent, SharedStack, Slot};
-use htl_samples::shared_events;
+use htl_event::{Count, NoMemory, SharedEvent, SharedStack, Slot};
 use htl_tables::{Exits, Latest, Marks};
 use htl_tree::StackTree;
 use std::alloc::Global;
@@ -63,7 +65,7 @@ impl Part for Sample {
 fn few(rt: &impl Abort, alloc: Global, lines: &str) -> Vec<SharedEvent>
     ensures { length result.items ≤ 32 }
 {
-    let events = shared_events(alloc, lines).expect(rt, "the lines are events");
+    let events = events_of(rt, alloc, lines);
     assert!(rt; events.len() <= 32);
     events
 }
@@ -89,77 +91,79 @@ fn folded_and_held(rt: &impl Abort, alloc: Global, folded: &str, held: &str) -> 
     [part(rt, alloc, folded, ""), part(rt, alloc, "", held)]
 }
 
-fn have_sequences(rt: &impl Abort, events: &[SharedEvent], sequences: &[u64]) {
-    let found = events.iter().map(|event| event.sequence);
-    assert!(rt; found.eq(sequences.iter().copied()));
-}
-
 // The opens of the outstanding handles of a process.
-fn are_outstanding(
+fn are_outstanding<P: Part>(
     rt: &impl Abort,
     alloc: Global,
-    parts: &[Sample],
+    parts: &[P],
     process: u32,
-    sequences: &[u64],
+    opens: &str,
 ) {
-    let rows = outstanding(alloc, parts, process).expect(rt, "the memory");
-    have_sequences(rt, &rows, sequences);
+    let opens = events_of(rt, alloc, opens);
+    assert_list(rt, outstanding(alloc, parts, process), &opens);
 }
 
-// Those of process 4 that came after a moment.
-fn are_since(rt: &impl Abort, alloc: Global, parts: &[Sample], since: u64, sequences: &[u64]) {
-    let rows = diff(alloc, parts, 4, since).expect(rt, "the memory");
-    have_sequences(rt, &rows, sequences);
+const OPENS: &str = "O 3 0x44 process=5, O 4 0x44, O 6 0x48";
+
+// Opens at 7, 8, 12 and 13, a snapshot at 10 and a close at 11.
+const FIRST_THREE: &str = "O 7 0x14, O 8 0x10, S 10";
+
+const OTHERS: &str = "C 11 0x14, O 12 0x18, O 13 0x14";
+
+/// What one part folded and another holds, a process, and the opens of its outstanding handles. An
+/// exit of sequence 5 ends the handle that was opened at 4 and not the one opened at 6, nor that of
+/// another process. In the last row a close is on one processor and its open on the other.
+const OUTSTANDING: &[(&str, &str, u32, &str)] = &[
+    (FIRST_THREE, OTHERS, 4, "O 8 0x10, O 13 0x14, O 12 0x18"),
+    (OPENS, "exit 5", 4, "O 6 0x48"),
+    (OPENS, "exit 5", 5, "O 3 0x44 process=5"),
+    ("C 2 0x46", "O 1 0x44", 4, ""),
+];
+
+#[test]
+fn outstanding_handles(rt: HostRuntime) {
+    for (folded, held, process, opens) in OUTSTANDING {
+        let mut parts = folded_and_held(&rt, rt.alloc(), folded, held);
+        are_outstanding(&rt, rt.alloc(), &parts, *process, opens);
+        parts.reverse();
+        are_outstanding(&rt, rt.alloc(), &parts, *process, opens);
+    }
 }
 
-// Opens at 7, 8, 12 and 13, a snapshot at 10 and a close at 11, of which one part folded the first
-// three and another holds the rest, one by one.
+// The opens of process 4 that came after a moment.
+fn are_since<P: Part>(rt: &impl Abort, alloc: Global, parts: &[P], since: u64, opens: &str) {
+    let opens = events_of(rt, alloc, opens);
+    assert_list(rt, diff(alloc, parts, 4, since), &opens);
+}
+
+fn have_marks<P: Part>(rt: &impl Abort, alloc: Global, parts: &[P]) {
+    assert_is(rt, (mark(parts, 4), mark(parts, 5)), (10, 0));
+    are_since(rt, alloc, parts, 10, "O 13 0x14, O 12 0x18");
+    are_since(rt, alloc, parts, 13, "");
+}
+
 #[test]
 fn snapshot_and_difference(rt: HostRuntime) {
-    let alloc = rt.alloc();
-    let held = "C 11 0x14, O 12 0x18, O 13 0x14";
-    let mut parts = folded_and_held(&rt, alloc, "O 7 0x14, O 8 0x10, S 10", held);
+    let mut parts = folded_and_held(&rt, rt.alloc(), FIRST_THREE, OTHERS);
     parts.reverse();
-    assert_eq!(rt; (mark(&parts, 4), mark(&parts, 5)), (10, 0));
-    are_outstanding(&rt, alloc, &parts, 4, &[8, 13, 12]);
-    are_since(&rt, alloc, &parts, 10, &[13, 12]);
-    are_since(&rt, alloc, &parts, 13, &[]);
+    have_marks(&rt, rt.alloc(), &parts);
 }
 
-// The last exit of process 4, and the sequence of the latest event of handle 0x44.
-fn exit_and_latest(parts: &[Sample]) -> (u64, Option<u64>) {
-    let latest = latest(parts, 4, 0x44).map(|event| event.sequence);
-    (last_exit(parts, 4), latest)
+// The last exit of process 4, and the latest event of handle 0x44.
+fn have_exit<P: Part>(rt: &impl Abort, alloc: Global, parts: &[P]) {
+    assert_is(rt, last_exit(parts, 4), 5);
+    let open = events_of(rt, alloc, "O 4 0x44");
+    assert_is(rt, latest(parts, 4, 0x44), open.first());
 }
 
-// An exit of sequence 5 ends the handle that was opened at 4 and not the one opened at 6, nor that
-// of another process.
 #[test]
 fn process_exit(rt: HostRuntime) {
-    let alloc = rt.alloc();
-    let folded = "O 3 0x44 process=5, O 4 0x44, O 6 0x48";
-    let parts = folded_and_held(&rt, alloc, folded, "exit 5");
-    assert_eq!(rt; exit_and_latest(&parts), (5, Some(4)));
-    are_outstanding(&rt, alloc, &parts, 4, &[6]);
-    are_outstanding(&rt, alloc, &parts, 5, &[3]);
+    let parts = folded_and_held(&rt, rt.alloc(), OPENS, "exit 5");
+    have_exit(&rt, rt.alloc(), &parts);
 }
 
-// Two processors, the close on one and the open on the other.
-#[test]
-fn two_processors(rt: HostRuntime) {
-    let parts = folded_and_held(&rt, rt.alloc(), "C 2 0x46", "O 1 0x44");
-    are_outstanding(&rt, rt.alloc(), &parts, 4, &[]);
-}
-
-// The stacks of the rows, each with its number.
-fn are_rows<T: Copy + PartialEq>(
-    rt: &impl Abort,
-    rows: &[(SharedStack, T)],
-    wanted: &[(&[u64], T)],
-) {
-    let found = rows.iter().map(|row| (row.0.frames(), row.1));
-    assert!(rt; found.eq(wanted.iter().copied()));
-}
+/// Stacks, and how many handles each leaked.
+const LEAKS: &[(&[u64], u64)] = &[(&[0x60], 2), (&[0x50, 0x20], 1), (&[0x30, 0x40], 1)];
 
 // Two opens of one stack, one folded and one held, and two of other stacks.
 #[test]
@@ -167,16 +171,7 @@ fn leaking_stacks(rt: HostRuntime) {
     let folded = "O 1 0x44 [0x50 0x20], O 3 0x4c [0x60]";
     let held = "O 2 0x48 [0x30 0x40], O 4 0x50 [0x60]";
     let parts = folded_and_held(&rt, rt.alloc(), folded, held);
-    let rows = leaks(rt.alloc(), &parts, 4).expect(&rt, "the memory");
-    are_rows(
-        &rt,
-        &rows,
-        &[(&[0x60], 2), (&[0x50, 0x20], 1), (&[0x30, 0x40], 1)],
-    );
-}
-
-fn count(plus: u64, minus: u64) -> Count {
-    Count { plus, minus }
+    assert_counted(&rt, leaks(rt.alloc(), &parts, 4), LEAKS);
 }
 
 // References under two tags and two bad references, of which one part folded some and another holds
@@ -190,48 +185,47 @@ const SLOT: Slot = Slot::Tagged {
     tag: *b"Lky8",
 };
 
-// How often the slot came with a stack under 0x20, and how many events are counted.
-fn counted(rt: &impl Abort, alloc: Global) -> (Count, u64) {
-    let parts = [part(rt, alloc, FOLDED, ""), part(rt, alloc, "", HELD)];
-    let tree = whole_tree(&alloc, &parts).expect(rt, "the memory");
-    (under(&parts, &[0x20], SLOT), tree.total())
-}
+const TAGS: &[([u8; 4], Count)] = &[
+    (*b"Io  ", Count { plus: 1, minus: 0 }),
+    (*b"Lky8", Count { plus: 2, minus: 1 }),
+];
+
+const STACKS: &[(&[u64], Count)] = &[
+    (&[0x30, 0x20], Count { plus: 1, minus: 0 }),
+    (&[0x50, 0x20], Count { plus: 1, minus: 1 }),
+];
 
 #[test]
-fn counts_of_a_slot(rt: HostRuntime) {
-    assert_eq!(rt; counted(&rt, rt.alloc()), (count(2, 1), 6));
+fn counts_of_slots(rt: HostRuntime) {
+    let parts = [
+        part(&rt, rt.alloc(), FOLDED, ""),
+        part(&rt, rt.alloc(), "", HELD),
+    ];
+    have_counts(&rt, rt.alloc(), &parts);
 }
 
-#[test]
-fn tags_of_an_object(rt: HostRuntime) {
-    let alloc = rt.alloc();
-    let parts = [part(&rt, alloc, FOLDED, ""), part(&rt, alloc, "", HELD)];
-    let rows = tags(alloc, &parts, 0x1000).expect(&rt, "the memory");
-    let expected = [(*b"Io  ", count(1, 0)), (*b"Lky8", count(2, 1))];
-    assert_eq!(rt; rows.as_slice(), expected.as_slice());
+fn have_counts<P: Part<Alloc = Global>>(rt: &impl Abort, alloc: Global, parts: &[P])
+    requires { size_of_all (map P.contents parts.now) < 2 ^ 64 }
+{
+    // How often the slot came with a stack under 0x20, and how many events are counted.
+    assert_is(rt, under(parts, &[0x20], SLOT), Count { plus: 2, minus: 1 });
+    assert_is(rt, total(rt, alloc, parts), 6);
+    assert_list(rt, tags(alloc, parts, 0x1000), TAGS);
+    assert_counted(rt, stacks(alloc, parts, 0x1000, *b"Lky8"), STACKS);
+    have_bad_reference(rt, bad(alloc, parts, 4));
 }
 
-#[test]
-fn stacks_of_a_tag(rt: HostRuntime) {
-    let alloc = rt.alloc();
-    let parts = [part(&rt, alloc, FOLDED, ""), part(&rt, alloc, "", HELD)];
-    let rows = stacks(alloc, &parts, 0x1000, *b"Lky8").expect(&rt, "the memory");
-    are_rows(
-        &rt,
-        &rows,
-        &[(&[0x30, 0x20], count(1, 0)), (&[0x50, 0x20], count(1, 1))],
-    );
+fn total<P: Part<Alloc = Global>>(rt: &impl Abort, alloc: Global, parts: &[P]) -> u64
+    requires { size_of_all (map P.contents parts.now) < 2 ^ 64 }
+{
+    let tree = whole_tree(&alloc, parts).expect(rt, "the memory");
+    tree.total()
 }
 
-fn bad_references(rt: &impl Abort, alloc: Global) -> Vec<(u32, SharedStack, u64)> {
-    let parts = [part(rt, alloc, FOLDED, ""), part(rt, alloc, "", HELD)];
-    bad(alloc, &parts, 4).expect(rt, "the memory")
-}
-
-#[test]
-fn bad_references_of_a_process(rt: HostRuntime) {
-    let rows = bad_references(&rt, rt.alloc());
-    assert_eq!(rt; rows.len(), 1);
-    let (handle, stack, times) = (rows[0].0, rows[0].1.frames(), rows[0].2);
-    assert_eq!(rt; (handle, stack, times), (0x44, [0x60].as_slice(), 2));
+fn have_bad_reference(rt: &impl Abort, made: Result<Vec<(u32, SharedStack, u64)>, NoMemory>) {
+    let rows = made.expect(rt, "the memory");
+    assert_is(rt, rows.len(), 1);
+    for (handle, stack, times) in &rows {
+        assert_is(rt, (*handle, stack.frames(), *times), (0x44, &[0x60], 2));
+    }
 }

@@ -2,13 +2,20 @@
 //! clause of theirs says, as worked rows, orders and refused allocations.
 //!
 //! Each file tests the crate of its name by what that crate makes public. They stand here, over
-//! proved crates, so that no crate is proved a second time with its tests.
+//! proved crates, so that no crate is proved a second time with its tests. `rows` has what they
+//! assert of each row, `lines` the events of lines, and `heaps` the heaps that refuse memory.
 #![tactic(auto)]
 
 #[cfg(test)]
 mod answers;
 #[cfg(test)]
 mod events;
+#[cfg(test)]
+mod heaps;
+#[cfg(test)]
+mod lines;
+#[cfg(test)]
+mod rows;
 #[cfg(test)]
 mod sorted;
 #[cfg(test)]

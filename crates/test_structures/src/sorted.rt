@@ -1,8 +1,8 @@
 //! Counts of words merged and searched.
 
+use crate::rows::{assert_is, assert_list};
 use htl_sorted::{Joined, Keyed, merge, search};
 use std::alloc::AllocError;
-use std::test::Fail;
 
 // How often each word came, by its number.
 struct Words;
@@ -43,14 +43,12 @@ impl Joined for Words {
     }
 }
 
+const MERGED: &[(u32, u64)] = &[(1, 1), (2, 1), (5, 3), (7, 1)];
+
 #[test]
-fn counts_of_both_lists_add_up(rt: HostRuntime) -> Result<(), Fail> {
-    let merged = merge::<Words, _>(rt.alloc(), &[(2, 1), (5, 1)], &[(1, 1), (5, 2), (7, 1)])?;
-    assert_eq!(rt;
-        merged.as_slice(),
-        [(1, 1), (2, 1), (5, 3), (7, 1)].as_slice()
-    );
-    assert_eq!(rt; search::<Words>(&[(1, 1), (2, 1)], 2), Ok(1));
-    assert_eq!(rt; search::<Words>(&[(1, 1), (3, 1)], 2), Err(1));
-    Ok(())
+fn counts_of_both_lists_add_up(rt: HostRuntime) {
+    let merged = merge::<Words, _>(rt.alloc(), &[(2, 1), (5, 1)], &[(1, 1), (5, 2), (7, 1)]);
+    assert_list(&rt, merged, MERGED);
+    assert_is(&rt, search::<Words>(&[(1, 1), (2, 1)], 2), Ok(1));
+    assert_is(&rt, search::<Words>(&[(1, 1), (3, 1)], 2), Err(1));
 }

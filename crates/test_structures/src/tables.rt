@@ -1,21 +1,24 @@
 //! Tests of what no clause says: worked rows, generated segments, and refused allocations, each call
 //! under heaps of its own.
 
+use crate::heaps::heap;
+use crate::lines::events_of;
+use crate::rows::{assert_is, assert_row};
 use htl_event::{EventList, NoMemory, SharedEvent};
-use htl_samples::{SMALL, shared_events};
-use htl_tables::{Exits, Latest, Marks};
+use htl_samples::SMALL;
+use htl_tables::{EventKind, Exits, Greatest, Latest, Marks, ProcessExits, Snapshots};
 use linked_list_allocator::LocalHeap;
 use std::alloc::{Allocator, Global};
 use std::process::Abort;
 use std::slice;
 
-/// A table of either kind, under any allocator.
+/// A table of any kind, under any allocator.
 trait Table<A: Allocator>: Sized + Drop {
     fn empty(alloc: A) -> Self;
 
     fn note(&mut self, event: &SharedEvent) -> Result<(), NoMemory>;
 
-    fn of(alloc: A, lists: &[Vec<SharedEvent>]) -> Result<Self, NoMemory>;
+    fn of<L: EventList>(alloc: A, lists: &[L]) -> Result<Self, NoMemory>;
 
     fn join(&self, other: &Self) -> Result<Self, NoMemory>;
 
@@ -33,7 +36,7 @@ impl<A: Allocator + Clone> Table<A> for Latest<A> {
         Latest::note(self, event)
     }
 
-    fn of(alloc: A, lists: &[Vec<SharedEvent>]) -> Result<Latest<A>, NoMemory> {
+    fn of<L: EventList>(alloc: A, lists: &[L]) -> Result<Latest<A>, NoMemory> {
         Latest::of(alloc, lists)
     }
 
@@ -50,293 +53,256 @@ impl<A: Allocator + Clone> Table<A> for Latest<A> {
     }
 }
 
-impl<A: Allocator + Clone> Table<A> for Exits<A> {
-    fn empty(alloc: A) -> Exits<A> {
-        Exits::new(alloc)
+impl<K: EventKind, A: Allocator + Clone> Table<A> for Greatest<K, A> {
+    fn empty(alloc: A) -> Greatest<K, A> {
+        Greatest::new(alloc)
     }
 
     fn note(&mut self, event: &SharedEvent) -> Result<(), NoMemory> {
-        Exits::note(self, event)
+        Greatest::note(self, event)
     }
 
-    fn of(alloc: A, lists: &[Vec<SharedEvent>]) -> Result<Exits<A>, NoMemory> {
-        Exits::of(alloc, lists)
+    fn of<L: EventList>(alloc: A, lists: &[L]) -> Result<Greatest<K, A>, NoMemory> {
+        Greatest::of(alloc, lists)
     }
 
-    fn join(&self, other: &Exits<A>) -> Result<Exits<A>, NoMemory> {
-        Exits::join(self, other)
+    fn join(&self, other: &Greatest<K, A>) -> Result<Greatest<K, A>, NoMemory> {
+        Greatest::join(self, other)
     }
 
-    fn copy(&self) -> Result<Exits<A>, NoMemory> {
-        Exits::copy(self)
+    fn copy(&self) -> Result<Greatest<K, A>, NoMemory> {
+        Greatest::copy(self)
     }
 
-    fn same(&self, other: &Exits<A>) -> bool {
-        Exits::same(self, other)
+    fn same(&self, other: &Greatest<K, A>) -> bool {
+        Greatest::same(self, other)
     }
 }
 
-/// The table of the events, noted one by one, if there is memory.
-fn try_noted<A: Allocator, T: Table<A>>(alloc: A, events: &[SharedEvent]) -> Result<T, NoMemory> {
-    let mut table = T::empty(alloc);
+fn try_note_all<A: Allocator, T: Table<A>>(
+    table: &mut T,
+    events: &[SharedEvent],
+) -> Result<(), NoMemory> {
     for event in events {
         table.note(event)?;
+    }
+    Ok(())
+}
+
+/// The table of the events of the lists, noted one by one from the last list to the first, if there
+/// is memory.
+fn try_noted<A: Allocator, T: Table<A>, L: EventList>(
+    alloc: A,
+    lists: &[L],
+) -> Result<T, NoMemory> {
+    let mut table = T::empty(alloc);
+    for list in lists.iter().rev() {
+        try_note_all(&mut table, list.events())?;
     }
     Ok(table)
 }
 
-fn noted<A: Allocator, T: Table<A>>(rt: &impl Abort, alloc: A, events: &[SharedEvent]) -> T {
-    try_noted(alloc, events).expect(rt, "the memory")
+fn noted<A: Allocator, T: Table<A>, L: EventList>(rt: &impl Abort, alloc: A, lists: &[L]) -> T {
+    try_noted(alloc, lists).expect(rt, "the memory")
 }
 
-fn copy<A: Allocator, T: Table<A>>(rt: &impl Abort, table: &T) -> T {
-    table.copy().expect(rt, "the memory")
+/// The table of the lines' events, noted one by one.
+fn noted_lines<T: Table<Global>>(rt: &impl Abort, alloc: Global, lines: &str) -> T {
+    noted(rt, alloc, slice::from_ref(&events_of(rt, alloc, lines)))
 }
 
-fn join<A: Allocator, T: Table<A>>(rt: &impl Abort, one: &T, other: &T) -> T {
-    one.join(other).expect(rt, "the memory")
+/// The table of the lines' events, gathered together.
+fn gathered<T: Table<Global>>(rt: &impl Abort, alloc: Global, lines: &str) -> Result<T, NoMemory> {
+    T::of(alloc, slice::from_ref(&events_of(rt, alloc, lines)))
 }
 
-/// The events of lines.
-fn events_of(rt: &impl Abort, alloc: Global, lines: &str) -> Vec<SharedEvent> {
-    shared_events(alloc, lines).expect(rt, "the lines are events")
+/// The table of the events of two texts, gathered together.
+fn gathered_of_two<T: Table<Global>>(
+    rt: &impl Abort,
+    alloc: Global,
+    lines: &str,
+    others: &str,
+) -> Result<T, NoMemory> {
+    T::of(
+        alloc,
+        &[events_of(rt, alloc, lines), events_of(rt, alloc, others)],
+    )
 }
 
-fn sequence_of<A: Allocator>(latest: &Latest<A>, process: u32, handle: u32) -> Option<u64> {
-    latest.get(process, handle).map(|event| event.sequence)
-}
-
-const CLOSE_FIRST: &str = "C 9 0x44, O 4 0x44, S 10";
-
-const OPEN_FIRST: &str = "O 4 0x44, S 10, C 9 0x44";
-
-/// The latest events of the lines, noted one by one.
-fn latest_of(rt: &impl Abort, alloc: Global, lines: &str) -> Latest<Global> {
-    noted(rt, alloc, &events_of(rt, alloc, lines))
-}
-
-/// The latest events of the lines, gathered together.
-fn latest_together(rt: &impl Abort, alloc: Global, lines: &[&str]) -> Latest<Global> {
-    let mut lists = Vec::new(alloc);
-    for line in lines {
-        lists
-            .push(events_of(rt, alloc, line))
-            .expect(rt, "the memory");
+// Whether no table was made. One that was made is the twin's.
+fn is_none<A: Allocator, T: Table<A>>(
+    rt: &impl Abort,
+    made: Result<T, NoMemory>,
+    twin: &T,
+) -> bool {
+    match made {
+        Ok(table) => {
+            assert_is(rt, table.same(twin), true);
+            false
+        }
+        Err(NoMemory) => true,
     }
-    Latest::of(alloc, &lists).expect(rt, "the memory")
 }
 
-/// The close of sequence 9 is the one latest event.
-fn assert_closed(rt: &impl Abort, latest: &Latest<Global>) {
-    let sequences = [
-        sequence_of(latest, 4, 0x44),
-        sequence_of(latest, 4, 0x47),
-        sequence_of(latest, 5, 0x44),
-    ];
-    assert_eq!(rt;
-        (sequences, latest.rows().len()),
-        ([Some(9), Some(9), None], 1)
-    );
+/// The table was made, and is this one.
+fn is_same<A: Allocator, T: Table<A>>(rt: &impl Abort, made: Result<T, NoMemory>, table: &T) {
+    assert_is(rt, is_none(rt, made, table), false);
 }
+
+/// A copy, the joins with an empty table, and the table of the events gathered together are the
+/// same as the table of the events noted one by one.
+fn is_same_otherwise<T: Table<Global>>(rt: &impl Abort, alloc: Global, lines: &str, table: &T) {
+    is_same(rt, table.copy(), table);
+    is_same_joined(rt, table, &T::empty(alloc));
+    is_same(rt, gathered(rt, alloc, lines), table);
+}
+
+fn is_same_joined<T: Table<Global>>(rt: &impl Abort, table: &T, none: &T) {
+    is_same(rt, table.join(none), table);
+    is_same(rt, none.join(table), table);
+}
+
+/// Lines whose one latest event is a close.
+const CLOSED: &[&str] = &[
+    "C 9 0x44",
+    "C 9 0x44, O 4 0x44, S 10",
+    "O 4 0x44, S 10, C 9 0x44",
+];
 
 #[test]
-fn a_close_noted_before_its_open(rt: HostRuntime) {
-    for lines in [CLOSE_FIRST, OPEN_FIRST] {
-        let latest = latest_of(&rt, rt.alloc(), lines);
-        assert_closed(&rt, &latest);
-        assert!(rt; copy(&rt, &latest).same(&latest));
+fn a_close_and_its_open(rt: HostRuntime) {
+    let close = events_of(&rt, rt.alloc(), "C 9 0x44");
+    for lines in CLOSED {
+        let latest = noted_lines(&rt, rt.alloc(), lines);
+        is_closed(&rt, &latest, &close);
+        is_same_otherwise(&rt, rt.alloc(), lines, &latest);
     }
 }
+
+/// The close is the one latest event.
+fn is_closed<'a>(rt: &impl Abort, latest: &'a Latest<Global>, close: &'a [SharedEvent]) {
+    assert_is(rt, latest.rows(), close);
+    assert_is(rt, latest.get(4, 0x44), close.first());
+    assert_is(rt, latest.get(4, 0x47), close.first());
+    assert_is(rt, latest.get(5, 0x44), None);
+}
+
+/// Two texts, and whether the join of their tables is the first. Of two events with one sequence
+/// the one that was there stays.
+const JOINED: &[(&str, &str, bool)] = &[
+    ("C 9 0x44", "O 4 0x44", true),
+    ("O 4 0x44", "C 9 0x44", false),
+    ("O 4 0x44", "C 4 0x45", true),
+];
 
 #[test]
-fn a_close_gathered_before_its_open(rt: HostRuntime) {
-    for lines in [CLOSE_FIRST, OPEN_FIRST] {
-        let latest = latest_together(&rt, rt.alloc(), &[lines]);
-        assert_closed(&rt, &latest);
+fn two_joined(rt: HostRuntime) {
+    for (lines, others, stays) in JOINED {
+        let gathered = gathered_of_two(&rt, rt.alloc(), lines, others);
+        let first = noted_lines(&rt, rt.alloc(), lines);
+        let second = noted_lines(&rt, rt.alloc(), others);
+        are_joined(&rt, &first, &second, *stays, gathered);
     }
 }
 
-/// The first joined with the second is closed and the same as `close`.
-fn assert_joined(
+fn are_joined(
     rt: &impl Abort,
     first: &Latest<Global>,
     second: &Latest<Global>,
-    close: &Latest<Global>,
+    stays: bool,
+    gathered: Result<Latest<Global>, NoMemory>,
 ) {
-    let latest = join(rt, first, second);
-    assert_closed(rt, &latest);
-    assert!(rt; latest.same(close));
+    let joined = if stays { first } else { second };
+    assert_is(rt, first.same(second), false);
+    is_same(rt, first.join(second), joined);
+    is_same(rt, gathered, joined);
 }
 
-#[test]
-fn a_close_joined_with_its_open(rt: HostRuntime) {
-    let close = latest_of(&rt, rt.alloc(), "C 9 0x44");
-    let open = latest_of(&rt, rt.alloc(), "O 4 0x44");
-    assert!(rt; !close.same(&open));
-    assert_joined(&rt, &close, &open, &close);
-    assert_joined(&rt, &open, &close, &close);
-}
+const LISTED: &str = "O 1 0x48, O 2 0x44 process=5, C 3 0x10, O 4 0x10 process=3, O 5 0x44";
 
-// Of two events with one sequence the one that was there stays.
-#[test]
-fn the_first_of_two_at_once_stays(rt: HostRuntime) {
-    let (open, close) = ("O 4 0x44", "C 4 0x45");
-    let first = latest_of(&rt, rt.alloc(), open);
-    let second = latest_of(&rt, rt.alloc(), close);
-    let joined = join(&rt, &first, &second);
-    assert!(rt; joined.same(&first) && !joined.same(&second));
-    let gathered = latest_together(&rt, rt.alloc(), &[open, close]);
-    assert!(rt; gathered.same(&first) && !gathered.same(&second));
-}
+/// Processes, and their latest events by handle.
+const ROWS: &[(u32, &str)] = &[
+    (4, "C 3 0x10, O 5 0x44, O 1 0x48"),
+    (5, "O 2 0x44 process=5"),
+    (6, ""),
+];
 
 #[test]
 fn rows_of_a_process(rt: HostRuntime) {
-    let lines = "O 1 0x48, O 2 0x44 process=5, C 3 0x10, O 4 0x10 process=3, O 5 0x44";
-    let latest = latest_together(&rt, rt.alloc(), &[lines]);
-    for (process, handles) in [(4, [0x10, 0x44, 0x48].as_slice()), (5, &[0x44]), (6, &[])] {
-        let rows = latest.rows_of(process);
-        assert!(rt;
-            rows.iter()
-                .map(|row| row.handle)
-                .eq(handles.iter().copied()),
-            "{process}"
-        );
+    let latest: Latest<Global> = gathered(&rt, rt.alloc(), LISTED).expect(&rt, "the memory");
+    for (process, lines) in ROWS {
+        let wanted = events_of(&rt, rt.alloc(), lines);
+        assert_row(&rt, *process, latest.rows_of(*process), wanted.as_slice());
     }
 }
 
-fn note_marks(rt: &impl Abort, marks: &mut Marks<Global>, events: &[SharedEvent]) {
-    for event in events {
-        marks.note(event).expect(rt, "the memory");
-    }
+const TEN: &[(u32, u64)] = &[(4, 10)];
+
+/// The greatest sequences of the lines are those of `TEN`, noted, copied, joined and gathered.
+fn are_ten<K: EventKind>(rt: &impl Abort, alloc: Global, lines: &str) {
+    let table: Greatest<K, Global> = noted_lines(rt, alloc, lines);
+    assert_is(rt, table.rows(), TEN);
+    assert_is(rt, (table.get(4), table.get(5)), (10, 0));
+    is_same_otherwise(rt, alloc, lines, &table);
 }
 
-/// The marks of the events, noted one by one.
-fn marks_noted(rt: &impl Abort, alloc: Global, events: &[SharedEvent]) -> Marks<Global> {
-    let mut marks = Marks::new(alloc);
-    note_marks(rt, &mut marks, events);
-    marks
-}
-
-fn marks_joined_with_none(rt: &impl Abort, alloc: Global, marks: &Marks<Global>) -> Marks<Global> {
-    marks.join(&Marks::new(alloc)).expect(rt, "the memory")
-}
+const EXITS: &[&str] = &["exit 10, exit 8", "exit 8, S 12, exit 10"];
 
 #[test]
-fn a_snapshot_marks_its_process(rt: HostRuntime) {
-    let lines = "S 10, exit 12, S 0 process=5, S 7";
-    let events = events_of(&rt, rt.alloc(), lines);
-    let marks = marks_noted(&rt, rt.alloc(), &events);
-    assert_eq!(rt;
-        (marks.get(4), marks.get(5), marks.rows()),
-        (10, 0, [(4, 10)].as_slice())
-    );
-    let copy = marks.copy().expect(&rt, "the memory");
-    let joined = marks_joined_with_none(&rt, rt.alloc(), &marks);
-    let gathered = Marks::of(rt.alloc(), slice::from_ref(&events)).expect(&rt, "the memory");
-    assert!(rt; copy.same(&marks) && joined.same(&marks) && gathered.same(&marks));
-}
-
-const LATE_FIRST: &str = "exit 10, exit 8";
-
-const EARLY_FIRST: &str = "exit 8, S 12, exit 10";
-
-/// The last exits of the lines, noted one by one.
-fn exits_of(rt: &impl Abort, alloc: Global, lines: &str) -> Exits<Global> {
-    noted(rt, alloc, &events_of(rt, alloc, lines))
-}
-
-#[test]
-fn the_last_exit_of_a_process(rt: HostRuntime) {
-    for lines in [LATE_FIRST, EARLY_FIRST] {
-        let exits = exits_of(&rt, rt.alloc(), lines);
-        assert_eq!(rt; exits.rows(), [(4, 10)].as_slice());
-        assert!(rt; copy(&rt, &exits).same(&exits));
-    }
-}
-
-#[test]
-fn exits_joined_with_none(rt: HostRuntime) {
-    let exits = exits_of(&rt, rt.alloc(), LATE_FIRST);
-    let none = Exits::new(rt.alloc());
-    assert!(rt; join(&rt, &exits, &none).same(&exits));
-    assert!(rt; join(&rt, &none, &exits).same(&exits));
+fn marks_and_last_exits(rt: HostRuntime) {
+    are_ten::<Snapshots>(&rt, rt.alloc(), "S 10, exit 12, S 0 process=5, S 7");
+    are_ten::<ProcessExits>(&rt, rt.alloc(), EXITS[0]);
+    are_ten::<ProcessExits>(&rt, rt.alloc(), EXITS[1]);
 }
 
 #[test]
 fn the_last_exit_of_two_lists(rt: HostRuntime) {
-    let late_first = events_of(&rt, rt.alloc(), LATE_FIRST);
-    let early_first = events_of(&rt, rt.alloc(), EARLY_FIRST);
-    let exits = Exits::of(rt.alloc(), &[late_first, early_first]).expect(&rt, "the memory");
-    assert_eq!(rt; exits.rows(), [(4, 10)].as_slice());
+    let exits: Result<Exits<Global>, _> = gathered_of_two(&rt, rt.alloc(), EXITS[0], EXITS[1]);
+    assert_is(&rt, exits.expect(&rt, "the memory").rows(), TEN);
 }
 
-fn note_latest(rt: &impl Abort, latest: &mut Latest<Global>, events: &[SharedEvent]) {
-    for event in events {
-        latest.note(event).expect(rt, "the memory");
-    }
-}
-
-/// The latest events of the lists, noted from the last list to the first.
-fn latest_noted<L: EventList>(rt: &impl Abort, alloc: Global, lists: &[L]) -> Latest<Global> {
-    let mut latest = Latest::new(alloc);
-    for list in lists.iter().rev() {
-        note_latest(rt, &mut latest, list.events());
-    }
-    latest
-}
-
-/// The latest events of the lists, gathered in a small heap, are the rows.
-fn are_latest_in_small_heap<L: EventList>(
+/// The latest events of the lists, gathered under any allocator, are the rows.
+fn are_latest<A: Allocator + Clone, L: EventList>(
     rt: &impl Abort,
-    alloc: Global,
+    alloc: A,
     lists: &[L],
     rows: &[SharedEvent],
 ) {
-    let small = LocalHeap::new(alloc, 16384).expect(rt, "the memory");
-    let latest = Latest::of(&small, lists).expect(rt, "the memory");
-    assert_eq!(rt; latest.rows(), rows);
+    let latest = Latest::of(alloc, lists).expect(rt, "the memory");
+    assert_is(rt, latest.rows(), rows);
+}
+
+/// The marks of the lists, gathered under any allocator, are the rows.
+fn are_marks<A: Allocator + Clone, L: EventList>(
+    rt: &impl Abort,
+    alloc: A,
+    lists: &[L],
+    rows: &[(u32, u64)],
+) {
+    let marks = Marks::of(alloc, lists).expect(rt, "the memory");
+    assert_is(rt, marks.rows(), rows);
+}
+
+fn have_latest<L: EventList>(rt: &impl Abort, alloc: Global, small: &LocalHeap, lists: &[L]) {
+    let latest: Latest<Global> = noted(rt, alloc, lists);
+    assert_is(rt, latest.rows().len() > 10, true);
+    are_latest(rt, alloc, lists, latest.rows());
+    are_latest(rt, small, lists, latest.rows());
+}
+
+fn have_marks<L: EventList>(rt: &impl Abort, alloc: Global, small: &LocalHeap, lists: &[L]) {
+    let marks: Marks<Global> = noted(rt, alloc, lists);
+    assert_is(rt, marks.rows().len() > 1, true);
+    are_marks(rt, alloc, lists, marks.rows());
+    are_marks(rt, small, lists, marks.rows());
 }
 
 // Segments in any order, under any allocator, as if each event were noted by itself.
 #[test]
-fn latest_events_of_generated_segments(rt: HostRuntime) {
+fn tables_of_generated_segments(rt: HostRuntime) {
     let segments = SMALL.segments(rt.alloc()).expect(&rt, "the segments");
-    let latest = latest_noted(&rt, rt.alloc(), &segments);
-    assert!(rt; latest.rows().len() > 10);
-    let gathered = Latest::of(rt.alloc(), &segments).expect(&rt, "the memory");
-    assert!(rt; gathered.same(&latest));
-    are_latest_in_small_heap(&rt, rt.alloc(), &segments, latest.rows());
-}
-
-/// The marks of the lists, noted from the last list to the first.
-fn marks_of_lists<L: EventList>(rt: &impl Abort, alloc: Global, lists: &[L]) -> Marks<Global> {
-    let mut marks = Marks::new(alloc);
-    for list in lists.iter().rev() {
-        note_marks(rt, &mut marks, list.events());
-    }
-    marks
-}
-
-/// The marks of the lists, gathered in a small heap, are the rows.
-fn are_marks_in_small_heap<L: EventList>(
-    rt: &impl Abort,
-    alloc: Global,
-    lists: &[L],
-    rows: &[(u32, u64)],
-) {
-    let small = LocalHeap::new(alloc, 16384).expect(rt, "the memory");
-    let marks = Marks::of(&small, lists).expect(rt, "the memory");
-    assert_eq!(rt; marks.rows(), rows);
-}
-
-#[test]
-fn marks_of_generated_segments(rt: HostRuntime) {
-    let segments = SMALL.segments(rt.alloc()).expect(&rt, "the segments");
-    let marks = marks_of_lists(&rt, rt.alloc(), &segments);
-    assert!(rt; marks.rows().len() > 1);
-    let gathered = Marks::of(rt.alloc(), &segments).expect(&rt, "the memory");
-    assert!(rt; gathered.same(&marks));
-    are_marks_in_small_heap(&rt, rt.alloc(), &segments, marks.rows());
+    have_latest(&rt, rt.alloc(), &heap(&rt, rt.alloc(), 16384), &segments);
+    have_marks(&rt, rt.alloc(), &heap(&rt, rt.alloc(), 16384), &segments);
 }
 
 // ---- refused allocations
@@ -350,8 +316,15 @@ const STEP: usize = 8;
 
 const STEPS: usize = 512;
 
+/// The tables.
+#[derive(Clone, Copy)]
+enum Kind {
+    Latest,
+    Exits,
+}
+
 /// The calls that take memory.
-#[derive(Clone, Copy, Debug, PartialEq, Eq)]
+#[derive(Clone, Copy)]
 enum Call {
     Note,
     Of,
@@ -359,101 +332,119 @@ enum Call {
     Copy,
 }
 
-// Whether a note was refused. What was noted before it stands.
-fn note_is_refused<'a, T: Table<&'a LocalHeap>>(
+const CALLS: &[(&str, Kind, Call)] = &[
+    ("a note of latest events", Kind::Latest, Call::Note),
+    ("latest events gathered", Kind::Latest, Call::Of),
+    ("latest events joined", Kind::Latest, Call::Join),
+    ("latest events copied", Kind::Latest, Call::Copy),
+    ("a note of exits", Kind::Exits, Call::Note),
+    ("exits gathered", Kind::Exits, Call::Of),
+    ("exits joined", Kind::Exits, Call::Join),
+    ("exits copied", Kind::Exits, Call::Copy),
+];
+
+// Notes the events until one is refused. The twin has room, and notes those that aren't.
+fn note_both<A: Allocator, T: Table<A>>(
     rt: &impl Abort,
-    small: &'a LocalHeap,
-    roomy: &'a LocalHeap,
+    table: &mut T,
+    twin: &mut T,
     events: &[SharedEvent],
-) -> bool {
-    let mut table = T::empty(small);
-    let mut twin = T::empty(roomy);
+) -> Result<(), NoMemory> {
     for event in events {
-        if table.note(event).is_err() {
-            assert!(rt; table.same(&twin));
-            return true;
-        }
+        table.note(event)?;
         twin.note(event).expect(rt, "room");
     }
-    assert!(rt; table.same(&twin));
-    false
+    Ok(())
 }
 
-fn join_is_refused<'a, T: Table<&'a LocalHeap>>(
+// Whether a note was refused. What was noted before it stands.
+fn is_note_refused<A: Allocator, T: Table<A>>(
     rt: &impl Abort,
-    small: &'a LocalHeap,
-    roomy: &'a LocalHeap,
+    mut table: T,
+    mut twin: T,
     events: &[SharedEvent],
-) -> Result<bool, NoMemory> {
-    let table: T = try_noted(small, events)?;
-    let twin: T = noted(rt, roomy, events);
-    // The left table's heap is asked, however full the right one's is.
-    assert!(rt; join(rt, &twin, &table).same(&twin));
-    Ok(is_none(rt, table.join(&twin), &twin))
+) -> bool {
+    let refused = note_both(rt, &mut table, &mut twin, events).is_err();
+    assert_is(rt, table.same(&twin), true);
+    refused
 }
 
-// Whether no table was made. One that was made is the twin's.
-fn is_none<'a, T: Table<&'a LocalHeap>>(
+fn is_join_refused<A: Allocator, T: Table<A>>(
     rt: &impl Abort,
     made: Result<T, NoMemory>,
     twin: &T,
-) -> bool {
-    let Ok(table) = made else {
-        return true;
-    };
-    assert!(rt; table.same(twin));
-    false
+) -> Result<bool, NoMemory> {
+    let table = made?;
+    // The left table's heap is asked, however full the right one's is.
+    is_same(rt, twin.join(&table), twin);
+    Ok(is_none(rt, table.join(twin), twin))
+}
+
+fn is_copy_refused<A: Allocator, T: Table<A>>(
+    rt: &impl Abort,
+    made: Result<T, NoMemory>,
+    twin: &T,
+) -> Result<bool, NoMemory> {
+    let table = made?;
+    Ok(is_none(rt, table.copy(), twin))
 }
 
 // Whether the call was refused. It takes its memory from the small heap alone, and where that
-// doesn't hold the table that is called, there is no answer.
-fn is_refused<'a, T: Table<&'a LocalHeap>>(
+// doesn't hold the table that is called, there is no answer. The twin has room.
+fn is_refused<A: Allocator + Clone, T: Table<A>>(
     rt: &impl Abort,
     call: Call,
-    small: &'a LocalHeap,
-    roomy: &'a LocalHeap,
+    small: A,
+    empty: T,
+    twin: &T,
     events: &Vec<SharedEvent>,
 ) -> Result<bool, NoMemory> {
-    let made = match call {
-        Call::Note => return Ok(note_is_refused::<T>(rt, small, roomy, events)),
-        Call::Join => return join_is_refused::<T>(rt, small, roomy, events),
-        Call::Of => T::of(small, slice::from_ref(events)),
-        Call::Copy => try_noted::<_, T>(small, events)?.copy(),
-    };
-    Ok(is_none(rt, made, &noted(rt, roomy, events)))
+    let lists = slice::from_ref(events);
+    match call {
+        Call::Note => Ok(is_note_refused(rt, T::empty(small), empty, events)),
+        Call::Of => Ok(is_none(rt, T::of(small, lists), twin)),
+        Call::Join => is_join_refused(rt, try_noted(small, lists), twin),
+        Call::Copy => is_copy_refused(rt, try_noted(small, lists), twin),
+    }
 }
 
-// What comes of the call on a table of each kind, in heaps of this size.
-fn answers(
+fn is_refused_of(
     rt: &impl Abort,
-    alloc: Global,
+    kind: Kind,
     call: Call,
-    size: usize,
+    small: &LocalHeap,
     roomy: &LocalHeap,
     events: &Vec<SharedEvent>,
-) -> [Result<bool, NoMemory>; 2] {
-    let small = LocalHeap::new(alloc, size).expect(rt, "the memory");
-    let other = LocalHeap::new(alloc, size).expect(rt, "the memory");
-    [
-        is_refused::<Latest<_>>(rt, call, &small, roomy, events),
-        is_refused::<Exits<_>>(rt, call, &other, roomy, events),
-    ]
+) -> Result<bool, NoMemory> {
+    let lists = slice::from_ref(events);
+    match kind {
+        Kind::Latest => {
+            let twin = noted(rt, roomy, lists);
+            is_refused(rt, call, small, Latest::new(roomy), &twin, events)
+        }
+        Kind::Exits => {
+            let twin = noted(rt, roomy, lists);
+            is_refused(rt, call, small, Exits::new(roomy), &twin, events)
+        }
+    }
 }
 
-// Of each kind, whether the call is refused in some heaps, and whether it answers in others.
+// Whether the call is refused in some heaps, and whether it answers in others.
 fn outcomes(
     rt: &impl Abort,
     alloc: Global,
+    kind: Kind,
     call: Call,
     roomy: &LocalHeap,
     events: &Vec<SharedEvent>,
-) -> ([bool; 2], [bool; 2]) {
-    let (mut refused, mut answered) = ([false; 2], [false; 2]);
+) -> (bool, bool) {
+    let (mut refused, mut answered) = (false, false);
     for step in 1..STEPS {
-        let answers = answers(rt, alloc, call, step * STEP, roomy, events);
-        for (kind, answer) in answers.iter().enumerate() {
-            refused[kind] |= *answer == Ok(true);
-            answered[kind] |= *answer == Ok(false);
+        let small = heap(rt, alloc, step * STEP);
+        match is_refused_of(rt, kind, call, &small, roomy, events) {
+            Ok(true) => refused = true,
+            Ok(false) => answered = true,
+            Err(NoMemory) => {}
         }
     }
     (refused, answered)
@@ -462,9 +453,9 @@ fn outcomes(
 #[test]
 fn each_call_is_refused_until_its_heap_is_large_enough(rt: HostRuntime) {
     let events = events_of(&rt, rt.alloc(), LINES);
-    let roomy = LocalHeap::new(rt.alloc(), 65536).expect(&rt, "the memory");
-    for call in [Call::Note, Call::Of, Call::Join, Call::Copy] {
-        let (refused, answered) = outcomes(&rt, rt.alloc(), call, &roomy, &events);
-        assert!(rt; refused == [true; 2] && answered == [true; 2], "{call:?}");
+    let roomy = heap(&rt, rt.alloc(), 65536);
+    for (name, kind, call) in CALLS {
+        let outcomes = outcomes(&rt, rt.alloc(), *kind, *call, &roomy, &events);
+        assert_row(&rt, *name, outcomes, (true, true));
     }
 }

@@ -1,8 +1,10 @@
 //! Worked trees, trees of random events, and refused allocations.
 
-use htl_event::{Count, Event, Kind, NoMemory, SharedEvent, SharedStack, Sign, Slot, Stack};
+use crate::heaps::heap;
+use crate::rows::{assert_counted, assert_is, assert_list, assert_row, is_done};
+use htl_event::{Count, Event, Kind, NoMemory, SharedEvent, SharedStack, Sign, Slot};
+use htl_samples::stack;
 use htl_tree::{Slots, StackTree, fits_events};
-use linked_list_allocator::LocalHeap;
 use std::alloc::{Allocator, Global};
 use std::process::Abort;
 
@@ -13,27 +15,25 @@ const SLOT: Slot = Slot::Tagged {
 
 const OTHER: Slot = Slot::Handles { process: 4 };
 
-const X: [u64; 3] = [0x30, 0x20, 0x10];
+const X: &[u64] = &[0x30, 0x20, 0x10];
 
-const Y: [u64; 3] = [0x40, 0x20, 0x10];
+const Y: &[u64] = &[0x40, 0x20, 0x10];
 
-fn stack(frames: &[u64]) -> Stack {
-    let mut stack = Stack::new();
-    for frame in frames {
-        stack.push(*frame);
-    }
-    stack
-}
+const ONCE: Count = Count { plus: 1, minus: 0 };
 
-fn shared(rt: &impl Abort, alloc: Global, frames: &[u64], fingerprint: u64) -> SharedStack {
-    assert!(rt; frames.len() <= 64);
-    let frames = Vec::from_slice(alloc, frames).expect(rt, "the memory");
-    SharedStack::of(alloc, frames, fingerprint).expect(rt, "the memory")
-}
+/// What a tree counts: a slot, its sign and the frames of a stack.
+type Counted = (Slot, Sign, &'static [u64]);
 
-fn count(plus: u64, minus: u64) -> Count {
-    Count { plus, minus }
-}
+const AT_X: Counted = (SLOT, Sign::Plus, X);
+
+const AT_Y: Counted = (SLOT, Sign::Plus, Y);
+
+const AT_NONE: Counted = (SLOT, Sign::Minus, &[]);
+
+const THREE: &[Counted] = &[AT_X, AT_Y, AT_NONE];
+
+/// The three and an open at X.
+const FOUR: &[Counted] = &[AT_Y, AT_NONE, AT_X, (OTHER, Sign::Plus, X)];
 
 // Counts one more, if there is memory.
 fn try_add<A: Allocator + Clone>(
@@ -47,37 +47,31 @@ fn try_add<A: Allocator + Clone>(
     tree.add(slot, sign, &stack(frames))
 }
 
-fn add<A: Allocator + Clone>(
-    rt: &impl Abort,
-    tree: &mut StackTree<A>,
-    slot: Slot,
-    sign: Sign,
-    frames: &[u64],
-) {
-    try_add(rt, tree, slot, sign, frames).expect(rt, "the memory");
-}
-
-// References at X and at Y and a dereference at the empty stack, in this order of places, if there
-// is memory.
-fn try_three<A: Allocator + Clone>(
+// The tree of these, counted in this order, if there is memory.
+fn try_tree<A: Allocator + Clone>(
     rt: &impl Abort,
     alloc: A,
-    order: &[u8],
+    counted: &[Counted],
 ) -> Result<StackTree<A>, NoMemory> {
     let mut tree = StackTree::new(alloc);
-    for place in order {
-        let (sign, frames) = match *place {
-            0 => (Sign::Plus, X.as_slice()),
-            1 => (Sign::Plus, Y.as_slice()),
-            _ => (Sign::Minus, [].as_slice()),
-        };
-        try_add(rt, &mut tree, SLOT, sign, frames)?;
+    for (slot, sign, frames) in counted {
+        try_add(rt, &mut tree, *slot, *sign, frames)?;
     }
     Ok(tree)
 }
 
-fn three<A: Allocator + Clone>(rt: &impl Abort, alloc: A, order: &[u8]) -> StackTree<A> {
-    try_three(rt, alloc, order).expect(rt, "the memory")
+fn tree<A: Allocator + Clone>(rt: &impl Abort, alloc: A, counted: &[Counted]) -> StackTree<A> {
+    try_tree(rt, alloc, counted).expect(rt, "the memory")
+}
+
+// The sum of the trees, if there is memory.
+fn try_plus<A: Allocator + Clone>(
+    rt: &impl Abort,
+    one: &StackTree<A>,
+    other: &StackTree<A>,
+) -> Result<StackTree<A>, NoMemory> {
+    assert!(rt; one.fits(other.total()));
+    one.plus(other)
 }
 
 fn plus<A: Allocator + Clone>(
@@ -85,150 +79,144 @@ fn plus<A: Allocator + Clone>(
     one: &StackTree<A>,
     other: &StackTree<A>,
 ) -> StackTree<A> {
-    assert!(rt; one.fits(other.total()));
-    one.plus(other).expect(rt, "the memory")
+    try_plus(rt, one, other).expect(rt, "the memory")
 }
 
-fn has_shared_outer_frames<A: Allocator + Clone>(rt: &impl Abort, tree: &StackTree<A>) {
-    let under = [
-        tree.under(&[], SLOT),
-        tree.under(&[0x10, 0x20], SLOT),
-        tree.under(&[0x10, 0x20, 0x40], SLOT),
-        tree.under(&[0x20], SLOT),
-    ];
-    assert_eq!(rt; under, [count(2, 1), count(2, 0), count(1, 0), count(0, 0)]);
-    let at = [tree.at(SLOT, &stack(&X)), tree.at(SLOT, &stack(&X[1..]))];
-    assert_eq!(rt; (at, tree.total()), ([count(1, 0), count(0, 0)], 3));
-}
-
-fn adds_to_its_copy<A: Allocator + Clone>(rt: &impl Abort, tree: &StackTree<A>) {
-    let copy = tree.copy().expect(rt, "the memory");
-    let sum = plus(rt, tree, &copy);
-    assert_eq!(rt;
-        (copy.same(tree), sum.total(), sum.at(SLOT, &stack(&X))),
-        (true, 6, count(2, 0))
-    );
-}
-
-// Whether the tree that is made in this order is this one.
-fn is_same_in<A: Allocator + Clone>(
-    rt: &impl Abort,
-    alloc: A,
-    order: &[u8],
+fn is_same<A: Allocator + Clone>(
+    made: Result<StackTree<A>, NoMemory>,
     tree: &StackTree<A>,
 ) -> bool {
-    three(rt, alloc, order).same(tree)
+    match made {
+        Ok(made) => made.same(tree),
+        Err(NoMemory) => false,
+    }
 }
 
+/// Paths from the outermost frame, and how often the slot came with a stack under each.
+const UNDER: &[(&[u64], Count)] = &[
+    (&[], Count { plus: 2, minus: 1 }),
+    (&[0x10, 0x20], Count { plus: 2, minus: 0 }),
+    (&[0x10, 0x20, 0x40], ONCE),
+    (&[0x20], Count { plus: 0, minus: 0 }),
+];
+
+fn at<A: Allocator>(tree: &StackTree<A>, frames: &[u64]) -> Count {
+    tree.at(SLOT, &stack(frames))
+}
+
+fn has_shared_outer_frames<A: Allocator>(rt: &impl Abort, three: &StackTree<A>) {
+    for (path, count) in UNDER {
+        assert_row(rt, *path, three.under(path, SLOT), *count);
+    }
+    assert_is(rt, at(three, X), ONCE);
+    assert_is(rt, at(three, &X[1..]), Count { plus: 0, minus: 0 });
+    assert_is(rt, three.total(), 3);
+}
+
+fn is_doubled<A: Allocator>(rt: &impl Abort, three: &StackTree<A>) {
+    assert_is(rt, at(three, X), Count { plus: 2, minus: 0 });
+    assert_is(rt, three.total(), 6);
+}
+
+fn adds_to_its_copy<A: Allocator + Clone>(rt: &impl Abort, three: &StackTree<A>) {
+    let copy = three.copy().expect(rt, "the memory");
+    assert_is(rt, copy.same(three), true);
+    is_doubled(rt, &plus(rt, three, &copy));
+}
+
+/// Orders, and whether the tree is that of the three.
+const ORDERS: &[(&[Counted], bool)] = &[
+    (&[AT_NONE, AT_Y, AT_X], true),
+    (&[AT_Y, AT_X, AT_NONE], true),
+    (&[AT_X, AT_NONE, AT_Y], true),
+    (&[AT_X, AT_Y], false),
+];
+
 fn shared_outer_frames<A: Allocator + Clone + Copy>(rt: &impl Abort, alloc: A) {
-    let tree = three(rt, alloc, &[0, 1, 2]);
-    has_shared_outer_frames(rt, &tree);
-    adds_to_its_copy(rt, &tree);
-    let same = [
-        is_same_in(rt, alloc, &[2, 1, 0], &tree),
-        is_same_in(rt, alloc, &[1, 0, 2], &tree),
-        is_same_in(rt, alloc, &[0, 2, 1], &tree),
-        is_same_in(rt, alloc, &[0, 1], &tree),
-    ];
-    assert_eq!(rt; same, [true, true, true, false]);
+    let three = tree(rt, alloc, THREE);
+    has_shared_outer_frames(rt, &three);
+    adds_to_its_copy(rt, &three);
+    for (order, same) in ORDERS {
+        assert_is(rt, is_same(try_tree(rt, alloc, order), &three), *same);
+    }
 }
 
 #[test]
 fn shared_outer_frames_under_two_allocators(rt: HostRuntime) {
     shared_outer_frames(&rt, rt.alloc());
-    let heap = LocalHeap::new(rt.alloc(), 65536).expect(&rt, "the memory");
-    shared_outer_frames(&rt, &heap);
+    shared_outer_frames(&rt, &heap(&rt, rt.alloc(), 65536));
 }
 
-fn one(rt: &impl Abort, alloc: Global) -> StackTree<Global> {
-    three(rt, alloc, &[0, 2])
+/// What three trees count.
+const ONE: &[Counted] = &[AT_X, AT_NONE];
+
+const TWO: &[Counted] = &[AT_Y, AT_NONE, AT_X];
+
+const WITH_OTHER: &[Counted] = &[AT_NONE, AT_X, (OTHER, Sign::Plus, &[0x20, 0x10])];
+
+fn sum(rt: &impl Abort, one: StackTree<Global>, other: StackTree<Global>) -> StackTree<Global> {
+    plus(rt, &one, &other)
 }
 
-fn two(rt: &impl Abort, alloc: Global) -> StackTree<Global> {
-    three(rt, alloc, &[1, 2, 0])
-}
-
-fn with_other(rt: &impl Abort, alloc: Global) -> StackTree<Global> {
-    let mut tree = three(rt, alloc, &[2, 0]);
-    add(rt, &mut tree, OTHER, Sign::Plus, &X[1..]);
-    tree
-}
-
+// The first two of the trees are added first.
 fn first_two(rt: &impl Abort, alloc: Global) -> StackTree<Global> {
-    plus(rt, &one(rt, alloc), &two(rt, alloc))
+    let first_two = sum(rt, tree(rt, alloc, ONE), tree(rt, alloc, TWO));
+    sum(rt, first_two, tree(rt, alloc, WITH_OTHER))
 }
 
+// The last two of the trees are added first.
 fn last_two(rt: &impl Abort, alloc: Global) -> StackTree<Global> {
-    plus(rt, &two(rt, alloc), &with_other(rt, alloc))
+    let last_two = sum(rt, tree(rt, alloc, TWO), tree(rt, alloc, WITH_OTHER));
+    sum(rt, tree(rt, alloc, ONE), last_two)
 }
 
 #[test]
 fn sums_of_three(rt: HostRuntime) {
-    let sum = plus(
-        &rt,
-        &first_two(&rt, rt.alloc()),
-        &with_other(&rt, rt.alloc()),
-    );
-    let other = plus(&rt, &one(&rt, rt.alloc()), &last_two(&rt, rt.alloc()));
-    let only = plus(&rt, &StackTree::new(rt.alloc()), &sum);
-    assert_eq!(rt;
-        (sum.total(), sum.same(&other), only.same(&sum)),
-        (8, true, true)
-    );
+    let sum = first_two(&rt, rt.alloc());
+    assert_is(&rt, sum.total(), 8);
+    assert_is(&rt, is_same(Ok(last_two(&rt, rt.alloc())), &sum), true);
+    let only = try_plus(&rt, &StackTree::new(rt.alloc()), &sum);
+    assert_is(&rt, is_same(only, &sum), true);
 }
 
-// The three and an open at X.
-fn four(rt: &impl Abort, alloc: Global) -> StackTree<Global> {
-    let mut tree = three(rt, alloc, &[1, 2, 0]);
-    add(rt, &mut tree, OTHER, Sign::Plus, &X);
-    tree
-}
+const ROWS: &[(&[u64], Count)] = &[(&[], Count { plus: 0, minus: 1 }), (X, ONCE), (Y, ONCE)];
 
-fn has_rows(rt: &impl Abort, alloc: Global, tree: &StackTree<Global>, wanted: &[(&[u64], Count)]) {
-    let rows = tree.rows(alloc, SLOT).expect(rt, "the memory");
-    let found = rows.iter().map(|row| (row.0.frames(), row.1));
-    assert!(rt; found.eq(wanted.iter().copied()));
-}
-
+// The rows of these slots are these, and of this slot.
 fn has_rows_of(
     rt: &impl Abort,
-    alloc: Global,
-    tree: &StackTree<Global>,
-    slots: Slots,
-    wanted: &[(Slot, &[u64], Count)],
+    made: Result<Vec<((Slot, SharedStack), Count)>, NoMemory>,
+    slot: Slot,
+    wanted: &[(&[u64], Count)],
 ) {
-    let rows = tree.rows_of(alloc, slots).expect(rt, "the memory");
-    let found = rows.iter().map(|row| (row.0.0, row.0.1.frames(), row.1));
-    assert!(rt; found.eq(wanted.iter().copied()));
+    let rows = made.expect(rt, "the memory");
+    assert_is(rt, rows.len(), wanted.len());
+    for (row, (frames, count)) in rows.iter().zip(wanted) {
+        assert_is(
+            rt,
+            (row.0.0, row.0.1.frames(), row.1),
+            (slot, *frames, *count),
+        );
+    }
 }
 
-fn has_sums(rt: &impl Abort, alloc: Global, tree: &StackTree<Global>) {
-    let sums = tree
-        .sums_of(alloc, Slots::OfObject(0x1000))
-        .expect(rt, "the memory");
-    assert_eq!(rt; sums.as_slice(), [(SLOT, count(2, 1))].as_slice());
-}
+const SUMS: &[(Slot, Count)] = &[(SLOT, Count { plus: 2, minus: 1 })];
 
-fn has_slots(rt: &impl Abort, alloc: Global, tree: &StackTree<Global>) {
-    let slots = tree.slots(alloc).expect(rt, "the memory");
-    assert_eq!(rt; slots.as_slice(), [SLOT, OTHER].as_slice());
+fn has_rows_and_sums(rt: &impl Abort, alloc: Global, four: &StackTree<Global>) {
+    assert_counted(rt, four.rows(alloc, SLOT), ROWS);
+    has_rows_of(rt, four.rows_of(alloc, Slots::OfObject(0x1000)), SLOT, ROWS);
+    has_rows_of(
+        rt,
+        four.rows_of(alloc, Slots::One(OTHER)),
+        OTHER,
+        &[(X, ONCE)],
+    );
+    assert_list(rt, four.sums_of(alloc, Slots::OfObject(0x1000)), SUMS);
+    assert_list(rt, four.slots(alloc), &[SLOT, OTHER]);
 }
 
 #[test]
 fn lists_rows_and_sums(rt: HostRuntime) {
-    let tree = four(&rt, rt.alloc());
-    let rows: [(&[u64], Count); 3] = [(&[], count(0, 1)), (&X, count(1, 0)), (&Y, count(1, 0))];
-    has_rows(&rt, rt.alloc(), &tree, &rows);
-    let rows: [(Slot, &[u64], Count); 3] = [
-        (SLOT, &[], count(0, 1)),
-        (SLOT, &X, count(1, 0)),
-        (SLOT, &Y, count(1, 0)),
-    ];
-    has_rows_of(&rt, rt.alloc(), &tree, Slots::OfObject(0x1000), &rows);
-    let rows: [(Slot, &[u64], Count); 1] = [(OTHER, &X, count(1, 0))];
-    has_rows_of(&rt, rt.alloc(), &tree, Slots::One(OTHER), &rows);
-    has_sums(&rt, rt.alloc(), &tree);
-    has_slots(&rt, rt.alloc(), &tree);
+    has_rows_and_sums(&rt, rt.alloc(), &tree(&rt, rt.alloc(), FOUR));
 }
 
 // Handles of every other process of 512 were opened.
@@ -239,14 +227,20 @@ fn of_every_other(rt: &impl Abort, alloc: Global) -> StackTree<Global> {
             process: 8 * number,
         };
         let frames = [u64::from(number % 7), 0x10];
-        add(rt, &mut tree, slot, Sign::Plus, &frames);
+        try_add(rt, &mut tree, slot, Sign::Plus, &frames).expect(rt, "the memory");
     }
     tree
 }
 
-fn rows_of(rt: &impl Abort, alloc: Global, tree: &StackTree<Global>, slot: Slot) -> usize {
+// The slot was counted so many times, at one stack.
+fn is_counted(rt: &impl Abort, alloc: Global, tree: &StackTree<Global>, slot: Slot, times: u32) {
     let rows = tree.rows(alloc, slot).expect(rt, "the memory");
-    rows.len()
+    assert_is(rt, rows.len(), times as usize);
+    let count = Count {
+        plus: u64::from(times),
+        minus: 0,
+    };
+    assert_row(rt, slot, tree.under(&[], slot), count);
 }
 
 // There are more processes than marks.
@@ -257,10 +251,7 @@ fn slots_with_one_mark_are_distinct(rt: HostRuntime) {
         let slot = Slot::Handles {
             process: 4 * number,
         };
-        let times = 1 - number % 2;
-        let rows = rows_of(&rt, rt.alloc(), &tree, slot);
-        let wanted = (count(u64::from(times), 0), times as usize);
-        assert_eq!(rt; (tree.under(&[], slot), rows), wanted, "{number}");
+        is_counted(&rt, rt.alloc(), &tree, slot, 1 - number % 2);
     }
 }
 
@@ -274,20 +265,20 @@ const KINDS: [Kind; 7] = [
     Kind::Exited,
 ];
 
-// By the last two bits of the number. The first two have one fingerprint.
-fn stack_of(rt: &impl Abort, alloc: Global, number: u64) -> SharedStack {
-    match number % 4 {
-        0 => shared(rt, alloc, &X, 1),
-        1 => shared(rt, alloc, &Y, 1),
-        2 => shared(rt, alloc, &[0x20, 0x10], 2),
-        _ => shared(rt, alloc, &[], 3),
-    }
+/// The frames of stacks, and their fingerprints. The first two have one fingerprint.
+const STACKS: [(&[u64], u64); 4] = [(X, 1), (Y, 1), (&[0x20, 0x10], 2), (&[], 3)];
+
+fn shared(rt: &impl Abort, alloc: Global, frames: &[u64], fingerprint: u64) -> SharedStack {
+    assert!(rt; frames.len() <= 64);
+    let frames = Vec::from_slice(alloc, frames).expect(rt, "the memory");
+    SharedStack::of(alloc, frames, fingerprint).expect(rt, "the memory")
 }
 
 // An event that follows from the number, of few slots and stacks (Steele, Lea, Flood: SplitMix64).
 fn event(rt: &impl Abort, alloc: Global, number: u64) -> SharedEvent {
     let mixed = (number ^ number >> 30).wrapping_mul(0xbf58_476d_1ce4_e5b9);
     let mixed = (mixed ^ mixed >> 27).wrapping_mul(0x94d0_49bb_1331_11eb) >> 20;
+    let (frames, fingerprint) = STACKS[(mixed >> 16 & 3) as usize];
     Event {
         sequence: number,
         kind: KINDS[(mixed % 7) as usize],
@@ -296,7 +287,7 @@ fn event(rt: &impl Abort, alloc: Global, number: u64) -> SharedEvent {
         handle: (mixed >> 8 & 7) as u32,
         object: mixed >> 12 & 3,
         tag: *b"Lky8",
-        stack: stack_of(rt, alloc, mixed >> 16),
+        stack: shared(rt, alloc, frames, fingerprint),
     }
 }
 
@@ -320,10 +311,19 @@ fn runs(rt: &impl Abort, alloc: Global, first: u64) -> Vec<Vec<SharedEvent>> {
     runs
 }
 
+// Counts the event, if there is memory.
+fn try_note<A: Allocator + Clone>(
+    rt: &impl Abort,
+    tree: &mut StackTree<A>,
+    event: &SharedEvent,
+) -> Result<(), NoMemory> {
+    assert!(rt; tree.fits(1));
+    tree.note(event)
+}
+
 fn note<A: Allocator + Clone>(rt: &impl Abort, tree: &mut StackTree<A>, events: &[SharedEvent]) {
     for event in events {
-        assert!(rt; tree.fits(1));
-        tree.note(event).expect(rt, "the memory");
+        try_note(rt, tree, event).expect(rt, "the memory");
     }
 }
 
@@ -340,16 +340,25 @@ fn noted<A: Allocator + Clone>(
     tree
 }
 
-// The tree of the events, made at once, is that.
+// The tree of the events, made at once, if there is memory.
+fn try_of<A: Allocator + Clone>(
+    rt: &impl Abort,
+    alloc: A,
+    runs: &[Vec<SharedEvent>],
+) -> Result<StackTree<A>, NoMemory> {
+    assert!(rt; fits_events(runs));
+    StackTree::of(alloc, runs)
+}
+
+// The tree that is made at once is that of the events one by one.
 fn is_made_as_noted<A: Allocator + Clone + Copy>(
     rt: &impl Abort,
     alloc: A,
     runs: &[Vec<SharedEvent>],
 ) {
-    assert!(rt; fits_events(runs));
-    let tree = StackTree::of(alloc, runs).expect(rt, "the memory");
-    assert!(rt; tree.total() > 40);
-    assert!(rt; tree.same(&noted(rt, alloc, runs)));
+    let noted = noted(rt, alloc, runs);
+    assert_is(rt, noted.total() > 40, true);
+    assert_is(rt, is_same(try_of(rt, alloc, runs), &noted), true);
 }
 
 #[test]
@@ -357,69 +366,73 @@ fn events_together_make_the_tree_of_events_one_by_one(rt: HostRuntime) {
     for first in 0..8 {
         let runs = runs(&rt, rt.alloc(), first);
         is_made_as_noted(&rt, rt.alloc(), &runs);
-        let heap = LocalHeap::new(rt.alloc(), 65536).expect(&rt, "the memory");
-        is_made_as_noted(&rt, &heap, &runs);
+        is_made_as_noted(&rt, &heap(&rt, rt.alloc(), 65536), &runs);
     }
 }
 
-#[derive(Clone, Copy, Debug, PartialEq, Eq)]
+#[derive(Clone, Copy)]
 enum Call {
+    Of,
     Add,
     Note,
     Plus,
     Copy,
-    Of,
+}
+
+const CALLS: &[(&str, Call)] = &[
+    ("of", Call::Of),
+    ("add", Call::Add),
+    ("note", Call::Note),
+    ("plus", Call::Plus),
+    ("copy", Call::Copy),
+];
+
+fn is_done_on<A: Allocator + Clone>(
+    rt: &impl Abort,
+    call: Call,
+    tree: &mut StackTree<A>,
+    event: &SharedEvent,
+) -> bool {
+    match call {
+        Call::Plus => is_done(try_plus(rt, tree, tree)),
+        Call::Copy => is_done(tree.copy()),
+        Call::Add => is_done(try_add(rt, tree, SLOT, Sign::Plus, &[0x50, 0x10])),
+        Call::Note | Call::Of => is_done(try_note(rt, tree, event)),
+    }
 }
 
 // Whether the call is done in this heap. A refused one leaves its tree as it was; a heap that
 // doesn't hold that is an error.
-fn is_done(
+fn is_done_in<A: Allocator + Clone>(
     rt: &impl Abort,
     call: Call,
-    heap: &LocalHeap,
+    alloc: A,
     runs: &[Vec<SharedEvent>],
     event: &SharedEvent,
 ) -> Result<bool, NoMemory> {
-    if call == Call::Of {
-        assert!(rt; fits_events(runs));
-        return Ok(StackTree::of(heap, runs).is_ok());
+    if matches!(call, Call::Of) {
+        return Ok(is_done(try_of(rt, alloc, runs)));
     }
-    let mut tree = try_three(rt, heap, &[0, 1, 2])?;
+    let mut tree = try_tree(rt, alloc, THREE)?;
     let done = is_done_on(rt, call, &mut tree, event);
-    let changes = done && (call == Call::Add || call == Call::Note);
-    assert_eq!(rt; tree.total(), if changes { 4 } else { 3 });
+    let changes = done && matches!(call, Call::Add | Call::Note);
+    assert_is(rt, tree.total(), if changes { 4 } else { 3 });
     Ok(done)
 }
 
-fn is_done_on(
-    rt: &impl Abort,
-    call: Call,
-    tree: &mut StackTree<&LocalHeap>,
-    event: &SharedEvent,
-) -> bool {
-    assert!(rt; tree.fits(1) && tree.fits(tree.total()));
-    match call {
-        Call::Plus => tree.plus(tree).is_ok(),
-        Call::Copy => tree.copy().is_ok(),
-        Call::Add => try_add(rt, tree, SLOT, Sign::Plus, &[0x50, 0x10]).is_ok(),
-        Call::Note | Call::Of => tree.note(event).is_ok(),
-    }
-}
-
-// In how many heaps the call is refused before one is large enough for it, and whether one is.
+// Whether the call is refused in some heaps before one is large enough for it, and whether one is.
 fn outcomes(
     rt: &impl Abort,
     alloc: Global,
     call: Call,
     runs: &[Vec<SharedEvent>],
     event: &SharedEvent,
-) -> (u32, bool) {
-    let mut refused = 0u32;
+) -> (bool, bool) {
+    let mut refused = false;
     for step in 4..1024usize {
-        let heap = LocalHeap::new(alloc, 16 * step).expect(rt, "the memory");
-        match is_done(rt, call, &heap, runs, event) {
+        match is_done_in(rt, call, &heap(rt, alloc, 16 * step), runs, event) {
             Ok(true) => return (refused, true),
-            Ok(false) => refused = refused.saturating_add(1),
+            Ok(false) => refused = true,
             Err(NoMemory) => {}
         }
     }
@@ -438,8 +451,8 @@ fn reference(rt: &impl Abort, alloc: Global) -> SharedEvent {
 fn each_call_is_refused_until_its_heap_is_large_enough(rt: HostRuntime) {
     let runs = runs(&rt, rt.alloc(), 1);
     let event = reference(&rt, rt.alloc());
-    for call in [Call::Add, Call::Note, Call::Plus, Call::Copy, Call::Of] {
-        let (refused, done) = outcomes(&rt, rt.alloc(), call, &runs, &event);
-        assert!(rt; done && refused > 0, "{call:?}");
+    for (name, call) in CALLS {
+        let outcomes = outcomes(&rt, rt.alloc(), *call, &runs, &event);
+        assert_row(&rt, *name, outcomes, (true, true));
     }
 }

@@ -1,0 +1,9 @@
+//! Heaps of a size, in which allocations are refused.
+
+use linked_list_allocator::LocalHeap;
+use std::alloc::Global;
+use std::process::Abort;
+
+pub fn heap(rt: &impl Abort, alloc: Global, size: usize) -> LocalHeap {
+    LocalHeap::new(alloc, size).expect(rt, "the memory")
+}

@@ -16,6 +16,7 @@ pub struct Account {
 }
 
 impl Account {
+    /// An account of nothing.
     pub fn new(alloc: Global) -> Account {
         Account {
             keys: Vec::new(alloc),
@@ -39,6 +40,7 @@ impl Account {
         is_new
     }
 
+    /// Takes over what the other has.
     pub fn merge(&mut self, rt: &impl Abort, other: &Account) {
         for (processor, number) in &other.keys {
             self.take(rt, *processor, *number);
@@ -53,16 +55,22 @@ impl Account {
         self.fronts = [self.reach(0, segments), self.reach(1, segments)];
     }
 
+    /// The least number below `segments` that wasn't taken, or `segments`.
     fn reach(&self, processor: u16, segments: u32) -> u32 {
-        (0..segments)
-            .find(|number| !self.has(processor, *number))
-            .unwrap_or(segments)
+        for number in 0..segments {
+            if !self.has(processor, number) {
+                return number;
+            }
+        }
+        segments
     }
 
+    /// Whether the segment was taken.
     pub fn has(&self, processor: u16, number: u32) -> bool {
         self.keys.contains(&(processor, number))
     }
 
+    /// How many segments were taken.
     pub fn taken(&self) -> u64 {
         self.keys.len() as u64
     }
@@ -71,15 +79,23 @@ impl Account {
         self.fronts
     }
 
+    /// Whether the number is below the front.
     fn is_folded(&self, processor: u16, number: u32) -> bool {
-        self.fronts
-            .get(usize::from(processor))
-            .is_some_and(|front| number < *front)
+        match self.fronts.get(usize::from(processor)) {
+            Some(front) => number < *front,
+            None => false,
+        }
     }
 
+    /// How many segments were taken and are not below their fronts.
     pub fn held(&self) -> u64 {
-        let held = self.keys.iter().filter(|key| !self.is_folded(key.0, key.1));
-        held.count() as u64
+        let mut held = 0u64;
+        for (processor, number) in &self.keys {
+            if !self.is_folded(*processor, *number) {
+                held = held.wrapping_add(1);
+            }
+        }
+        held
     }
 
     /// The least, over the processors, of the greatest sequences below their fronts.
@@ -88,15 +104,15 @@ impl Account {
             .min(self.last_folded(segments, 1))
     }
 
+    /// The greatest sequence below the processor's front, 0 where there is none.
     fn last_folded(&self, segments: &[Segment], processor: u16) -> u64 {
         let mut last = 0;
         for segment in segments {
-            if segment.processor() == processor && self.is_folded(processor, segment.number()) {
-                last = segment
-                    .events()
-                    .last()
-                    .map_or(0, |event| event.sequence)
-                    .max(last);
+            if segment.processor() == processor
+                && self.is_folded(processor, segment.number())
+                && let Some(event) = segment.events().last()
+            {
+                last = event.sequence.max(last);
             }
         }
         last

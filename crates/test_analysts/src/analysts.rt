@@ -1,9 +1,10 @@
 //! Analysts made of lines. A line that is no segment ends a test, and so does refused memory.
 
+use crate::rows::assert_row;
 use htl_analyst::{Analyst, TakeFault, Took};
 use htl_samples::{TRACE, Trace};
 use htl_segment::Segment;
-use std::alloc::Global;
+use std::alloc::{Allocator, Global};
 use std::process::Abort;
 
 /// The samples' trace with two processors.
@@ -24,7 +25,29 @@ pub fn segment(rt: &impl Abort, alloc: Global, trace: Trace, line: &str) -> Segm
         .expect(rt, "the line is a segment")
 }
 
-/// What an analyst answers to the segment of a line.
+/// What an analyst answers to a segment.
+pub fn take_segment<A: Allocator + Clone>(
+    analyst: &mut Analyst<A>,
+    segment: Segment,
+) -> Result<Took, TakeFault> {
+    match analyst.take(segment) {
+        Ok(took) => Ok(took),
+        Err((fault, _segment)) => Err(fault),
+    }
+}
+
+/// What an analyst answers to the segment of a line of this trace.
+pub fn take_of<A: Allocator + Clone>(
+    rt: &impl Abort,
+    alloc: Global,
+    analyst: &mut Analyst<A>,
+    trace: Trace,
+    line: &str,
+) -> Result<Took, TakeFault> {
+    take_segment(analyst, segment(rt, alloc, trace, line))
+}
+
+/// What an analyst answers to the segment of a line of its trace.
 pub fn take(
     rt: &impl Abort,
     alloc: Global,
@@ -38,22 +61,10 @@ pub fn take(
     take_of(rt, alloc, analyst, trace, line)
 }
 
-/// What an analyst answers to the segment of a line of this trace.
-pub fn take_of(
-    rt: &impl Abort,
-    alloc: Global,
-    analyst: &mut Analyst<Global>,
-    trace: Trace,
-    line: &str,
-) -> Result<Took, TakeFault> {
-    let segment = segment(rt, alloc, trace, line);
-    analyst.take(segment).map_err(|(fault, _segment)| fault)
-}
-
 /// Takes the segments of lines, each for the first time.
 pub fn take_all(rt: &impl Abort, alloc: Global, analyst: &mut Analyst<Global>, lines: &[&str]) {
     for line in lines {
-        assert_eq!(rt; take(rt, alloc, analyst, line), Ok(Took::New), "{line}");
+        assert_row(rt, *line, take(rt, alloc, analyst, line), Ok(Took::New));
     }
 }
 

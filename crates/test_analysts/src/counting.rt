@@ -1,8 +1,9 @@
 //! Answers that count, before and after what was taken is folded.
 
 use crate::analysts::{compact, taken};
+use crate::rows::{assert_frames, assert_is, assert_list, assert_row};
 use htl_analyst::Analyst;
-use htl_event::{Count, SharedStack, Sign, Slot};
+use htl_event::{Count, NoMemory, SharedStack, Sign, Slot};
 use htl_samples::{TRACE, stack};
 use htl_tree::StackTree;
 use std::alloc::Global;
@@ -30,74 +31,52 @@ const SHARED_FRAMES: &[&str] = &[
     R 2 0x1000 Lky8 [0x40 0x20 0x10], D 3 0x1000 Lky8",
 ];
 
-const TAGS: &[&str] = &[
-    "0/0: R 1 0xffffa00000001000 Lky8, R 2 0xffffa00000001000 Lky8, \
-    D 3 0xffffa00000001000 Lky8, R 4 0xffffa00000001000 Dflt, D 5 0xffffa00000001000 Dflt, \
-    D 6 0xffffa00000001000 0x01414243",
+/// What the shared frames come to in a tree.
+const COUNTED: &[(Sign, &[u64])] = &[(Sign::Minus, E), (Sign::Plus, Y), (Sign::Plus, X)];
+
+/// Paths from the outermost frame, and how often the slot came with a stack under each.
+const UNDER: &[(&[u64], Count)] = &[
+    (&[], Count { plus: 2, minus: 1 }),
+    (&[0x10, 0x20], Count { plus: 2, minus: 0 }),
+    (&[0x10, 0x20, 0x40], Count { plus: 1, minus: 0 }),
+    (&[0x20], Count { plus: 0, minus: 0 }),
 ];
 
-const LEAKS: &[&str] = &[
-    "0/0: O 1 0x44 [0x50 0x20], O 2 0x48 [0x30 0x40], O 3 0x4c [0x60], \
-    O 4 0x50 [0x60], B 5 0x7 [0x10], B 6 0x7 [0x10], B 7 0x0",
+const STACKS: &[(&[u64], Count)] = &[
+    (E, Count { plus: 0, minus: 1 }),
+    (X, Count { plus: 1, minus: 0 }),
+    (Y, Count { plus: 1, minus: 0 }),
 ];
-
-fn count(plus: u64, minus: u64) -> Count {
-    Count { plus, minus }
-}
 
 /// The tree of the shared frames, counted by hand.
 fn counted(rt: &impl Abort, alloc: Global) -> StackTree<Global> {
     let mut tree = StackTree::new(alloc);
-    for (sign, frames) in [(Sign::Minus, E), (Sign::Plus, Y), (Sign::Plus, X)] {
+    for (sign, frames) in COUNTED {
         assert!(rt; tree.fits(1));
-        tree.add(SLOT, sign, &stack(frames))
+        tree.add(SLOT, *sign, &stack(frames))
             .expect(rt, "the memory");
     }
     tree
 }
 
-fn are_under(rt: &impl Abort, analyst: &Analyst<Global>) {
-    for (path, plus, minus) in [
-        ([].as_slice(), 2, 1),
-        (&[0x10, 0x20], 2, 0),
-        (&[0x10, 0x20, 0x40], 1, 0),
-        (&[0x20], 0, 0),
-    ] {
-        assert_eq!(rt; analyst.under(path, SLOT), count(plus, minus), "{path:?}");
-    }
+/// A tree was made, and is this one.
+fn has_tree(rt: &impl Abort, made: Result<StackTree<Global>, NoMemory>, tree: &StackTree<Global>) {
+    let whole = made.expect(rt, "the memory");
+    assert_is(rt, whole.same(tree), true);
 }
 
-fn are_stacks(rt: &impl Abort, rows: &[(SharedStack, Count)], wanted: &[(&[u64], Count)]) {
-    assert_eq!(rt; rows.len(), wanted.len());
-    for ((stack, count), (frames, number)) in rows.iter().zip(wanted) {
-        assert_eq!(rt; stack.frames(), *frames);
-        assert_eq!(rt; *count, *number);
-    }
-}
-
-fn are_stacks_behind_tag(rt: &impl Abort, alloc: Global, analyst: &Analyst<Global>) {
-    let rows = analyst.stacks(alloc, OBJECT, TAG).expect(rt, "the memory");
-    are_stacks(
-        rt,
-        &rows,
-        &[(E, count(0, 1)), (X, count(1, 0)), (Y, count(1, 0))],
-    );
-}
-
-fn has_tree(rt: &impl Abort, analyst: &Analyst<Global>, tree: &StackTree<Global>) {
-    let whole = analyst.whole_tree().expect(rt, "the memory");
-    assert!(rt; whole.same(tree));
-}
-
+/// What an analyst of the shared frames counts.
 fn are_counted(
     rt: &impl Abort,
     alloc: Global,
     analyst: &Analyst<Global>,
     tree: &StackTree<Global>,
 ) {
-    are_under(rt, analyst);
-    has_tree(rt, analyst, tree);
-    are_stacks_behind_tag(rt, alloc, analyst);
+    for (path, count) in UNDER {
+        assert_row(rt, *path, analyst.under(path, SLOT), *count);
+    }
+    has_tree(rt, analyst.whole_tree(), tree);
+    assert_frames(rt, analyst.stacks(alloc, OBJECT, TAG), STACKS);
 }
 
 #[test]
@@ -109,61 +88,60 @@ fn shared_outer_frames(rt: HostRuntime) {
     are_counted(&rt, rt.alloc(), &analyst, &tree);
 }
 
-fn are_tags(
-    rt: &impl Abort,
-    alloc: Global,
-    analyst: &Analyst<Global>,
-    object: u64,
-    wanted: &[([u8; 4], Count)],
-) {
-    let tags = analyst.tags(alloc, object).expect(rt, "the memory");
-    assert_eq!(rt; tags.as_slice(), wanted);
+const TAGGED: &[&str] = &[
+    "0/0: R 1 0xffffa00000001000 Lky8, R 2 0xffffa00000001000 Lky8, \
+    D 3 0xffffa00000001000 Lky8, R 4 0xffffa00000001000 Dflt, D 5 0xffffa00000001000 Dflt, \
+    D 6 0xffffa00000001000 0x01414243",
+];
+
+const TAGS: &[([u8; 4], Count)] = &[
+    ([1, 0x41, 0x42, 0x43], Count { plus: 0, minus: 1 }),
+    (*b"Dflt", Count { plus: 1, minus: 1 }),
+    (TAG, Count { plus: 2, minus: 1 }),
+];
+
+/// The tags of the object, and of one without any.
+fn has_tags(rt: &impl Abort, alloc: Global, analyst: &Analyst<Global>) {
+    assert_list(rt, analyst.tags(alloc, 0xffff_a000_0000_1000), TAGS);
+    assert_list(rt, analyst.tags(alloc, 0x2000), &[]);
 }
 
 #[test]
 fn tags_of_an_object(rt: HostRuntime) {
-    let mut analyst = taken(&rt, rt.alloc(), TRACE, TAGS);
-    let wanted = [
-        ([1, 0x41, 0x42, 0x43], count(0, 1)),
-        (*b"Dflt", count(1, 1)),
-        (TAG, count(2, 1)),
-    ];
-    for _ in 0..2 {
-        are_tags(&rt, rt.alloc(), &analyst, 0xffff_a000_0000_1000, &wanted);
-        are_tags(&rt, rt.alloc(), &analyst, 0x2000, &[]);
-        compact(&rt, &mut analyst);
+    let mut analyst = taken(&rt, rt.alloc(), TRACE, TAGGED);
+    has_tags(&rt, rt.alloc(), &analyst);
+    compact(&rt, &mut analyst);
+    has_tags(&rt, rt.alloc(), &analyst);
+}
+
+const LEAKING: &[&str] = &[
+    "0/0: O 1 0x44 [0x50 0x20], O 2 0x48 [0x30 0x40], O 3 0x4c [0x60], \
+    O 4 0x50 [0x60], B 5 0x7 [0x10], B 6 0x7 [0x10], B 7 0x0",
+];
+
+const LEAKS: &[(&[u64], u64)] = &[(&[0x60], 2), (&[0x50, 0x20], 1), (&[0x30, 0x40], 1)];
+
+/// Handles that weren't open, the stacks that used them, and how often.
+const BAD: &[(u32, &[u64], u64)] = &[(0x0, &[], 1), (0x7, &[0x10], 2)];
+
+/// The rows were made, and are the bad references.
+fn are_bad(rt: &impl Abort, made: Result<Vec<(u32, SharedStack, u64)>, NoMemory>) {
+    let rows = made.expect(rt, "the memory");
+    assert_is(rt, rows.len(), BAD.len());
+    for ((handle, stack, number), wanted) in rows.iter().zip(BAD) {
+        assert_is(rt, (*handle, stack.frames(), *number), *wanted);
     }
 }
 
-fn are_leaks(rt: &impl Abort, rows: &[(SharedStack, u64)]) {
-    let wanted: [(&[u64], u64); 3] = [(&[0x60], 2), (&[0x50, 0x20], 1), (&[0x30, 0x40], 1)];
-    assert_eq!(rt; rows.len(), wanted.len());
-    for ((stack, number), (frames, count)) in rows.iter().zip(wanted) {
-        assert_eq!(rt; (stack.frames(), *number), (frames, count));
-    }
-}
-
-fn are_bad(rt: &impl Abort, rows: &[(u32, SharedStack, u64)]) {
-    let wanted: [(u32, &[u64], u64); 2] = [(0x0, &[], 1), (0x7, &[0x10], 2)];
-    assert_eq!(rt; rows.len(), wanted.len());
-    for ((handle, stack, number), (written, frames, count)) in rows.iter().zip(wanted) {
-        assert_eq!(rt;
-            (*handle, stack.frames(), *number),
-            (written, frames, count)
-        );
-    }
-}
-
+/// What leaks, and which handles weren't open.
 fn are_leaks_and_bad(rt: &impl Abort, alloc: Global, analyst: &Analyst<Global>) {
-    let rows = analyst.leaks(alloc, 4).expect(rt, "the memory");
-    are_leaks(rt, &rows);
-    let rows = analyst.bad(alloc, 4).expect(rt, "the memory");
-    are_bad(rt, &rows);
+    assert_frames(rt, analyst.leaks(alloc, 4), LEAKS);
+    are_bad(rt, analyst.bad(alloc, 4));
 }
 
 #[test]
 fn leaking_stacks_and_bad_references(rt: HostRuntime) {
-    let mut analyst = taken(&rt, rt.alloc(), TRACE, LEAKS);
+    let mut analyst = taken(&rt, rt.alloc(), TRACE, LEAKING);
     are_leaks_and_bad(&rt, rt.alloc(), &analyst);
     compact(&rt, &mut analyst);
     are_leaks_and_bad(&rt, rt.alloc(), &analyst);

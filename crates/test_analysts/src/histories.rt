@@ -3,10 +3,12 @@
 //! whichever order they are merged.
 
 use crate::account::{Account, PROCESSORS};
+use crate::analysts::take_segment;
 use crate::dice::Dice;
+use crate::rows::{assert_counted, assert_events, assert_is, assert_list, assert_row};
 use crate::{analysts, plain};
 use htl_analyst::{Analyst, Took};
-use htl_event::{Kind, SharedEvent, SharedStack, Slot};
+use htl_event::{Kind, NoMemory, SharedEvent, SharedStack, Slot};
 use htl_samples::{RandomTrace, SMALL};
 use htl_segment::Segment;
 use htl_tree::StackTree;
@@ -29,15 +31,15 @@ const TRACE: RandomTrace = RandomTrace {
 };
 
 /// What events of the trace are about, and in each list something that no event is about.
-const PROCESSES: [u32; 3] = [4, 8, 12];
+const PROCESSES: &[u32] = &[4, 8, 12];
 
-const BASES: [u32; 5] = [4, 8, 12, 16, 20];
+const BASES: &[u32] = &[4, 8, 12, 16, 20];
 
-const BAD_HANDLES: [u32; 5] = [0, 1, 2, 3, 4];
+const BAD_HANDLES: &[u32] = &[0, 1, 2, 3, 4];
 
-const OBJECTS: [u64; 5] = [0x1000, 0x1010, 0x1020, 0x1030, 0x1040];
+const OBJECTS: &[u64] = &[0x1000, 0x1010, 0x1020, 0x1030, 0x1040];
 
-const TAGS: [[u8; 4]; 4] = [[1, 0x41, 0x42, 0x43], *b"Dflt", *b"Lky8", *b"Nope"];
+const TAGS: &[[u8; 4]] = &[[1, 0x41, 0x42, 0x43], *b"Dflt", *b"Lky8", *b"Nope"];
 
 /// The trace's segments, and the stacks of its events in rising order.
 #[derive(Drop)]
@@ -54,6 +56,7 @@ impl Subject {
     }
 }
 
+/// The stacks of the segments' events in rising order.
 fn stacks_of(rt: &impl Abort, alloc: Global, segments: &[Segment]) -> Vec<SharedStack> {
     let mut stacks = Vec::new(alloc);
     for segment in segments {
@@ -64,6 +67,7 @@ fn stacks_of(rt: &impl Abort, alloc: Global, segments: &[Segment]) -> Vec<Shared
     stacks
 }
 
+/// Copies the events' stacks.
 fn push_stacks(rt: &impl Abort, stacks: &mut Vec<SharedStack>, events: &[SharedEvent]) {
     for event in events {
         let copy = event.stack.copy().expect(rt, "the memory");
@@ -93,49 +97,114 @@ impl Player {
         }
     }
 
+    /// Takes a segment, which is new to both or to neither.
     fn take(&mut self, rt: &impl Abort, segment: &Segment) {
         let copy = segment.copy().expect(rt, "the memory");
-        let took = self.analyst.take(copy).expect(rt, "the memory");
+        let took = take_segment(&mut self.analyst, copy);
         let is_new = self.account.take(rt, segment.processor(), segment.number());
-        assert_eq!(rt; took == Took::New, is_new);
+        assert_is(rt, took, Ok(if is_new { Took::New } else { Took::Repeat }));
     }
 
+    /// Takes over what the other knows.
     fn merge(&mut self, rt: &impl Abort, other: &Player) {
         analysts::merge(rt, &mut self.analyst, &other.analyst);
         self.account.merge(rt, &other.account);
     }
 
+    /// The same by a move.
     fn absorb(&mut self, rt: &impl Abort, other: Player) {
         self.account.merge(rt, &other.account);
-        assert!(rt; self.analyst.absorb(other.analyst).is_ok());
+        assert_is(rt, self.analyst.absorb(other.analyst).is_ok(), true);
     }
 
+    /// Moves the fronts, and folds what is below them.
     fn compact(&mut self, rt: &impl Abort) {
         self.account.compact(TRACE.segments);
         analysts::compact(rt, &mut self.analyst);
     }
 }
 
-/// One random step of one of the three: mostly a take, else a merge of another in either way, or a
+/// Three players who have taken nothing.
+fn three(rt: &impl Abort, alloc: Global) -> Vec<Player> {
+    let mut players = Vec::new(alloc);
+    for _ in 0..3 {
+        players
+            .push(Player::new(rt, alloc))
+            .expect(rt, "the memory");
+    }
+    players
+}
+
+/// The player at this place.
+fn one_of<'a>(rt: &impl Abort, players: &'a [Player], which: usize) -> &'a Player {
+    players.get(which).expect(rt, "a player")
+}
+
+/// One random step of a player: mostly a take, else a merge of the other in either way, or a
 /// compaction.
-fn step(rt: &impl Abort, subject: &Subject, players: &mut [Player; 3], dice: &mut Dice) -> usize {
-    let which = dice.below(3) as usize;
-    let other = players[dice.below(3) as usize].copy(rt);
-    let player = &mut players[which];
+fn step(rt: &impl Abort, subject: &Subject, player: &mut Player, other: Player, dice: &mut Dice) {
     match dice.below(8) {
         0 => player.compact(rt),
         1 => player.merge(rt, &other),
         2 => player.absorb(rt, other),
         _ => take_one(rt, subject, player, dice),
     }
-    which
 }
 
+/// Takes a random segment.
 fn take_one(rt: &impl Abort, subject: &Subject, player: &mut Player, dice: &mut Dice) {
     let place = dice.below(subject.segments.len() as u64) as usize;
     if let Some(segment) = subject.segments.get(place) {
         player.take(rt, segment);
     }
+}
+
+/// A random step of one of the three, beside any of them. It says whose step it was.
+fn step_of_one(
+    rt: &impl Abort,
+    subject: &Subject,
+    players: &mut [Player],
+    dice: &mut Dice,
+) -> usize {
+    let which = dice.below(3) as usize;
+    let other = one_of(rt, players, dice.below(3) as usize).copy(rt);
+    if let Some(player) = players.get_mut(which) {
+        step(rt, subject, player, other, dice);
+    }
+    which
+}
+
+/// Random steps, and after each the player's answers beside plain ones.
+fn play(
+    rt: &impl Abort,
+    alloc: Global,
+    subject: &Subject,
+    players: &mut [Player],
+    dice: &mut Dice,
+) {
+    for _ in 0..STEPS {
+        let which = step_of_one(rt, subject, players, dice);
+        compare(rt, alloc, subject, one_of(rt, players, which));
+    }
+}
+
+/// What the players know together, compacted.
+fn all_of(rt: &impl Abort, players: &[Player]) -> Player {
+    let mut all = one_of(rt, players, 0).copy(rt);
+    for player in players {
+        all.merge(rt, player);
+    }
+    all.compact(rt);
+    all
+}
+
+/// What the three know together is the same in two orders.
+fn compare_orders(rt: &impl Abort, alloc: Global, subject: &Subject, players: &mut [Player]) {
+    let forwards = all_of(rt, players);
+    compare(rt, alloc, subject, &forwards);
+    players.reverse();
+    let backwards = all_of(rt, players);
+    assert_is(rt, forwards.analyst.same(&backwards.analyst), true);
 }
 
 #[test]
@@ -145,57 +214,15 @@ fn random_histories(rt: HostRuntime) {
     for _ in 0..LISTS {
         let mut players = three(&rt, rt.alloc());
         play(&rt, rt.alloc(), &subject, &mut players, &mut dice);
-        compare_orders(&rt, rt.alloc(), &subject, &players);
+        compare_orders(&rt, rt.alloc(), &subject, &mut players);
     }
-}
-
-/// Three players who have taken nothing.
-fn three(rt: &impl Abort, alloc: Global) -> [Player; 3] {
-    [
-        Player::new(rt, alloc),
-        Player::new(rt, alloc),
-        Player::new(rt, alloc),
-    ]
-}
-
-fn play(
-    rt: &impl Abort,
-    alloc: Global,
-    subject: &Subject,
-    players: &mut [Player; 3],
-    dice: &mut Dice,
-) {
-    for _ in 0..STEPS {
-        let which = step(rt, subject, players, dice);
-        if let Some(player) = players.get(which) {
-            compare(rt, alloc, subject, player);
-        }
-    }
-}
-
-fn compare_orders(rt: &impl Abort, alloc: Global, subject: &Subject, players: &[Player; 3]) {
-    let [one, two, three] = players;
-    let forwards = all_of(rt, one, two, three);
-    let backwards = all_of(rt, three, two, one);
-    assert!(rt; forwards.analyst.same(&backwards.analyst));
-    compare(rt, alloc, subject, &forwards);
-}
-
-/// What the three know together, compacted.
-fn all_of(rt: &impl Abort, one: &Player, two: &Player, three: &Player) -> Player {
-    let mut player = one.copy(rt);
-    player.merge(rt, two);
-    player.merge(rt, three);
-    player.compact(rt);
-    player
 }
 
 // ---- answers beside plain ones
 
 fn compare(rt: &impl Abort, alloc: Global, subject: &Subject, player: &Player) {
-    let events = player.account.events(rt, alloc, &subject.segments);
     compare_states(rt, subject, player);
-    compare_trees(rt, alloc, &player.analyst, &events);
+    let events = player.account.events(rt, alloc, &subject.segments);
     compare_answers(rt, alloc, &player.analyst, &events, &subject.stacks);
 }
 
@@ -206,47 +233,48 @@ fn compare_answers(
     events: &[SharedEvent],
     stacks: &[SharedStack],
 ) {
+    compare_trees(rt, alloc, analyst.whole_tree(), events);
     for process in PROCESSES {
-        compare_latest(rt, analyst, events, process);
-        compare_outstanding(rt, alloc, analyst, events, process);
-        compare_diff(rt, alloc, analyst, events, process);
-        compare_leaks(rt, alloc, analyst, events, process, stacks);
-        compare_bad(rt, alloc, analyst, events, process, stacks);
+        compare_latest(rt, analyst, events, *process);
+        compare_opens(rt, alloc, analyst, events, *process);
+        compare_leaks(rt, alloc, analyst, events, *process, stacks);
+        compare_bad(rt, alloc, analyst, events, *process, stacks);
     }
     for object in OBJECTS {
-        compare_tags(rt, alloc, analyst, events, object);
-        compare_stacks(rt, alloc, analyst, events, object, stacks);
+        compare_tags(rt, alloc, analyst, events, *object);
+        compare_stacks(rt, alloc, analyst, events, *object, stacks);
     }
 }
 
 fn compare_states(rt: &impl Abort, subject: &Subject, player: &Player) {
     let Player { analyst, account } = player;
-    assert_eq!(rt; [analyst.front(0), analyst.front(1)], account.fronts());
-    assert_eq!(rt; analyst.held(), account.held());
-    assert_eq!(rt; analyst.taken(), account.taken());
-    assert_eq!(rt;
-        analyst.complete_to(),
-        account.complete_to(&subject.segments)
-    );
+    assert_is(rt, [analyst.front(0), analyst.front(1)], account.fronts());
+    assert_is(rt, analyst.held(), account.held());
+    assert_is(rt, analyst.taken(), account.taken());
+    let complete_to = account.complete_to(&subject.segments);
+    assert_is(rt, analyst.complete_to(), complete_to);
     for segment in &subject.segments {
-        let (processor, number) = (segment.processor(), segment.number());
-        assert_eq!(rt;
-            analyst.has(processor, number),
-            account.has(processor, number)
-        );
+        compare_taken(rt, player, segment.processor(), segment.number());
     }
+}
+
+/// Both have the segment, or neither.
+fn compare_taken(rt: &impl Abort, player: &Player, processor: u16, number: u32) {
+    let found = player.analyst.has(processor, number);
+    assert_is(rt, found, player.account.has(processor, number));
 }
 
 fn compare_trees(
     rt: &impl Abort,
     alloc: Global,
-    analyst: &Analyst<Global>,
+    made: Result<StackTree<Global>, NoMemory>,
     events: &[SharedEvent],
 ) {
-    let whole = analyst.whole_tree().expect(rt, "the memory");
-    assert!(rt; whole.same(&tree_of(rt, alloc, events)));
+    let whole = made.expect(rt, "the memory");
+    assert_is(rt, whole.same(&tree_of(rt, alloc, events)), true);
 }
 
+/// The tree of the events, counted one by one.
 fn tree_of(rt: &impl Abort, alloc: Global, events: &[SharedEvent]) -> StackTree<Global> {
     let mut tree = StackTree::new(alloc);
     for event in events {
@@ -263,40 +291,28 @@ fn compare_latest(
     process: u32,
 ) {
     for base in BASES {
-        assert_eq!(rt;
-            analyst.latest(process, base),
-            plain::latest(events, process, base)
+        let found = analyst.latest(process, *base);
+        assert!(rt;
+            found == plain::latest(events, process, *base),
+            "{process} {base}"
         );
     }
-    assert_eq!(rt;
-        analyst.mark(process),
-        plain::last(events, Kind::Snapshot, process)
-    );
+    let mark = plain::last(events, Kind::Snapshot, process);
+    assert_row(rt, process, analyst.mark(process), mark);
 }
 
-fn compare_outstanding(
+fn compare_opens(
     rt: &impl Abort,
     alloc: Global,
     analyst: &Analyst<Global>,
     events: &[SharedEvent],
     process: u32,
 ) {
-    let rows = analyst.outstanding(alloc, process).expect(rt, "the memory");
-    let opens = plain::outstanding(rt, alloc, events, process, &BASES, 0);
-    assert!(rt; rows.iter().eq(opens.iter().copied()));
-}
-
-fn compare_diff(
-    rt: &impl Abort,
-    alloc: Global,
-    analyst: &Analyst<Global>,
-    events: &[SharedEvent],
-    process: u32,
-) {
+    let opens = plain::outstanding(rt, alloc, events, process, BASES, 0);
+    assert_events(rt, analyst.outstanding(alloc, process), &opens);
     let mark = analyst.mark(process);
-    let rows = analyst.diff(alloc, process, mark).expect(rt, "the memory");
-    let opens = plain::outstanding(rt, alloc, events, process, &BASES, mark);
-    assert!(rt; rows.iter().eq(opens.iter().copied()));
+    let opens = plain::outstanding(rt, alloc, events, process, BASES, mark);
+    assert_events(rt, analyst.diff(alloc, process, mark), &opens);
 }
 
 fn compare_leaks(
@@ -307,14 +323,9 @@ fn compare_leaks(
     process: u32,
     stacks: &[SharedStack],
 ) {
-    let opens = plain::outstanding(rt, alloc, events, process, &BASES, 0);
+    let opens = plain::outstanding(rt, alloc, events, process, BASES, 0);
     let wanted = plain::leaks(rt, alloc, &opens, stacks);
-    let rows = analyst.leaks(alloc, process).expect(rt, "the memory");
-    assert!(rt;
-        rows.iter()
-            .map(|row| (&row.0, row.1))
-            .eq(wanted.iter().copied())
-    );
+    assert_counted(rt, analyst.leaks(alloc, process), &wanted);
 }
 
 fn compare_bad(
@@ -325,13 +336,21 @@ fn compare_bad(
     process: u32,
     stacks: &[SharedStack],
 ) {
-    let wanted = plain::bad(rt, alloc, events, process, &BAD_HANDLES, stacks);
-    let rows = analyst.bad(alloc, process).expect(rt, "the memory");
-    assert!(rt;
-        rows.iter()
-            .map(|row| (row.0, &row.1, row.2))
-            .eq(wanted.iter().copied())
-    );
+    let wanted = plain::bad(rt, alloc, events, process, BAD_HANDLES, stacks);
+    are_bad(rt, analyst.bad(alloc, process), &wanted);
+}
+
+/// The rows were made, and are these.
+fn are_bad(
+    rt: &impl Abort,
+    made: Result<Vec<(u32, SharedStack, u64)>, NoMemory>,
+    wanted: &[(u32, &SharedStack, u64)],
+) {
+    let rows = made.expect(rt, "the memory");
+    assert_is(rt, rows.len(), wanted.len());
+    for ((handle, stack, number), row) in rows.iter().zip(wanted) {
+        assert_is(rt, (*handle, stack, *number), *row);
+    }
 }
 
 fn compare_tags(
@@ -341,9 +360,8 @@ fn compare_tags(
     events: &[SharedEvent],
     object: u64,
 ) {
-    let rows = analyst.tags(alloc, object).expect(rt, "the memory");
-    let wanted = plain::tags(rt, alloc, events, object, &TAGS);
-    assert_eq!(rt; rows.as_slice(), wanted.as_slice());
+    let wanted = plain::tags(rt, alloc, events, object, TAGS);
+    assert_list(rt, analyst.tags(alloc, object), &wanted);
 }
 
 fn compare_stacks(
@@ -355,14 +373,14 @@ fn compare_stacks(
     stacks: &[SharedStack],
 ) {
     for tag in TAGS {
-        let slot = Slot::Tagged { object, tag };
-        assert_eq!(rt; analyst.under(&[], slot), plain::under(events, slot, &[]));
-        let rows = analyst.stacks(alloc, object, tag).expect(rt, "the memory");
-        let wanted = plain::stacks(rt, alloc, events, slot, stacks);
-        assert!(rt;
-            rows.iter()
-                .map(|row| (&row.0, row.1))
-                .eq(wanted.iter().copied())
+        let slot = Slot::Tagged { object, tag: *tag };
+        assert_row(
+            rt,
+            slot,
+            analyst.under(&[], slot),
+            plain::of_slot(events, slot),
         );
+        let wanted = plain::stacks(rt, alloc, events, slot, stacks);
+        assert_counted(rt, analyst.stacks(alloc, object, *tag), &wanted);
     }
 }

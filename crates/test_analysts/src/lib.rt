@@ -6,7 +6,8 @@
 //! `small_heaps` allocations are refused. In `histories` three analysts live through random lists
 //! of steps, and each answer is compared with that of `plain`, a program that scans a list of
 //! events. In `summaries` random traces lack segments, and their summaries are compared with those
-//! of `plain_summary`.
+//! of `plain_summary`. `rows` has what they assert of each row, `analysts` makes analysts of lines,
+//! and `heaps` has the heaps that refuse memory.
 #![tactic(auto)]
 
 #[cfg(test)]
@@ -20,6 +21,8 @@ mod dice;
 #[cfg(test)]
 mod handles;
 #[cfg(test)]
+mod heaps;
+#[cfg(test)]
 mod histories;
 #[cfg(test)]
 mod merging;
@@ -31,6 +34,8 @@ mod plain;
 mod plain_summary;
 #[cfg(test)]
 mod refusals;
+#[cfg(test)]
+mod rows;
 #[cfg(test)]
 mod small_heaps;
 #[cfg(test)]

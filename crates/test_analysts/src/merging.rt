@@ -1,8 +1,9 @@
 //! Fronts, and what analysts take over from one another.
 
 use crate::analysts::{
-    TWO_PROCESSORS, compact, compacted, merge, new, sizes, take, take_all, taken,
+    TWO_PROCESSORS, compact, compacted, merge, new, sizes, take, take_all, take_segment, taken,
 };
+use crate::rows::{assert_is, assert_list, assert_row, assert_sequences};
 use htl_analyst::{Analyst, Took};
 use htl_event::Count;
 use htl_samples::TRACE;
@@ -22,11 +23,15 @@ const SIX: [&str; 6] = [
 
 const OPEN: &str = "0/0: O 1 0x44";
 
+/// The close of what is opened, on another processor.
+const CLOSE: &str = "1/0: C 2 0x44";
+
 const EMPTY: &[u8] = b"484c5331 0100 0100 0000 0000 00000000 0700000000000000 00000000 20000000";
 
 /// The least number that no segment has, and no segment before it, is 0xffffffff.
 const LAST: &str = "0/0xfffffffe:";
 
+/// The segment of the bytes without an event.
 fn empty_segment(rt: &impl Abort, alloc: Global) -> Segment {
     let bytes = from_hex(alloc, EMPTY).expect(rt, "hexadecimal digits");
     let (segment, _len) = decode(alloc, &bytes).expect(rt, "a segment");
@@ -36,19 +41,27 @@ fn empty_segment(rt: &impl Abort, alloc: Global) -> Segment {
 #[test]
 fn an_empty_segment(rt: HostRuntime) {
     let mut analyst = new(&rt, rt.alloc(), TRACE);
-    let took = analyst.take(empty_segment(&rt, rt.alloc()));
-    assert!(rt; matches!(took, Ok(Took::New)));
-    assert_eq!(rt; sizes(&analyst), (0, 1, 1));
+    let took = take_segment(&mut analyst, empty_segment(&rt, rt.alloc()));
+    assert_is(&rt, took, Ok(Took::New));
+    assert_is(&rt, sizes(&analyst), (0, 1, 1));
     compact(&rt, &mut analyst);
-    assert_eq!(rt; sizes(&analyst), (1, 0, 1));
+    assert_is(&rt, sizes(&analyst), (1, 0, 1));
 }
 
 #[test]
 fn the_last_segment_number(rt: HostRuntime) {
     let mut analyst = compacted(&rt, rt.alloc(), TRACE, &[LAST]);
-    assert_eq!(rt; sizes(&analyst), (0, 1, 1));
-    assert!(rt; analyst.has(0, 0xffff_fffe) && !analyst.has(0, 0));
-    assert_eq!(rt; take(&rt, rt.alloc(), &mut analyst, LAST), Ok(Took::Repeat));
+    assert_is(&rt, sizes(&analyst), (0, 1, 1));
+    assert_is(
+        &rt,
+        (analyst.has(0, 0xffff_fffe), analyst.has(0, 0)),
+        (true, false),
+    );
+    assert_is(
+        &rt,
+        take(&rt, rt.alloc(), &mut analyst, LAST),
+        Ok(Took::Repeat),
+    );
 }
 
 /// It has folded the first three, and holds two after a gap.
@@ -61,17 +74,17 @@ fn behind(rt: &impl Abort, alloc: Global) -> Analyst<Global> {
 #[test]
 fn merge_over_a_gap(rt: HostRuntime) {
     let mut analyst = compacted(&rt, rt.alloc(), TRACE, &SIX[..5]);
-    assert_eq!(rt; sizes(&analyst), (5, 0, 5));
+    assert_is(&rt, sizes(&analyst), (5, 0, 5));
     merge(&rt, &mut analyst, &behind(&rt, rt.alloc()));
-    assert_eq!(rt; sizes(&analyst), (5, 1, 6));
+    assert_is(&rt, sizes(&analyst), (5, 1, 6));
     compact(&rt, &mut analyst);
-    assert_eq!(rt; sizes(&analyst), (6, 0, 6));
+    assert_is(&rt, sizes(&analyst), (6, 0, 6));
 }
 
 /// What holds two after a gap takes over what closes it, and is compacted.
 fn closed_from_behind(rt: &impl Abort, alloc: Global) -> Analyst<Global> {
     let mut analyst = behind(rt, alloc);
-    assert_eq!(rt; sizes(&analyst), (3, 2, 5));
+    assert_is(rt, sizes(&analyst), (3, 2, 5));
     merge(rt, &mut analyst, &compacted(rt, alloc, TRACE, &SIX[..5]));
     compact(rt, &mut analyst);
     analyst
@@ -80,18 +93,23 @@ fn closed_from_behind(rt: &impl Abort, alloc: Global) -> Analyst<Global> {
 #[test]
 fn merge_from_behind_a_gap(rt: HostRuntime) {
     let analyst = closed_from_behind(&rt, rt.alloc());
-    assert!(rt; analyst.same(&compacted(&rt, rt.alloc(), TRACE, &SIX)));
-    let tags = analyst.tags(rt.alloc(), 0x1000).expect(&rt, "the memory");
-    assert_eq!(rt;
-        tags.as_slice(),
-        [(*b"Lky8", Count { plus: 6, minus: 0 })].as_slice()
-    );
+    assert_list(&rt, analyst.tags(rt.alloc(), 0x1000), SIX_TIMES);
+    are_same(&rt, &analyst, &compacted(&rt, rt.alloc(), TRACE, &SIX));
 }
 
+const SIX_TIMES: &[([u8; 4], Count)] = &[(*b"Lky8", Count { plus: 6, minus: 0 })];
+
+/// Both fold and hold the same.
+fn are_same(rt: &impl Abort, one: &Analyst<Global>, other: &Analyst<Global>) {
+    assert_is(rt, one.same(other), true);
+}
+
+/// It holds two of even numbers.
 fn even(rt: &impl Abort, alloc: Global) -> Analyst<Global> {
     taken(rt, alloc, TRACE, &[SIX[0], SIX[2]])
 }
 
+/// It holds two of odd numbers.
 fn odd(rt: &impl Abort, alloc: Global) -> Analyst<Global> {
     taken(rt, alloc, TRACE, &[SIX[1], SIX[3]])
 }
@@ -100,7 +118,7 @@ fn odd(rt: &impl Abort, alloc: Global) -> Analyst<Global> {
 fn even_and_odd(rt: &impl Abort, alloc: Global) -> Analyst<Global> {
     let mut analyst = even(rt, alloc);
     merge(rt, &mut analyst, &odd(rt, alloc));
-    assert_eq!(rt; sizes(&analyst), (0, 4, 4));
+    assert_is(rt, sizes(&analyst), (0, 4, 4));
     compact(rt, &mut analyst);
     analyst
 }
@@ -108,7 +126,7 @@ fn even_and_odd(rt: &impl Abort, alloc: Global) -> Analyst<Global> {
 /// The odd segments and then the even ones, merged by moves.
 fn odd_and_even(rt: &impl Abort, alloc: Global) -> Analyst<Global> {
     let mut analyst = odd(rt, alloc);
-    assert!(rt; analyst.absorb(even(rt, alloc)).is_ok());
+    assert_is(rt, analyst.absorb(even(rt, alloc)).is_ok(), true);
     compact(rt, &mut analyst);
     analyst
 }
@@ -116,16 +134,20 @@ fn odd_and_even(rt: &impl Abort, alloc: Global) -> Analyst<Global> {
 #[test]
 fn gaps_close_each_other(rt: HostRuntime) {
     let one = even_and_odd(&rt, rt.alloc());
-    assert_eq!(rt; sizes(&one), (4, 0, 4));
-    assert!(rt; one.same(&odd_and_even(&rt, rt.alloc())));
+    assert_is(&rt, sizes(&one), (4, 0, 4));
+    are_same(&rt, &one, &odd_and_even(&rt, rt.alloc()));
 }
 
 #[test]
 fn repeats_count_once(rt: HostRuntime) {
     let mut analyst = taken(&rt, rt.alloc(), TRACE, &[OPEN]);
     for _ in 0..2 {
-        assert_eq!(rt; take(&rt, rt.alloc(), &mut analyst, OPEN), Ok(Took::Repeat));
-        assert_eq!(rt; analyst.taken(), 1);
+        assert_is(
+            &rt,
+            take(&rt, rt.alloc(), &mut analyst, OPEN),
+            Ok(Took::Repeat),
+        );
+        assert_is(&rt, analyst.taken(), 1);
         compact(&rt, &mut analyst);
     }
 }
@@ -135,20 +157,19 @@ fn an_analyst_merged_with_its_own_copy(rt: HostRuntime) {
     let mut analyst = compacted(&rt, rt.alloc(), TRACE, &[OPEN]);
     let copy = analyst.copy().expect(&rt, "the memory");
     merge(&rt, &mut analyst, &copy);
-    assert!(rt; analyst.same(&copy));
-    let opens = analyst.outstanding(rt.alloc(), 4).expect(&rt, "the memory");
-    assert_eq!(rt; opens.len(), 1);
+    are_same(&rt, &analyst, &copy);
+    assert_sequences(&rt, analyst.outstanding(rt.alloc(), 4), &[1]);
 }
 
 #[test]
 fn two_processors(rt: HostRuntime) {
-    let (open, close) = (OPEN, "1/0: C 2 0x44");
-    let one = compacted(&rt, rt.alloc(), TWO_PROCESSORS, &[open, close]);
-    assert_eq!(rt; (one.front(0), one.front(1), one.held()), (1, 1, 0));
-    let other = compacted(&rt, rt.alloc(), TWO_PROCESSORS, &[close, open]);
-    assert!(rt; one.same(&other));
+    let one = compacted(&rt, rt.alloc(), TWO_PROCESSORS, &[OPEN, CLOSE]);
+    assert_is(&rt, numbers_of(&one), (1, 1, 0, 2));
+    let other = compacted(&rt, rt.alloc(), TWO_PROCESSORS, &[CLOSE, OPEN]);
+    are_same(&rt, &one, &other);
 }
 
+/// The fronts of both processors, and how many segments are held and were taken.
 fn numbers_of(analyst: &Analyst<Global>) -> (u32, u32, u64, u64) {
     (
         analyst.front(0),
@@ -158,44 +179,44 @@ fn numbers_of(analyst: &Analyst<Global>) -> (u32, u32, u64, u64) {
     )
 }
 
-const LOOSE: [&str; 3] = ["0/0:", "0/1:", "0/3:"];
+const LOOSE: &[&str] = &["0/0:", "0/1:", "0/3:"];
 
 #[test]
 fn fronts_and_loose_numbers(rt: HostRuntime) {
-    let mut analyst = taken(&rt, rt.alloc(), TWO_PROCESSORS, &LOOSE);
-    assert_eq!(rt;
-        take(&rt, rt.alloc(), &mut analyst, LOOSE[2]),
-        Ok(Took::Repeat)
-    );
-    assert_eq!(rt; numbers_of(&analyst), (0, 0, 3, 3));
+    let mut analyst = taken(&rt, rt.alloc(), TWO_PROCESSORS, LOOSE);
+    let again = take(&rt, rt.alloc(), &mut analyst, "0/3:");
+    assert_is(&rt, again, Ok(Took::Repeat));
+    assert_is(&rt, numbers_of(&analyst), (0, 0, 3, 3));
     compact(&rt, &mut analyst);
-    assert_eq!(rt; numbers_of(&analyst), (2, 0, 1, 3));
+    assert_is(&rt, numbers_of(&analyst), (2, 0, 1, 3));
 }
+
+/// Processors and numbers, and whether the loose numbers have them.
+const HAS: &[(u16, u32, bool)] = &[
+    (0, 1, true),
+    (0, 2, false),
+    (0, 3, true),
+    (1, 0, false),
+    (2, 0, false),
+];
 
 #[test]
 fn taken_numbers(rt: HostRuntime) {
-    let analyst = compacted(&rt, rt.alloc(), TWO_PROCESSORS, &LOOSE);
-    for (processor, number, has) in [
-        (0, 1, true),
-        (0, 2, false),
-        (0, 3, true),
-        (1, 0, false),
-        (2, 0, false),
-    ] {
-        assert_eq!(rt; analyst.has(processor, number), has);
+    let analyst = compacted(&rt, rt.alloc(), TWO_PROCESSORS, LOOSE);
+    for (processor, number, has) in HAS {
+        let key = (*processor, *number);
+        assert_row(&rt, key, analyst.has(*processor, *number), *has);
     }
 }
 
+const MORE: &[&str] = &["0/1:", "0/2:", "1/0:"];
+
 #[test]
 fn loose_numbers_are_united(rt: HostRuntime) {
-    let mut analyst = compacted(&rt, rt.alloc(), TWO_PROCESSORS, &LOOSE);
-    let more = ["0/1:", "0/2:", "1/0:"];
-    merge(
-        &rt,
-        &mut analyst,
-        &taken(&rt, rt.alloc(), TWO_PROCESSORS, &more),
-    );
-    assert_eq!(rt; numbers_of(&analyst), (2, 0, 3, 5));
+    let mut analyst = compacted(&rt, rt.alloc(), TWO_PROCESSORS, LOOSE);
+    let more = taken(&rt, rt.alloc(), TWO_PROCESSORS, MORE);
+    merge(&rt, &mut analyst, &more);
+    assert_is(&rt, numbers_of(&analyst), (2, 0, 3, 5));
     compact(&rt, &mut analyst);
-    assert_eq!(rt; numbers_of(&analyst), (4, 1, 0, 5));
+    assert_is(&rt, numbers_of(&analyst), (4, 1, 0, 5));
 }

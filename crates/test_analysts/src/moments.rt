@@ -1,6 +1,7 @@
 //! Up to which moment nothing is missing.
 
 use crate::analysts::{TWO_PROCESSORS, compact, compacted, merge, take_all, taken};
+use crate::rows::{assert_is, assert_row};
 use htl_analyst::Analyst;
 use htl_samples::TRACE;
 use std::alloc::Global;
@@ -23,26 +24,26 @@ fn after(rt: &impl Abort, alloc: Global, analyst: &mut Analyst<Global>, line: &s
 #[test]
 fn complete_to_a_moment(rt: HostRuntime) {
     let mut analyst = taken(&rt, rt.alloc(), TWO_PROCESSORS, &LINES[..2]);
-    assert_eq!(rt; analyst.complete_to(), 0);
+    assert_is(&rt, analyst.complete_to(), 0);
     compact(&rt, &mut analyst);
-    assert_eq!(rt; analyst.complete_to(), 7);
-    for (line, moment, held) in [(LINES[2], 7, 1), (LINES[3], 10, 1)] {
+    assert_is(&rt, analyst.complete_to(), 7);
+    for (line, moment) in [(LINES[2], 7), (LINES[3], 10)] {
         let moments = after(&rt, rt.alloc(), &mut analyst, line);
-        assert_eq!(rt; moments, (moment, held));
+        assert_row(&rt, line, moments, (moment, 1));
     }
 }
 
 #[test]
 fn a_merge_completes(rt: HostRuntime) {
     let mut analyst = compacted(&rt, rt.alloc(), TWO_PROCESSORS, &LINES[..1]);
-    assert_eq!(rt; analyst.complete_to(), 0);
+    assert_is(&rt, analyst.complete_to(), 0);
     let other = compacted(&rt, rt.alloc(), TWO_PROCESSORS, &LINES);
     merge(&rt, &mut analyst, &other);
-    assert_eq!(rt; analyst.complete_to(), 10);
+    assert_is(&rt, analyst.complete_to(), 10);
 }
 
 #[test]
 fn an_empty_segment_completes_nothing(rt: HostRuntime) {
     let analyst = compacted(&rt, rt.alloc(), TRACE, &["0/0:"]);
-    assert_eq!(rt; (analyst.complete_to(), analyst.front(0)), (0, 1));
+    assert_is(&rt, (analyst.complete_to(), analyst.front(0)), (0, 1));
 }

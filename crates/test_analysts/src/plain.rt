@@ -7,6 +7,14 @@ use std::process::Abort;
 
 pub const NONE: Count = Count { plus: 0, minus: 0 };
 
+/// Whether the event is later than the other one, or there is no other.
+fn is_after(event: &SharedEvent, other: Option<&SharedEvent>) -> bool {
+    match other {
+        Some(other) => other.sequence < event.sequence,
+        None => true,
+    }
+}
+
 /// The latest open or close of the handle.
 pub fn latest(events: &[SharedEvent], process: u32, handle: u32) -> Option<&SharedEvent> {
     let mut latest: Option<&SharedEvent> = None;
@@ -14,7 +22,7 @@ pub fn latest(events: &[SharedEvent], process: u32, handle: u32) -> Option<&Shar
         let is_of_handle = event.kind.opens_or_closes()
             && event.process == process
             && base(event.handle) == base(handle);
-        if is_of_handle && latest.is_none_or(|other| other.sequence < event.sequence) {
+        if is_of_handle && is_after(event, latest) {
             latest = Some(event);
         }
     }
@@ -54,6 +62,17 @@ pub fn outstanding<'a>(
     opens
 }
 
+/// How many of the opens were made with this stack.
+fn opened(opens: &[&SharedEvent], stack: &SharedStack) -> u64 {
+    let mut number = 0u64;
+    for event in opens {
+        if event.stack == *stack {
+            number = number.wrapping_add(1);
+        }
+    }
+    number
+}
+
 /// Of these stacks those that opened handles, each with their number, the greatest number first.
 pub fn leaks<'a>(
     rt: &impl Abort,
@@ -63,7 +82,7 @@ pub fn leaks<'a>(
 ) -> Vec<(&'a SharedStack, u64)> {
     let mut rows = Vec::new(alloc);
     for stack in stacks {
-        let number = opens.iter().filter(|event| event.stack == *stack).count() as u64;
+        let number = opened(opens, stack);
         if number > 0 {
             rows.push((stack, number)).expect(rt, "the memory");
         }
@@ -73,6 +92,7 @@ pub fn leaks<'a>(
     rows
 }
 
+/// Counts the event, if it is of the slot.
 fn add(count: &mut Count, slot: Slot, event: &SharedEvent) {
     match event.slot() {
         Some((other, Sign::Plus)) if other == slot => count.plus = count.plus.wrapping_add(1),
@@ -92,18 +112,11 @@ fn at(events: &[SharedEvent], slot: Slot, stack: &SharedStack) -> Count {
     count
 }
 
-fn begins_with(stack: &SharedStack, path: &[u64]) -> bool {
-    let frames = stack.frames();
-    frames.len() >= path.len() && path.iter().eq(frames.iter().rev().take(path.len()))
-}
-
-/// How often the slot came with a stack that begins with the path, read from the outermost frame.
-pub fn under(events: &[SharedEvent], slot: Slot, path: &[u64]) -> Count {
+/// How often the slot came, with any stack.
+pub fn of_slot(events: &[SharedEvent], slot: Slot) -> Count {
     let mut count = NONE;
     for event in events {
-        if begins_with(&event.stack, path) {
-            add(&mut count, slot, event);
-        }
+        add(&mut count, slot, event);
     }
     count
 }
@@ -118,7 +131,7 @@ pub fn tags(
 ) -> Vec<([u8; 4], Count)> {
     let mut rows = Vec::new(alloc);
     for tag in tags {
-        let count = under(events, Slot::Tagged { object, tag: *tag }, &[]);
+        let count = of_slot(events, Slot::Tagged { object, tag: *tag });
         if count != NONE {
             rows.push((*tag, count)).expect(rt, "the memory");
         }

@@ -1,18 +1,28 @@
 //! Summaries by plain scans of a list of events, which stand in any order, and of a list of keys.
 
-use crate::plain::{NONE, last, latest, under};
+use crate::plain::{NONE, last, latest, of_slot};
 use htl_event::{Kind, ObjectRow, ProcessRow, SharedEvent, Slot};
 use htl_taken::Gap;
 use std::alloc::Global;
 use std::cmp::Reverse;
 use std::process::Abort;
 
+/// Whether the process has a row.
+fn have_process(rows: &[ProcessRow], process: u32) -> bool {
+    for row in rows {
+        if row.process == process {
+            return true;
+        }
+    }
+    false
+}
+
 /// The row of each process that has an open, a close or a bad reference.
 pub fn processes(rt: &impl Abort, alloc: Global, events: &[SharedEvent]) -> Vec<ProcessRow> {
     let mut rows: Vec<ProcessRow> = Vec::new(alloc);
     for event in events {
         let is_of_handle = event.kind.opens_or_closes() || event.kind == Kind::BadRef;
-        if is_of_handle && !rows.iter().any(|row| row.process == event.process) {
+        if is_of_handle && !have_process(&rows, event.process) {
             rows.push(process_row(events, event.process))
                 .expect(rt, "the memory");
         }
@@ -23,31 +33,38 @@ pub fn processes(rt: &impl Abort, alloc: Global, events: &[SharedEvent]) -> Vec<
 }
 
 fn process_row(events: &[SharedEvent], process: u32) -> ProcessRow {
-    let times = |kind: Kind| {
-        events
-            .iter()
-            .filter(|event| event.kind == kind && event.process == process)
-            .count() as u64
-    };
     ProcessRow {
         process,
         outstanding: outstanding(events, process),
-        opens: times(Kind::Opened),
-        closes: times(Kind::Closed),
-        bad: times(Kind::BadRef),
+        opens: times(events, Kind::Opened, process),
+        closes: times(events, Kind::Closed, process),
+        bad: times(events, Kind::BadRef, process),
         mark: last(events, Kind::Snapshot, process),
         exit: last(events, Kind::Exited, process),
     }
 }
 
+/// How many events of this kind the process has.
+fn times(events: &[SharedEvent], kind: Kind, process: u32) -> u64 {
+    let mut times = 0u64;
+    for event in events {
+        if event.kind == kind && event.process == process {
+            times = times.wrapping_add(1);
+        }
+    }
+    times
+}
+
+/// How many handles of the process are outstanding.
 fn outstanding(events: &[SharedEvent], process: u32) -> u64 {
     let exit = last(events, Kind::Exited, process);
-    events
-        .iter()
-        .filter(|event| {
-            event.process == process && event.sequence > exit && is_last_open(events, event)
-        })
-        .count() as u64
+    let mut outstanding = 0u64;
+    for event in events {
+        if event.process == process && event.sequence > exit && is_last_open(events, event) {
+            outstanding = outstanding.wrapping_add(1);
+        }
+    }
+    outstanding
 }
 
 /// Whether the event is an open that no later open or close of its handle follows.
@@ -55,12 +72,22 @@ fn is_last_open(events: &[SharedEvent], event: &SharedEvent) -> bool {
     event.kind == Kind::Opened && latest(events, event.process, event.handle) == Some(event)
 }
 
+/// Whether the object has a row.
+fn have_object(rows: &[ObjectRow], object: u64) -> bool {
+    for row in rows {
+        if row.object == object {
+            return true;
+        }
+    }
+    false
+}
+
 /// The row of each object, by object.
 pub fn objects(rt: &impl Abort, alloc: Global, events: &[SharedEvent]) -> Vec<ObjectRow> {
     let mut rows: Vec<ObjectRow> = Vec::new(alloc);
     for event in events {
         let is_of_object = matches!(event.kind, Kind::Ref | Kind::Deref);
-        if is_of_object && !rows.iter().any(|row| row.object == event.object) {
+        if is_of_object && !have_object(&rows, event.object) {
             let row = object_row(rt, alloc, events, event.object);
             rows.push(row).expect(rt, "the memory");
         }
@@ -85,7 +112,7 @@ fn object_row(rt: &impl Abort, alloc: Global, events: &[SharedEvent], object: u6
         derefs: 0,
     };
     for tag in &tags_of(rt, alloc, events, object) {
-        let count = under(events, Slot::Tagged { object, tag: *tag }, &[]);
+        let count = of_slot(events, Slot::Tagged { object, tag: *tag });
         row.tags = row.tags.wrapping_add(1);
         row.unbalanced = row
             .unbalanced
@@ -104,11 +131,39 @@ fn tags_of(rt: &impl Abort, alloc: Global, events: &[SharedEvent], object: u64) 
             object,
             tag: event.tag,
         };
-        if under(events, slot, &[]) != NONE && !tags.contains(&event.tag) {
+        if of_slot(events, slot) != NONE && !tags.contains(&event.tag) {
             tags.push(event.tag).expect(rt, "the memory");
         }
     }
     tags
+}
+
+/// Whether the list of keys has one of this processor.
+fn have_processor(keys: &[(u16, u32)], processor: u16) -> bool {
+    for key in keys {
+        if key.0 == processor {
+            return true;
+        }
+    }
+    false
+}
+
+/// Whether one of these numbers of the processor is among the keys.
+fn have_one(keys: &[(u16, u32)], processor: u16, from: u32, to: u32) -> bool {
+    for number in from..=to {
+        if keys.contains(&(processor, number)) {
+            return true;
+        }
+    }
+    false
+}
+
+/// Whether none of these numbers is there, the one after them is, and no longer run ends with
+/// them.
+fn is_gap(keys: &[(u16, u32)], processor: u16, from: u32, to: u32) -> bool {
+    let begins = from == 0 || keys.contains(&(processor, from.wrapping_sub(1)));
+    let ends = keys.contains(&(processor, to.wrapping_add(1)));
+    begins && ends && !have_one(keys, processor, from, to)
 }
 
 /// The gaps of a list of keys, which are processors and numbers below `numbers`.
@@ -121,30 +176,33 @@ pub fn gaps(
 ) -> Vec<Gap> {
     let mut gaps = Vec::new(alloc);
     for processor in 0..processors {
-        if !keys.iter().any(|key| key.0 == processor) {
+        if !have_processor(keys, processor) {
             gaps.push(Gap::Absent { processor })
                 .expect(rt, "the memory");
         }
-        for from in 0..numbers {
-            for to in from..numbers {
-                if is_gap(keys, processor, from, to) {
-                    gaps.push(Gap::Between {
-                        processor,
-                        from,
-                        to,
-                    })
-                    .expect(rt, "the memory");
-                }
-            }
-        }
+        push_gaps(rt, &mut gaps, keys, processor, numbers);
     }
     gaps
 }
 
-/// Whether none of these numbers is there, the one after them is, and no longer run ends with
-/// them.
-fn is_gap(keys: &[(u16, u32)], processor: u16, from: u32, to: u32) -> bool {
-    let has = |number: u32| keys.contains(&(processor, number));
-    let begins = from == 0 || has(from.wrapping_sub(1));
-    begins && (from..=to).all(|number| !has(number)) && has(to.wrapping_add(1))
+/// The gaps of one processor.
+fn push_gaps(
+    rt: &impl Abort,
+    gaps: &mut Vec<Gap>,
+    keys: &[(u16, u32)],
+    processor: u16,
+    numbers: u32,
+) {
+    for from in 0..numbers {
+        for to in from..numbers {
+            if is_gap(keys, processor, from, to) {
+                let gap = Gap::Between {
+                    processor,
+                    from,
+                    to,
+                };
+                gaps.push(gap).expect(rt, "the memory");
+            }
+        }
+    }
 }

@@ -1,6 +1,10 @@
 //! What analysts refuse, and that a refusal changes nothing.
 
-use crate::analysts::{TWO_PROCESSORS, compacted, merge, new, segment, take, take_of, taken};
+use crate::analysts::{
+    TWO_PROCESSORS, compacted, merge, new, segment, take, take_of, take_segment, taken,
+};
+use crate::heaps::heap;
+use crate::rows::{assert_is, assert_list, assert_row};
 use htl_analyst::{Analyst, AnalystFault, MergeFault, TakeFault, Took};
 use htl_samples::{SampleFault, TRACE, Trace};
 use htl_segment::{Fault, Segment, decode, from_hex};
@@ -16,19 +20,22 @@ const STORED: &[u8] = b"484c5331 0100 0100 0000 0000 00000000 0700000000000000 0
 
 const OTHER_TRACE: Trace = Trace { id: 8, ..TRACE };
 
+/// How many processors an analyst of so many has, if it is made.
 fn made(alloc: Global, processors: u16) -> Result<u16, AnalystFault> {
     Ok(Analyst::new(alloc, 7, processors)?.processors())
 }
 
+const PROCESSORS: &[(u16, Result<u16, AnalystFault>)] = &[
+    (0, Err(AnalystFault::Processors)),
+    (1, Ok(1)),
+    (256, Ok(256)),
+    (257, Err(AnalystFault::Processors)),
+];
+
 #[test]
 fn numbers_of_processors(rt: HostRuntime) {
-    for (processors, answer) in [
-        (0, Err(AnalystFault::Processors)),
-        (1, Ok(1)),
-        (256, Ok(256)),
-        (257, Err(AnalystFault::Processors)),
-    ] {
-        assert_eq!(rt; made(rt.alloc(), processors), answer);
+    for (processors, answer) in PROCESSORS {
+        assert_row(&rt, *processors, made(rt.alloc(), *processors), *answer);
     }
 }
 
@@ -41,44 +48,50 @@ fn taken_second(
 ) -> Result<Took, TakeFault> {
     let mut analyst = taken(rt, alloc, TRACE, &["0/3: O 1 0x44"]);
     let answer = take_of(rt, alloc, &mut analyst, trace, line);
-    assert_eq!(rt; analyst.taken(), 1);
+    assert_is(rt, analyst.taken(), 1);
     answer
 }
 
+/// Traces and lines of second segments, and what an analyst answers to them.
+const SECOND: &[(Trace, &str, Result<Took, TakeFault>)] = &[
+    (TRACE, "0/3: O 2 0x44", Err(TakeFault::Conflict(0, 3))),
+    (OTHER_TRACE, "0/3: O 1 0x44", Err(TakeFault::OtherTrace)),
+    (OTHER_TRACE, "0/4:", Err(TakeFault::OtherTrace)),
+    (
+        TWO_PROCESSORS,
+        "0/3: O 2 0x44",
+        Err(TakeFault::OtherProcessors),
+    ),
+    (TRACE, "0/3: O 1 0x44", Ok(Took::Repeat)),
+];
+
 #[test]
 fn segments_that_are_not_taken(rt: HostRuntime) {
-    let table = [
-        (TRACE, "0/3: O 2 0x44", Err(TakeFault::Conflict(0, 3))),
-        (OTHER_TRACE, "0/3: O 1 0x44", Err(TakeFault::OtherTrace)),
-        (OTHER_TRACE, "0/4:", Err(TakeFault::OtherTrace)),
-        (
-            TWO_PROCESSORS,
-            "0/3: O 2 0x44",
-            Err(TakeFault::OtherProcessors),
-        ),
-        (TRACE, "0/3: O 1 0x44", Ok(Took::Repeat)),
-    ];
-    for (trace, line, answer) in table {
-        assert_eq!(rt; taken_second(&rt, rt.alloc(), trace, line), answer);
+    for (trace, line, answer) in SECOND {
+        let found = taken_second(&rt, rt.alloc(), *trace, line);
+        assert_row(&rt, *line, found, *answer);
     }
 }
 
-/// Why an analyst refuses the segment, and the segment that it hands back.
-fn handed_back(
+/// Whether an analyst refuses the segment of a line, as conflicting with its number 3, and hands it
+/// back.
+fn is_handed_back(
     rt: &impl Abort,
+    alloc: Global,
     analyst: &mut Analyst<Global>,
-    segment: Segment,
-) -> (TakeFault, Segment) {
-    analyst.take(segment).expect_err(rt, "a refusal")
+    line: &str,
+) -> bool {
+    let conflicting = segment(rt, alloc, TRACE, line);
+    let (fault, back) = analyst.take(conflicting).expect_err(rt, "a refusal");
+    assert_is(rt, fault, TakeFault::Conflict(0, 3));
+    back.same(&segment(rt, alloc, TRACE, line))
 }
 
 #[test]
 fn a_conflicting_segment_is_handed_back(rt: HostRuntime) {
     let mut analyst = taken(&rt, rt.alloc(), TRACE, &["0/3: O 1 0x44"]);
-    let conflicting = segment(&rt, rt.alloc(), TRACE, "0/3: O 2 0x44");
-    let (fault, back) = handed_back(&rt, &mut analyst, conflicting);
-    assert_eq!(rt; fault, TakeFault::Conflict(0, 3));
-    assert!(rt; back.same(&segment(&rt, rt.alloc(), TRACE, "0/3: O 2 0x44")));
+    let back = is_handed_back(&rt, rt.alloc(), &mut analyst, "0/3: O 2 0x44");
+    assert_is(&rt, back, true);
 }
 
 /// The stored run's bytes, in this version.
@@ -91,24 +104,13 @@ fn stored(rt: &impl Abort, alloc: Global, version: u8) -> Segment {
     segment
 }
 
-/// What an analyst answers to the stored run.
-fn take_stored(
-    rt: &impl Abort,
-    alloc: Global,
-    analyst: &mut Analyst<Global>,
-    version: u8,
-) -> Result<Took, TakeFault> {
-    let segment = stored(rt, alloc, version);
-    analyst.take(segment).map_err(|(fault, _segment)| fault)
-}
-
 #[test]
 fn one_content_in_two_versions(rt: HostRuntime) {
     let mut analyst = new(&rt, rt.alloc(), TRACE);
-    let first = take_stored(&rt, rt.alloc(), &mut analyst, 1);
-    assert_eq!(rt; first, Ok(Took::New));
-    let second = take_stored(&rt, rt.alloc(), &mut analyst, 2);
-    assert_eq!(rt; second, Err(TakeFault::Conflict(0, 0)));
+    let first = take_segment(&mut analyst, stored(&rt, rt.alloc(), 1));
+    assert_is(&rt, first, Ok(Took::New));
+    let second = take_segment(&mut analyst, stored(&rt, rt.alloc(), 2));
+    assert_is(&rt, second, Err(TakeFault::Conflict(0, 0)));
 }
 
 // What was folded is no longer compared.
@@ -116,10 +118,10 @@ fn one_content_in_two_versions(rt: HostRuntime) {
 fn other_content_below_the_front(rt: HostRuntime) {
     let mut analyst = compacted(&rt, rt.alloc(), TRACE, &["0/0: O 1 0x44"]);
     let answer = take(&rt, rt.alloc(), &mut analyst, "0/0: O 2 0x48");
-    assert_eq!(rt; answer, Ok(Took::Repeat));
-    let more = ["0/0: O 1 0x48", "0/1:"];
-    merge(&rt, &mut analyst, &compacted(&rt, rt.alloc(), TRACE, &more));
-    assert_eq!(rt; (analyst.front(0), analyst.taken()), (2, 2));
+    assert_is(&rt, answer, Ok(Took::Repeat));
+    let more = compacted(&rt, rt.alloc(), TRACE, &["0/0: O 1 0x48", "0/1:"]);
+    merge(&rt, &mut analyst, &more);
+    assert_is(&rt, (analyst.front(0), analyst.taken()), (2, 2));
 }
 
 /// An analyst that holds two segments.
@@ -130,8 +132,8 @@ fn two_held(rt: &impl Abort, alloc: Global) -> Analyst<Global> {
 /// A refused merge changes nothing.
 fn merge_is_refused(rt: &impl Abort, alloc: Global, other: &Analyst<Global>, fault: MergeFault) {
     let mut one = two_held(rt, alloc);
-    assert_eq!(rt; one.merge(other), Err(fault));
-    assert!(rt; one.same(&two_held(rt, alloc)));
+    assert_is(rt, one.merge(other), Err(fault));
+    assert_is(rt, one.same(&two_held(rt, alloc)), true);
 }
 
 /// Why an analyst isn't taken over, and the analyst that is handed back. The one that refuses it has
@@ -143,7 +145,7 @@ fn not_absorbed(
 ) -> (MergeFault, Analyst<Global>) {
     let mut one = two_held(rt, alloc);
     let refused = one.absorb(other).expect_err(rt, "a refusal");
-    assert_eq!(rt; one.taken(), 2);
+    assert_is(rt, one.taken(), 2);
     refused
 }
 
@@ -156,30 +158,32 @@ fn absorb_is_refused(
     fault: MergeFault,
 ) {
     let (why, back) = not_absorbed(rt, alloc, taken(rt, alloc, trace, lines));
-    assert_eq!(rt; why, fault);
-    assert!(rt; back.same(&taken(rt, alloc, trace, lines)));
+    assert_is(rt, why, fault);
+    assert_is(rt, back.same(&taken(rt, alloc, trace, lines)), true);
 }
+
+/// Traces and lines of analysts, and why one of the samples' trace doesn't merge them.
+const NOT_MERGED: &[(Trace, &[&str], MergeFault)] = &[
+    (TRACE, &["0/3: O 2 0x44"], MergeFault::Conflict(0, 3)),
+    (
+        TRACE,
+        &["0/3: O 2 0x44", "0/2: O 1 0x44"],
+        MergeFault::Conflict(0, 2),
+    ),
+    (OTHER_TRACE, &[], MergeFault::OtherTrace),
+    (
+        TWO_PROCESSORS,
+        &["0/3: O 2 0x44"],
+        MergeFault::OtherProcessors,
+    ),
+];
 
 #[test]
 fn analysts_that_are_not_merged(rt: HostRuntime) {
-    let table: [(Trace, &[&str], MergeFault); 4] = [
-        (TRACE, &["0/3: O 2 0x44"], MergeFault::Conflict(0, 3)),
-        (
-            TRACE,
-            &["0/3: O 2 0x44", "0/2: O 1 0x44"],
-            MergeFault::Conflict(0, 2),
-        ),
-        (OTHER_TRACE, &[], MergeFault::OtherTrace),
-        (
-            TWO_PROCESSORS,
-            &["0/3: O 2 0x44"],
-            MergeFault::OtherProcessors,
-        ),
-    ];
-    for (trace, lines, fault) in table {
-        let other = taken(&rt, rt.alloc(), trace, lines);
-        merge_is_refused(&rt, rt.alloc(), &other, fault);
-        absorb_is_refused(&rt, rt.alloc(), trace, lines, fault);
+    for (trace, lines, fault) in NOT_MERGED {
+        let other = taken(&rt, rt.alloc(), *trace, lines);
+        merge_is_refused(&rt, rt.alloc(), &other, *fault);
+        absorb_is_refused(&rt, rt.alloc(), *trace, lines, *fault);
     }
 }
 
@@ -187,7 +191,7 @@ fn analysts_that_are_not_merged(rt: HostRuntime) {
 #[test]
 fn a_number_too_large(rt: HostRuntime) {
     let fault = TRACE.segment(rt.alloc(), "0/0xffffffff:").err();
-    assert_eq!(rt; fault, Some(SampleFault::Segment(Fault::Number)));
+    assert_is(&rt, fault, Some(SampleFault::Segment(Fault::Number)));
 }
 
 /// Why the first of the empty segments from number 1 on is refused that is, and its number.
@@ -209,22 +213,17 @@ fn takes_until_refused(rt: &impl Abort, alloc: Global, heap: &LocalHeap) {
     let mut analyst = Analyst::new(heap, 7, 1).expect(rt, "an analyst");
     let refused = first_refused(rt, alloc, &mut analyst);
     let next = analyst.taken().wrapping_add(1);
-    assert_eq!(rt; refused, Some((TakeFault::NoMemory, next)));
-    assert_eq!(rt; analyst.held(), analyst.taken());
-    has_no_open_handle(rt, alloc, &analyst);
-}
-
-fn has_no_open_handle(rt: &impl Abort, alloc: Global, analyst: &Analyst<&LocalHeap>) {
-    let opens = analyst.outstanding(alloc, 4).expect(rt, "the memory");
-    assert!(rt; opens.is_empty());
+    assert_is(rt, refused, Some((TakeFault::NoMemory, next)));
+    assert_is(rt, analyst.held(), analyst.taken());
+    assert_list(rt, analyst.outstanding(alloc, 4), &[]);
 }
 
 #[test]
 fn a_small_heap_refuses_a_segment(rt: HostRuntime) {
-    let heap = LocalHeap::new(rt.alloc(), 4096).expect(&rt, "the memory");
-    takes_until_refused(&rt, rt.alloc(), &heap);
+    takes_until_refused(&rt, rt.alloc(), &heap(&rt, rt.alloc(), 4096));
 }
 
+/// A segment without an event.
 fn empty(rt: &impl Abort, alloc: Global, number: u32) -> Segment {
     Segment::build(alloc, 7, 1, 0, number, Vec::new(alloc))
         .ok()

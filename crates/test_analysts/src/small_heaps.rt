@@ -1,8 +1,10 @@
 //! Refused allocations. Each call is tried in heaps of rising size: it is refused in some and
 //! answers in others, and where it is refused every answer is as before.
 
-use crate::analysts::{TWO_PROCESSORS, segment};
-use htl_analyst::Analyst;
+use crate::analysts::{TWO_PROCESSORS, take_of};
+use crate::heaps::heap;
+use crate::rows::{assert_is, assert_row, assert_same_lists};
+use htl_analyst::{Analyst, AnalystFault};
 use htl_event::Slot;
 use linked_list_allocator::LocalHeap;
 use std::alloc::Global;
@@ -34,7 +36,7 @@ const SLOT: Slot = Slot::Tagged {
 };
 
 /// The calls that take their memory from the analyst's own heap.
-#[derive(Clone, Copy, Debug, PartialEq, Eq)]
+#[derive(Clone, Copy)]
 enum Call {
     Take,
     Merge,
@@ -44,36 +46,55 @@ enum Call {
     WholeTree,
 }
 
-/// An analyst that took the lines, if the heap has room for it.
-fn analyst_in<'a>(
-    rt: &impl Abort,
-    alloc: Global,
-    heap: &'a LocalHeap,
-    lines: &[&str],
-) -> Option<Analyst<&'a LocalHeap>> {
-    let trace = TWO_PROCESSORS;
-    let mut analyst = Analyst::new(heap, trace.id, trace.processors).ok()?;
-    for line in lines {
-        if is_take_refused(rt, alloc, &mut analyst, line) {
-            return None;
-        }
-    }
-    Some(analyst)
+const CALLS: &[(&str, Call)] = &[
+    ("take", Call::Take),
+    ("merge", Call::Merge),
+    ("absorb", Call::Absorb),
+    ("compact", Call::Compact),
+    ("copy", Call::Copy),
+    ("whole_tree", Call::WholeTree),
+];
+
+/// An analyst that has taken nothing, if the heap has room for it.
+fn new(heap: &LocalHeap) -> Result<Analyst<&LocalHeap>, AnalystFault> {
+    Analyst::new(heap, TWO_PROCESSORS.id, TWO_PROCESSORS.processors)
 }
 
+/// Whether the segment of the line isn't taken.
 fn is_take_refused(
     rt: &impl Abort,
     alloc: Global,
     analyst: &mut Analyst<&LocalHeap>,
     line: &str,
 ) -> bool {
-    let segment = segment(rt, alloc, TWO_PROCESSORS, line);
-    analyst.take(segment).is_err()
+    take_of(rt, alloc, analyst, TWO_PROCESSORS, line).is_err()
 }
 
-/// Another analyst, in a heap with room.
-fn other_in<'a>(rt: &impl Abort, alloc: Global, roomy: &'a LocalHeap) -> Analyst<&'a LocalHeap> {
-    analyst_in(rt, alloc, roomy, &MORE).expect(rt, "room")
+/// Whether one of the lines wasn't taken. Those after it aren't tried.
+fn is_one_refused(
+    rt: &impl Abort,
+    alloc: Global,
+    analyst: &mut Analyst<&LocalHeap>,
+    lines: &[&str],
+) -> bool {
+    for line in lines {
+        if is_take_refused(rt, alloc, analyst, line) {
+            return true;
+        }
+    }
+    false
+}
+
+/// An analyst that took the lines, in a heap with room.
+fn in_roomy<'a>(
+    rt: &impl Abort,
+    alloc: Global,
+    roomy: &'a LocalHeap,
+    lines: &[&str],
+) -> Analyst<&'a LocalHeap> {
+    let mut analyst = new(roomy).expect(rt, "room");
+    assert_is(rt, is_one_refused(rt, alloc, &mut analyst, lines), false);
+    analyst
 }
 
 /// Whether the call is refused. What is taken over lies in a heap with room.
@@ -86,23 +107,37 @@ fn is_refused<'a>(
 ) -> bool {
     match call {
         Call::Take => is_take_refused(rt, alloc, analyst, "0/7: O 30 0x60"),
-        Call::Merge => analyst.merge(&other_in(rt, alloc, roomy)).is_err(),
-        Call::Absorb => analyst.absorb(other_in(rt, alloc, roomy)).is_err(),
+        Call::Merge => is_merge_refused(analyst, &in_roomy(rt, alloc, roomy, &MORE)),
+        Call::Absorb => is_absorb_refused(analyst, in_roomy(rt, alloc, roomy, &MORE)),
         Call::Compact => analyst.compact().is_err(),
         Call::Copy => analyst.copy().is_err(),
         Call::WholeTree => analyst.whole_tree().is_err(),
     }
 }
 
+/// Whether the other isn't merged.
+fn is_merge_refused<'a>(
+    analyst: &mut Analyst<&'a LocalHeap>,
+    other: &Analyst<&'a LocalHeap>,
+) -> bool {
+    analyst.merge(other).is_err()
+}
+
+/// Whether the other isn't taken over by a move.
+fn is_absorb_refused<'a>(
+    analyst: &mut Analyst<&'a LocalHeap>,
+    other: Analyst<&'a LocalHeap>,
+) -> bool {
+    analyst.absorb(other).is_err()
+}
+
 /// Answers are equal, whatever was folded.
 fn agree(rt: &impl Abort, alloc: Global, one: &Analyst<&LocalHeap>, other: &Analyst<&LocalHeap>) {
     agree_on_opens(rt, alloc, one, other);
-    agree_on_opens_since(rt, alloc, one, other);
-    agree_on_leaks(rt, alloc, one, other);
-    agree_on_bad(rt, alloc, one, other);
-    agree_on_tags(rt, alloc, one, other);
-    agree_on_stacks(rt, alloc, one, other);
+    agree_on_counts(rt, alloc, one, other);
     agree_on_numbers(rt, one, other);
+    agree_on_latest(rt, one, other);
+    agree_on_taken(rt, one, other);
 }
 
 fn agree_on_opens(
@@ -111,76 +146,45 @@ fn agree_on_opens(
     one: &Analyst<&LocalHeap>,
     other: &Analyst<&LocalHeap>,
 ) {
-    let opens = one.outstanding(alloc, 4).expect(rt, "the memory");
-    let others = other.outstanding(alloc, 4).expect(rt, "the memory");
-    assert_eq!(rt; opens.as_slice(), others.as_slice());
-}
-
-fn agree_on_opens_since(
-    rt: &impl Abort,
-    alloc: Global,
-    one: &Analyst<&LocalHeap>,
-    other: &Analyst<&LocalHeap>,
-) {
     let since = one.mark(4);
-    let opens = one.diff(alloc, 4, since).expect(rt, "the memory");
-    let others = other.diff(alloc, 4, since).expect(rt, "the memory");
-    assert_eq!(rt; opens.as_slice(), others.as_slice());
+    assert_same_lists(rt, one.outstanding(alloc, 4), other.outstanding(alloc, 4));
+    assert_same_lists(rt, one.diff(alloc, 4, since), other.diff(alloc, 4, since));
+    assert_same_lists(rt, one.leaks(alloc, 4), other.leaks(alloc, 4));
 }
 
-fn agree_on_leaks(
+fn agree_on_counts(
     rt: &impl Abort,
     alloc: Global,
     one: &Analyst<&LocalHeap>,
     other: &Analyst<&LocalHeap>,
 ) {
-    let leaks = one.leaks(alloc, 4).expect(rt, "the memory");
-    let others = other.leaks(alloc, 4).expect(rt, "the memory");
-    assert!(rt; leaks.iter().eq(&others));
-}
-
-fn agree_on_bad(
-    rt: &impl Abort,
-    alloc: Global,
-    one: &Analyst<&LocalHeap>,
-    other: &Analyst<&LocalHeap>,
-) {
-    let bad = one.bad(alloc, 4).expect(rt, "the memory");
-    let others = other.bad(alloc, 4).expect(rt, "the memory");
-    assert!(rt; bad.iter().eq(&others));
-}
-
-fn agree_on_tags(
-    rt: &impl Abort,
-    alloc: Global,
-    one: &Analyst<&LocalHeap>,
-    other: &Analyst<&LocalHeap>,
-) {
-    let tags = one.tags(alloc, OBJECT).expect(rt, "the memory");
-    let others = other.tags(alloc, OBJECT).expect(rt, "the memory");
-    assert_eq!(rt; tags.as_slice(), others.as_slice());
-}
-
-fn agree_on_stacks(
-    rt: &impl Abort,
-    alloc: Global,
-    one: &Analyst<&LocalHeap>,
-    other: &Analyst<&LocalHeap>,
-) {
-    let stacks = one.stacks(alloc, OBJECT, TAG).expect(rt, "the memory");
-    let others = other.stacks(alloc, OBJECT, TAG).expect(rt, "the memory");
-    assert!(rt; stacks.iter().eq(&others));
+    assert_same_lists(rt, one.bad(alloc, 4), other.bad(alloc, 4));
+    assert_same_lists(rt, one.tags(alloc, OBJECT), other.tags(alloc, OBJECT));
+    assert_same_lists(
+        rt,
+        one.stacks(alloc, OBJECT, TAG),
+        other.stacks(alloc, OBJECT, TAG),
+    );
 }
 
 fn agree_on_numbers(rt: &impl Abort, one: &Analyst<&LocalHeap>, other: &Analyst<&LocalHeap>) {
-    assert_eq!(rt; one.taken(), other.taken());
-    assert_eq!(rt; one.mark(4), other.mark(4));
-    assert_eq!(rt; one.under(&[0x30], SLOT), other.under(&[0x30], SLOT));
+    assert_is(rt, one.taken(), other.taken());
+    assert_is(rt, one.mark(4), other.mark(4));
+    assert_is(rt, one.under(&[0x30], SLOT), other.under(&[0x30], SLOT));
+}
+
+fn agree_on_latest(rt: &impl Abort, one: &Analyst<&LocalHeap>, other: &Analyst<&LocalHeap>) {
     for handle in [0x44, 0x48, 0x50, 0x54, 0x58] {
-        assert_eq!(rt; one.latest(4, handle), other.latest(4, handle));
+        assert!(rt;
+            one.latest(4, handle) == other.latest(4, handle),
+            "{handle}"
+        );
     }
+}
+
+fn agree_on_taken(rt: &impl Abort, one: &Analyst<&LocalHeap>, other: &Analyst<&LocalHeap>) {
     for number in 0..8 {
-        assert_eq!(rt; one.has(0, number), other.has(0, number));
+        assert_row(rt, number, one.has(0, number), other.has(0, number));
     }
 }
 
@@ -193,15 +197,26 @@ fn wanted<'a>(
     roomy: &'a LocalHeap,
     refused: bool,
 ) -> Analyst<&'a LocalHeap> {
-    let mut twin = analyst_in(rt, alloc, roomy, &LINES).expect(rt, "room");
+    let mut twin = in_roomy(rt, alloc, roomy, &LINES);
     if !refused {
-        assert!(rt; !is_refused(rt, alloc, call, &mut twin, roomy));
+        assert_is(rt, is_refused(rt, alloc, call, &mut twin, roomy), false);
     }
     twin
 }
 
-/// Whether the call is refused in this heap, if the analyst has room there. Only a compaction may
-/// have moved fronts when it is refused.
+/// After the call the analyst is what is wanted. Only a refused compaction may have moved fronts.
+fn is_as_wanted<'a>(
+    rt: &impl Abort,
+    alloc: Global,
+    analyst: &Analyst<&'a LocalHeap>,
+    wanted: &Analyst<&'a LocalHeap>,
+    may_differ: bool,
+) {
+    assert_is(rt, analyst.same(wanted) || may_differ, true);
+    agree(rt, alloc, analyst, wanted);
+}
+
+/// Whether the call is refused in this heap, if the analyst has room there.
 fn tried<'a>(
     rt: &impl Abort,
     alloc: Global,
@@ -209,32 +224,30 @@ fn tried<'a>(
     small: &'a LocalHeap,
     roomy: &'a LocalHeap,
 ) -> Option<bool> {
-    let mut analyst = analyst_in(rt, alloc, small, &LINES)?;
+    let mut analyst = new(small).ok()?;
+    if is_one_refused(rt, alloc, &mut analyst, &LINES) {
+        return None;
+    }
     let refused = is_refused(rt, alloc, call, &mut analyst, roomy);
-    let twin = wanted(rt, alloc, call, roomy, refused);
-    assert!(rt; analyst.same(&twin) || refused && call == Call::Compact);
-    agree(rt, alloc, &analyst, &twin);
+    let may_differ = refused && matches!(call, Call::Compact);
+    let wanted = wanted(rt, alloc, call, roomy, refused);
+    is_as_wanted(rt, alloc, &analyst, &wanted, may_differ);
     Some(refused)
-}
-
-fn heap(rt: &impl Abort, alloc: Global, size: usize) -> LocalHeap {
-    LocalHeap::new(alloc, size).expect(rt, "the memory")
 }
 
 /// Whether the call is refused in a heap of this size, if the analyst has room there.
 fn tried_in(rt: &impl Abort, alloc: Global, call: Call, size: usize) -> Option<bool> {
-    let small = heap(rt, alloc, size);
     let roomy = heap(rt, alloc, 65536);
-    tried(rt, alloc, call, &small, &roomy)
+    tried(rt, alloc, call, &heap(rt, alloc, size), &roomy)
 }
 
-/// In how many heaps the call is refused, and in how many it answers.
-fn outcomes(rt: &impl Abort, alloc: Global, call: Call) -> (u64, u64) {
-    let (mut refused, mut answered) = (0u64, 0u64);
+/// Whether the call is refused in some heaps, and whether it answers in others.
+fn outcomes(rt: &impl Abort, alloc: Global, call: Call) -> (bool, bool) {
+    let (mut refused, mut answered) = (false, false);
     for step in 1..STEPS {
         match tried_in(rt, alloc, call, step * STEP) {
-            Some(true) => refused = refused.wrapping_add(1),
-            Some(false) => answered = answered.wrapping_add(1),
+            Some(true) => refused = true,
+            Some(false) => answered = true,
             None => {}
         }
     }
@@ -243,18 +256,7 @@ fn outcomes(rt: &impl Abort, alloc: Global, call: Call) -> (u64, u64) {
 
 #[test]
 fn refused_allocations(rt: HostRuntime) {
-    for call in [
-        Call::Take,
-        Call::Merge,
-        Call::Absorb,
-        Call::Compact,
-        Call::Copy,
-        Call::WholeTree,
-    ] {
-        let (refused, answered) = outcomes(&rt, rt.alloc(), call);
-        assert!(rt;
-            refused > 0 && answered > 0,
-            "{call:?}: {refused}, {answered}"
-        );
+    for (name, call) in CALLS {
+        assert_row(&rt, *name, outcomes(&rt, rt.alloc(), *call), (true, true));
     }
 }

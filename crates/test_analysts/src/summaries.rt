@@ -2,10 +2,11 @@
 //! there, processes, objects and gaps are the plain ones.
 
 use crate::account::push_all;
-use crate::analysts::compact;
+use crate::analysts::{compact, take_segment};
 use crate::dice::Dice;
 use crate::plain_summary as plain;
-use htl_analyst::Analyst;
+use crate::rows::{assert_is, assert_list};
+use htl_analyst::{Analyst, Took};
 use htl_event::SharedEvent;
 use htl_samples::{RandomTrace, SMALL};
 use htl_segment::Segment;
@@ -39,12 +40,13 @@ impl Subject {
         }
     }
 
+    /// Takes a segment for the first time.
     fn take(&mut self, rt: &impl Abort, segment: &Segment) {
         let key = (segment.processor(), segment.number());
         self.keys.push(key).expect(rt, "the memory");
         push_all(rt, &mut self.events, segment.events());
         let copy = segment.copy().expect(rt, "the memory");
-        self.analyst.take(copy).expect(rt, "the memory");
+        assert_is(rt, take_segment(&mut self.analyst, copy), Ok(Took::New));
     }
 }
 
@@ -64,6 +66,7 @@ fn partly_taken(rt: &impl Abort, alloc: Global, seed: u64, share: u64, dice: &mu
     subject
 }
 
+/// The analyst's summary is the plain one.
 fn compare(rt: &impl Abort, alloc: Global, subject: &Subject) {
     compare_processes(rt, alloc, &subject.analyst, &subject.events);
     compare_gaps(rt, alloc, &subject.analyst, &subject.keys);
@@ -77,14 +80,12 @@ fn compare_processes(
     events: &[SharedEvent],
 ) {
     let wanted = plain::processes(rt, alloc, events);
-    let rows = analyst.processes(alloc).expect(rt, "the memory");
-    assert_eq!(rt; rows.as_slice(), wanted.as_slice());
+    assert_list(rt, analyst.processes(alloc), &wanted);
 }
 
 fn compare_gaps(rt: &impl Abort, alloc: Global, analyst: &Analyst<Global>, keys: &[(u16, u32)]) {
     let wanted = plain::gaps(rt, alloc, keys, TRACE.processors, TRACE.segments);
-    let gaps = analyst.gaps(alloc).expect(rt, "the memory");
-    assert_eq!(rt; gaps.as_slice(), wanted.as_slice());
+    assert_list(rt, analyst.gaps(alloc), &wanted);
 }
 
 fn compare_objects(
@@ -93,13 +94,18 @@ fn compare_objects(
     analyst: &Analyst<Global>,
     events: &[SharedEvent],
 ) {
-    let objects = analyst.objects(alloc).expect(rt, "the memory");
     let mut rows = plain::objects(rt, alloc, events);
-    assert_eq!(rt; objects.number, rows.len() as u64);
+    let number = rows.len() as u64;
     plain::unbalanced(rt, &mut rows);
-    assert_eq!(rt; objects.unbalanced.as_slice(), rows.as_slice());
+    let objects = analyst.objects(alloc).expect(rt, "the memory");
+    assert_is(
+        rt,
+        (objects.number, objects.unbalanced.as_slice()),
+        (number, rows.as_slice()),
+    );
 }
 
+/// Whether a segment is missing.
 fn has_gaps(rt: &impl Abort, alloc: Global, analyst: &Analyst<Global>) -> bool {
     let gaps = analyst.gaps(alloc).expect(rt, "the memory");
     !gaps.is_empty()

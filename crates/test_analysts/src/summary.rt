@@ -1,6 +1,7 @@
 //! What a summary says, before and after what was taken is folded.
 
 use crate::analysts::{compact, taken};
+use crate::rows::{assert_is, assert_list};
 use htl_analyst::Analyst;
 use htl_event::{ObjectRow, ProcessRow};
 use htl_samples::{TRACE, Trace};
@@ -81,35 +82,31 @@ const GAPS: &[Gap] = &[
     Gap::Absent { processor: 2 },
 ];
 
-fn has_processes(rt: &impl Abort, alloc: Global, analyst: &Analyst<Global>) {
-    let processes = analyst.processes(alloc).expect(rt, "the memory");
-    assert_eq!(rt; processes.as_slice(), PROCESSES);
-}
-
+/// There are four objects, of which three are unbalanced.
 fn has_objects(rt: &impl Abort, alloc: Global, analyst: &Analyst<Global>) {
     let objects = analyst.objects(alloc).expect(rt, "the memory");
-    assert_eq!(rt; objects.number, 4);
-    assert_eq!(rt; objects.unbalanced.as_slice(), UNBALANCED);
+    assert_is(
+        rt,
+        (objects.number, objects.unbalanced.as_slice()),
+        (4, UNBALANCED),
+    );
 }
 
-fn has_gaps(rt: &impl Abort, alloc: Global, analyst: &Analyst<Global>) {
-    let gaps = analyst.gaps(alloc).expect(rt, "the memory");
-    assert_eq!(rt; gaps.as_slice(), GAPS);
-}
-
+/// The summary is the one that was worked out.
 fn is_summed_up(rt: &impl Abort, alloc: Global, analyst: &Analyst<Global>) {
-    has_processes(rt, alloc, analyst);
+    assert_list(rt, analyst.processes(alloc), PROCESSES);
     has_objects(rt, alloc, analyst);
-    has_gaps(rt, alloc, analyst);
+    assert_list(rt, analyst.gaps(alloc), GAPS);
 }
+
+const THREE_PROCESSORS: Trace = Trace {
+    processors: 3,
+    ..TRACE
+};
 
 #[test]
 fn processes_objects_and_gaps(rt: HostRuntime) {
-    let trace = Trace {
-        processors: 3,
-        ..TRACE
-    };
-    let mut analyst = taken(&rt, rt.alloc(), trace, LINES);
+    let mut analyst = taken(&rt, rt.alloc(), THREE_PROCESSORS, LINES);
     is_summed_up(&rt, rt.alloc(), &analyst);
     compact(&rt, &mut analyst);
     is_summed_up(&rt, rt.alloc(), &analyst);

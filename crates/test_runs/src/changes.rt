@@ -1,24 +1,23 @@
 //! Bundles with a bit turned, and bundles that are cut.
 
 use crate::bundles::{BUNDLES, bundle};
+use crate::comparison::assert_row;
 use crate::plain::{code, count_segments, segment_len};
-use htl_segment::{Fault, Splitter, decode, decode_bundle, encode};
+use htl_segment::{Fault, Segment, Splitter, decode, decode_bundle, encode};
 use std::alloc::Global;
 use std::process::Abort;
-use std::test::Fail;
 
-/// What `decode` says of the bytes: the length of the segment at their front, which is written as
-/// it was read.
-fn check_first(rt: &impl Abort, alloc: Global, bytes: &[u8]) -> Result<(), Fail> {
-    let wanted = segment_len(bytes);
-    match decode(alloc, bytes) {
-        Ok((segment, len)) => {
-            assert_eq!(rt; Ok(len), wanted);
-            assert_eq!(rt; Some(encode(alloc, &segment)?.as_slice()), bytes.get(..len));
-        }
-        Err(fault) => assert_eq!(rt; Err(fault), wanted),
-    }
-    Ok(())
+/// What `decode` says of the bytes: the length of the segment at their front.
+fn decoded_len(rt: &impl Abort, alloc: Global, bytes: &[u8]) -> Result<usize, Fault> {
+    let (segment, len) = decode(alloc, bytes)?;
+    assert!(rt; is_written(rt, alloc, &segment, bytes.get(..len)));
+    Ok(len)
+}
+
+/// Whether the segment is written as it was read.
+fn is_written(rt: &impl Abort, alloc: Global, segment: &Segment, read: Option<&[u8]>) -> bool {
+    let written = encode(alloc, segment).expect(rt, "the memory");
+    Some(written.as_slice()) == read
 }
 
 /// How many segments a splitter gives for bytes that come in pieces, or what it refuses.
@@ -40,7 +39,7 @@ fn count_in_pieces(
 }
 
 /// How many bytes were read so far, and which faults they had: a bit for each code.
-#[derive(Clone, Copy, Debug, PartialEq, Eq)]
+#[derive(Clone, Copy)]
 struct Seen {
     inputs: u64,
     codes: u32,
@@ -51,66 +50,72 @@ const NOTHING: Seen = Seen {
     codes: 0,
 };
 
+impl Seen {
+    /// Notes what was read of some bytes.
+    fn note(&mut self, read: Result<usize, (u64, Fault)>) {
+        self.inputs = self.inputs.wrapping_add(1);
+        if let Err((_, fault)) = read {
+            self.codes |= 1 << code(fault);
+        }
+    }
+}
+
 /// Each reader says of the bytes what the plain one says.
-fn check(
-    rt: &impl Abort,
-    alloc: Global,
-    bytes: &[u8],
-    piece: usize,
-    seen: &mut Seen,
-) -> Result<(), Fail> {
-    check_first(rt, alloc, bytes)?;
+fn check(rt: &impl Abort, alloc: Global, bytes: &[u8], piece: usize, seen: &mut Seen) {
+    assert_row(
+        rt,
+        "alone",
+        decoded_len(rt, alloc, bytes),
+        segment_len(bytes),
+    );
     let wanted = count_segments(bytes);
     let whole = decode_bundle(alloc, bytes).map(|segments| segments.len());
-    assert_eq!(rt; whole, wanted);
-    assert_eq!(rt; count_in_pieces(rt, alloc, bytes, piece), wanted);
-    seen.inputs = seen.inputs.wrapping_add(1);
-    if let Err((_, fault)) = wanted {
-        seen.codes |= 1 << code(fault);
-    }
-    Ok(())
+    assert_row(rt, "whole", whole, wanted);
+    assert_row(
+        rt,
+        "in pieces",
+        count_in_pieces(rt, alloc, bytes, piece),
+        wanted,
+    );
+    seen.note(wanted);
 }
 
 /// Turns each bit of a bundle.
-fn turn_bits(rt: &impl Abort, alloc: Global, number: u32, seen: &mut Seen) -> Result<(), Fail> {
-    let mut bytes = bundle(alloc, number)?;
+fn turn_bits(rt: &impl Abort, alloc: Global, number: u32, seen: &mut Seen) {
+    let mut bytes = bundle(rt, alloc, number);
     for place in 0..bytes.len() {
         for bit in 0..8u32 {
             bytes[place] ^= 1 << bit;
-            check(rt, alloc, &bytes, place % 67, seen)?;
+            check(rt, alloc, &bytes, place % 67, seen);
             bytes[place] ^= 1 << bit;
         }
     }
-    Ok(())
 }
 
 // Each fault is met but S1: no bit makes a bundle shorter.
 #[test]
-fn turned_bits(rt: HostRuntime) -> Result<(), Fail> {
+fn turned_bits(rt: HostRuntime) {
     let mut seen = NOTHING;
     for number in 0..BUNDLES {
-        turn_bits(&rt, rt.alloc(), number, &mut seen)?;
+        turn_bits(&rt, rt.alloc(), number, &mut seen);
     }
     assert_eq!(rt; (seen.inputs, seen.codes), (967_648, 0x1_fffc));
-    Ok(())
 }
 
 /// Cuts a bundle at each byte.
-fn cut(rt: &impl Abort, alloc: Global, number: u32, seen: &mut Seen) -> Result<(), Fail> {
-    let bytes = bundle(alloc, number)?;
+fn cut(rt: &impl Abort, alloc: Global, number: u32, seen: &mut Seen) {
+    let bytes = bundle(rt, alloc, number);
     for len in 0..=bytes.len() {
-        check(rt, alloc, &bytes[..len], len % 67, seen)?;
+        check(rt, alloc, &bytes[..len], len % 67, seen);
     }
-    Ok(())
 }
 
 // Bytes that end too early have S1 or S10.
 #[test]
-fn cut_bundles(rt: HostRuntime) -> Result<(), Fail> {
+fn cut_bundles(rt: HostRuntime) {
     let mut seen = NOTHING;
     for number in 0..BUNDLES {
-        cut(&rt, rt.alloc(), number, &mut seen)?;
+        cut(&rt, rt.alloc(), number, &mut seen);
     }
     assert_eq!(rt; (seen.inputs, seen.codes), (121_456, 0x402));
-    Ok(())
 }

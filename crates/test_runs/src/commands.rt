@@ -2,9 +2,10 @@
 
 use htl_command::Question;
 use htl_main::{Completed, Coverage};
-use htl_samples::{SampleFault, TRACE};
+use htl_samples::TRACE;
 use htl_segment::encode;
 use std::alloc::Global;
+use std::process::Abort;
 
 /// A trace in two inputs.
 pub const INPUTS: [&str; 2] = [
@@ -12,8 +13,8 @@ pub const INPUTS: [&str; 2] = [
     "0/1: C 4 0x44, B 5 0x45 [0x30], R 6 0x1000 Lky8 [0x1004], D 7 0x1000 Dflt",
 ];
 
-/// No segment of it is missing, it has events of what each command asks about, and each answer finds
-/// something.
+/// No segment of it is missing, it has events of what each command asks about, and each answer
+/// finds something.
 pub const COMPLETED: Completed = Completed {
     coverage: Coverage {
         gaps: 0,
@@ -26,9 +27,23 @@ pub const COMPLETED: Completed = Completed {
 pub const SYMBOLS: &str = "start,end,module,name\n1000,1010,app,main\n";
 
 /// The bytes of an input.
-pub fn bytes_of(alloc: Global, line: &str) -> Result<Vec<u8>, SampleFault> {
-    let segment = TRACE.segment(alloc, line)?;
-    Ok(encode(alloc, &segment)?)
+pub fn bytes_of(rt: &impl Abort, alloc: Global, line: &str) -> Vec<u8> {
+    let segment = TRACE
+        .segment(alloc, line)
+        .expect(rt, "the line is a segment");
+    encode(alloc, &segment).expect(rt, "the memory")
+}
+
+/// Digits of two letters for each byte.
+pub fn digits_of(rt: &impl Abort, alloc: Global, bytes: &[u8]) -> Vec<u8> {
+    let mut digits = Vec::new(alloc);
+    for byte in bytes {
+        for digit in [byte >> 4, byte & 15] {
+            let letter = b"0123456789abcdef"[digit as usize];
+            digits.push(letter).expect(rt, "the memory");
+        }
+    }
+    digits
 }
 
 /// A question, and the text that answers it.
@@ -38,7 +53,7 @@ pub struct Command {
     pub text: &'static str,
 }
 
-pub const COMMANDS: [Command; 8] = [
+pub const COMMANDS: &[Command] = &[
     Command {
         question: Question::Summary,
         text: "\

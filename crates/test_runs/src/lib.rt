@@ -6,7 +6,7 @@
 //! their calls in turn, and in `texts` those of runs that dump and encode. In `changes` each bit of
 //! generated bundles (`bundles`) is turned, and they are cut at each byte: what the readers of the
 //! format answer is compared with `plain`, a reader that was written from the description of the
-//! format alone.
+//! format alone. `comparison` has what the tests assert of each row.
 #![tactic(auto)]
 
 #[cfg(test)]
@@ -15,6 +15,8 @@ mod bundles;
 mod changes;
 #[cfg(test)]
 mod commands;
+#[cfg(test)]
+mod comparison;
 #[cfg(test)]
 mod devices;
 #[cfg(test)]

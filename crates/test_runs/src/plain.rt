@@ -174,8 +174,9 @@ fn fields_hold(kind: u64, bytes: &[u8]) -> bool {
 /// The little-endian number of so many bytes at a place. Bytes that aren't there count as 0.
 fn number(bytes: &[u8], place: usize, width: usize) -> u64 {
     let mut number = 0;
-    for byte in bytes.iter().skip(place).take(width).rev() {
-        number = number << 8 | u64::from(*byte);
+    for offset in (0..width).rev() {
+        let byte = bytes.get(place.wrapping_add(offset)).copied();
+        number = number << 8 | u64::from(byte.unwrap_or(0));
     }
     number
 }

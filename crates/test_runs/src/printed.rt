@@ -1,13 +1,15 @@
 //! What a run prints, and why it is refused, for whole inputs.
 
+use crate::commands::bytes_of;
+use crate::comparison::assert_row;
 use crate::rows::{PRINTED, Printed, REFUSED, Refused, STORED, STORED_COMPLETED, STORED_TEXT};
 use htl_command::{Format, Job, Question};
 use htl_main::{Between, Completed, Origin, Refused as Refusal, RunFault, Writing, run};
 use htl_samples::TRACE;
-use htl_segment::encode;
 use std::alloc::Global;
+use std::fmt;
+use std::process::Abort;
 use std::sync::Wait;
-use std::test::Fail;
 use std::thread::Threads;
 
 /// The question of the stored run.
@@ -27,23 +29,22 @@ pub fn over_bytes(question: Question) -> Job {
 }
 
 /// The bytes of segments that are given by lines, with semicolons between them.
-fn bundle(alloc: Global, lines: &str) -> Result<Vec<u8>, Fail> {
+fn bundle(rt: &impl Abort, alloc: Global, lines: &str) -> Vec<u8> {
     let mut bytes = Vec::new(alloc);
-    for line in lines.split(';') {
-        if !line.trim().is_empty() {
-            let segment = TRACE.segment(alloc, line)?;
-            bytes.extend_from_slice(&encode(alloc, &segment)?)?;
-        }
+    for line in lines.split(';').filter(|line| !line.trim().is_empty()) {
+        let more = bytes_of(rt, alloc, line);
+        bytes.extend_from_slice(&more).expect(rt, "the memory");
     }
-    Ok(bytes)
+    bytes
 }
 
-pub fn bundles(alloc: Global, inputs: &[&str]) -> Result<Vec<Vec<u8>>, Fail> {
+pub fn bundles(rt: &impl Abort, alloc: Global, inputs: &[&str]) -> Vec<Vec<u8>> {
     let mut all = Vec::new(alloc);
     for lines in inputs {
-        all.push(bundle(alloc, lines)?)?;
+        let bytes = bundle(rt, alloc, lines);
+        all.push(bytes).expect(rt, "the memory");
     }
-    Ok(all)
+    all
 }
 
 /// What was written, and how the run ended.
@@ -55,89 +56,102 @@ pub fn printed(
     symbols: Option<&str>,
 ) -> (Vec<u8>, Result<Completed, Refusal>) {
     let mut written = Vec::new(alloc);
-    let symbols = symbols.map(|text| text.as_bytes());
     let ended = run(
         rt,
         alloc,
         job,
         inputs,
-        symbols,
+        table_of(symbols),
         &mut Writing::new(&mut written),
     );
     (written, ended)
 }
 
-/// What is printed for a row by so many workers.
-fn printed_row(
-    rt: &(impl Threads + Wait + Sync),
+/// The bytes of a symbol table.
+pub fn table_of(symbols: Option<&str>) -> Option<&[u8]> {
+    Some(symbols?.as_bytes())
+}
+
+/// The fault of a run that writes nothing.
+pub fn fault_of(rt: &impl Abort, written: &[u8], ended: Result<Completed, Refusal>) -> RunFault {
+    refusal(rt, written, ended).fault
+}
+
+/// The refusal of a run that writes nothing.
+fn refusal(rt: &impl Abort, written: &[u8], ended: Result<Completed, Refusal>) -> Refusal {
+    assert!(rt; written.is_empty(), "something was written");
+    ended.err().expect(rt, "it was printed")
+}
+
+/// The fault, or the refusal, has this line.
+pub fn has_line(rt: &impl Abort, alloc: Global, fault: &impl fmt::Display, line: &str) {
+    let text = format!(in alloc; "{fault}").expect(rt, "the memory");
+    assert!(rt; text.as_str() == line, "{text}");
+}
+
+/// A row's text is printed by so many workers.
+fn is_printed(
+    rt: &(impl Threads + Wait + Sync + Abort),
     alloc: Global,
     row: &Printed,
     workers: u32,
-) -> Result<Vec<u8>, Fail> {
-    let inputs = bundles(alloc, row.inputs)?;
+) {
     let job = Job {
         workers,
         ..over_bytes(row.question)
     };
+    let inputs = bundles(rt, alloc, row.inputs);
     let (written, ended) = printed(rt, alloc, &job, &inputs, row.symbols);
-    ended?;
-    Ok(written)
-}
-
-/// The refusal of a run that writes nothing.
-pub fn refusal(written: &[u8], ended: Result<Completed, Refusal>) -> Result<Refusal, Fail> {
-    if !written.is_empty() {
-        return Err("something was written".into());
-    }
-    Ok(ended.err().ok_or("it was printed")?)
+    let found = (written.as_slice(), ended.is_ok());
+    assert_row(rt, row.name, found, (row.text.as_bytes(), true));
 }
 
 #[test]
-fn prints_the_same_for_every_number_of_workers(rt: HostRuntime) -> Result<(), Fail> {
-    for row in &PRINTED {
+fn prints_the_same_for_every_number_of_workers(rt: HostRuntime) {
+    for row in PRINTED {
         for workers in [1, 2, 8] {
-            let written = printed_row(&rt, rt.alloc(), row, workers)?;
-            assert_eq!(rt; written.as_slice(), row.text.as_bytes(), "{}", row.name);
+            is_printed(&rt, rt.alloc(), row, workers);
         }
     }
-    Ok(())
+}
+
+/// What is printed of inputs in hexadecimal by so many workers, and how that ends.
+fn printed_of_digits(
+    rt: &(impl Threads + Wait + Sync + Abort),
+    alloc: Global,
+    workers: u32,
+    inputs: &[&str],
+    symbols: Option<&str>,
+) -> (Vec<u8>, Result<Completed, Refusal>) {
+    let job = Job {
+        hex: true,
+        workers,
+        ..over_bytes(OUTSTANDING)
+    };
+    let inputs = texts(rt, alloc, inputs);
+    printed(rt, alloc, &job, &inputs, symbols)
+}
+
+/// Inputs that are texts.
+fn texts(rt: &impl Abort, alloc: Global, inputs: &[&str]) -> Vec<Vec<u8>> {
+    let mut all = Vec::new(alloc);
+    for input in inputs {
+        let text = Vec::from_slice(alloc, input.as_bytes()).expect(rt, "the memory");
+        all.push(text).expect(rt, "the memory");
+    }
+    all
 }
 
 #[test]
-fn prints_the_stored_run(rt: HostRuntime) -> Result<(), Fail> {
-    let job = Job {
-        hex: true,
-        ..over_bytes(OUTSTANDING)
-    };
-    let inputs = vec![in rt.alloc(); Vec::from_slice(rt.alloc(), STORED.as_bytes())?]?;
-    let (written, ended) = printed(&rt, rt.alloc(), &job, &inputs, None);
-    assert_eq!(rt; ended, Ok(STORED_COMPLETED));
-    assert_eq!(rt; written.as_slice(), STORED_TEXT.as_bytes());
-    Ok(())
+fn prints_the_stored_run(rt: HostRuntime) {
+    let (written, ended) = printed_of_digits(&rt, rt.alloc(), 1, &[STORED], None);
+    let wanted = (STORED_TEXT.as_bytes(), Ok(STORED_COMPLETED));
+    assert_row(&rt, "the stored run", (written.as_slice(), ended), wanted);
 }
 
-/// The fault of a run over a row's inputs.
-fn refused_row(
-    rt: &(impl Threads + Wait + Sync),
-    alloc: Global,
-    row: &Refused,
-) -> Result<RunFault, Fail> {
-    let mut inputs = Vec::new(alloc);
-    for input in row.inputs {
-        inputs.push(Vec::from_slice(alloc, input.as_bytes())?)?;
-    }
-    let job = Job {
-        hex: true,
-        workers: row.workers,
-        ..over_bytes(OUTSTANDING)
-    };
-    let (written, ended) = printed(rt, alloc, &job, &inputs, row.symbols);
-    Ok(refusal(&written, ended)?.fault)
-}
-
-/// Lines of segments, a question, and whether its answer finds something. Tags alone have a row that
-/// is no finding.
-const FINDINGS: [(&str, Question, bool); 9] = [
+/// Lines of segments, a question, and whether its answer finds something. Tags alone have a row
+/// that is no finding.
+const FINDINGS: &[(&str, Question, bool)] = &[
     ("0/0: O 1 0x44, C 2 0x44, B 3 0x7", OUTSTANDING, false),
     (
         "0/0: O 1 0x44, S 2",
@@ -172,69 +186,92 @@ const FINDINGS: [(&str, Question, bool); 9] = [
 ];
 
 #[test]
-fn says_whether_the_answer_finds_something(rt: HostRuntime) -> Result<(), Fail> {
+fn says_whether_the_answer_finds_something(rt: HostRuntime) {
     for (lines, question, has_finding) in FINDINGS {
-        let inputs = bundles(rt.alloc(), &[lines])?;
-        let (_, ended) = printed(&rt, rt.alloc(), &over_bytes(question), &inputs, None);
-        assert_eq!(rt; ended?.has_finding, has_finding, "of {lines}");
+        let found = has_finding_of(&rt, rt.alloc(), lines, *question);
+        assert_row(&rt, *lines, found, *has_finding);
     }
-    Ok(())
+}
+
+/// Whether the answer to a question about segments that are given by lines finds something.
+fn has_finding_of(
+    rt: &(impl Threads + Wait + Sync + Abort),
+    alloc: Global,
+    lines: &str,
+    question: Question,
+) -> bool {
+    let inputs = bundles(rt, alloc, &[lines]);
+    let (_, ended) = printed(rt, alloc, &over_bytes(question), &inputs, None);
+    ended.expect(rt, "it is printed").has_finding
 }
 
 #[test]
-fn refuses_with_a_line_and_a_status(rt: HostRuntime) -> Result<(), Fail> {
-    for row in &REFUSED {
-        let fault = refused_row(&rt, rt.alloc(), row)?;
-        assert_eq!(rt; fault.to_string(rt.alloc())?.as_str(), row.line);
-        assert_eq!(rt; fault.status(), row.status);
+fn refuses_with_a_line_and_a_status(rt: HostRuntime) {
+    for row in REFUSED {
+        is_refused(&rt, rt.alloc(), row);
     }
-    Ok(())
+}
+
+/// A row is refused with its line and its status.
+fn is_refused(rt: &(impl Threads + Wait + Sync + Abort), alloc: Global, row: &Refused) {
+    let (written, ended) = printed_of_digits(rt, alloc, row.workers, row.inputs, row.symbols);
+    let fault = fault_of(rt, &written, ended);
+    has_line(rt, alloc, &fault, row.line);
+    assert_row(rt, row.line, fault.status(), row.status);
+}
+
+/// Inputs by the lines of their segments that are no case, the line of the refusal, and the input
+/// and the number of each of the two segments that it is about.
+const NO_CASES: &[(&[&str], &str, Option<((u64, u32), (u64, u32))>)] = &[
+    (&[], "hleak: case: C1", None),
+    (
+        &["0/3: O 1 0x44", "", "0/2:; 0/3: O 2 0x44"],
+        "hleak: case: C4(0, 3)",
+        Some(((0, 3), (2, 3))),
+    ),
+    (
+        &["0/0: O 1 0x44; 0/1: O 1 0x48"],
+        "hleak: case: C5(1)",
+        Some(((0, 0), (0, 1))),
+    ),
+    (
+        &["0/0: O 5 0x44; 0/1:", "0/2: O 4 0x48"],
+        "hleak: case: C7(0, 2)",
+        Some(((1, 2), (0, 0))),
+    ),
+    (&["", ""], "hleak: case: C1", None),
+];
+
+#[test]
+fn refuses_what_is_no_case(rt: HostRuntime) {
+    for (inputs, line, places) in NO_CASES {
+        let refused = refused_lines(&rt, rt.alloc(), inputs);
+        has_line(&rt, rt.alloc(), &refused, line);
+        let found = (refused.fault.status(), refused.between);
+        assert_row(&rt, *line, found, (4, between(*places)));
+    }
 }
 
 /// The refusal of a run over inputs that are given by lines. Its symbols have a fault too.
 fn refused_lines(
-    rt: &(impl Threads + Wait + Sync),
+    rt: &(impl Threads + Wait + Sync + Abort),
     alloc: Global,
     inputs: &[&str],
-) -> Result<Refusal, Fail> {
-    let inputs = bundles(alloc, inputs)?;
+) -> Refusal {
+    let inputs = bundles(rt, alloc, inputs);
     let (written, ended) = printed(rt, alloc, &over_bytes(OUTSTANDING), &inputs, Some(""));
-    refusal(&written, ended)
+    refusal(rt, &written, ended)
 }
 
-#[test]
-fn refuses_what_is_no_case(rt: HostRuntime) -> Result<(), Fail> {
-    let nothing = Between::Nothing;
-    let table: [(&[&str], &str, Between); 5] = [
-        (&[], "hleak: case: C1", nothing),
-        (
-            &["0/3: O 1 0x44", "", "0/2:; 0/3: O 2 0x44"],
-            "hleak: case: C4(0, 3)",
-            Between::Two(origin(0, 3), origin(2, 3)),
-        ),
-        (
-            &["0/0: O 1 0x44; 0/1: O 1 0x48"],
-            "hleak: case: C5(1)",
-            Between::Two(origin(0, 0), origin(0, 1)),
-        ),
-        (
-            &["0/0: O 5 0x44; 0/1:", "0/2: O 4 0x48"],
-            "hleak: case: C7(0, 2)",
-            Between::Two(origin(1, 2), origin(0, 0)),
-        ),
-        (&["", ""], "hleak: case: C1", nothing),
-    ];
-    for (inputs, line, between) in table {
-        let refused = refused_lines(&rt, rt.alloc(), inputs)?;
-        assert_eq!(rt; refused.to_string(rt.alloc())?.as_str(), line);
-        assert_eq!(rt; refused.fault.status(), 4);
-        assert_eq!(rt; refused.between, between);
+fn between(places: Option<((u64, u32), (u64, u32))>) -> Between {
+    match places {
+        Some((first, second)) => Between::Two(origin(first), origin(second)),
+        None => Between::Nothing,
     }
-    Ok(())
 }
 
-/// That of segment `number` of processor 0, of an input.
-fn origin(input: u64, number: u32) -> Origin {
+/// That of a segment of processor 0, by its input and its number.
+fn origin((input, number): (u64, u32)) -> Origin {
     Origin {
         input,
         trace_id: TRACE.id,

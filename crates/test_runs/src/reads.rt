@@ -1,15 +1,15 @@
 //! Sources that give a few bytes a read, and that fail at each of their reads in turn.
 
-use crate::commands::{COMMANDS, COMPLETED, Command, INPUTS, SYMBOLS, bytes_of};
+use crate::commands::{COMMANDS, COMPLETED, Command, INPUTS, SYMBOLS, bytes_of, digits_of};
+use crate::comparison::assert_row;
+use crate::devices::printed_from;
 use crate::pieces::Pieces;
 use crate::printed::over_bytes;
 use htl_command::Job;
-use htl_main::{Completed, Reading, Refused, RunFault, Writing, run_from};
-use htl_samples::SampleFault;
+use htl_main::{Completed, Reading, Refused, RunFault};
 use std::alloc::Global;
 use std::process::Abort;
 use std::sync::Wait;
-use std::test::Fail;
 use std::thread::Threads;
 
 /// Two inputs that give so many bytes a read.
@@ -43,16 +43,7 @@ impl<'a> Sources<'a> {
             Reading::new(self.source(self.first, reads)),
             Reading::new(self.source(self.second, reads_left)),
         ];
-        let mut written = Vec::new(alloc);
-        let ended = run_from(
-            rt,
-            alloc,
-            job,
-            &mut sources,
-            Some(SYMBOLS.as_bytes()),
-            &mut Writing::new(&mut written),
-        );
-        (written, ended)
+        printed_from(rt, alloc, job, &mut sources, Some(SYMBOLS))
     }
 }
 
@@ -68,37 +59,30 @@ fn fail_reads(
     let reads_of_first = sources.reads_of(sources.first);
     let reads = reads_of_first.saturating_add(sources.reads_of(sources.second));
     for read in 0..reads {
-        let input = if read < reads_of_first { 0 } else { 1 };
         let (written, ended) = sources.run(rt, alloc, job, read);
-        assert_eq!(rt; ended, Err(RunFault::Read { input }.into()), "read {read}");
-        assert!(rt; written.is_empty(), "read {read}");
+        let input = u64::from(read >= reads_of_first);
+        let wanted = Err(RunFault::Read { input }.into());
+        assert_row(
+            rt,
+            read,
+            (written.as_slice(), ended),
+            ([].as_slice(), wanted),
+        );
     }
     let (written, ended) = sources.run(rt, alloc, job, reads);
-    assert_eq!(rt; ended, Ok(COMPLETED));
-    assert_eq!(rt; written.as_slice(), text.as_bytes());
+    let wanted = (text.as_bytes(), Ok(COMPLETED));
+    assert_row(rt, reads, (written.as_slice(), ended), wanted);
     reads
-}
-
-/// Digits of two letters for each byte.
-fn digits_of(alloc: Global, bytes: &[u8]) -> Result<Vec<u8>, SampleFault> {
-    let mut digits = Vec::new(alloc);
-    for byte in bytes {
-        for digit in [byte >> 4, byte & 15] {
-            digits.push(b"0123456789abcdef"[digit as usize])?;
-        }
-    }
-    Ok(digits)
 }
 
 /// Fails the reads of one command, which give 1, 7 and 65,536 bytes.
 fn fail_reads_of(
     rt: &(impl Threads + Wait + Sync + Abort),
     alloc: Global,
-    command: Command,
+    command: &Command,
     hex: bool,
-    inputs: [&[u8]; 2],
+    (first, second): (&[u8], &[u8]),
 ) -> usize {
-    let [first, second] = inputs;
     let job = Job {
         hex,
         ..over_bytes(command.question)
@@ -115,30 +99,32 @@ fn fail_reads_of(
     failed
 }
 
-#[test]
-fn failing_reads(rt: HostRuntime) -> Result<(), Fail> {
-    let alloc = rt.alloc();
-    let first = bytes_of(alloc, INPUTS[0])?;
-    let second = bytes_of(alloc, INPUTS[1])?;
+/// Fails the reads of all commands over these two inputs.
+fn fail_all_reads(
+    rt: &(impl Threads + Wait + Sync + Abort),
+    alloc: Global,
+    hex: bool,
+    inputs: (&[u8], &[u8]),
+) -> usize {
     let mut failed: usize = 0;
     for command in COMMANDS {
-        let more = fail_reads_of(&rt, alloc, command, false, [&first, &second]);
-        failed = failed.wrapping_add(more);
+        failed = failed.wrapping_add(fail_reads_of(rt, alloc, command, hex, inputs));
     }
-    assert_eq!(rt; failed, 3328);
-    Ok(())
+    failed
 }
 
 #[test]
-fn failing_reads_of_digits(rt: HostRuntime) -> Result<(), Fail> {
-    let alloc = rt.alloc();
-    let first = digits_of(alloc, &bytes_of(alloc, INPUTS[0])?)?;
-    let second = digits_of(alloc, &bytes_of(alloc, INPUTS[1])?)?;
-    let mut failed: usize = 0;
-    for command in COMMANDS {
-        let more = fail_reads_of(&rt, alloc, command, true, [&first, &second]);
-        failed = failed.wrapping_add(more);
-    }
+fn failing_reads(rt: HostRuntime) {
+    let first = bytes_of(&rt, rt.alloc(), INPUTS[0]);
+    let second = bytes_of(&rt, rt.alloc(), INPUTS[1]);
+    let failed = fail_all_reads(&rt, rt.alloc(), false, (&first, &second));
+    assert_eq!(rt; failed, 3328);
+}
+
+#[test]
+fn failing_reads_of_digits(rt: HostRuntime) {
+    let first = digits_of(&rt, rt.alloc(), &bytes_of(&rt, rt.alloc(), INPUTS[0]));
+    let second = digits_of(&rt, rt.alloc(), &bytes_of(&rt, rt.alloc(), INPUTS[1]));
+    let failed = fail_all_reads(&rt, rt.alloc(), true, (&first, &second));
     assert_eq!(rt; failed, 6576);
-    Ok(())
 }

@@ -61,7 +61,7 @@ start,end,module,name
 2000,2001,app,main
 ";
 
-pub const PRINTED: [Printed; 13] = [
+pub const PRINTED: &[Printed] = &[
     Printed {
         name: "an empty segment",
         inputs: &["0/0:"],
@@ -228,7 +228,7 @@ pub struct Refused {
 }
 
 /// Each row but the first has a later fault after the one that is reported.
-pub const REFUSED: [Refused; 9] = [
+pub const REFUSED: &[Refused] = &[
     Refused {
         workers: 1,
         inputs: &[EMPTY],

@@ -1,12 +1,15 @@
 //! Summaries of traces of several processors, and how much of them is there.
 
-use crate::printed::{over_bytes, printed, refusal};
+use crate::comparison::assert_row;
+use crate::printed::{fault_of, has_line, over_bytes, printed};
 use htl_command::{Job, Question};
-use htl_main::Coverage;
+use htl_main::{Completed, Coverage, Refused};
 use htl_samples::Trace;
-use htl_segment::encode;
+use htl_segment::{Segment, encode};
 use std::alloc::Global;
-use std::test::Fail;
+use std::process::Abort;
+use std::sync::Wait;
+use std::thread::Threads;
 
 #[derive(Clone, Copy)]
 struct Summary {
@@ -107,75 +110,125 @@ PROCESS process=4 outstanding=0 opens=1 closes=1 bad=0 mark=3 exit=0
 ",
 };
 
+const SUMMARIES: &[Summary] = &[MISSING, TORN, ABSENT, WHOLE];
+
 /// One input with the segments of a trace.
-fn input(alloc: Global, row: &Summary) -> Result<Vec<Vec<u8>>, Fail> {
+fn input(rt: &impl Abort, alloc: Global, row: &Summary) -> Vec<Vec<u8>> {
+    let bytes = bytes_of(rt, alloc, row);
+    Vec::from_array(alloc, [bytes]).expect(rt, "the memory")
+}
+
+/// The bytes of a trace's segments.
+fn bytes_of(rt: &impl Abort, alloc: Global, row: &Summary) -> Vec<u8> {
+    let mut bytes = Vec::new(alloc);
+    for segment in &segments(rt, alloc, row) {
+        let more = encode(alloc, segment).expect(rt, "the memory");
+        bytes.extend_from_slice(&more).expect(rt, "the memory");
+    }
+    bytes
+}
+
+fn segments(rt: &impl Abort, alloc: Global, row: &Summary) -> Vec<Segment> {
     let trace = Trace {
         id: 7,
         processors: row.processors,
     };
-    let mut bytes = Vec::new(alloc);
-    for segment in &trace.segments(alloc, row.segments)? {
-        bytes.extend_from_slice(&encode(alloc, segment)?)?;
-    }
-    Ok(vec![in alloc; bytes]?)
+    let segments = trace.segments(alloc, row.segments);
+    segments.expect(rt, "the lines are segments")
 }
 
 #[test]
-fn prints_summaries(rt: HostRuntime) -> Result<(), Fail> {
-    for row in [MISSING, TORN, ABSENT, WHOLE] {
-        let inputs = input(rt.alloc(), &row)?;
+fn prints_summaries(rt: HostRuntime) {
+    for row in SUMMARIES {
         for workers in [1, 2, 4] {
-            let job = Job {
-                workers,
-                ..over_bytes(Question::Summary)
-            };
-            let (written, ended) = printed(&rt, rt.alloc(), &job, &inputs, None);
-            let completed = ended?;
-            assert_eq!(rt; completed.coverage, row.coverage);
-            assert_eq!(rt; completed.has_finding, row.has_finding);
-            assert_eq!(rt; written.as_slice(), row.text.as_bytes());
+            is_summarized(&rt, rt.alloc(), row, workers);
         }
     }
-    Ok(())
 }
 
-#[test]
-fn refuses_gaps_before_faulty_symbols(rt: HostRuntime) -> Result<(), Fail> {
+/// A trace's summary is printed by so many workers.
+fn is_summarized(
+    rt: &(impl Threads + Wait + Sync + Abort),
+    alloc: Global,
+    row: &Summary,
+    workers: u32,
+) {
+    let job = Job {
+        workers,
+        ..over_bytes(Question::Summary)
+    };
+    let (written, ended) = printed(rt, alloc, &job, &input(rt, alloc, row), None);
+    assert!(rt; written.as_slice() == row.text.as_bytes());
+    let completed = ended.expect(rt, "it is printed");
+    let found = (completed.coverage, completed.has_finding);
+    assert_row(rt, workers, found, (row.coverage, row.has_finding));
+}
+
+/// A run that asks for a complete case.
+fn printed_if_complete(
+    rt: &(impl Threads + Wait + Sync + Abort),
+    alloc: Global,
+    row: &Summary,
+    symbols: Option<&str>,
+) -> (Vec<u8>, Result<Completed, Refused>) {
     let job = Job {
         complete: true,
         ..over_bytes(Question::Summary)
     };
-    for row in [MISSING, TORN, ABSENT, WHOLE] {
-        let inputs = input(rt.alloc(), &row)?;
-        let symbols = row.missing.map(|_| "");
-        let (written, ended) = printed(&rt, rt.alloc(), &job, &inputs, symbols);
-        match row.missing {
-            Some(line) => {
-                let fault = refusal(&written, ended)?.fault;
-                assert_eq!(rt; fault.to_string(rt.alloc())?.as_str(), line);
-                assert_eq!(rt; fault.status(), 4);
-            }
-            None => {
-                ended?;
-                assert_eq!(rt; written.as_slice(), row.text.as_bytes());
-            }
-        }
-    }
-    Ok(())
+    printed(rt, alloc, &job, &input(rt, alloc, row), symbols)
 }
 
 #[test]
-fn each_command_reports_the_coverage(rt: HostRuntime) -> Result<(), Fail> {
+fn refuses_gaps_before_faulty_symbols(rt: HostRuntime) {
+    for row in SUMMARIES {
+        match row.missing {
+            Some(line) => is_incomplete(&rt, rt.alloc(), row, line),
+            None => is_complete(&rt, rt.alloc(), row),
+        }
+    }
+}
+
+/// A trace is refused with this line.
+fn is_incomplete(
+    rt: &(impl Threads + Wait + Sync + Abort),
+    alloc: Global,
+    row: &Summary,
+    line: &str,
+) {
+    let (written, ended) = printed_if_complete(rt, alloc, row, Some(""));
+    let fault = fault_of(rt, &written, ended);
+    has_line(rt, alloc, &fault, line);
+    assert_row(rt, line, fault.status(), 4);
+}
+
+/// A trace's summary is printed.
+fn is_complete(rt: &(impl Threads + Wait + Sync + Abort), alloc: Global, row: &Summary) {
+    let (written, ended) = printed_if_complete(rt, alloc, row, None);
+    assert!(rt; ended.is_ok() && written.as_slice() == row.text.as_bytes());
+}
+
+#[test]
+fn each_command_reports_the_coverage(rt: HostRuntime) {
     let listing = Question::Trace {
         process: 4,
         handle: 0x44,
     };
-    for row in [MISSING, TORN, WHOLE] {
-        let inputs = input(rt.alloc(), &row)?;
+    for row in [&MISSING, &TORN, &WHOLE] {
         for question in [listing, Question::Bad { process: 4 }] {
-            let (_, ended) = printed(&rt, rt.alloc(), &over_bytes(question), &inputs, None);
-            assert_eq!(rt; ended?.coverage, row.coverage);
+            let found = coverage_of(&rt, rt.alloc(), row, question);
+            assert_row(&rt, question, found, row.coverage);
         }
     }
-    Ok(())
+}
+
+/// How much of a trace the answer to a question reports to be there.
+fn coverage_of(
+    rt: &(impl Threads + Wait + Sync + Abort),
+    alloc: Global,
+    row: &Summary,
+    question: Question,
+) -> Coverage {
+    let inputs = input(rt, alloc, row);
+    let (_, ended) = printed(rt, alloc, &over_bytes(question), &inputs, None);
+    ended.expect(rt, "it is printed").coverage
 }

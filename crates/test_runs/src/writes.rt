@@ -1,6 +1,7 @@
 //! Sinks that take a few bytes a write, and that fail at each of their writes in turn.
 
 use crate::commands::{COMMANDS, COMPLETED, Command, INPUTS, SYMBOLS, bytes_of};
+use crate::comparison::assert_row;
 use crate::printed::over_bytes;
 use htl_main::{Completed, Refused, RunFault, Writing, run};
 use std::alloc::Global;
@@ -8,11 +9,10 @@ use std::io;
 use std::io::Write;
 use std::process::Abort;
 use std::sync::Wait;
-use std::test::Fail;
 use std::thread::Threads;
 
 /// How a write fails.
-#[derive(Clone, Copy, Debug, PartialEq, Eq)]
+#[derive(Clone, Copy)]
 enum Failure {
     /// By an error.
     Error,
@@ -52,15 +52,14 @@ impl Write for Narrow {
 fn run_into(
     rt: &(impl Threads + Wait + Sync),
     alloc: Global,
-    command: Command,
+    command: &Command,
     inputs: &[Vec<u8>],
     mut narrow: Narrow,
 ) -> (Vec<u8>, Result<Completed, Refused>) {
-    let job = over_bytes(command.question);
     let ended = run(
         rt,
         alloc,
-        &job,
+        &over_bytes(command.question),
         inputs,
         Some(SYMBOLS.as_bytes()),
         &mut Writing::new(&mut narrow),
@@ -68,58 +67,92 @@ fn run_into(
     (narrow.held, ended)
 }
 
-/// Fails each write of so many bytes in turn, and says how many. A run with a failed write
-/// reports it, and what was written before went out; with none the whole text does.
+/// Writes of a few bytes, and how one of them fails.
+#[derive(Clone, Copy)]
+struct Failing {
+    piece: usize,
+    failure: Failure,
+}
+
+impl Failing {
+    /// A writer that fails after so many writes.
+    fn after(self, alloc: Global, writes: usize) -> Narrow {
+        Narrow {
+            held: Vec::new(alloc),
+            piece: self.piece,
+            writes_left: writes,
+            failure: self.failure,
+        }
+    }
+
+    /// So much of a text goes out in so many writes.
+    fn went(self, text: &str, writes: usize) -> Option<&[u8]> {
+        text.as_bytes().get(..writes.saturating_mul(self.piece))
+    }
+}
+
+/// Fails each write in turn, and says how many. A run with a failed write reports it, and what was
+/// written before went out; with none the whole text does.
 fn fail_writes(
     rt: &(impl Threads + Wait + Sync + Abort),
     alloc: Global,
-    command: Command,
+    command: &Command,
     inputs: &[Vec<u8>],
-    piece: usize,
-    failure: Failure,
+    failing: Failing,
 ) -> usize {
-    let text = command.text.as_bytes();
-    let mut writes: usize = 0;
-    for before in text.chunks(piece.max(1)) {
-        let narrow = Narrow {
-            held: Vec::new(alloc),
-            piece,
-            writes_left: writes,
-            failure,
-        };
-        let (held, ended) = run_into(rt, alloc, command, inputs, narrow);
-        assert_eq!(rt; ended, Err(RunFault::Write.into()), "write {writes}");
-        let went = writes.saturating_mul(piece);
-        assert_eq!(rt; Some(held.as_slice()), text.get(..went), "write {writes}");
-        writes = writes.wrapping_add(1);
+    let writes = command.text.len().div_ceil(failing.piece.max(1));
+    for before in 0..writes {
+        let (held, ended) = run_into(rt, alloc, command, inputs, failing.after(alloc, before));
+        let found = (Some(held.as_slice()), ended);
+        let went = failing.went(command.text, before);
+        assert_row(rt, before, found, (went, Err(RunFault::Write.into())));
     }
-    let narrow = Narrow {
-        held: Vec::new(alloc),
-        piece,
-        writes_left: writes,
-        failure,
-    };
-    let (held, ended) = run_into(rt, alloc, command, inputs, narrow);
-    assert_eq!(rt; ended, Ok(COMPLETED));
-    assert_eq!(rt; held.as_slice(), text);
+    let (held, ended) = run_into(rt, alloc, command, inputs, failing.after(alloc, writes));
+    let whole = Some(command.text.as_bytes());
+    assert_row(
+        rt,
+        writes,
+        (Some(held.as_slice()), ended),
+        (whole, Ok(COMPLETED)),
+    );
     writes
 }
 
-#[test]
-fn failing_writes(rt: HostRuntime) -> Result<(), Fail> {
-    let alloc = rt.alloc();
-    let first = bytes_of(alloc, INPUTS[0])?;
-    let second = bytes_of(alloc, INPUTS[1])?;
-    let inputs = vec![in alloc; first, second]?;
+/// Fails the writes of one command of 1, 10 and 65,536 bytes, in both ways.
+fn fail_writes_of(
+    rt: &(impl Threads + Wait + Sync + Abort),
+    alloc: Global,
+    command: &Command,
+    inputs: &[Vec<u8>],
+) -> usize {
     let mut failed: usize = 0;
-    for command in COMMANDS {
-        for piece in [1, 10, 65_536] {
-            for failure in [Failure::Error, Failure::Nothing] {
-                let more = fail_writes(&rt, alloc, command, &inputs, piece, failure);
-                failed = failed.wrapping_add(more);
-            }
+    for piece in [1, 10, 65_536] {
+        for failure in [Failure::Error, Failure::Nothing] {
+            let failing = Failing { piece, failure };
+            let more = fail_writes(rt, alloc, command, inputs, failing);
+            failed = failed.wrapping_add(more);
         }
     }
+    failed
+}
+
+#[test]
+fn failing_writes(rt: HostRuntime) {
+    let inputs = inputs(&rt, rt.alloc());
+    let mut failed: usize = 0;
+    for command in COMMANDS {
+        let more = fail_writes_of(&rt, rt.alloc(), command, &inputs);
+        failed = failed.wrapping_add(more);
+    }
     assert_eq!(rt; failed, 2052);
-    Ok(())
+}
+
+/// The bytes of both inputs.
+fn inputs(rt: &impl Abort, alloc: Global) -> Vec<Vec<u8>> {
+    let mut inputs = Vec::new(alloc);
+    for line in INPUTS {
+        let bytes = bytes_of(rt, alloc, line);
+        inputs.push(bytes).expect(rt, "the memory");
+    }
+    inputs
 }

@@ -136,6 +136,7 @@ fn are_since<P: Part>(rt: &impl Abort, alloc: Global, parts: &[P], since: u64, o
     assert_list(rt, diff(alloc, parts, 4, since), &opens);
 }
 
+// The snapshot of process 4, and what was opened after it.
 fn have_marks<P: Part>(rt: &impl Abort, alloc: Global, parts: &[P]) {
     assert_is(rt, (mark(parts, 4), mark(parts, 5)), (10, 0));
     are_since(rt, alloc, parts, 10, "O 13 0x14, O 12 0x18");
@@ -204,6 +205,7 @@ fn counts_of_slots(rt: HostRuntime) {
     have_counts(&rt, rt.alloc(), &parts);
 }
 
+// What is counted of the folded and the held references together.
 fn have_counts<P: Part<Alloc = Global>>(rt: &impl Abort, alloc: Global, parts: &[P])
     requires { size_of_all (map P.contents parts.now) < 2 ^ 64 }
 {
@@ -215,6 +217,7 @@ fn have_counts<P: Part<Alloc = Global>>(rt: &impl Abort, alloc: Global, parts: &
     have_bad_reference(rt, bad(alloc, parts, 4));
 }
 
+// How many events are counted.
 fn total<P: Part<Alloc = Global>>(rt: &impl Abort, alloc: Global, parts: &[P]) -> u64
     requires { size_of_all (map P.contents parts.now) < 2 ^ 64 }
 {
@@ -222,6 +225,7 @@ fn total<P: Part<Alloc = Global>>(rt: &impl Abort, alloc: Global, parts: &[P]) -
     tree.total()
 }
 
+// The one handle that wasn't open, its stack, and how often it was used.
 fn have_bad_reference(rt: &impl Abort, made: Result<Vec<(u32, SharedStack, u64)>, NoMemory>) {
     let rows = made.expect(rt, "the memory");
     assert_is(rt, rows.len(), 1);

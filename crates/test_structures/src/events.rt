@@ -56,6 +56,7 @@ const SLOTS: &[Slot] = &[
     },
 ];
 
+/// The one is before the other.
 fn is_less<T: PartialOrd>(rt: &impl Abort, place: usize, one: &T, other: &T) {
     assert!(rt; one < other, "at {place}");
 }

@@ -79,14 +79,14 @@ impl<K: EventKind, A: Allocator + Clone> Table<A> for Greatest<K, A> {
     }
 }
 
-fn try_note_all<A: Allocator, T: Table<A>>(
-    table: &mut T,
-    events: &[SharedEvent],
-) -> Result<(), NoMemory> {
-    for event in events {
-        table.note(event)?;
+/// Notes the events until one is refused, and says how many were noted.
+fn note_all<A: Allocator, T: Table<A>>(table: &mut T, events: &[SharedEvent]) -> usize {
+    for (place, event) in events.iter().enumerate() {
+        if table.note(event).is_err() {
+            return place;
+        }
     }
-    Ok(())
+    events.len()
 }
 
 /// The table of the events of the lists, noted one by one from the last list to the first, if there
@@ -97,11 +97,14 @@ fn try_noted<A: Allocator, T: Table<A>, L: EventList>(
 ) -> Result<T, NoMemory> {
     let mut table = T::empty(alloc);
     for list in lists.iter().rev() {
-        try_note_all(&mut table, list.events())?;
+        if note_all(&mut table, list.events()) < list.events().len() {
+            return Err(NoMemory);
+        }
     }
     Ok(table)
 }
 
+/// The same where there is memory.
 fn noted<A: Allocator, T: Table<A>, L: EventList>(rt: &impl Abort, alloc: A, lists: &[L]) -> T {
     try_noted(alloc, lists).expect(rt, "the memory")
 }
@@ -157,6 +160,7 @@ fn is_same_otherwise<T: Table<Global>>(rt: &impl Abort, alloc: Global, lines: &s
     is_same(rt, gathered(rt, alloc, lines), table);
 }
 
+/// A join with an empty table is the table.
 fn is_same_joined<T: Table<Global>>(rt: &impl Abort, table: &T, none: &T) {
     is_same(rt, table.join(none), table);
     is_same(rt, none.join(table), table);
@@ -205,6 +209,7 @@ fn two_joined(rt: HostRuntime) {
     }
 }
 
+/// The join of two tables is the first or the second, and so is what was gathered of both.
 fn are_joined(
     rt: &impl Abort,
     first: &Latest<Global>,
@@ -283,6 +288,7 @@ fn are_marks<A: Allocator + Clone, L: EventList>(
     assert_is(rt, marks.rows(), rows);
 }
 
+/// The latest events of the lists are gathered as if each were noted by itself.
 fn have_latest<L: EventList>(rt: &impl Abort, alloc: Global, small: &LocalHeap, lists: &[L]) {
     let latest: Latest<Global> = noted(rt, alloc, lists);
     assert_is(rt, latest.rows().len() > 10, true);
@@ -290,6 +296,7 @@ fn have_latest<L: EventList>(rt: &impl Abort, alloc: Global, small: &LocalHeap, 
     are_latest(rt, small, lists, latest.rows());
 }
 
+/// The marks of the lists are gathered as if each were noted by itself.
 fn have_marks<L: EventList>(rt: &impl Abort, alloc: Global, small: &LocalHeap, lists: &[L]) {
     let marks: Marks<Global> = noted(rt, alloc, lists);
     assert_is(rt, marks.rows().len() > 1, true);
@@ -343,32 +350,21 @@ const CALLS: &[(&str, Kind, Call)] = &[
     ("exits copied", Kind::Exits, Call::Copy),
 ];
 
-// Notes the events until one is refused. The twin has room, and notes those that aren't.
-fn note_both<A: Allocator, T: Table<A>>(
-    rt: &impl Abort,
-    table: &mut T,
-    twin: &mut T,
-    events: &[SharedEvent],
-) -> Result<(), NoMemory> {
-    for event in events {
-        table.note(event)?;
-        twin.note(event).expect(rt, "room");
-    }
-    Ok(())
-}
-
-// Whether a note was refused. What was noted before it stands.
+// Whether a note was refused. What was noted before it stands. The twin has room.
 fn is_note_refused<A: Allocator, T: Table<A>>(
     rt: &impl Abort,
     mut table: T,
     mut twin: T,
     events: &[SharedEvent],
 ) -> bool {
-    let refused = note_both(rt, &mut table, &mut twin, events).is_err();
+    let noted = note_all(&mut table, events);
+    assert!(rt; noted <= events.len());
+    assert_is(rt, note_all(&mut twin, &events[..noted]), noted);
     assert_is(rt, table.same(&twin), true);
-    refused
+    noted < events.len()
 }
 
+// Whether a join with the twin was refused, if the table was made.
 fn is_join_refused<A: Allocator, T: Table<A>>(
     rt: &impl Abort,
     made: Result<T, NoMemory>,
@@ -380,6 +376,7 @@ fn is_join_refused<A: Allocator, T: Table<A>>(
     Ok(is_none(rt, table.join(twin), twin))
 }
 
+// Whether a copy was refused, if the table was made.
 fn is_copy_refused<A: Allocator, T: Table<A>>(
     rt: &impl Abort,
     made: Result<T, NoMemory>,
@@ -408,6 +405,7 @@ fn is_refused<A: Allocator + Clone, T: Table<A>>(
     }
 }
 
+// The same of a table of this kind.
 fn is_refused_of(
     rt: &impl Abort,
     kind: Kind,

@@ -20,6 +20,20 @@ fn try_insert<A: Allocator + Clone>(
     taken.insert(processor, number)
 }
 
+/// Inserts the segments until one is refused, and says how many were inserted.
+fn insert_all<A: Allocator + Clone>(
+    rt: &impl Abort,
+    taken: &mut Taken<A>,
+    segments: &[(u16, u32)],
+) -> usize {
+    for (place, (processor, number)) in segments.iter().enumerate() {
+        if try_insert(rt, taken, *processor, *number).is_err() {
+            return place;
+        }
+    }
+    segments.len()
+}
+
 /// A set of these segments of two processors, if there is memory.
 fn try_filled<A: Allocator + Clone>(
     rt: &impl Abort,
@@ -27,12 +41,13 @@ fn try_filled<A: Allocator + Clone>(
     segments: &[(u16, u32)],
 ) -> Result<Taken<A>, NoMemory> {
     let mut taken = Taken::new(alloc, 2)?;
-    for (processor, number) in segments {
-        try_insert(rt, &mut taken, *processor, *number)?;
+    if insert_all(rt, &mut taken, segments) < segments.len() {
+        return Err(NoMemory);
     }
     Ok(taken)
 }
 
+/// The same where there is memory.
 fn filled<A: Allocator + Clone>(rt: &impl Abort, alloc: A, segments: &[(u16, u32)]) -> Taken<A> {
     try_filled(rt, alloc, segments).expect(rt, "the memory")
 }
@@ -88,6 +103,7 @@ fn fronts_and_loose_numbers(rt: HostRuntime) {
     has_three(&rt, &settled(&rt, rt.alloc(), THREE, 0));
 }
 
+/// The set has the three, of which the first two are below the front.
 fn has_three(rt: &impl Abort, taken: &Taken<Global>) {
     is_at(rt, taken, 0, 2, 2, &[3]);
     assert_is(rt, taken.len(), 3);
@@ -116,6 +132,7 @@ fn a_union_of_two(rt: HostRuntime) {
     unites(&rt, &both, &taken, &other);
 }
 
+/// The union has what either set has, and neither has all of it.
 fn unites(rt: &impl Abort, both: &Taken<Global>, one: &Taken<Global>, other: &Taken<Global>) {
     is_at(rt, both, 0, 2, 4, &[2, 3]);
     is_at(rt, both, 1, 0, 1, &[0]);
@@ -187,29 +204,19 @@ const CALLS: &[(&str, Call)] = &[
     ("union", Call::Union),
 ];
 
-// Inserts the segments until one is refused. The twin has room, and takes those that aren't.
-fn insert_into_both<A: Allocator + Clone>(
-    rt: &impl Abort,
-    taken: &mut Taken<A>,
-    twin: &mut Taken<A>,
-) -> Result<(), NoMemory> {
-    for (processor, number) in SEGMENTS {
-        try_insert(rt, taken, *processor, *number)?;
-        try_insert(rt, twin, *processor, *number).expect(rt, "room");
-    }
-    Ok(())
-}
-
-// Whether an insertion was refused. What was taken before it stands.
+// Whether an insertion was refused. What was taken before it stands. The twin has room.
 fn is_insertion_refused<A: Allocator + Clone>(
     rt: &impl Abort,
     made: Result<Taken<A>, NoMemory>,
     mut twin: Taken<A>,
 ) -> Result<bool, NoMemory> {
     let mut taken = made?;
-    let refused = insert_into_both(rt, &mut taken, &mut twin).is_err();
+    let inserted = insert_all(rt, &mut taken, SEGMENTS);
+    assert!(rt; inserted <= SEGMENTS.len());
+    let before = &SEGMENTS[..inserted];
+    assert_is(rt, insert_all(rt, &mut twin, before), inserted);
     assert_is(rt, taken.same(&twin), true);
-    Ok(refused)
+    Ok(inserted < SEGMENTS.len())
 }
 
 // Whether the call was refused. What it made is the twin's.
@@ -227,6 +234,7 @@ fn is_none<A: Allocator + Clone>(
     }
 }
 
+// The same of a copy of a set, if that was made.
 fn is_copy_refused<A: Allocator + Clone>(
     rt: &impl Abort,
     made: Result<Taken<A>, NoMemory>,
@@ -236,6 +244,7 @@ fn is_copy_refused<A: Allocator + Clone>(
     Ok(is_none(rt, taken.copy(), twin))
 }
 
+// The same of the union of a set, if that was made, and its twin.
 fn is_union_refused<A: Allocator + Clone>(
     rt: &impl Abort,
     made: Result<Taken<A>, NoMemory>,

@@ -60,6 +60,7 @@ fn try_tree<A: Allocator + Clone>(
     Ok(tree)
 }
 
+// The same where there is memory.
 fn tree<A: Allocator + Clone>(rt: &impl Abort, alloc: A, counted: &[Counted]) -> StackTree<A> {
     try_tree(rt, alloc, counted).expect(rt, "the memory")
 }
@@ -74,6 +75,7 @@ fn try_plus<A: Allocator + Clone>(
     one.plus(other)
 }
 
+// The same where there is memory.
 fn plus<A: Allocator + Clone>(
     rt: &impl Abort,
     one: &StackTree<A>,
@@ -82,6 +84,7 @@ fn plus<A: Allocator + Clone>(
     try_plus(rt, one, other).expect(rt, "the memory")
 }
 
+// Whether a tree was made, and is this one.
 fn is_same<A: Allocator + Clone>(
     made: Result<StackTree<A>, NoMemory>,
     tree: &StackTree<A>,
@@ -100,10 +103,12 @@ const UNDER: &[(&[u64], Count)] = &[
     (&[0x20], Count { plus: 0, minus: 0 }),
 ];
 
+// How often the slot came with a stack.
 fn at<A: Allocator>(tree: &StackTree<A>, frames: &[u64]) -> Count {
     tree.at(SLOT, &stack(frames))
 }
 
+// What the tree of the three says of paths and of stacks.
 fn has_shared_outer_frames<A: Allocator>(rt: &impl Abort, three: &StackTree<A>) {
     for (path, count) in UNDER {
         assert_row(rt, *path, three.under(path, SLOT), *count);
@@ -113,11 +118,13 @@ fn has_shared_outer_frames<A: Allocator>(rt: &impl Abort, three: &StackTree<A>) 
     assert_is(rt, three.total(), 3);
 }
 
+// The tree counts what the tree of the three does, twice.
 fn is_doubled<A: Allocator>(rt: &impl Abort, three: &StackTree<A>) {
     assert_is(rt, at(three, X), Count { plus: 2, minus: 0 });
     assert_is(rt, three.total(), 6);
 }
 
+// The copy is the same, and the sum of both is doubled.
 fn adds_to_its_copy<A: Allocator + Clone>(rt: &impl Abort, three: &StackTree<A>) {
     let copy = three.copy().expect(rt, "the memory");
     assert_is(rt, copy.same(three), true);
@@ -132,6 +139,7 @@ const ORDERS: &[(&[Counted], bool)] = &[
     (&[AT_X, AT_Y], false),
 ];
 
+// The tree of the three, in any order.
 fn shared_outer_frames<A: Allocator + Clone + Copy>(rt: &impl Abort, alloc: A) {
     let three = tree(rt, alloc, THREE);
     has_shared_outer_frames(rt, &three);
@@ -154,6 +162,7 @@ const TWO: &[Counted] = &[AT_Y, AT_NONE, AT_X];
 
 const WITH_OTHER: &[Counted] = &[AT_NONE, AT_X, (OTHER, Sign::Plus, &[0x20, 0x10])];
 
+// The sum of trees that were made for it.
 fn sum(rt: &impl Abort, one: StackTree<Global>, other: StackTree<Global>) -> StackTree<Global> {
     plus(rt, &one, &other)
 }
@@ -201,6 +210,7 @@ fn has_rows_of(
 
 const SUMS: &[(Slot, Count)] = &[(SLOT, Count { plus: 2, minus: 1 })];
 
+// Each list of the tree of four is this.
 fn has_rows_and_sums(rt: &impl Abort, alloc: Global, four: &StackTree<Global>) {
     assert_counted(rt, four.rows(alloc, SLOT), ROWS);
     has_rows_of(rt, four.rows_of(alloc, Slots::OfObject(0x1000)), SLOT, ROWS);
@@ -268,6 +278,7 @@ const KINDS: [Kind; 7] = [
 /// The frames of stacks, and their fingerprints. The first two have one fingerprint.
 const STACKS: [(&[u64], u64); 4] = [(X, 1), (Y, 1), (&[0x20, 0x10], 2), (&[], 3)];
 
+// A shared stack of these frames, with this fingerprint.
 fn shared(rt: &impl Abort, alloc: Global, frames: &[u64], fingerprint: u64) -> SharedStack {
     assert!(rt; frames.len() <= 64);
     let frames = Vec::from_slice(alloc, frames).expect(rt, "the memory");
@@ -291,6 +302,7 @@ fn event(rt: &impl Abort, alloc: Global, number: u64) -> SharedEvent {
     }
 }
 
+// So many events that follow from the number.
 fn run(rt: &impl Abort, alloc: Global, first: u64, len: u64) -> Vec<SharedEvent> {
     let mut events = Vec::new(alloc);
     for number in 0..len {
@@ -302,6 +314,7 @@ fn run(rt: &impl Abort, alloc: Global, first: u64, len: u64) -> Vec<SharedEvent>
     events
 }
 
+// Runs of several lengths, also of none.
 fn runs(rt: &impl Abort, alloc: Global, first: u64) -> Vec<Vec<SharedEvent>> {
     let mut runs = Vec::new(alloc);
     for len in [17, 0, 1, 64] {
@@ -321,6 +334,7 @@ fn try_note<A: Allocator + Clone>(
     tree.note(event)
 }
 
+// Counts the events one by one.
 fn note<A: Allocator + Clone>(rt: &impl Abort, tree: &mut StackTree<A>, events: &[SharedEvent]) {
     for event in events {
         try_note(rt, tree, event).expect(rt, "the memory");
@@ -387,6 +401,7 @@ const CALLS: &[(&str, Call)] = &[
     ("copy", Call::Copy),
 ];
 
+// Whether the call is done on this tree.
 fn is_done_on<A: Allocator + Clone>(
     rt: &impl Abort,
     call: Call,

@@ -75,15 +75,15 @@ listed_kind Exited = (λ e. absurd cc, λ h. elim h [ inl a ↦ absurd cc | inr 
 of_handle : (process base : ℕ) (e : Event) → (is_of_handle process base e ≡ true) ↔ IsOfHandle process base e
 of_handle process base e = (
   λ h.
-      let handle = and_parts (is_listed_kind e.kind && eqb e.process process) (eqb (base_of e.handle) base) h in
-      let kind = and_parts (is_listed_kind e.kind) (eqb e.process process) handle.0 in
+      let kind = and_parts (eqb (base_of e.handle) base && eqb e.process process) (is_listed_kind e.kind) h in
+      let handle = and_parts (eqb (base_of e.handle) base) (eqb e.process process) kind.0 in
       record {
-        kind = (listed_kind e.kind).0 kind.0;
-        owner = eqb-true e.process process kind.1;
-        handle = eqb-true (base_of e.handle) base handle.1;
+        kind = (listed_kind e.kind).0 kind.1;
+        owner = eqb-true e.process process handle.1;
+        handle = eqb-true (base_of e.handle) base handle.0;
       },
-  λ of. and_from _ _ (and_from _ _ ((listed_kind e.kind).1 of.kind) (eq-eqb e.process process of.owner))
-      (eq-eqb (base_of e.handle) base of.handle),
+  λ of. and_from _ _ (and_from _ _ (eq-eqb (base_of e.handle) base of.handle) (eq-eqb e.process process of.owner))
+      ((listed_kind e.kind).1 of.kind),
 )
 
 -- ---- the listing

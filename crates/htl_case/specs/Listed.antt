@@ -13,7 +13,7 @@ is_listed_kind BadRef = true
 is_listed_kind other = false
 
 abbrev pub is_of_handle : ℕ → ℕ → Event → Bool
-is_of_handle process base e = is_listed_kind e.kind && (e.process == process) && (base_of e.handle == base)
+is_of_handle process base e = (base_of e.handle == base) && (e.process == process) && is_listed_kind e.kind
 
 -- no event comes after one of a lower sequence
 abbrev pub IsNewestFirst : List Event → Type 0

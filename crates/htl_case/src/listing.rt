@@ -37,12 +37,13 @@ impl Case {
     }
 }
 
+// The handle is compared first, since few events have it.
 fn is_of_handle(event: &SharedEvent, process: u32, base_handle: u32) -> bool
     ensures { result ≡ is_of_handle process base_handle event.now }
 {
-    matches!(event.kind, Kind::Opened | Kind::Closed | Kind::BadRef)
+    base(event.handle) == base_handle
         && event.process == process
-        && base(event.handle) == base_handle
+        && matches!(event.kind, Kind::Opened | Kind::Closed | Kind::BadRef)
 }
 
 fn push_rows(

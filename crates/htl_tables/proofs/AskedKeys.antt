@@ -9,7 +9,8 @@ use Rattle.htl_event.proofs.EventTests.{opens_or_closes_base}
 use Rattle.htl_tables.specs.declared.sort_key.SortKey.{SortKey}
 use Rattle.htl_tables.specs.Asked.{is_asked, touches, noted_of}
 use Rattle.htl_tables.specs.SortKeys.{sort_key_cmp, AreCandidates}
-use Rattle.htl_tables.proofs.FirstKeys.{FirstKeyIs, keys_noted, key_of_event, opens_of}
+use Rattle.htl_tables.specs.FirstKeys.{FirstKeyIs}
+use Rattle.htl_tables.proofs.FirstKeys.{keys_noted, key_of_event, opens_of}
 
 pub touches-opens : (asked : Option ℕ) (e : Event) → touches asked e ≡ true → opens_or_closes e.kind ≡ true
 touches-opens asked e c = (and_parts (opens_or_closes e.kind) (is_asked asked e.process) c).0

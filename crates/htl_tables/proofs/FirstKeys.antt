@@ -1,6 +1,6 @@
 -- Events noted in the order of their sort keys: of each handle the first leaves what is there.
 use Rattle.std.proofs.Common.{◌≡◌, ℕ, ◌+◌, Bool, true, false, ◌==◌, ◌&&◌, ◌<◌, ◌≤◌, List, length, Option}
-use Rattle.std.proofs.Common.{Some, None, sym, ap, ◌∙◌, inl, inr, arith, subst, slice_get, MatchOption, IsSorted}
+use Rattle.std.proofs.Common.{Some, None, sym, ap, ◌∙◌, inl, inr, arith, subst, slice_get, IsSorted}
 use Rattle.std.specs.Ordering.{is_lt}
 use Rattle.std.specs.Prelude.{flat_map}
 use Rattle.std.proofs.lemmas.Bool.{cases_Bool, cases_lt, and_parts, and_from, eqb-true, eq-eqb, le-ltb, both_ways}
@@ -13,14 +13,10 @@ use Rattle.htl_tables.specs.Latest.{with_event, noted}
 use Rattle.htl_event.specs.Handles.{opens_or_closes}
 use Rattle.htl_event.proofs.EventTests.{opens_or_closes_base}
 use Rattle.htl_tables.specs.SortKeys.{sort_key_cmp, sort_key_of, StandsAt, IsKeyIn, AreCandidates}
+use Rattle.htl_tables.specs.FirstKeys.{HasHandle, FirstKeyIs}
 use Rattle.htl_tables.proofs.SortKeyOrder.{no_later-trans, sorted_no_later, in_order}
 use Rattle.htl_tables.proofs.FlatPlaces.{flat_place, flat_place-le, stands_flat, flat_stands}
 use Rattle.htl_tables.proofs.FirstNoted.{FirstIs, FirstIs-noted, FirstIs-unique}
-
--- the key is of this handle
-pub record HasHandle (process base : ℕ) (k : SortKey) : Type 0 where
-  pub owner : k.process ≡ process
-  pub handle : k.base ≡ base
 
 pub key_of_event : (process base : ℕ) (e : Event) (r i : ℕ) → opens_or_closes_base process base e ≡ true
     → HasHandle process base (sort_key_of e r i)
@@ -57,19 +53,8 @@ module _ {X : Type 0} (events_of : X → List Event) (lists : List X) (test : Ev
       }
 
   module _ (keys : List SortKey) (process base : ℕ) where
-    -- the event is that of the handle's first key among the first n
-    pub record IsFirstKey (n : ℕ) (e : Event) : Type 0 where
-      pub place : ℕ
-      pub within : place < n
-      pub key : SortKey
-      pub at : slice_get keys place ≡ Some key
-      pub of : HasHandle process base key
-      pub stands : StandsAt events_of lists key.list key.index e
-      pub first : (k : ℕ) (u : SortKey) → k < n → slice_get keys k ≡ Some u → HasHandle process base u → place ≤ k
-
-    abbrev pub FirstKeyIs : ℕ → Option Event → Type 0
-    FirstKeyIs n o = MatchOption o ((k : ℕ) (u : SortKey) → k < n → slice_get keys k ≡ Some u → HasHandle process base u → ⊥)
-        (IsFirstKey n)
+    abbrev FirstOwnIs : ℕ → Option Event → Type 0
+    FirstOwnIs n o = FirstKeyIs events_of lists test keys process base n o
 
     module _ (opens : (e : Event) → test e ≡ true → opens_or_closes e.kind ≡ true)
         (are : AreCandidates events_of lists test keys) (sorted : IsSorted sort_key_cmp keys) where
@@ -78,7 +63,7 @@ module _ {X : Type 0} (events_of : X → List Event) (lists : List X) (test : Ev
 
       -- one more event was noted
       pub key_noted : (n : ℕ) (t : SortKey) (x : Event) → slice_get keys n ≡ Some t → StandsAt events_of lists t.list t.index x
-          → (o : Option Event) → FirstKeyIs n o → FirstKeyIs (n + 1) (with_event process base o x)
+          → (o : Option Event) → FirstOwnIs n o → FirstOwnIs (n + 1) (with_event process base o x)
       key_noted n t x at stands o h = elim (cases_Bool (opens_or_closes_base process base x)) [
         | inl c ↦ rw c (of_its_handle o h c)
         | inr f ↦ rw f (other o h f)
@@ -96,7 +81,7 @@ module _ {X : Type 0} (events_of : X → List Event) (lists : List X) (test : Ev
         not_of f of = both_ways (opens_or_closes_base process base x) f
             (opens_by_key process base x t.list t.index (opens x is.passes) (subst (HasHandle process base) is.key of))
 
-        other : (p : Option Event) → FirstKeyIs n p → opens_or_closes_base process base x ≡ false → FirstKeyIs (n + 1) p
+        other : (p : Option Event) → FirstOwnIs n p → opens_or_closes_base process base x ≡ false → FirstOwnIs (n + 1) p
         other None none f = λ k u lt at_k of. elim (cases_lt k n) [
           | inl before ↦ none k u before at_k of
           | inr past ↦ not_of f (subst (HasHandle process base) (sym (last k u lt (λ b. omega (arith, b, past)) at_k)) of)
@@ -114,8 +99,8 @@ module _ {X : Type 0} (events_of : X → List Event) (lists : List X) (test : Ev
           ];
         }
 
-        of_its_handle : (p : Option Event) → FirstKeyIs n p → opens_or_closes_base process base x ≡ true
-            → FirstKeyIs (n + 1) (later p (Some x))
+        of_its_handle : (p : Option Event) → FirstOwnIs n p → opens_or_closes_base process base x ≡ true
+            → FirstOwnIs (n + 1) (later p (Some x))
         of_its_handle None none c = record {
           place = n;
           within = omega arith;
@@ -157,7 +142,7 @@ module _ {X : Type 0} (events_of : X → List Event) (lists : List X) (test : Ev
 
       -- once all were noted, the event is the first of the latest, where all of the handle's pass
       pub keys_noted : ((e : Event) → opens_or_closes_base process base e ≡ true → test e ≡ true)
-          → (o : Option Event) → FirstKeyIs (length keys) o → o ≡ noted (flat_map events_of lists) process base
+          → (o : Option Event) → FirstOwnIs (length keys) o → o ≡ noted (flat_map events_of lists) process base
       keys_noted pass o h =
           let events = flat_map events_of lists in
           FirstIs-unique events process base o (noted events process base) (first o h) (FirstIs-noted process base events) where
@@ -191,7 +176,7 @@ module _ {X : Type 0} (events_of : X → List Event) (lists : List X) (test : Ev
                   order = met.order;
                 }
 
-            first : (q : Option Event) → FirstKeyIs (length keys) q → FirstIs (flat_map events_of lists) process base q
+            first : (q : Option Event) → FirstOwnIs (length keys) q → FirstIs (flat_map events_of lists) process base q
             first None none = λ p x at c.
                 let m = meets p x at c in
                 none m.place m.key (slice_get_within keys m.place m.key m.at) m.at m.of

@@ -16,12 +16,12 @@ get_left [] ys i x at = absurd (none-some x at)
 get_left (z ∷ zs) ys zero x at = at
 get_left (z ∷ zs) ys (suc i) x at = get_left zs ys i x at
 
-get_left_back : {X : Type 0} (xs ys : List X) (i : ℕ) (x : X) → i < length xs → slice_get (xs ++ ys) i ≡ Some x → slice_get xs i ≡ Some x
+pub get_left_back : {X : Type 0} (xs ys : List X) (i : ℕ) (x : X) → i < length xs → slice_get (xs ++ ys) i ≡ Some x → slice_get xs i ≡ Some x
 get_left_back [] ys i x lt at = absurd (omega (arith, lt))
 get_left_back (z ∷ zs) ys zero x lt at = at
 get_left_back (z ∷ zs) ys (suc i) x lt at = get_left_back zs ys i x (omega (arith, lt)) at
 
-get_right : {X : Type 0} (xs ys : List X) (i : ℕ) → slice_get (xs ++ ys) (length xs + i) ≡ slice_get ys i
+pub get_right : {X : Type 0} (xs ys : List X) (i : ℕ) → slice_get (xs ++ ys) (length xs + i) ≡ slice_get ys i
 get_right [] ys i = ap (slice_get ys) (omega arith)
 get_right (z ∷ zs) ys i =
     let next : length (z ∷ zs) + i ≡ suc (length zs + i) = omega arith in

@@ -8,6 +8,7 @@ pub mod FirstNoted
 pub mod Offering
 pub mod Gathering
 pub mod FlatPlaces
+pub mod EventsOfKeys
 pub mod FirstKeys
 pub mod AskedKeys
 pub mod Sequences

@@ -9,3 +9,4 @@ pub mod KeyLaws
 pub mod RowOrder
 pub mod Moments
 pub mod SortKeys
+pub mod FirstKeys

@@ -1,6 +1,7 @@
 -- The sort keys of events that open or close a handle: by handle, of one handle the latest first, and of
 -- one sequence the first of the list.
-use Rattle.std.specs.Prelude.{◌≡◌, ℕ, ◌⊎◌, Bool, true, false, List, Some, Contains, slice_get}
+use Rattle.std.specs.Prelude.{◌≡◌, ℕ, ◌+◌, ◌⊎◌, Bool, true, false, List, Some, Contains, slice_get}
+use Rattle.std.specs.Borrow.{Bor}
 use Rattle.std.specs.Ordering.{is_lt}
 use Rattle.std.specs.declared.cmp.Ordering.{Ordering}
 use Rattle.htl_event.specs.Events.{Event}
@@ -68,3 +69,14 @@ pub record Offers (k : SortKey) (old new : List SortKey) : Type 0 where
   pub each : (u : SortKey) → Contains new u → Contains old u ⊎ (k ≡ u)
   pub met : (u : SortKey) → IsMet old u → IsMet new u
   pub own : IsMet new k
+
+-- the event is that of the key at the place
+pub record IsEventAt {X : Type 0} (events_of : X → List Event) (lists : List X) (keys : List SortKey) (place : ℕ) (e : Event) : Type 0 where
+  pub key : SortKey
+  pub at : slice_get keys place ≡ Some key
+  pub stands : StandsAt events_of lists key.list key.index e
+
+-- the events are those of the keys from this place on
+abbrev pub AreEventsFrom : {X : Type 0} → (X → List Event) → List X → List SortKey → ℕ → List (Bor Event) → Type 0
+AreEventsFrom events_of lists keys start events = (i : ℕ) (e : Bor Event) → slice_get events i ≡ Some e
+    → IsEventAt events_of lists keys (start + i) e.now

@@ -5,7 +5,7 @@ ghost use Rattle.htl_tables.specs.Asked.{touches};
 ghost use Rattle.htl_tables.specs.SortKeys.{sort_key_cmp, AreCandidates};
 
 use crate::hints::{Hints, WAYS};
-use crate::sort_key::SortKey;
+use crate::sort_key::{SortKey, place_of};
 use htl_event::{EventList, NoMemory, SharedEvent};
 use std::alloc::{AllocError, Allocator};
 
@@ -29,7 +29,7 @@ pub(crate) fn candidates_in<R: EventList, A: Allocator + Clone>(
 {
     let mut candidates = Candidates::new(alloc, events_in(lists))?;
     for (list, events) in lists.iter().enumerate() {
-        candidates.gather(list, events.events(), asked)?;
+        candidates.gather(place_of(list)?, events.events(), asked)?;
     }
     let mut keys = candidates.keys;
     keys.sort_unstable();
@@ -74,7 +74,7 @@ impl<A: Allocator> Candidates<A> {
     /// Offers the key of each open and close of one list that is asked for.
     fn gather(
         &mut self,
-        list: usize,
+        list: u32,
         events: &[SharedEvent],
         asked: Option<u32>,
     ) -> Result<(), AllocError>
@@ -82,18 +82,20 @@ impl<A: Allocator> Candidates<A> {
             (Gathers list events.now (touches asked) self.old.keys.items self.new.keys.items) }
     {
         for (index, event) in events.iter().enumerate() {
+            let likely = self.hints.likely_place(&self.keys, events, index);
             if touches(event, asked) {
-                self.offer(SortKey::of(event, list, index))?;
+                self.offer(SortKey::of(event, list, place_of(index)?), likely)?;
             }
         }
         Ok(())
     }
 
-    /// Puts the key in the place of its handle's that comes later, or adds it where none is found.
-    fn offer(&mut self, key: SortKey) -> Result<(), AllocError>
+    /// Puts the key in the place of its handle's that comes later, which is likely to be this one,
+    /// or adds it where none is found.
+    fn offer(&mut self, key: SortKey, likely: usize) -> Result<(), AllocError>
         ensures { OnOk result (Offers key self.old.keys.items self.new.keys.items) }
     {
-        match self.find(&key) {
+        match self.find(&key, likely) {
             Ok(place) => {
                 let kept = &mut self.keys[place];
                 if key.cmp(kept).is_lt() {
@@ -108,10 +110,16 @@ impl<A: Allocator> Candidates<A> {
         Ok(())
     }
 
-    /// The place of a key of the same handle, where a hint has it, or else a cell for a hint.
-    fn find(&self, key: &SortKey) -> Result<usize, usize>
+    /// The place of a key of the same handle, where a hint has it, or else a cell for a hint. It is
+    /// likely to be this place.
+    fn find(&self, key: &SortKey, likely: usize) -> Result<usize, usize>
         ensures { IfOk result (IsPlaceOf self.now.keys.items key.now) }
     {
+        if let Some(other) = self.keys.get(likely)
+            && other.is_of_handle_of(key)
+        {
+            return Ok(likely);
+        }
         let first = self.hints.first_cell(key.process, key.base);
         for way in 0..WAYS {
             let cell = first.wrapping_add(way);

@@ -3,11 +3,14 @@
 use crate::by_handle::ByHandle;
 use crate::candidates::candidates_in;
 use crate::of_process::of_process;
-use crate::sort_key::handles_in;
+use crate::sort_key::{SortKey, events_between, handles_in};
 use htl_event::{EventList, NoMemory, SharedEvent, base};
 use htl_sorted::{merge, search};
 use std::alloc::Allocator;
 use std::marker::Model;
+
+/// How many events are looked at together.
+const BLOCK: usize = 32;
 
 /// The latest open or close of each base handle of each process.
 #[derive(Drop)]
@@ -115,11 +118,13 @@ impl<A: Allocator> Latest<A> {
 }
 
 impl<A: Allocator + Clone> Latest<A> {
-    ghost use Rattle.std.specs.Prelude.{◌≡◌, ◌≢◌, ◌==◌, ℕ, [], None, Ok, IfOk, Contains};
-    ghost use Rattle.std.specs.Prelude.{filter, flat_map};
+    ghost use Rattle.std.specs.Prelude.{◌≡◌, ◌≢◌, ◌==◌, ◌<◌, ◌≤◌, ℕ, [], None, Ok, IfOk, Contains};
+    ghost use Rattle.std.specs.Prelude.{filter, flat_map, length, IsSorted};
     ghost use Rattle.htl_event.specs.Handles.{LatestIs, later};
     ghost use Rattle.htl_tables.specs.Latest.{event_at, noted};
-    ghost use Rattle.htl_tables.specs.Asked.{noted_of};
+    ghost use Rattle.htl_tables.specs.Asked.{noted_of, touches};
+    ghost use Rattle.htl_tables.specs.SortKeys.{sort_key_cmp, AreCandidates};
+    ghost use Rattle.htl_tables.specs.FirstKeys.{HaveFirstKeys};
 
     /// The later event of both tables for each handle, this table's where their sequences are
     /// equal, under a clone of this table's allocator.
@@ -210,9 +215,37 @@ impl<A: Allocator + Clone> Latest<A> {
         let mut latest = Latest {
             rows: Vec::with_capacity(alloc, handles_in(&keys))?,
         };
-        for key in &keys {
-            latest.note(key.event(lists))?;
+        let mut noted = 0;
+        while noted < keys.len() {
+            noted = latest.note_block(&keys, noted, lists, asked)?;
         }
         Ok(latest)
+    }
+
+    /// Notes the events of a block of candidates' sort keys, which begins at this place. The answer
+    /// is where the next block begins.
+    fn note_block<R: EventList>(
+        &mut self,
+        keys: &[SortKey],
+        start: usize,
+        lists: &[R],
+        asked: Option<u32>,
+    ) -> Result<usize, NoMemory>
+        requires within { start < length keys.now }
+        requires keys { AreCandidates R.events_of lists.now (touches asked) keys.now }
+        requires sorted { IsSorted sort_key_cmp keys.now }
+        requires before { HaveFirstKeys R.events_of lists.now (touches asked) keys.now start
+            self.old }
+        ensures within { IfOk result (λ end. (start < end) × (end ≤ length keys.now)) }
+        ensures noted { IfOk result (λ end.
+            HaveFirstKeys R.events_of lists.now (touches asked) keys.now end self.new) }
+    {
+        let end = start.saturating_add(BLOCK).min(keys.len());
+        let alloc = self.rows.allocator().clone()?;
+        let events = events_between(alloc, keys, start, end, lists, asked)?;
+        for event in &events {
+            self.note(event)?;
+        }
+        Ok(end)
     }
 }

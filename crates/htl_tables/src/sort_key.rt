@@ -1,9 +1,13 @@
 //! Small keys of events, by which the latest of a handle are found: they are sorted in place of the
 //! events.
 
-ghost use Rattle.std.specs.Prelude.{◌≤◌, length};
+ghost use Rattle.std.specs.Prelude.{◌≡◌, ◌+◌, ◌≤◌, length, Contains, IfOk};
+ghost use Rattle.htl_tables.specs.declared.sort_key.SortKey.{SortKey};
+ghost use Rattle.htl_tables.specs.Asked.{touches};
+ghost use Rattle.htl_tables.specs.SortKeys.{IsKeyIn, AreEventsFrom};
 
-use htl_event::{EventList, SharedEvent, base};
+use htl_event::{EventList, NoMemory, SharedEvent, base};
+use std::alloc::{AllocError, Allocator};
 use std::cmp::Reverse;
 
 /// The sort key of an event that opens or closes a handle: by handle, of one handle the latest
@@ -14,9 +18,9 @@ pub(crate) struct SortKey {
     pub base: u32,
     pub sequence: Reverse<u64>,
     /// The place of the event's list.
-    pub list: usize,
+    pub list: u32,
     /// The event's place in its list.
-    pub index: usize,
+    pub index: u32,
 }
 
 impl SortKey {
@@ -24,7 +28,7 @@ impl SortKey {
     ghost use Rattle.htl_event.specs.Events.{Event};
     ghost use Rattle.htl_tables.specs.SortKeys.{StandsAt, sort_key_of};
 
-    pub fn of(event: &SharedEvent, list: usize, index: usize) -> SortKey
+    pub fn of(event: &SharedEvent, list: u32, index: u32) -> SortKey
         ensures { result ≡ sort_key_of event.now list index }
     {
         SortKey {
@@ -48,8 +52,16 @@ impl SortKey {
         requires { (e : Event) × StandsAt R.events_of lists.now self.now.list self.now.index e }
         ensures { StandsAt R.events_of lists.now self.now.list self.now.index result.now }
     {
-        &lists[self.list].events()[self.index]
+        &lists[self.list as usize].events()[self.index as usize]
     }
+}
+
+/// A place as sort keys have it, in half the memory. More lists than that, or a longer one, are
+/// refused as out of memory, of which their events alone would take hundreds of gigabytes.
+pub(crate) fn place_of(index: usize) -> Result<u32, AllocError>
+    ensures { IfOk result (λ place. place ≡ index) }
+{
+    u32::try_from(index).map_err(|_| AllocError)
 }
 
 /// How many handles the keys have.
@@ -57,4 +69,31 @@ pub(crate) fn handles_in(keys: &[SortKey]) -> usize
     ensures { result ≤ length keys.now }
 {
     keys.chunk_by(|one, next| one.is_of_handle_of(next)).count()
+}
+
+/// The events of the keys from one place on and below another. All of them are looked at before
+/// one is used, so that the memory of many is fetched at once.
+pub(crate) fn events_between<'a, R: EventList, A: Allocator>(
+    alloc: A,
+    keys: &[SortKey],
+    start: usize,
+    end: usize,
+    lists: &'a [R],
+    asked: Option<u32>,
+) -> Result<Vec<&'a SharedEvent, A>, NoMemory>
+    requires within { (start ≤ end) × (end ≤ length keys.now) }
+    requires keys { (k : SortKey) → Contains keys.now k
+        → IsKeyIn R.events_of lists.now (touches asked) k }
+    ensures each { IfOk result (λ events.
+        AreEventsFrom R.events_of lists.now keys.now start events.items) }
+    ensures all { IfOk result (λ events. start + length events.items ≡ end) }
+{
+    let mut events = Vec::with_capacity(alloc, end - start)?;
+    for place in start..end {
+        let event = keys[place].event(lists);
+        if event.kind.opens_or_closes() {
+            events.push(event)?;
+        }
+    }
+    Ok(events)
 }

@@ -60,27 +60,33 @@ impl<A: Allocator> Hints<A> {
 
     /// The place of the row that is likely to count the event at this index.
     ///
-    /// The events are asked for one after the other. They are looked for a block at a time, so that
-    /// the memory of many rows is fetched at once.
+    /// The events are asked for one after the other, and looked for a block at a time.
     pub fn likely_row(&mut self, rows: &[Row<'_>], events: &[SharedEvent], index: usize) -> usize {
         let within = index % BLOCK;
         if within == 0 {
-            for (offset, event) in events.iter().skip(index).take(BLOCK).enumerate() {
-                self.block[offset] = self.look(rows, event);
-            }
+            self.look(rows, events, index);
         }
         self.block[within]
     }
 
-    fn look(&self, rows: &[Row<'_>], event: &SharedEvent) -> usize {
-        let Some((slot, _)) = event.slot() else {
-            return NOWHERE;
-        };
-        let fingerprint = event.stack.fingerprint();
-        let place = self.place(self.cell(fingerprint, slot));
-        match rows.get(place) {
-            Some(row) if row.stack.first() == event.stack.frames().first() => place,
-            _ => NOWHERE,
+    /// Looks for the events of the block that begins at this index: for all their cells, then for
+    /// all places in these, and then at all rows there. So the memory of many is fetched at once.
+    fn look(&mut self, rows: &[Row<'_>], events: &[SharedEvent], index: usize) {
+        for (offset, event) in events.iter().skip(index).take(BLOCK).enumerate() {
+            self.block[offset] = match event.slot() {
+                Some((slot, _)) => self.cell(event.stack.fingerprint(), slot),
+                None => NOWHERE,
+            };
+        }
+        for offset in 0..BLOCK {
+            self.block[offset] = self.place(self.block[offset]);
+        }
+        for (offset, event) in events.iter().skip(index).take(BLOCK).enumerate() {
+            let place = self.block[offset];
+            self.block[offset] = match rows.get(place) {
+                Some(row) if is_likely(row, event) => place,
+                _ => NOWHERE,
+            };
         }
     }
 
@@ -90,4 +96,10 @@ impl<A: Allocator> Hints<A> {
             *number = (places & 0xffff_ffff) as u32;
         }
     }
+}
+
+/// Whether the row has a count and the event's fingerprint. Both are looked at, since both are
+/// needed next.
+fn is_likely(row: &Row<'_>, event: &SharedEvent) -> bool {
+    (row.fingerprint == event.stack.fingerprint()) & (row.count.plus | row.count.minus != 0)
 }

@@ -15,7 +15,7 @@ loop-list-preserved g c =
     let x = c.index-lists-list.result in
     let at : slice_get lists n ≡ Some x = slice_get_read lists (length lists) n x refl c.loop-list-test.true c.index-lists-list.is in
     from_more g.R.EventList.events_of lists (touches c.args.asked) n x c.loop-list.candidates.keys.items
-    c.gather.new.self.keys.items at (rw c.events.ensures at c.in_ok-gather.ensures) c.loop-list.invariant
+    c.gather.new.self.keys.items at (rw (c.events.ensures, c.in_ok-place_of.ensures) at c.in_ok-gather.ensures) c.loop-list.invariant
 
 pub returns-clause-all : goal.returns-clause-all
 returns-clause-all g c =

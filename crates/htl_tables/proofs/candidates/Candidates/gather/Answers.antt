@@ -4,7 +4,7 @@ use Rattle.std.proofs.lemmas.Option.{slice_get_read}
 use Rattle.htl_tables.specs.Asked.{touches}
 use Rattle.htl_tables.proofs.Gathering.{gathers_more, gathers_skip, gathers_whole}
 use Rattle.htl_tables.proofs.candidates.Candidates.gather.Goals as goal
-use Rattle.htl_tables.proofs.candidates.Candidates.gather.Goals.{then-touches+in_ok-offer, else-touches}
+use Rattle.htl_tables.proofs.candidates.Candidates.gather.Goals.{then-touches+in_ok-place_of+in_ok-offer, else-touches}
 
 pub loop-index-preserved : goal.loop-index-preserved
 loop-index-preserved g c =
@@ -15,8 +15,8 @@ loop-index-preserved g c =
     let e = c.index-events-index.result in
     let at : slice_get events i ≡ Some e = slice_get_read events (length events) i e refl c.loop-index-test.true c.index-events-index.is in
     elim c.if-touches.branch [
-      | then-touches+in_ok-offer w ↦
-          let offers = rw w.of.ensures at w.in_ok-offer.ensures in
+      | then-touches+in_ok-place_of+in_ok-offer w ↦
+          let offers = rw (w.of.ensures, w.in_ok-place_of.ensures) at w.in_ok-offer.ensures in
           rw w.self-is (gathers_more c.args.list events (touches c.args.asked) old i keys w.offer.new.self.keys.items
           e at (sym c.touches.ensures ∙ w.if-touches.true) offers c.loop-index.invariant)
       | else-touches w ↦

@@ -19,6 +19,6 @@ mod same;
 mod trials;
 
 pub use hand::Hand;
-pub use refusal::Refusal;
+pub use refusal::{Refusal, answered, both};
 pub use same::{Equal, Lent, Same, Spent};
 pub use trials::Trials;

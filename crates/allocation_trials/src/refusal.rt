@@ -51,6 +51,26 @@ impl Refusal {
     }
 }
 
+/// What a call answered, or why it gave no answer.
+pub fn answered<T, E>(answer: Result<T, E>) -> Result<T, Refusal>
+where
+    Refusal: From<E>,
+{
+    Ok(answer?)
+}
+
+/// Two values that a call is made on, or why one of them can't be made.
+pub fn both<A: Drop, B: Drop, E: Drop, F: Drop>(
+    one: Result<A, E>,
+    two: Result<B, F>,
+) -> Result<(A, B), Refusal>
+where
+    Refusal: From<E>,
+    Refusal: From<F>,
+{
+    Ok((one?, two?))
+}
+
 impl From<AllocError> for Refusal {
     ghost from_gives = { λ _. IsOutOfMemory };
 

@@ -4,6 +4,7 @@ ghost use Rattle.std.specs.Prelude.{◌≡◌, IsTrue};
 ghost use Rattle.htl_symbols.specs.Ranges.{resolved};
 ghost use Rattle.allocation_trials.specs.Lists.{AreSame};
 
+use crate::refusal::Refusal;
 use htl_analyst::Analyst;
 use htl_case::Case;
 use htl_segment::{Segment, Splitter};
@@ -34,6 +35,16 @@ pub trait Same {
 /// What compares by `==`.
 #[derive(Drop)]
 pub struct Equal<T>(pub T);
+
+impl<T> Equal<T> {
+    /// What a call answered, or why it gave no answer.
+    pub fn of<E>(answered: Result<T, E>) -> Result<Equal<T>, Refusal>
+    where
+        Refusal: From<E>,
+    {
+        Ok(Equal(answered?))
+    }
+}
 
 impl<T: PartialEq> Same for Equal<T> {
     ghost IsSame = { λ one two. IsTrue (T.eq one.0 two.0) };

@@ -44,12 +44,14 @@ enum Wrong {
     TooMany,
 }
 
-/// The calls that were tried so far.
+/// The calls that were tried so far. After one that does what it may not do no other is tried, and
+/// `finish` says what it did.
 #[derive(Drop)]
 pub struct Trials<'a, R> {
     rt: &'a R,
     calls: u64,
     refused: u64,
+    outcome: Result<()>,
 }
 
 impl<'a, R: Env + Print + Alloc<A = Global>> Trials<'a, R> {
@@ -59,6 +61,7 @@ impl<'a, R: Env + Print + Alloc<A = Global>> Trials<'a, R> {
             rt,
             calls: 0,
             refused: 0,
+            outcome: Ok(()),
         }
     }
 
@@ -68,7 +71,7 @@ impl<'a, R: Env + Print + Alloc<A = Global>> Trials<'a, R> {
     }
 
     /// Tries a call that only reads what it is made on.
-    pub fn reads<G, A, M, C>(&mut self, name: &str, mut make: M, mut call: C) -> Result<()>
+    pub fn reads<G, A, M, C>(&mut self, name: &str, mut make: M, mut call: C)
     where
         G: Drop,
         A: Same + Drop,
@@ -81,12 +84,11 @@ impl<'a, R: Env + Print + Alloc<A = Global>> Trials<'a, R> {
             name,
             |alloc| Ok(Lent(make(alloc)?)),
             |alloc, given: &mut Lent<G>| call(alloc, &given.0),
-        )
+        );
     }
 
-    /// Tries a call that may change what it is made on, and prints how many allocations were
-    /// refused.
-    pub fn changes<G, A, M, C>(&mut self, name: &str, make: M, call: C) -> Result<()>
+    /// Tries a call that may change what it is made on.
+    pub fn changes<G, A, M, C>(&mut self, name: &str, make: M, call: C)
     where
         G: Same + Drop,
         A: Same + Drop,
@@ -95,12 +97,19 @@ impl<'a, R: Env + Print + Alloc<A = Global>> Trials<'a, R> {
         requires make { M.IsAlwaysCallable make }
         requires call { C.IsAlwaysCallable call }
     {
-        let rt = self.rt;
-        match tried(&self.hand(), make, call) {
+        if self.outcome.is_ok() {
+            let tried = tried(&self.hand(), make, call);
+            self.outcome = self.print(name, tried);
+        }
+    }
+
+    /// Prints how many allocations of a call were refused.
+    fn print(&mut self, name: &str, tried: Result<Option<Counts>, Wrong>) -> Result<()> {
+        match tried {
             Err(wrong) => bail!("{name}: {wrong}"),
-            Ok(None) => println!(rt; "{name}: answered")?,
+            Ok(None) => println!(self.rt; "{name}: answered")?,
             Ok(Some(counts)) => {
-                println!(rt;
+                println!(self.rt;
                     "{name}: {} refused, {} done without",
                     counts.refused, counts.done_without
                 )?;
@@ -111,8 +120,10 @@ impl<'a, R: Env + Print + Alloc<A = Global>> Trials<'a, R> {
         Ok(())
     }
 
-    /// Prints how many calls were tried, and how many allocations were refused in all of them.
-    pub fn print_sum(&self) -> Result<()> {
+    /// Prints how many calls were tried, and how many allocations were refused in all of them, or
+    /// says what one did that it may not do.
+    pub fn finish(self) -> Result<()> {
+        self.outcome?;
         println!(self.rt;
             "{} calls, {} allocations refused",
             self.calls, self.refused

@@ -1,7 +1,6 @@
 //! Calls on an analyst, and its answers.
 
-use allocation_trials::{Equal, Refusal, Same, Trials};
-use anyhow::Result;
+use allocation_trials::{Equal, Refusal, Same, Trials, answered, both};
 use htl_analyst::{Analyst, Took};
 use htl_event::{Count, NoMemory, ObjectRow, ProcessRow, SharedEvent, SharedStack, Slot};
 use htl_samples::{SMALL, TRACE};
@@ -30,35 +29,35 @@ const FOLDED_BY_OTHER: [(u16, u32); 2] = [(1, 0), (1, 1)];
 
 const HELD_BY_OTHER: [(u16, u32); 2] = [(0, 1), (0, 2)];
 
-pub fn try_all(trials: &mut Trials<'_, HostRuntime>) -> Result<()> {
-    try_steps(trials)?;
-    try_answers(trials)?;
-    try_summary(trials)
+pub fn try_all(trials: &mut Trials<'_, HostRuntime>) {
+    try_steps(trials);
+    try_answers(trials);
+    try_summary(trials);
 }
 
-fn try_steps(trials: &mut Trials<'_, HostRuntime>) -> Result<()> {
-    trials.reads("Analyst::new", processors, new)?;
-    trials.changes("take", taking, take)?;
-    trials.changes("merge", two_analysts, merge)?;
-    trials.changes("absorb", absorbing, absorb)?;
-    trials.changes("compact", unfolded, compact)?;
-    trials.reads("Analyst::copy", analyst, copy)
+fn try_steps(trials: &mut Trials<'_, HostRuntime>) {
+    trials.reads("Analyst::new", processors, new);
+    trials.changes("take", taking, take);
+    trials.changes("merge", two_analysts, merge);
+    trials.changes("absorb", absorbing, absorb);
+    trials.changes("compact", unfolded, compact);
+    trials.reads("Analyst::copy", analyst, copy);
 }
 
-fn try_answers(trials: &mut Trials<'_, HostRuntime>) -> Result<()> {
-    trials.reads("outstanding", analyst, outstanding)?;
-    trials.reads("diff", analyst, diff)?;
-    trials.reads("tags", analyst, tags)?;
-    trials.reads("bad", analyst, bad)?;
-    trials.reads("leaks", analyst, leaks)?;
-    trials.reads("stacks", analyst, stacks)?;
-    trials.reads("whole_tree", analyst, whole_tree)
+fn try_answers(trials: &mut Trials<'_, HostRuntime>) {
+    trials.reads("outstanding", analyst, outstanding);
+    trials.reads("diff", analyst, diff);
+    trials.reads("tags", analyst, tags);
+    trials.reads("bad", analyst, bad);
+    trials.reads("leaks", analyst, leaks);
+    trials.reads("stacks", analyst, stacks);
+    trials.reads("whole_tree", analyst, whole_tree);
 }
 
-fn try_summary(trials: &mut Trials<'_, HostRuntime>) -> Result<()> {
-    trials.reads("processes", analyst, processes)?;
-    trials.reads("objects", analyst, objects)?;
-    trials.reads("gaps", analyst, gaps)
+fn try_summary(trials: &mut Trials<'_, HostRuntime>) {
+    trials.reads("processes", analyst, processes);
+    trials.reads("objects", analyst, objects);
+    trials.reads("gaps", analyst, gaps);
 }
 
 fn processors(_alloc: Global) -> Result<u16, Refusal> {
@@ -66,17 +65,21 @@ fn processors(_alloc: Global) -> Result<u16, Refusal> {
 }
 
 fn new(alloc: Global, processors: &u16) -> Result<Own, Refusal> {
-    Ok(Analyst::new(alloc, TRACE.id, *processors)?)
+    answered(Analyst::new(alloc, TRACE.id, *processors))
 }
 
 fn take_all(alloc: Global, analyst: &mut Own, keys: &[(u16, u32)]) -> Result<(), Refusal> {
     for (processor, number) in keys {
-        let segment = SMALL.segment(alloc, *processor, *number)?;
-        analyst
-            .take(segment)
-            .map_err(|(fault, _)| Refusal::from(fault))?;
+        take_new(analyst, SMALL.segment(alloc, *processor, *number)?)?;
     }
     Ok(())
+}
+
+fn take_new(analyst: &mut Own, segment: Segment) -> Result<(), Refusal> {
+    match analyst.take(segment) {
+        Ok(_) => Ok(()),
+        Err((fault, _)) => Err(Refusal::from(fault)),
+    }
 }
 
 /// An analyst that folded some segments and holds others.
@@ -98,7 +101,7 @@ fn other(alloc: Global) -> Result<Own, Refusal> {
 
 /// An analyst, and a segment that it hasn't taken. It is a copy, so it has no room for one more.
 fn taking(alloc: Global) -> Result<(Own, Option<Segment>), Refusal> {
-    Ok((analyst(alloc)?.copy()?, Some(SMALL.segment(alloc, 0, 2)?)))
+    both(analyst(alloc)?.copy(), SMALL.segment(alloc, 0, 2).map(Some))
 }
 
 fn take(
@@ -116,15 +119,15 @@ fn take(
 }
 
 fn two_analysts(alloc: Global) -> Result<(Own, Own), Refusal> {
-    Ok((analyst(alloc)?, other(alloc)?))
+    both(analyst(alloc), other(alloc))
 }
 
 fn merge(_alloc: Global, (analyst, other): &mut (Own, Own)) -> Result<Equal<()>, Refusal> {
-    Ok(Equal(analyst.merge(other)?))
+    Equal::of(analyst.merge(other))
 }
 
 fn absorbing(alloc: Global) -> Result<(Own, Option<Own>), Refusal> {
-    Ok((analyst(alloc)?, Some(other(alloc)?)))
+    both(analyst(alloc), other(alloc).map(Some))
 }
 
 fn absorb(_alloc: Global, (analyst, other): &mut (Own, Option<Own>)) -> Result<Equal<()>, Refusal> {
@@ -156,7 +159,7 @@ impl Same for Folding {
     }
 
     fn is_kept(&self, before: &Folding) -> bool {
-        agree(self.alloc, &self.analyst, &before.analyst).unwrap_or(false)
+        agree(self.alloc, &self.analyst, &before.analyst)
     }
 }
 
@@ -167,48 +170,47 @@ fn unfolded(alloc: Global) -> Result<Folding, Refusal> {
 }
 
 fn compact(_alloc: Global, folding: &mut Folding) -> Result<Equal<()>, Refusal> {
-    folding.analyst.compact()?;
-    Ok(Equal(()))
+    Equal::of(folding.analyst.compact())
 }
 
 fn copy(_alloc: Global, analyst: &Own) -> Result<Own, Refusal> {
-    Ok(analyst.copy()?)
+    answered(analyst.copy())
 }
 
 fn outstanding(alloc: Global, analyst: &Own) -> Result<Equal<Vec<SharedEvent>>, Refusal> {
-    Ok(Equal(analyst.outstanding(alloc, PROCESS)?))
+    Equal::of(analyst.outstanding(alloc, PROCESS))
 }
 
 fn diff(alloc: Global, analyst: &Own) -> Result<Equal<Vec<SharedEvent>>, Refusal> {
-    Ok(Equal(analyst.diff(alloc, PROCESS, 30)?))
+    Equal::of(analyst.diff(alloc, PROCESS, 30))
 }
 
 fn tags(alloc: Global, analyst: &Own) -> Result<Equal<Vec<([u8; 4], Count)>>, Refusal> {
-    Ok(Equal(analyst.tags(alloc, OBJECT)?))
+    Equal::of(analyst.tags(alloc, OBJECT))
 }
 
 fn bad(alloc: Global, analyst: &Own) -> Result<Equal<Vec<(u32, SharedStack, u64)>>, Refusal> {
-    Ok(Equal(analyst.bad(alloc, PROCESS)?))
+    Equal::of(analyst.bad(alloc, PROCESS))
 }
 
 fn leaks(alloc: Global, analyst: &Own) -> Result<Equal<Vec<(SharedStack, u64)>>, Refusal> {
-    Ok(Equal(analyst.leaks(alloc, PROCESS)?))
+    Equal::of(analyst.leaks(alloc, PROCESS))
 }
 
 fn stacks(alloc: Global, analyst: &Own) -> Result<Equal<Vec<(SharedStack, Count)>>, Refusal> {
-    Ok(Equal(analyst.stacks(alloc, OBJECT, TAG)?))
+    Equal::of(analyst.stacks(alloc, OBJECT, TAG))
 }
 
 fn whole_tree(_alloc: Global, analyst: &Own) -> Result<StackTree<Global>, Refusal> {
-    Ok(analyst.whole_tree()?)
+    answered(analyst.whole_tree())
 }
 
 fn processes(alloc: Global, analyst: &Own) -> Result<Equal<Vec<ProcessRow>>, Refusal> {
-    Ok(Equal(analyst.processes(alloc)?))
+    Equal::of(analyst.processes(alloc))
 }
 
 fn objects(alloc: Global, analyst: &Own) -> Result<Equal<(u64, Vec<ObjectRow>)>, Refusal> {
-    Ok(Equal(number_and_rows(alloc, analyst)?))
+    Equal::of(number_and_rows(alloc, analyst))
 }
 
 /// How many objects there are, and the rows of those that are unbalanced.
@@ -218,19 +220,18 @@ fn number_and_rows(alloc: Global, analyst: &Own) -> Result<(u64, Vec<ObjectRow>)
 }
 
 fn gaps(alloc: Global, analyst: &Own) -> Result<Equal<Vec<Gap>>, Refusal> {
-    Ok(Equal(analyst.gaps(alloc)?))
+    Equal::of(analyst.gaps(alloc))
 }
 
 /// Whether two analysts took the same segments of the generated trace and have the same answers,
-/// whatever each folded.
-pub fn agree(alloc: Global, one: &Own, two: &Own) -> Result<bool, NoMemory> {
-    Ok(
-        agree_on_keys(one, two)
-            && agree_without_memory(one, two)
-            && agree_on_handles(alloc, one, two)?
-            && agree_on_counts(alloc, one, two)?
-            && agree_on_summaries(alloc, one, two)?,
-    )
+/// whatever each folded. An answer that there is no memory for is like no other.
+pub fn agree(alloc: Global, one: &Own, two: &Own) -> bool {
+    agree_on_keys(one, two)
+        && agree_without_memory(one, two)
+        && agree_on_handles(alloc, one, two)
+        && agree_on_counts(alloc, one, two)
+        && agree_on_summaries(alloc, one, two)
+        && have_same_trees(one, two).unwrap_or(false)
 }
 
 fn agree_on_keys(one: &Own, two: &Own) -> bool {
@@ -248,27 +249,35 @@ fn agree_without_memory(one: &Own, two: &Own) -> bool {
         && (0..64).all(|handle| one.latest(PROCESS, handle) == two.latest(PROCESS, handle))
 }
 
-fn agree_on_handles(alloc: Global, one: &Own, two: &Own) -> Result<bool, NoMemory> {
-    Ok(
-        one.outstanding(alloc, PROCESS)? == two.outstanding(alloc, PROCESS)?
-            && one.diff(alloc, PROCESS, 30)? == two.diff(alloc, PROCESS, 30)?
-            && one.leaks(alloc, PROCESS)? == two.leaks(alloc, PROCESS)?,
-    )
+/// Whether both are there and equal.
+fn are_equal<T: PartialEq + Drop>(one: Result<T, NoMemory>, two: Result<T, NoMemory>) -> bool {
+    one.is_ok() && one == two
 }
 
-fn agree_on_counts(alloc: Global, one: &Own, two: &Own) -> Result<bool, NoMemory> {
-    Ok(
-        one.tags(alloc, OBJECT)? == two.tags(alloc, OBJECT)?
-            && one.bad(alloc, PROCESS)? == two.bad(alloc, PROCESS)?
-            && one.stacks(alloc, OBJECT, TAG)? == two.stacks(alloc, OBJECT, TAG)?
-            && one.whole_tree()?.same(&two.whole_tree()?),
-    )
+fn agree_on_handles(alloc: Global, one: &Own, two: &Own) -> bool {
+    are_equal(
+        one.outstanding(alloc, PROCESS),
+        two.outstanding(alloc, PROCESS),
+    ) && are_equal(one.diff(alloc, PROCESS, 30), two.diff(alloc, PROCESS, 30))
+        && are_equal(one.leaks(alloc, PROCESS), two.leaks(alloc, PROCESS))
 }
 
-fn agree_on_summaries(alloc: Global, one: &Own, two: &Own) -> Result<bool, NoMemory> {
-    Ok(
-        one.processes(alloc)? == two.processes(alloc)?
-            && number_and_rows(alloc, one)? == number_and_rows(alloc, two)?
-            && one.gaps(alloc)? == two.gaps(alloc)?,
-    )
+fn agree_on_counts(alloc: Global, one: &Own, two: &Own) -> bool {
+    are_equal(one.tags(alloc, OBJECT), two.tags(alloc, OBJECT))
+        && are_equal(one.bad(alloc, PROCESS), two.bad(alloc, PROCESS))
+        && are_equal(
+            one.stacks(alloc, OBJECT, TAG),
+            two.stacks(alloc, OBJECT, TAG),
+        )
+}
+
+fn agree_on_summaries(alloc: Global, one: &Own, two: &Own) -> bool {
+    are_equal(one.processes(alloc), two.processes(alloc))
+        && are_equal(number_and_rows(alloc, one), number_and_rows(alloc, two))
+        && are_equal(one.gaps(alloc), two.gaps(alloc))
+}
+
+fn have_same_trees(one: &Own, two: &Own) -> Result<bool, NoMemory> {
+    let tree = one.whole_tree()?;
+    Ok(tree.same(&two.whole_tree()?))
 }

@@ -2,16 +2,15 @@
 
 use crate::segments::{bundle, text};
 use allocation_trials::{Equal, Refusal, Same, Trials};
-use anyhow::Result;
 use htl_device::{Reading, Writing};
 use htl_main::{dump_from, encode_from};
 use std::alloc::Global;
 use std::mem;
 
-pub fn try_all(trials: &mut Trials<'_, HostRuntime>) -> Result<()> {
-    trials.changes("run of dump", undumped, dump)?;
-    trials.changes("run of dump over digits", undumped_digits, dump_digits)?;
-    trials.changes("run of encode", unencoded, encode)
+pub fn try_all(trials: &mut Trials<'_, HostRuntime>) {
+    trials.changes("run of dump", undumped, dump);
+    trials.changes("run of dump over digits", undumped_digits, dump_digits);
+    trials.changes("run of encode", unencoded, encode);
 }
 
 /// A run's input, and what it wrote.
@@ -79,8 +78,7 @@ fn dump_as(alloc: Global, hex: bool, given: &mut Converting) -> Result<Equal<()>
     let mut sources = [Reading::new(given.input.as_slice())];
     let ended = dump_from(alloc, hex, &mut sources, &mut Writing::new(&mut written));
     given.out = written;
-    ended?;
-    Ok(Equal(()))
+    Equal::of(ended)
 }
 
 /// The bytes are written as digits, which takes memory too.
@@ -90,6 +88,5 @@ fn encode(alloc: Global, given: &mut Converting) -> Result<Equal<()>, Refusal> {
     let mut sources = [Reading::new(given.input.as_slice())];
     let ended = encode_from(alloc, true, &mut sources, &mut Writing::new(&mut written));
     given.out = written;
-    ended?;
-    Ok(Equal(()))
+    Equal::of(ended)
 }

@@ -4,8 +4,7 @@ ghost use Rattle.htl_exchange.specs.Desks.{IsDeskOf};
 
 use crate::analysts::agree;
 use crate::cases::case;
-use allocation_trials::{Equal, Hand, Refusal, Same, Trials};
-use anyhow::Result;
+use allocation_trials::{Equal, Hand, Refusal, Same, Trials, answered};
 use htl_analyst::Analyst;
 use htl_case::Case;
 use htl_exchange::{
@@ -23,69 +22,70 @@ const RUN: RandomTrace = RandomTrace {
     ..SMALL
 };
 
-pub fn try_all<R: Threads + Wait + Sync>(
-    rt: &R,
-    trials: &mut Trials<'_, HostRuntime>,
-) -> Result<()> {
-    trials.reads("start", case, |alloc, case: &Case| started(rt, alloc, case))?;
-    try_collecting(rt, trials)?;
-    try_posting(rt, trials)?;
-    try_closing(rt, trials)?;
+pub fn try_all<R: Threads + Wait + Sync>(rt: &R, trials: &mut Trials<'_, HostRuntime>) {
+    trials.reads("start", case, |alloc, case: &Case| started(rt, alloc, case));
+    try_collecting(rt, trials);
+    try_posting(rt, trials);
+    try_closing(rt, trials);
     trials.reads(
         "survey by two workers",
         case,
         |alloc, case: &Case| surveyed(rt, alloc, case),
-    )?;
+    );
     trials.reads(
         "survey of a case of its own",
         case,
         |alloc, case: &Case| surveyed_owned(rt, alloc, case),
-    )
+    );
 }
 
-fn try_collecting<R: Wait>(rt: &R, trials: &mut Trials<'_, HostRuntime>) -> Result<()> {
+/// What is tried of `collect`, and what the desk takes in next.
+const COLLECTING: &[(&str, Next)] = &[
+    ("collect, a run", Next::Run),
+    ("collect, a state", Next::State),
+    ("collect, what is in hand", Next::InHand),
+];
+
+fn try_collecting<R: Wait>(rt: &R, trials: &mut Trials<'_, HostRuntime>) {
     let hand = trials.hand();
-    for (name, next) in [
-        ("collect, a run", Next::Run),
-        ("collect, a state", Next::State),
-        ("collect, what is in hand", Next::InHand),
-    ] {
+    for (name, next) in COLLECTING {
         trials.changes(
             name,
-            |alloc| desk(rt, &hand, alloc, next),
+            |alloc| desk(rt, &hand, alloc, *next),
             |_, seat: &mut Seat| collect(rt, seat),
-        )?;
+        );
     }
-    Ok(())
 }
 
-fn try_posting<R: Wait>(rt: &R, trials: &mut Trials<'_, HostRuntime>) -> Result<()> {
+/// The same of `post`.
+const POSTING: &[(&str, Next)] = &[
+    ("post", Next::State),
+    ("post, with a run in hand", Next::InHand),
+];
+
+fn try_posting<R: Wait>(rt: &R, trials: &mut Trials<'_, HostRuntime>) {
     let hand = trials.hand();
-    for (name, next) in [
-        ("post", Next::State),
-        ("post, with a run in hand", Next::InHand),
-    ] {
+    for (name, next) in POSTING {
         trials.changes(
             name,
-            |alloc| desk(rt, &hand, alloc, next),
+            |alloc| desk(rt, &hand, alloc, *next),
             |_, seat: &mut Seat| post(rt, seat),
-        )?;
+        );
     }
-    Ok(())
 }
 
-fn try_closing<R: Wait>(rt: &R, trials: &mut Trials<'_, HostRuntime>) -> Result<()> {
+fn try_closing<R: Wait>(rt: &R, trials: &mut Trials<'_, HostRuntime>) {
     let hand = trials.hand();
     trials.changes(
         "close",
         |alloc| two_desks(rt, alloc),
         |_, seats: &mut Option<Seats>| close(rt, seats),
-    )?;
+    );
     trials.changes(
         "close, with a run in hand",
         |alloc| desk_to_close(rt, &hand, alloc),
         |_, seats: &mut Option<Seats>| close(rt, seats),
-    )
+    );
 }
 
 /// An exchange and all its desks.
@@ -177,7 +177,7 @@ impl Same for Seat {
 
     fn same(&self, other: &Seat) -> bool {
         self.desk.in_hand() == other.desk.in_hand()
-            && agree(self.alloc, self.desk.analyst(), other.desk.analyst()).unwrap_or(false)
+            && agree(self.alloc, self.desk.analyst(), other.desk.analyst())
     }
 
     /// What a desk has and holds in its hand are whole runs, and it loses none.
@@ -262,7 +262,7 @@ fn collect<R: Wait>(rt: &R, seat: &mut Seat) -> Result<Equal<()>, Refusal> {
 }
 
 fn post<R: Wait>(rt: &R, seat: &mut Seat) -> Result<Equal<Posted>, Refusal> {
-    Ok(Equal(seat.desk.post(rt, &seat.exchange)?))
+    Equal::of(seat.desk.post(rt, &seat.exchange))
 }
 
 fn surveyed<R: Threads + Wait + Sync>(
@@ -270,7 +270,7 @@ fn surveyed<R: Threads + Wait + Sync>(
     alloc: Global,
     case: &Case,
 ) -> Result<Analyst<Global>, Refusal> {
-    Ok(survey(rt, alloc, case, 2, &Free)?)
+    answered(survey(rt, alloc, case, 2, &Free))
 }
 
 /// The survey of another case of the same segments.
@@ -279,9 +279,13 @@ fn surveyed_owned<R: Threads + Wait + Sync>(
     alloc: Global,
     case: &Case,
 ) -> Result<Analyst<Global>, Refusal> {
+    answered(survey_owned(rt, alloc, copy_of(alloc, case)?, 2, &Free))
+}
+
+fn copy_of(alloc: Global, case: &Case) -> Result<Case, Refusal> {
     let mut segments = Vec::new(alloc);
     for segment in case.segments() {
         segments.push(segment.copy()?)?;
     }
-    Ok(survey_owned(rt, alloc, Case::of(alloc, segments)?, 2, &Free)?)
+    answered(Case::of(alloc, segments))
 }

@@ -4,7 +4,6 @@ use crate::conversions::{Converting, given_input};
 use crate::segments::bundle;
 use crate::texts::SYMBOLS;
 use allocation_trials::{Equal, Refusal, Trials};
-use anyhow::Result;
 use htl_ask::{AskFault, Audience, ask_from};
 use htl_command::{ParseFault, Question, Setting};
 use htl_device::{Reading, Writing};
@@ -19,21 +18,17 @@ use std::thread::Threads;
 const QUESTIONS: &str = "leaks --process 4
 trace --process 4 --handle 8";
 
-pub fn try_all<R: Threads + Wait + Sync>(
-    rt: &R,
-    trials: &mut Trials<'_, HostRuntime>,
-) -> Result<()> {
-    for (name, workers) in [
+pub fn try_all<R: Threads + Wait + Sync>(rt: &R, trials: &mut Trials<'_, HostRuntime>) {
+    for (name, workers) in &[
         ("dialogue by one worker", 1),
         ("dialogue by two workers", 2),
     ] {
         trials.changes(
             name,
             |alloc| unasked(rt, alloc),
-            |alloc, given: &mut Converting| converse(rt, alloc, workers, given),
-        )?;
+            |alloc, given: &mut Converting| converse(rt, alloc, *workers, given),
+        );
     }
-    Ok(())
 }
 
 /// The replies go out one by one.

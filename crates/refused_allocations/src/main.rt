@@ -21,16 +21,16 @@ use allocation_trials::Trials;
 
 fn main(rt: HostRuntime) -> anyhow::Result<()> {
     let mut trials = Trials::new(&rt);
-    segments::try_all(&rt, &mut trials)?;
-    trees::try_all(&mut trials)?;
-    tables::try_all(&mut trials)?;
-    sets::try_all(&mut trials)?;
-    analysts::try_all(&mut trials)?;
-    cases::try_all(&mut trials)?;
-    desks::try_all(&rt, &mut trials)?;
-    texts::try_all(&mut trials)?;
-    runs::try_all(&rt, &mut trials)?;
-    conversions::try_all(&mut trials)?;
-    dialogues::try_all(&rt, &mut trials)?;
-    trials.print_sum()
+    segments::try_all(&rt, &mut trials);
+    trees::try_all(&mut trials);
+    tables::try_all(&mut trials);
+    sets::try_all(&mut trials);
+    analysts::try_all(&mut trials);
+    cases::try_all(&mut trials);
+    desks::try_all(&rt, &mut trials);
+    texts::try_all(&mut trials);
+    runs::try_all(&rt, &mut trials);
+    conversions::try_all(&mut trials);
+    dialogues::try_all(&rt, &mut trials);
+    trials.finish()
 }

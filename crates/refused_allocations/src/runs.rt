@@ -2,7 +2,6 @@
 
 use crate::texts::SYMBOLS;
 use allocation_trials::{Equal, Refusal, Same, Trials};
-use anyhow::Result;
 use htl_command::{Format, Job, Question};
 use htl_device::Writing;
 use htl_main::run;
@@ -19,30 +18,33 @@ const TRACE: Question = Question::Trace {
     handle: 8,
 };
 
-pub fn try_all<R: Threads + Wait + Sync>(
-    rt: &R,
-    trials: &mut Trials<'_, HostRuntime>,
-) -> Result<()> {
-    for (name, question, workers) in [
-        ("run for leaks", LEAKS, 1),
-        ("run for a trace", TRACE, 1),
-        ("run for a summary by one worker", Question::Summary, 1),
-        ("run for a summary by two workers", Question::Summary, 2),
-    ] {
-        let job = Job {
-            question,
-            hex: false,
-            workers,
-            top: None,
-            complete: true,
-            exit_code: false,
-            format: Format::Plain,
-        };
+/// What is tried: a run that answers a question, by so many workers.
+const RUNS: &[(&str, Question, u32)] = &[
+    ("run for leaks", LEAKS, 1),
+    ("run for a trace", TRACE, 1),
+    ("run for a summary by one worker", Question::Summary, 1),
+    ("run for a summary by two workers", Question::Summary, 2),
+];
+
+pub fn try_all<R: Threads + Wait + Sync>(rt: &R, trials: &mut Trials<'_, HostRuntime>) {
+    for (name, question, workers) in RUNS {
+        let job = job(*question, *workers);
         trials.changes(name, unread, |alloc, running: &mut Running| {
             printed(rt, alloc, &job, running)
-        })?;
+        });
     }
-    Ok(())
+}
+
+fn job(question: Question, workers: u32) -> Job {
+    Job {
+        question,
+        hex: false,
+        workers,
+        top: None,
+        complete: true,
+        exit_code: false,
+        format: Format::Plain,
+    }
 }
 
 /// A run's inputs, and what it printed.

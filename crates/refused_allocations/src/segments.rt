@@ -1,7 +1,6 @@
 //! Calls on segments, on their bytes and on their texts.
 
-use allocation_trials::{Equal, Refusal, Same, Trials};
-use anyhow::Result;
+use allocation_trials::{Equal, Refusal, Same, Trials, answered};
 use htl_event::Event;
 use htl_reading::decode_bundle_by;
 use htl_samples::{RandomTrace, SMALL, TRACE};
@@ -17,41 +16,41 @@ const LONG: RandomTrace = RandomTrace {
     ..SMALL
 };
 
-pub fn try_all<R: Threads + Sync>(rt: &R, trials: &mut Trials<'_, HostRuntime>) -> Result<()> {
-    trials.reads("decode", encoding, decoded)?;
-    trials.reads("decode_bundle", bundle, decoded_bundle)?;
+pub fn try_all<R: Threads + Sync>(rt: &R, trials: &mut Trials<'_, HostRuntime>) {
+    trials.reads("decode", encoding, decoded);
+    trials.reads("decode_bundle", bundle, decoded_bundle);
     trials.reads(
         "decode_bundle_by two workers",
         long_bundle,
         |alloc, bytes: &Vec<u8>| decoded_by_two(rt, alloc, bytes),
-    )?;
-    trials.reads("from_hex", digits, bytes_of_digits)?;
-    trials.reads("encode", segment, encoded)?;
-    trials.changes("feed", half_fed, feed)?;
-    trials.changes("build", events, build)?;
-    trials.changes("build2", events, build2)?;
-    trials.reads("dump", segment, dumped)?;
-    trials.reads("encode of a text", text, bytes_of_text)
+    );
+    trials.reads("from_hex", digits, bytes_of_digits);
+    trials.reads("encode", segment, encoded);
+    trials.changes("feed", half_fed, feed);
+    trials.changes("build", events, build);
+    trials.changes("build2", events, build2);
+    trials.reads("dump", segment, dumped);
+    trials.reads("encode of a text", text, bytes_of_text);
 }
 
 fn segment(alloc: Global) -> Result<Segment, Refusal> {
-    Ok(SMALL.segment(alloc, 0, 1)?)
+    answered(SMALL.segment(alloc, 0, 1))
 }
 
 fn encoding(alloc: Global) -> Result<Vec<u8>, Refusal> {
-    Ok(encode(alloc, &segment(alloc)?)?)
+    answered(encode(alloc, &segment(alloc)?))
 }
 
 pub fn bundle(alloc: Global) -> Result<Vec<u8>, Refusal> {
-    Ok(SMALL.bundle(alloc)?)
+    answered(SMALL.bundle(alloc))
 }
 
 fn long_bundle(alloc: Global) -> Result<Vec<u8>, Refusal> {
-    Ok(LONG.bundle(alloc)?)
+    answered(LONG.bundle(alloc))
 }
 
 fn digits(alloc: Global) -> Result<String, Refusal> {
-    Ok(String::from_str(alloc, "48 4c 53 31\n01 00")?)
+    answered(String::from_str(alloc, "48 4c 53 31\n01 00"))
 }
 
 fn decoded(alloc: Global, bytes: &Vec<u8>) -> Result<Segment, Refusal> {
@@ -60,7 +59,7 @@ fn decoded(alloc: Global, bytes: &Vec<u8>) -> Result<Segment, Refusal> {
 }
 
 fn decoded_bundle(alloc: Global, bytes: &Vec<u8>) -> Result<Vec<Segment>, Refusal> {
-    Ok(decode_bundle(alloc, bytes)?)
+    answered(decode_bundle(alloc, bytes))
 }
 
 fn decoded_by_two<R: Threads + Sync>(
@@ -68,15 +67,15 @@ fn decoded_by_two<R: Threads + Sync>(
     alloc: Global,
     bytes: &[u8],
 ) -> Result<Vec<Segment>, Refusal> {
-    Ok(decode_bundle_by(rt, alloc, 2, bytes)?)
+    answered(decode_bundle_by(rt, alloc, 2, bytes))
 }
 
 fn bytes_of_digits(alloc: Global, text: &String) -> Result<Equal<Vec<u8>>, Refusal> {
-    Ok(Equal(from_hex(alloc, text.as_bytes())?))
+    Equal::of(from_hex(alloc, text.as_bytes()))
 }
 
 fn encoded(alloc: Global, segment: &Segment) -> Result<Equal<Vec<u8>>, Refusal> {
-    Ok(Equal(encode(alloc, segment)?))
+    Equal::of(encode(alloc, segment))
 }
 
 /// A splitter that was fed the first bytes of a bundle, and the others.
@@ -117,7 +116,7 @@ fn feed(alloc: Global, feeding: &mut Feeding) -> Result<Vec<Segment>, Refusal> {
     {
         return Err(Refusal::Other);
     }
-    Ok(feeding.splitter.feed(alloc, &feeding.rest)?)
+    answered(feeding.splitter.feed(alloc, &feeding.rest))
 }
 
 fn events(alloc: Global) -> Result<Equal<Vec<Event>>, Refusal> {
@@ -154,7 +153,7 @@ fn handed_back(
 }
 
 fn dumped(alloc: Global, segment: &Segment) -> Result<Equal<Vec<u8>>, Refusal> {
-    Ok(Equal(dump(alloc, segment)?))
+    Equal::of(dump(alloc, segment))
 }
 
 /// The text of all segments.
@@ -167,5 +166,5 @@ pub fn text(alloc: Global) -> Result<Vec<u8>, Refusal> {
 }
 
 fn bytes_of_text(alloc: Global, text: &Vec<u8>) -> Result<Equal<Vec<u8>>, Refusal> {
-    Ok(Equal(htl_text::encode(alloc, text)?))
+    Equal::of(htl_text::encode(alloc, text))
 }

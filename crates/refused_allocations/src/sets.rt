@@ -1,7 +1,6 @@
 //! Calls on sets of taken segments.
 
-use allocation_trials::{Equal, Refusal, Trials};
-use anyhow::Result;
+use allocation_trials::{Equal, Refusal, Trials, answered, both};
 use htl_taken::Taken;
 use std::alloc::Global;
 
@@ -9,12 +8,11 @@ type Set = Taken<Global>;
 
 const PROCESSORS: u16 = 3;
 
-pub fn try_all(trials: &mut Trials<'_, HostRuntime>) -> Result<()> {
-    trials.reads("Taken::new", processors, new)?;
-    trials.changes("Taken::insert", set, insert)?;
-    trials.reads("Taken::union", two_sets, union)?;
-    trials.reads("Taken::copy", set, copy)?;
-    Ok(())
+pub fn try_all(trials: &mut Trials<'_, HostRuntime>) {
+    trials.reads("Taken::new", processors, new);
+    trials.changes("Taken::insert", set, insert);
+    trials.reads("Taken::union", two_sets, union);
+    trials.reads("Taken::copy", set, copy);
 }
 
 fn processors(_alloc: Global) -> Result<u16, Refusal> {
@@ -22,7 +20,7 @@ fn processors(_alloc: Global) -> Result<u16, Refusal> {
 }
 
 fn new(alloc: Global, processors: &u16) -> Result<Set, Refusal> {
-    Ok(Taken::new(alloc, *processors)?)
+    answered(Taken::new(alloc, *processors))
 }
 
 /// A set of the segments of these processors and numbers.
@@ -38,7 +36,7 @@ fn insert_key(set: &mut Set, processor: u16, number: u32) -> Result<bool, Refusa
     if processor >= set.processors() || number == u32::MAX {
         return Err(Refusal::Other);
     }
-    Ok(set.insert(processor, number)?)
+    answered(set.insert(processor, number))
 }
 
 /// Processor 1 has no room for one more loose number: the set is a copy.
@@ -49,23 +47,20 @@ fn set(alloc: Global) -> Result<Set, Refusal> {
 }
 
 fn two_sets(alloc: Global) -> Result<(Set, Set), Refusal> {
-    Ok((
-        set(alloc)?,
-        set_of(alloc, &[(0, 2), (1, 0), (1, 7), (2, 5)])?,
-    ))
+    both(set(alloc), set_of(alloc, &[(0, 2), (1, 0), (1, 7), (2, 5)]))
 }
 
 fn insert(_alloc: Global, set: &mut Set) -> Result<Equal<bool>, Refusal> {
-    Ok(Equal(insert_key(set, 1, 5)?))
+    Equal::of(insert_key(set, 1, 5))
 }
 
 fn union(_alloc: Global, (one, two): &(Set, Set)) -> Result<Set, Refusal> {
     if one.processors() != two.processors() {
         return Err(Refusal::Other);
     }
-    Ok(one.union(two)?)
+    answered(one.union(two))
 }
 
 fn copy(_alloc: Global, set: &Set) -> Result<Set, Refusal> {
-    Ok(set.copy()?)
+    answered(set.copy())
 }

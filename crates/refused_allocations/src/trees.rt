@@ -1,7 +1,6 @@
 //! Calls on stack trees.
 
-use allocation_trials::{Equal, Refusal, Trials};
-use anyhow::Result;
+use allocation_trials::{Equal, Refusal, Trials, answered, both};
 use htl_event::{Count, SharedEvent, SharedStack, Sign, Slot};
 use htl_samples::{SMALL, shared_events, stack};
 use htl_segment::Segment;
@@ -18,29 +17,29 @@ const SLOT: Slot = Slot::Tagged {
     tag: *b"Lky8",
 };
 
-pub fn try_all(trials: &mut Trials<'_, HostRuntime>) -> Result<()> {
-    try_trees(trials)?;
-    try_lists(trials)
+pub fn try_all(trials: &mut Trials<'_, HostRuntime>) {
+    try_trees(trials);
+    try_lists(trials);
 }
 
-fn try_trees(trials: &mut Trials<'_, HostRuntime>) -> Result<()> {
-    trials.reads("StackTree::of", segments, tree_of)?;
-    trials.changes("StackTree::add, the first", empty_tree, add)?;
-    trials.changes("StackTree::add, a branch", tree, add)?;
-    trials.changes("StackTree::note", noting, note)?;
-    trials.reads("StackTree::plus", two_trees, sum)?;
-    trials.reads("StackTree::copy", tree, copy)
+fn try_trees(trials: &mut Trials<'_, HostRuntime>) {
+    trials.reads("StackTree::of", segments, tree_of);
+    trials.changes("StackTree::add, the first", empty_tree, add);
+    trials.changes("StackTree::add, a branch", tree, add);
+    trials.changes("StackTree::note", noting, note);
+    trials.reads("StackTree::plus", two_trees, sum);
+    trials.reads("StackTree::copy", tree, copy);
 }
 
-fn try_lists(trials: &mut Trials<'_, HostRuntime>) -> Result<()> {
-    trials.reads("StackTree::rows", tree, rows)?;
-    trials.reads("StackTree::rows_of", tree, rows_of)?;
-    trials.reads("StackTree::sums_of", tree, sums_of)?;
-    trials.reads("StackTree::slots", tree, slots)
+fn try_lists(trials: &mut Trials<'_, HostRuntime>) {
+    trials.reads("StackTree::rows", tree, rows);
+    trials.reads("StackTree::rows_of", tree, rows_of);
+    trials.reads("StackTree::sums_of", tree, sums_of);
+    trials.reads("StackTree::slots", tree, slots);
 }
 
 fn segments(alloc: Global) -> Result<Vec<Segment>, Refusal> {
-    Ok(SMALL.segments(alloc)?)
+    answered(SMALL.segments(alloc))
 }
 
 fn empty_tree(alloc: Global) -> Result<Tree, Refusal> {
@@ -55,27 +54,26 @@ fn tree(alloc: Global) -> Result<Tree, Refusal> {
 fn two_trees(alloc: Global) -> Result<(Tree, Tree), Refusal> {
     let mut segments = segments(alloc)?;
     segments.truncate(2);
-    Ok((tree_of(alloc, &segments)?, tree(alloc)?))
+    both(tree_of(alloc, &segments), tree(alloc))
 }
 
 fn noting(alloc: Global) -> Result<(Tree, Equal<Vec<SharedEvent>>), Refusal> {
-    let events = shared_events(alloc, "R 999 0x9000 Lky8 [0x70 0x60 0x50]")?;
-    Ok((tree(alloc)?, Equal(events)))
+    let events = shared_events(alloc, "R 999 0x9000 Lky8 [0x70 0x60 0x50]");
+    both(tree(alloc), Equal::of(events))
 }
 
 fn tree_of(alloc: Global, segments: &Vec<Segment>) -> Result<Tree, Refusal> {
     if !fits_events(segments) {
         return Err(Refusal::Other);
     }
-    Ok(StackTree::of(alloc, segments)?)
+    answered(StackTree::of(alloc, segments))
 }
 
 fn add(_alloc: Global, tree: &mut Tree) -> Result<Equal<()>, Refusal> {
     if !tree.fits(1) {
         return Err(Refusal::Other);
     }
-    tree.add(SLOT, Sign::Plus, &stack(&[0x70, 0x60, 0x50]))?;
-    Ok(Equal(()))
+    Equal::of(tree.add(SLOT, Sign::Plus, &stack(&[0x70, 0x60, 0x50])))
 }
 
 fn note(
@@ -95,28 +93,28 @@ fn sum(_alloc: Global, (one, two): &(Tree, Tree)) -> Result<Tree, Refusal> {
     if !one.fits(two.total()) {
         return Err(Refusal::Other);
     }
-    Ok(one.plus(two)?)
+    answered(one.plus(two))
 }
 
 fn copy(_alloc: Global, tree: &Tree) -> Result<Tree, Refusal> {
-    Ok(tree.copy()?)
+    answered(tree.copy())
 }
 
 fn rows(alloc: Global, tree: &Tree) -> Result<Equal<Vec<(SharedStack, Count)>>, Refusal> {
-    Ok(Equal(tree.rows(alloc, SLOT)?))
+    Equal::of(tree.rows(alloc, SLOT))
 }
 
 fn rows_of(
     alloc: Global,
     tree: &Tree,
 ) -> Result<Equal<Vec<((Slot, SharedStack), Count)>>, Refusal> {
-    Ok(Equal(tree.rows_of(alloc, Slots::OfObject(OBJECT))?))
+    Equal::of(tree.rows_of(alloc, Slots::OfObject(OBJECT)))
 }
 
 fn sums_of(alloc: Global, tree: &Tree) -> Result<Equal<Vec<(Slot, Count)>>, Refusal> {
-    Ok(Equal(tree.sums_of(alloc, Slots::OfObject(OBJECT))?))
+    Equal::of(tree.sums_of(alloc, Slots::OfObject(OBJECT)))
 }
 
 fn slots(alloc: Global, tree: &Tree) -> Result<Equal<Vec<Slot>>, Refusal> {
-    Ok(Equal(tree.slots(alloc)?))
+    Equal::of(tree.slots(alloc))
 }

@@ -32,10 +32,9 @@ pub(crate) struct Hints<A: Allocator> {
 }
 
 impl<A: Allocator> Hints<A> {
-    /// Hints for the handles of this many events: two cells for each event, and no more than are of
-    /// use.
+    /// Hints for the handles of this many events: a cell for each event, and no more than are of use.
     pub fn new(alloc: A, events: usize) -> Result<Hints<A>, AllocError> {
-        let cells = events.min(MAX_CELLS / 2) * 2;
+        let cells = events.min(MAX_CELLS);
         Ok(Hints {
             cells: vec![in alloc; EMPTY; cells]?,
             block: [0; BLOCK],

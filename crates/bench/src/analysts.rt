@@ -35,125 +35,149 @@ fn trace(processors: u16, events: u32) -> RandomTrace {
     }
 }
 
-pub fn measure(rt: &HostRuntime, size: u32) -> Result<()> {
-    let alloc = rt.alloc();
-    let mut watch = Stopwatch::start(rt)?;
+pub fn measure(watch: &mut Stopwatch<'_>, size: u32) -> Result<()> {
     for processors in [4, 64] {
-        println!(rt; "processors: {processors}")?;
+        watch.print("processors", processors);
         let trace = trace(processors, size);
-        let analyst = fold(alloc, &mut watch, &trace)?;
-        merge(alloc, &mut watch, &trace, &analyst)?;
-        answer(alloc, &mut watch, &analyst)?;
+        watch.restart();
+        let analyst = fold(watch, &trace)?;
+        merge(watch, &trace, &analyst)?;
+        answer(watch, &analyst)?;
     }
     Ok(())
 }
 
 /// Takes all segments and compacts once.
-fn fold(alloc: Global, watch: &mut Stopwatch, trace: &RandomTrace) -> Result<Analyst<Global>> {
-    let segments = trace.segments(alloc)?;
-    watch.lap("segments made", segments.len() as u64)?;
-    alone(alloc, watch, &segments)?;
-    let mut analyst = taken(alloc, trace.processors, segments)?;
-    watch.lap("segments taken", analyst.taken())?;
-    analyst.compact().ok().context("out of memory")?;
-    watch.lap("segments folded", analyst.taken())?;
+fn fold(watch: &mut Stopwatch<'_>, trace: &RandomTrace) -> Result<Analyst<Global>> {
+    let segments = trace.segments(watch.alloc())?;
+    watch.lap("segments made", segments.len() as u64);
+    alone(watch, &segments)?;
+    let mut analyst = taken(watch.alloc(), trace.processors, segments)?;
+    watch.lap("segments taken", analyst.taken());
+    compact(&mut analyst)?;
+    watch.lap("segments folded", analyst.taken());
     Ok(analyst)
 }
 
 /// The tree and the table of latest events by themselves.
-fn alone(alloc: Global, watch: &mut Stopwatch, segments: &[Segment]) -> Result<()> {
-    if !fits_events(segments) {
-        return Ok(());
+fn alone(watch: &mut Stopwatch<'_>, segments: &[Segment]) -> Result<()> {
+    if fits_events(segments) {
+        let tree = StackTree::of(watch.alloc(), segments)?;
+        watch.lap("events in a tree alone", tree.total());
+        let latest = Latest::of(watch.alloc(), segments)?;
+        watch.lap("handles in a table alone", latest.rows().len() as u64);
     }
-    let tree = StackTree::of(alloc, segments)?;
-    watch.lap("events in a tree alone", tree.total())?;
-    let latest = Latest::of(alloc, segments)?;
-    watch.lap("handles in a table alone", latest.rows().len() as u64)?;
     Ok(())
 }
 
 /// An analyst that holds the segments.
-fn taken(alloc: Global, processors: u16, segments: Vec<Segment>) -> Result<Analyst<Global>> {
+pub fn taken(alloc: Global, processors: u16, segments: Vec<Segment>) -> Result<Analyst<Global>> {
     let mut analyst = Analyst::new(alloc, TRACE.id, processors)
         .ok()
         .context("no analyst")?;
     for segment in segments {
-        analyst.take(segment).ok().context("a segment was refused")?;
+        take(&mut analyst, segment)?;
     }
     Ok(analyst)
 }
 
-/// Merges them by reference and by moves.
-fn merge(
-    alloc: Global,
-    watch: &mut Stopwatch,
-    trace: &RandomTrace,
-    whole: &Analyst<Global>,
-) -> Result<()> {
-    let mut first = half(alloc, trace, true)?;
-    let second = half(alloc, trace, false)?;
-    watch.restart()?;
+pub fn take(analyst: &mut Analyst<Global>, segment: Segment) -> Result<()> {
+    analyst.take(segment).ok().context("a segment was refused")?;
+    Ok(())
+}
+
+pub fn compact(analyst: &mut Analyst<Global>) -> Result<()> {
+    analyst.compact().ok().context("out of memory")
+}
+
+/// Merges the halves by reference and by moves.
+fn merge(watch: &mut Stopwatch<'_>, trace: &RandomTrace, whole: &Analyst<Global>) -> Result<()> {
+    let mut first = half(watch.alloc(), trace, true)?;
+    let second = half(watch.alloc(), trace, false)?;
+    let merged = merged(watch, &first, &second)?;
+    absorb(watch, &mut first, second)?;
+    let same = merged.same(whole) && first.same(whole);
+    watch.lap("analysts compared", u64::from(same));
+    Ok(())
+}
+
+fn merged(
+    watch: &mut Stopwatch<'_>,
+    first: &Analyst<Global>,
+    second: &Analyst<Global>,
+) -> Result<Analyst<Global>> {
+    watch.restart();
     let mut merged = first.copy()?;
-    watch.lap("analyst of one half copied", merged.taken())?;
+    watch.lap("analyst of one half copied", merged.taken());
     merged
-        .merge(&second)
+        .merge(second)
         .ok()
         .context("the halves weren't merged")?;
-    watch.lap("halves merged by reference", merged.taken())?;
+    watch.lap("halves merged by reference", merged.taken());
+    Ok(merged)
+}
+
+fn absorb(
+    watch: &mut Stopwatch<'_>,
+    first: &mut Analyst<Global>,
+    second: Analyst<Global>,
+) -> Result<()> {
     first
         .absorb(second)
         .ok()
         .context("the halves weren't merged")?;
-    watch.lap("halves merged by moves", first.taken())?;
-    let same = merged.same(whole) && first.same(whole);
-    watch.lap("analysts compared", u64::from(same))?;
+    watch.lap("halves merged by moves", first.taken());
     Ok(())
 }
 
 /// An analyst that folded the segments of the lower half of the processors, or of the upper one.
 fn half(alloc: Global, trace: &RandomTrace, lower: bool) -> Result<Analyst<Global>> {
-    let mut segments = Vec::new(alloc);
-    for segment in trace.segments(alloc)? {
-        if (segment.processor() < trace.processors / 2) == lower {
-            segments.push(segment)?;
-        }
-    }
+    let mut segments = trace.segments(alloc)?;
+    segments.retain(|segment| (segment.processor() < trace.processors / 2) == lower);
     let mut analyst = taken(alloc, trace.processors, segments)?;
-    analyst.compact().ok().context("out of memory")?;
+    compact(&mut analyst)?;
     Ok(analyst)
 }
 
 /// Times every answer. The number is that of its rows, or the answer itself.
-fn answer(alloc: Global, watch: &mut Stopwatch, analyst: &Analyst<Global>) -> Result<()> {
-    watch.restart()?;
-    without_memory(watch, analyst)?;
-    let rows = analyst.outstanding(alloc, PROCESS)?;
-    watch.lap("outstanding handles", rows.len() as u64)?;
-    let rows = analyst.diff(alloc, PROCESS, analyst.mark(PROCESS))?;
-    watch.lap("handles opened since the mark", rows.len() as u64)?;
-    let rows = analyst.leaks(alloc, PROCESS)?;
-    watch.lap("leaking stacks", rows.len() as u64)?;
-    let rows = analyst.tags(alloc, OBJECT)?;
-    watch.lap("tags of an object", rows.len() as u64)?;
-    let rows = analyst.stacks(alloc, OBJECT, TAG)?;
-    watch.lap("stacks of a tag", rows.len() as u64)?;
-    let rows = analyst.bad(alloc, PROCESS)?;
-    watch.lap("bad references", rows.len() as u64)?;
+fn answer(watch: &mut Stopwatch<'_>, analyst: &Analyst<Global>) -> Result<()> {
+    watch.restart();
+    without_memory(watch, analyst);
+    of_process(watch, analyst);
+    of_object(watch, analyst);
+    let bad = analyst.bad(watch.alloc(), PROCESS);
+    watch.lap_list("bad references", bad);
     let tree = analyst.whole_tree()?;
-    watch.lap("events of the whole tree", tree.total())?;
+    watch.lap("events of the whole tree", tree.total());
     Ok(())
 }
 
 /// Those that take no memory.
-fn without_memory(watch: &mut Stopwatch, analyst: &Analyst<Global>) -> Result<()> {
+fn without_memory(watch: &mut Stopwatch<'_>, analyst: &Analyst<Global>) {
     let latest = analyst.latest(PROCESS, 4).map(|event| event.sequence);
-    watch.lap("latest event of a handle", latest.unwrap_or(0))?;
-    watch.lap("mark", analyst.mark(PROCESS))?;
+    watch.lap("latest event of a handle", latest.unwrap_or(0));
+    watch.lap("mark", analyst.mark(PROCESS));
     let opens = analyst.under(&[], Slot::Handles { process: PROCESS });
-    watch.lap("opens under a path", opens.plus)?;
+    watch.lap("opens under a path", opens.plus);
     watch.lap(
         "moment up to which nothing is missing",
         analyst.complete_to(),
-    )?;
-    Ok(())
+    );
+}
+
+fn of_process(watch: &mut Stopwatch<'_>, analyst: &Analyst<Global>) {
+    let alloc = watch.alloc();
+    watch.lap_list("outstanding handles", analyst.outstanding(alloc, PROCESS));
+    let since = analyst.mark(PROCESS);
+    watch.lap_list(
+        "handles opened since the mark",
+        analyst.diff(alloc, PROCESS, since),
+    );
+    watch.lap_list("leaking stacks", analyst.leaks(alloc, PROCESS));
+}
+
+fn of_object(watch: &mut Stopwatch<'_>, analyst: &Analyst<Global>) {
+    let alloc = watch.alloc();
+    watch.lap_list("tags of an object", analyst.tags(alloc, OBJECT));
+    watch.lap_list("stacks of a tag", analyst.stacks(alloc, OBJECT, TAG));
 }

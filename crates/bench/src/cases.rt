@@ -11,71 +11,71 @@ use std::alloc::Global;
 /// How many segments all processors have.
 const SEGMENTS: u32 = 64;
 
-/// What is measured: a generated trace, and how many events it has.
-#[derive(Drop)]
-struct Sample {
-    trace: RandomTrace,
-    events: u64,
-}
-
-impl Sample {
-    fn new(processors: u16, events: u32) -> Sample {
-        let trace = RandomTrace {
-            processors,
-            segments: SEGMENTS / u32::from(processors.max(1)),
-            events,
-            processes: 16,
-            handles: 1024,
-            stacks: 10_000,
-            ..SMALL
-        };
-        let all = u64::from(trace.segments).wrapping_mul(u64::from(processors));
-        Sample {
-            trace,
-            events: all.wrapping_mul(u64::from(events)),
-        }
-    }
-
-    /// All segments in reverse order, each twice, in memory of their own.
-    fn twice(&self, alloc: Global) -> Result<Vec<Segment>, SampleFault> {
-        let mut segments = self.trace.segments(alloc)?;
-        for segment in self.trace.segments(alloc)? {
-            segments.push(segment)?;
-        }
-        segments.reverse();
-        Ok(segments)
+fn trace(processors: u16, events: u32) -> RandomTrace {
+    RandomTrace {
+        processors,
+        segments: SEGMENTS / u32::from(processors.max(1)),
+        events,
+        processes: 16,
+        handles: 1024,
+        stacks: 10_000,
+        ..SMALL
     }
 }
 
-pub fn measure(rt: &HostRuntime, size: u32) -> Result<()> {
-    let mut watch = Stopwatch::start(rt)?;
+/// How many events a trace has.
+fn number_of_events(trace: &RandomTrace) -> u64 {
+    let segments = u64::from(trace.segments).wrapping_mul(u64::from(trace.processors));
+    segments.wrapping_mul(u64::from(trace.events))
+}
+
+/// All segments of a trace in reverse order, each twice, in memory of their own.
+fn twice(alloc: Global, trace: &RandomTrace) -> Result<Vec<Segment>, SampleFault> {
+    let mut segments = trace.segments(alloc)?;
+    segments.append(&mut trace.segments(alloc)?)?;
+    segments.reverse();
+    Ok(segments)
+}
+
+pub fn measure(watch: &mut Stopwatch<'_>, size: u32) -> Result<()> {
     for processors in [4, 64] {
-        measure_sample(rt, &mut watch, &Sample::new(processors, size))?;
+        watch.print("processors", processors);
+        measure_trace(watch, &trace(processors, size))?;
     }
     Ok(())
 }
 
-fn measure_sample(rt: &HostRuntime, watch: &mut Stopwatch, sample: &Sample) -> Result<()> {
-    let alloc = rt.alloc();
-    println!(rt; "processors: {}", sample.trace.processors)?;
-    let segments = sample.trace.segments(alloc)?;
-    watch.restart()?;
-    let case = Case::of(alloc, segments)?;
-    watch.lap("events of a case", sample.events)?;
-    println!(rt; "segments: {}", case.segments().len())?;
+fn measure_trace(watch: &mut Stopwatch<'_>, trace: &RandomTrace) -> Result<()> {
+    let alloc = watch.alloc();
+    let events = number_of_events(trace);
+    let segments = trace.segments(alloc)?;
+    let case = case_of(watch, "events of a case", events, segments)?;
+    list(watch, &case, events)?;
+    let segments = twice(alloc, trace)?;
+    let step = "events of a case, each segment given twice and in reverse";
+    case_of(watch, step, events, segments)?;
+    Ok(())
+}
 
-    watch.restart()?;
-    let rows = case.trace(alloc, 4, 8)?;
-    watch.lap("events gone through for a listing", sample.events)?;
-    println!(rt; "listed: {}", rows.len())?;
+/// Makes a case of segments, and prints how many it has.
+fn case_of(
+    watch: &mut Stopwatch<'_>,
+    step: &str,
+    events: u64,
+    segments: Vec<Segment>,
+) -> Result<Case> {
+    watch.restart();
+    let case = Case::of(watch.alloc(), segments)?;
+    watch.lap(step, events);
+    watch.print("segments", case.segments().len());
+    Ok(case)
+}
 
-    let twice = sample.twice(alloc)?;
-    watch.restart()?;
-    let case = Case::of(alloc, twice)?;
-    watch.lap(
-        "events of a case, each segment given twice and in reverse",
-        sample.events,
-    )?;
-    println!(rt; "segments: {}", case.segments().len())?;
+/// Lists the events of a handle.
+fn list(watch: &mut Stopwatch<'_>, case: &Case, events: u64) -> Result<()> {
+    watch.restart();
+    let rows = case.trace(watch.alloc(), 4, 8)?;
+    watch.lap("events gone through for a listing", events);
+    watch.print("listed", rows.len());
     Ok(())
 }

@@ -23,6 +23,7 @@ use measurement::Measurement;
 use std::env;
 use std::sync::Wait;
 use std::thread::Threads;
+use stopwatch::Stopwatch;
 
 fn measure<R: Threads + Wait + Sync>(
     rt: &HostRuntime,
@@ -31,24 +32,26 @@ fn measure<R: Threads + Wait + Sync>(
     size: u32,
 ) -> Result<()> {
     println!(rt; "{} {size}", measurement.word())?;
+    let mut watch = Stopwatch::start(rt)?;
     match measurement {
-        Measurement::Segments => segments::measure(rt, size),
-        Measurement::Trees => trees::measure(rt, size),
-        Measurement::Tables => tables::measure(rt, size),
-        Measurement::Analysts => analysts::measure(rt, size),
-        Measurement::Summaries => summaries::measure(rt, size),
-        Measurement::Cases => cases::measure(rt, size),
-        Measurement::Surveys => surveys::measure(rt, threads, size),
-        Measurement::Reports => reports::measure(rt, size),
-        Measurement::Texts => texts::measure(rt, size),
-    }
+        Measurement::Segments => segments::measure(&mut watch, size),
+        Measurement::Trees => trees::measure(&mut watch, size),
+        Measurement::Tables => tables::measure(&mut watch, size),
+        Measurement::Analysts => analysts::measure(&mut watch, size),
+        Measurement::Summaries => summaries::measure(&mut watch, size),
+        Measurement::Cases => cases::measure(&mut watch, size),
+        Measurement::Surveys => surveys::measure(&mut watch, threads, size),
+        Measurement::Reports => reports::measure(&mut watch, size),
+        Measurement::Texts => texts::measure(&mut watch, size),
+    }?;
+    watch.finish()
 }
 
 fn main(rt: HostRuntime) -> Result<()> {
     let mut words = env::args(&rt)?.skip(1);
     let Some(word) = words.next() else {
         for measurement in Measurement::ALL {
-            measure(&rt, &rt, measurement, measurement.small_size())?;
+            measure(&rt, &rt, *measurement, measurement.small_size())?;
         }
         return Ok(());
     };

@@ -1,7 +1,7 @@
 //! What can be measured.
 
 /// A measurement: one word of the command line, and one file.
-#[derive(Clone, Copy, Debug, PartialEq, Eq)]
+#[derive(Clone, Copy)]
 pub enum Measurement {
     Segments,
     Trees,
@@ -15,7 +15,7 @@ pub enum Measurement {
 }
 
 impl Measurement {
-    pub const ALL: [Measurement; 9] = [
+    pub const ALL: &'static [Measurement] = &[
         Measurement::Segments,
         Measurement::Trees,
         Measurement::Tables,
@@ -29,9 +29,12 @@ impl Measurement {
 
     /// The measurement that has this word.
     pub fn of(word: &str) -> Option<Measurement> {
-        Measurement::ALL
-            .into_iter()
-            .find(|measurement| measurement.word() == word)
+        for measurement in Measurement::ALL {
+            if measurement.word() == word {
+                return Some(*measurement);
+            }
+        }
+        None
     }
 
     /// The word that asks for it.

@@ -15,44 +15,36 @@ const LENGTH: u64 = 0x40;
 
 const FRAMES: usize = 16;
 
-pub fn measure(rt: &HostRuntime, size: u32) -> Result<()> {
-    let alloc = rt.alloc();
-    let table = table(alloc, size / 2)?;
-    let mut watch = Stopwatch::start(rt)?;
-    let symbols = Symbols::read(alloc, table.as_bytes())?;
-    watch.lap("bytes of a symbol table", table.len() as u64)?;
-    measure_answer(alloc, &mut watch, &symbols, size)?;
-    measure_folded(alloc, &mut watch, &symbols, size)
+pub fn measure(watch: &mut Stopwatch<'_>, size: u32) -> Result<()> {
+    let table = table(watch.alloc(), size / 2)?;
+    watch.restart();
+    let symbols = Symbols::read(watch.alloc(), table.as_bytes())?;
+    watch.lap("bytes of a symbol table", table.len() as u64);
+    measure_answer(watch, &symbols, size)?;
+    measure_folded(watch, &symbols, size)
 }
 
-fn measure_answer(
-    alloc: Global,
-    watch: &mut Stopwatch<'_>,
-    symbols: &Symbols,
-    size: u32,
-) -> Result<()> {
+/// Prints an answer as text and as JSON.
+fn measure_answer(watch: &mut Stopwatch<'_>, symbols: &Symbols, size: u32) -> Result<()> {
+    let alloc = watch.alloc();
     let answer = Answer::Outstanding {
         process: 4,
         rows: rows(alloc, size)?,
     };
-    watch.restart()?;
-    let printed = text(alloc, &answer, symbols, None)?;
-    watch.lap("bytes of text", printed.len() as u64)?;
-    let lines = json_lines(alloc, &answer, symbols, None)?;
-    watch.lap("bytes of JSON", lines.len() as u64)?;
+    watch.restart();
+    watch.lap_list("bytes of text", text(alloc, &answer, symbols, None));
+    watch.lap_list("bytes of JSON", json_lines(alloc, &answer, symbols, None));
     Ok(())
 }
 
-fn measure_folded(
-    alloc: Global,
-    watch: &mut Stopwatch<'_>,
-    symbols: &Symbols,
-    size: u32,
-) -> Result<()> {
+fn measure_folded(watch: &mut Stopwatch<'_>, symbols: &Symbols, size: u32) -> Result<()> {
+    let alloc = watch.alloc();
     let rows = leaks(alloc, size)?;
-    watch.restart()?;
-    let stacks = folded(alloc, &rows, symbols, None)?;
-    watch.lap("bytes of folded stacks", stacks.len() as u64)?;
+    watch.restart();
+    watch.lap_list(
+        "bytes of folded stacks",
+        folded(alloc, &rows, symbols, None),
+    );
     Ok(())
 }
 

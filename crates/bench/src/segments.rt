@@ -81,47 +81,51 @@ fn memory(rt: &HostRuntime) -> u64 {
     pages.unwrap_or(0).wrapping_mul(4096)
 }
 
-pub fn measure(rt: &HostRuntime, size: u32) -> Result<()> {
+pub fn measure(watch: &mut Stopwatch<'_>, size: u32) -> Result<()> {
     for stacks in [2_000, 100_000] {
-        measure_stacks(rt, size, stacks)?;
+        watch.print("stacks", stacks);
+        let bundle = trace_of(size, stacks).bundle(watch.alloc())?;
+        read(watch, &bundle, size.wrapping_mul(4))?;
     }
     Ok(())
 }
 
-fn measure_stacks(rt: &HostRuntime, per_processor: u32, stacks: u32) -> Result<()> {
-    let alloc = rt.alloc();
-    let trace = trace_of(per_processor, stacks);
-    let segments = per_processor.wrapping_mul(4);
-    let bytes = trace.bundle(alloc)?;
-    let len = bytes.len() as u64;
-    println!(rt; "stacks: {stacks}")?;
+/// Reads a bundle of so many segments in each way.
+fn read(watch: &mut Stopwatch<'_>, bundle: &[u8], segments: u32) -> Result<()> {
+    let (alloc, len) = (watch.alloc(), bundle.len() as u64);
+    watch.restart();
+    let frames = in_place(bundle, segments)?;
+    watch.lap("bytes read in place", len);
+    watch.print("bytes of frames", frames);
 
-    let mut watch = Stopwatch::start(rt)?;
-    let frames = in_place(&bytes, segments)?;
-    watch.lap("bytes read in place", len)?;
-    println!(rt; "bytes of frames: {frames}")?;
+    keep(watch, bundle)?;
 
-    let before = memory(rt);
-    watch.restart()?;
-    let kept = in_pieces(alloc, &bytes, PIECE)?;
-    watch.lap("bytes split, in pieces of 65536, the events kept", len)?;
-    let share = memory(rt).saturating_sub(before).wrapping_mul(100) / len.max(1);
-    eprintln!(rt; "memory kept: {share} % of the bytes")?;
-    println!(rt; "segments: {}", kept.len())?;
-    watch.restart()?;
+    let kept = in_pieces(alloc, bundle, 64)?.len();
+    watch.lap("bytes split, in pieces of 64", len);
+    watch.print("segments", kept);
+
+    let kept = decode_bundle(alloc, bundle).map_or(0, |segments| segments.len());
+    watch.lap("bytes decoded as a bundle", len);
+    watch.print("segments", kept);
+
+    let events = one_by_one(alloc, bundle, segments)?;
+    watch.lap("bytes decoded one by one", len);
+    watch.print("events", events);
+    Ok(())
+}
+
+/// Keeps the events of a bundle, and drops them.
+fn keep(watch: &mut Stopwatch<'_>, bundle: &[u8]) -> Result<()> {
+    let len = bundle.len() as u64;
+    let before = memory(watch.rt);
+    watch.restart();
+    let kept = in_pieces(watch.alloc(), bundle, PIECE)?;
+    watch.lap("bytes split, in pieces of 65536, the events kept", len);
+    let share = memory(watch.rt).saturating_sub(before).wrapping_mul(100) / len.max(1);
+    watch.remark("memory kept, % of the bytes", share);
+    watch.print("segments", kept.len());
+    watch.restart();
     drop(kept);
-    watch.lap("bytes whose events were dropped", len)?;
-
-    let kept = in_pieces(alloc, &bytes, 64)?.len();
-    watch.lap("bytes split, in pieces of 64", len)?;
-    println!(rt; "segments: {kept}")?;
-
-    let kept = decode_bundle(alloc, &bytes).map_or(0, |segments| segments.len());
-    watch.lap("bytes decoded as a bundle", len)?;
-    println!(rt; "segments: {kept}")?;
-
-    let events = one_by_one(alloc, &bytes, segments)?;
-    watch.lap("bytes decoded one by one", len)?;
-    println!(rt; "events: {events}")?;
+    watch.lap("bytes whose events were dropped", len);
     Ok(())
 }

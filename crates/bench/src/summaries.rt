@@ -2,8 +2,9 @@
 //! the size and at all of it. One trace has so many thousand objects, one has 50 processes for each
 //! thousand, and one lacks 100 segments for each.
 
+use crate::analysts::{compact, taken};
 use crate::stopwatch::Stopwatch;
-use anyhow::{Context, Result};
+use anyhow::Result;
 use htl_analyst::Analyst;
 use htl_event::{Event, Kind};
 use htl_samples::{RandomTrace, SMALL, SampleFault, TRACE};
@@ -15,48 +16,46 @@ const PROCESSORS: u16 = 4;
 /// How many events a segment has, so that the four of one number have 2,000.
 const EVENTS: u32 = 500;
 
-pub fn measure(rt: &HostRuntime, size: u32) -> Result<()> {
-    let alloc = rt.alloc();
-    let mut watch = Stopwatch::start(rt)?;
+pub fn measure(watch: &mut Stopwatch<'_>, size: u32) -> Result<()> {
     for thousands in [size / 4, size] {
-        println!(rt; "thousands of objects: {thousands}")?;
-        ask(alloc, &mut watch, of_objects(alloc, thousands)?)?;
-        println!(rt; "50 processes for each thousand")?;
-        ask(alloc, &mut watch, of_processes(alloc, thousands)?)?;
-        println!(rt; "100 missing segments for each thousand")?;
-        ask(alloc, &mut watch, with_gaps(alloc, thousands)?)?;
+        measure_at(watch, thousands)?;
     }
     Ok(())
 }
 
+fn measure_at(watch: &mut Stopwatch<'_>, thousands: u32) -> Result<()> {
+    let (alloc, trace) = (watch.alloc(), trace(thousands));
+    watch.print("thousands of objects", thousands);
+    ask(watch, of_objects(alloc, &trace))?;
+    watch.print_title("50 processes for each thousand");
+    ask(watch, trace.segments(alloc))?;
+    watch.print_title("100 missing segments for each thousand");
+    ask(watch, with_gaps(alloc, thousands))
+}
+
 /// Asks an analyst that holds all segments, and again once it has folded what it can.
-fn ask(alloc: Global, watch: &mut Stopwatch, segments: Vec<Segment>) -> Result<()> {
-    let mut analyst = Analyst::new(alloc, TRACE.id, PROCESSORS)
-        .ok()
-        .context("no analyst")?;
-    watch.restart()?;
-    for segment in segments {
-        analyst.take(segment).ok().context("a segment was refused")?;
-    }
-    watch.lap("segments held", analyst.held())?;
-    answer(alloc, watch, &analyst)?;
-    analyst.compact().ok().context("out of memory")?;
+fn ask(watch: &mut Stopwatch<'_>, made: Result<Vec<Segment>, SampleFault>) -> Result<()> {
+    let segments = made?;
+    watch.restart();
+    let mut analyst = taken(watch.alloc(), PROCESSORS, segments)?;
+    watch.lap("segments held", analyst.held());
+    answer(watch, &analyst)?;
+    compact(&mut analyst)?;
     let folded = analyst.taken().saturating_sub(analyst.held());
-    watch.lap("segments folded", folded)?;
-    answer(alloc, watch, &analyst)
+    watch.lap("segments folded", folded);
+    answer(watch, &analyst)
 }
 
 /// Times the answers, beside the one tree of all parts, which those on processes and objects are
 /// made from. The number is that of the rows, the objects or the events.
-fn answer(alloc: Global, watch: &mut Stopwatch, analyst: &Analyst<Global>) -> Result<()> {
+fn answer(watch: &mut Stopwatch<'_>, analyst: &Analyst<Global>) -> Result<()> {
+    let alloc = watch.alloc();
     let events = analyst.whole_tree()?.total();
-    watch.lap("events of the whole tree", events)?;
-    let processes = analyst.processes(alloc)?;
-    watch.lap("processes", processes.len() as u64)?;
-    let objects = analyst.objects(alloc)?;
-    watch.lap("objects", objects.number)?;
-    let gaps = analyst.gaps(alloc)?;
-    watch.lap("gaps", gaps.len() as u64)?;
+    watch.lap("events of the whole tree", events);
+    watch.lap_list("processes", analyst.processes(alloc));
+    let objects = analyst.objects(alloc)?.number;
+    watch.lap("objects", objects);
+    watch.lap_list("gaps", analyst.gaps(alloc));
     Ok(())
 }
 
@@ -75,37 +74,29 @@ fn trace(thousands: u32) -> RandomTrace {
     }
 }
 
-/// The segments of a trace with 50 processes for each thousand.
-fn of_processes(alloc: Global, thousands: u32) -> Result<Vec<Segment>, SampleFault> {
-    trace(thousands).segments(alloc)
-}
-
 /// The segments of a trace of so many thousand objects. First each of them is referenced, in mixed
 /// order, and then each is dereferenced, every fourth one under another tag.
-fn of_objects(alloc: Global, thousands: u32) -> Result<Vec<Segment>, SampleFault> {
-    let trace = trace(thousands);
+fn of_objects(alloc: Global, trace: &RandomTrace) -> Result<Vec<Segment>, SampleFault> {
     let mut segments = Vec::new(alloc);
     for number in 0..trace.segments {
         for processor in 0..PROCESSORS {
-            let events = object_events(alloc, &trace, processor, number)?;
-            let built = Segment::build2(alloc, TRACE.id, PROCESSORS, processor, number, events)?;
-            segments.push(built)?;
+            segments.push(object_segment(alloc, trace, processor, number)?)?;
         }
     }
     Ok(segments)
 }
 
-fn object_events(
+fn object_segment(
     alloc: Global,
     trace: &RandomTrace,
     processor: u16,
     number: u32,
-) -> Result<Vec<Event>, SampleFault> {
+) -> Result<Segment, SampleFault> {
     let mut events = Vec::with_capacity(alloc, EVENTS as usize)?;
     for place in 0..EVENTS {
         events.push(object_event(trace, trace.event(processor, number, place)))?;
     }
-    Ok(events)
+    Ok(Segment::build2(alloc, TRACE.id, PROCESSORS, processor, number, events)?)
 }
 
 /// An event of the trace as one of an object. The sequences of a trace go from 1 to the number of
@@ -114,15 +105,12 @@ fn object_event(trace: &RandomTrace, event: Event) -> Event {
     let objects = u64::from(trace.segments) * 1_000;
     let object = event.sequence.wrapping_mul(7_919) % objects.max(1);
     let is_first = event.sequence <= objects;
+    let is_tagged = is_first || object % 4 != 0;
     Event {
         kind: if is_first { Kind::Ref } else { Kind::Deref },
         handle: 0,
         object: 0x1000 + 0x10 * object,
-        tag: if is_first || object % 4 != 0 {
-            *b"Lky8"
-        } else {
-            *b"Dflt"
-        },
+        tag: if is_tagged { *b"Lky8" } else { *b"Dflt" },
         ..event
     }
 }
@@ -133,10 +121,13 @@ fn with_gaps(alloc: Global, thousands: u32) -> Result<Vec<Segment>, SampleFault>
     for place in 0..thousands.wrapping_mul(25) {
         let number = place.wrapping_mul(2).wrapping_add(1);
         for processor in 0..PROCESSORS {
-            let events = Vec::new(alloc);
-            let built = Segment::build(alloc, TRACE.id, PROCESSORS, processor, number, events)?;
-            segments.push(built)?;
+            segments.push(empty_segment(alloc, processor, number)?)?;
         }
     }
     Ok(segments)
+}
+
+fn empty_segment(alloc: Global, processor: u16, number: u32) -> Result<Segment, SampleFault> {
+    let events = Vec::new(alloc);
+    Ok(Segment::build(alloc, TRACE.id, PROCESSORS, processor, number, events)?)
 }

@@ -2,6 +2,7 @@
 //! in each of 256 segments, of 8 processors. One analyst that takes all segments and compacts comes
 //! first, and then surveys by 1, 2 and 4 workers, each of which has to come to the same state.
 
+use crate::analysts::{compact, take};
 use crate::stopwatch::Stopwatch;
 use anyhow::{Context, Result};
 use htl_analyst::Analyst;
@@ -39,30 +40,42 @@ fn alone(alloc: Global, case: &Case) -> Result<Analyst<Global>> {
         .ok()
         .context("no analyst")?;
     for segment in case.segments() {
-        analyst
-            .take(segment.copy()?)
-            .ok()
-            .context("a segment was refused")?;
+        take(&mut analyst, segment.copy()?)?;
     }
-    analyst.compact().ok().context("out of memory")?;
+    compact(&mut analyst)?;
     Ok(analyst)
 }
 
 /// The workers are threads of `threads`.
-pub fn measure<R: Threads + Wait + Sync>(rt: &HostRuntime, threads: &R, size: u32) -> Result<()> {
-    let alloc = rt.alloc();
-    let case = case(alloc, size)?;
-    let mut watch = Stopwatch::start(rt)?;
-    let whole = alone(alloc, &case)?;
-    watch.lap("segments taken in by one analyst", whole.taken())?;
+pub fn measure<R: Threads + Wait + Sync>(
+    watch: &mut Stopwatch<'_>,
+    threads: &R,
+    size: u32,
+) -> Result<()> {
+    let case = case(watch.alloc(), size)?;
+    watch.restart();
+    let whole = alone(watch.alloc(), &case)?;
+    watch.lap("segments taken in by one analyst", whole.taken());
     for workers in [1, 2, 4] {
-        println!(rt; "workers: {workers}")?;
-        watch.restart()?;
-        let surveyed = survey(threads, alloc, &case, workers, &Free)
-            .ok()
-            .context("no survey")?;
-        watch.lap("segments surveyed", surveyed.taken())?;
-        println!(rt; "the same state: {}", surveyed.same(&whole))?;
+        watch.print("workers", workers);
+        measure_survey(watch, threads, &case, workers, &whole)?;
     }
+    Ok(())
+}
+
+/// So many workers survey a case, and come to the same state as one analyst did.
+fn measure_survey<R: Threads + Wait + Sync>(
+    watch: &mut Stopwatch<'_>,
+    threads: &R,
+    case: &Case,
+    workers: u32,
+    whole: &Analyst<Global>,
+) -> Result<()> {
+    watch.restart();
+    let surveyed = survey(threads, watch.alloc(), case, workers, &Free)
+        .ok()
+        .context("no survey")?;
+    watch.lap("segments surveyed", surveyed.taken());
+    watch.print("the same state", surveyed.same(whole));
     Ok(())
 }

@@ -33,45 +33,63 @@ fn turned(alloc: Global, segments: &[Segment]) -> Result<Vec<SharedEvent>> {
     Ok(events)
 }
 
-pub fn measure(rt: &HostRuntime, size: u32) -> Result<()> {
-    let mut watch = Stopwatch::start(rt)?;
-    make_tables(rt.alloc(), &mut watch, size)?;
-    join_tables(rt.alloc(), &mut watch, size)
+/// Makes tables of 100,000 handles, and joins tables of a million.
+pub fn measure(watch: &mut Stopwatch<'_>, size: u32) -> Result<()> {
+    let segments = trace(size, 100_000).segments(watch.alloc())?;
+    make_tables(watch, &segments)?;
+    watch.restart();
+    let segments = trace(size, 1_000_000).segments(watch.alloc())?;
+    watch.lap("segments made", segments.len() as u64);
+    join_tables(watch, &segments)
 }
 
-/// Tables of 100,000 handles, by two orders of events.
-fn make_tables(alloc: Global, watch: &mut Stopwatch, segments: u32) -> Result<()> {
-    let segments = trace(segments, 100_000).segments(alloc)?;
-    let turned = [turned(alloc, &segments)?];
-    watch.lap("events made", turned[0].len() as u64)?;
-    let latest = Latest::of(alloc, &segments)?;
-    watch.lap("latest events of these", latest.rows().len() as u64)?;
-    let backwards = Latest::of(alloc, &turned)?;
-    watch.lap("the same, backwards", backwards.rows().len() as u64)?;
-    let same = latest.same(&backwards);
-    watch.lap("tables compared", same as u64)?;
-    let marks = Marks::of(alloc, &segments)?;
-    watch.lap("marks of these", marks.rows().len() as u64)?;
-    let exits = Exits::of(alloc, &segments)?;
-    watch.lap("exits of these", exits.rows().len() as u64)?;
+/// A table of latest events, and the rows that it has.
+fn latest_of<L: EventList>(
+    watch: &mut Stopwatch<'_>,
+    step: &str,
+    events: &[L],
+) -> Result<Latest<Global>> {
+    let latest = Latest::of(watch.alloc(), events)?;
+    watch.lap(step, latest.rows().len() as u64);
+    Ok(latest)
+}
+
+/// Tables by two orders of events.
+fn make_tables(watch: &mut Stopwatch<'_>, segments: &[Segment]) -> Result<()> {
+    compare_orders(watch, segments)?;
+    watch.restart();
+    let marks = Marks::of(watch.alloc(), segments)?;
+    watch.lap("marks of these", marks.rows().len() as u64);
+    let exits = Exits::of(watch.alloc(), segments)?;
+    watch.lap("exits of these", exits.rows().len() as u64);
     Ok(())
 }
 
-/// Tables of a million handles.
-fn join_tables(alloc: Global, watch: &mut Stopwatch, segments: u32) -> Result<()> {
-    let segments = trace(segments, 1_000_000).segments(alloc)?;
-    watch.lap("segments made", segments.len() as u64)?;
-    let all = Latest::of(alloc, &segments)?;
-    watch.lap("latest events of many handles", all.rows().len() as u64)?;
+fn compare_orders(watch: &mut Stopwatch<'_>, segments: &[Segment]) -> Result<()> {
+    let turned = [turned(watch.alloc(), segments)?];
+    watch.lap("events made", turned[0].len() as u64);
+    let latest = latest_of(watch, "latest events of these", segments)?;
+    let backwards = latest_of(watch, "the same, backwards", &turned)?;
+    watch.lap("tables compared", u64::from(latest.same(&backwards)));
+    Ok(())
+}
+
+fn join_tables(watch: &mut Stopwatch<'_>, segments: &[Segment]) -> Result<()> {
+    let all = latest_of(watch, "latest events of many handles", segments)?;
     let copy = all.copy()?;
-    watch.lap("table copied", copy.rows().len() as u64)?;
-    let half = segments.len() / 2;
-    let first = Latest::of(alloc, &segments[..half])?;
-    let second = Latest::of(alloc, &segments[half..])?;
-    watch.restart()?;
-    let joined = first.join(&second)?;
-    watch.lap("tables joined", joined.rows().len() as u64)?;
-    let same = joined.same(&all);
-    watch.lap("tables compared", same as u64)?;
+    watch.lap("table copied", copy.rows().len() as u64);
+    let joined = join_halves(watch, segments)?;
+    watch.restart();
+    watch.lap("tables compared", u64::from(joined.same(&all)));
     Ok(())
+}
+
+fn join_halves(watch: &mut Stopwatch<'_>, segments: &[Segment]) -> Result<Latest<Global>> {
+    let half = segments.len() / 2;
+    let first = Latest::of(watch.alloc(), &segments[..half])?;
+    let second = Latest::of(watch.alloc(), &segments[half..])?;
+    watch.restart();
+    let joined = first.join(&second)?;
+    watch.lap("tables joined", joined.rows().len() as u64);
+    Ok(joined)
 }

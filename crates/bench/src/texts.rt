@@ -32,14 +32,13 @@ fn text_of(alloc: Global, segments: &[Segment]) -> Result<Vec<u8>> {
     Ok(text)
 }
 
-pub fn measure(rt: &HostRuntime, per_processor: u32) -> Result<()> {
-    let alloc = rt.alloc();
-    let segments = trace_of(per_processor).segments(alloc)?;
-    let mut watch = Stopwatch::start(rt)?;
-    let text = text_of(alloc, &segments)?;
-    watch.lap("bytes of text dumped", text.len() as u64)?;
-    let bytes = encode(alloc, &text)?;
-    watch.lap("bytes of text encoded", text.len() as u64)?;
-    println!(rt; "bytes: {}", bytes.len())?;
+pub fn measure(watch: &mut Stopwatch<'_>, per_processor: u32) -> Result<()> {
+    let segments = trace_of(per_processor).segments(watch.alloc())?;
+    watch.restart();
+    let text = text_of(watch.alloc(), &segments)?;
+    watch.lap("bytes of text dumped", text.len() as u64);
+    let bytes = encode(watch.alloc(), &text)?;
+    watch.lap("bytes of text encoded", text.len() as u64);
+    watch.print("bytes", bytes.len());
     Ok(())
 }

@@ -25,40 +25,42 @@ fn segments(alloc: Global, trace: RandomTrace) -> Result<Vec<Segment>> {
     Ok(segments)
 }
 
-pub fn measure(rt: &HostRuntime, size: u32) -> Result<()> {
+pub fn measure(watch: &mut Stopwatch<'_>, size: u32) -> Result<()> {
     for stacks in [2_000, 100_000] {
-        println!(rt; "stacks: {stacks}")?;
-        measure_trace(
-            rt,
-            RandomTrace {
-                stacks,
-                segments: size,
-                ..TRACE
-            },
-        )?;
+        watch.print("stacks", stacks);
+        let trace = RandomTrace {
+            stacks,
+            segments: size,
+            ..TRACE
+        };
+        watch.restart();
+        let segments = segments(watch.alloc(), trace)?;
+        watch.lap("segments made", segments.len() as u64);
+        measure_tree(watch, &segments)?;
     }
     Ok(())
 }
 
-fn measure_trace(rt: &HostRuntime, trace: RandomTrace) -> Result<()> {
-    let alloc = rt.alloc();
-    let mut watch = Stopwatch::start(rt)?;
-    let segments = segments(alloc, trace)?;
-    watch.lap("segments made", segments.len() as u64)?;
-    if !fits_events(segments.as_slice()) {
+fn measure_tree(watch: &mut Stopwatch<'_>, segments: &[Segment]) -> Result<()> {
+    if !fits_events(segments) {
         return Ok(());
     }
-    let tree = StackTree::of(alloc, segments.as_slice())?;
-    watch.lap("events counted", tree.total())?;
+    let tree = StackTree::of(watch.alloc(), segments)?;
+    watch.lap("events counted", tree.total());
+    add_copy(watch, &tree)?;
+    watch.lap_list("slots listed", tree.slots(watch.alloc()));
+    Ok(())
+}
+
+/// Copies a tree, compares it with the copy and adds that to it.
+fn add_copy(watch: &mut Stopwatch<'_>, tree: &StackTree<Global>) -> Result<()> {
     let copy = tree.copy()?;
-    watch.lap("tree copied", copy.total())?;
-    let same = tree.same(&copy);
-    watch.lap("trees compared", u64::from(same))?;
+    watch.lap("tree copied", copy.total());
+    watch.lap("trees compared", u64::from(tree.same(&copy)));
     if tree.fits(copy.total()) {
         let sum = tree.plus(&copy)?;
-        watch.lap("counts of both", sum.total())?;
+        watch.lap("counts of both", sum.total());
     }
-    let slots = tree.slots(alloc)?.len();
-    watch.lap("slots listed", slots as u64)?;
+    watch.restart();
     Ok(())
 }

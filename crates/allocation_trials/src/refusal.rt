@@ -7,26 +7,18 @@ ghost use Rattle.htl_analyst.specs.declared.fault.MergeFault.TheVariants as merg
 ghost use Rattle.htl_analyst.specs.declared.fault.TakeFault.TheVariants as takes;
 ghost use Rattle.htl_case.specs.declared.fault.CaseFault.TheVariants as cases;
 ghost use Rattle.htl_case.specs.declared.fault.PlayFault.TheVariants as plays;
-ghost use Rattle.htl_command.specs.declared.fault.ParseFault.TheVariants as words;
 ghost use Rattle.htl_exchange.specs.declared.fault.StartFault.TheVariants as starts;
 ghost use Rattle.htl_exchange.specs.declared.fault.SurveyFault.TheVariants as surveys;
-ghost use Rattle.htl_main.specs.declared.fault.RunFault.TheVariants as runs;
 ghost use Rattle.htl_samples.specs.declared.fault.SampleFault.TheVariants as samples;
 ghost use Rattle.htl_segment.specs.declared.fault.Fault.TheVariants as segments;
 ghost use Rattle.htl_segment.specs.declared.hexadecimal.HexFault.TheVariants as digits;
-ghost use Rattle.htl_symbols.specs.declared.fault.SymbolFault.TheVariants as tables;
-ghost use Rattle.htl_text.specs.declared.fault.TextFault.TheVariants as lines;
 
 use htl_analyst::{AnalystFault, MergeFault, TakeFault};
 use htl_case::{CaseFault, PlayFault};
-use htl_command::ParseFault;
 use htl_event::NoMemory;
 use htl_exchange::{StartFault, SurveyFault};
-use htl_main::{Refused, RunFault};
 use htl_samples::SampleFault;
 use htl_segment::{Fault, HexFault};
-use htl_symbols::SymbolFault;
-use htl_text::TextFault;
 use std::alloc::{AllocError, AllocFailed};
 
 /// Why a call gives no answer.
@@ -127,14 +119,6 @@ impl From<HexFault> for Refusal {
     }
 }
 
-impl From<TextFault> for Refusal {
-    ghost from_gives = { λ fault refusal. IsOutOfMemory refusal ↔ (fault ≡ lines.NoMemory) };
-
-    fn from(fault: TextFault) -> Refusal {
-        Refusal::of(fault == TextFault::NoMemory)
-    }
-}
-
 impl From<AnalystFault> for Refusal {
     ghost from_gives = { λ fault refusal. IsOutOfMemory refusal ↔ (fault ≡ analysts.NoMemory) };
 
@@ -189,39 +173,5 @@ impl From<SurveyFault> for Refusal {
 
     fn from(fault: SurveyFault) -> Refusal {
         Refusal::of(fault != SurveyFault::Workers)
-    }
-}
-
-impl From<SymbolFault> for Refusal {
-    ghost from_gives = { λ fault refusal. IsOutOfMemory refusal ↔ (fault ≡ tables.NoMemory) };
-
-    fn from(fault: SymbolFault) -> Refusal {
-        Refusal::of(fault == SymbolFault::NoMemory)
-    }
-}
-
-impl From<ParseFault> for Refusal {
-    ghost from_gives = { λ fault refusal. IsOutOfMemory refusal ↔ (fault ≡ words.Memory) };
-
-    fn from(fault: ParseFault) -> Refusal {
-        Refusal::of(fault == ParseFault::Memory)
-    }
-}
-
-impl From<RunFault> for Refusal {
-    ghost from_gives = { λ fault refusal.
-        IsOutOfMemory refusal ↔ ((fault ≡ runs.Memory) ⊎ (fault ≡ runs.NoThread)) };
-
-    fn from(fault: RunFault) -> Refusal {
-        Refusal::of(fault == RunFault::Memory || fault == RunFault::NoThread)
-    }
-}
-
-impl From<Refused> for Refusal {
-    ghost from_gives = { λ refused refusal. IsOutOfMemory refusal
-        ↔ ((refused.fault ≡ runs.Memory) ⊎ (refused.fault ≡ runs.NoThread)) };
-
-    fn from(refused: Refused) -> Refusal {
-        Refusal::from(refused.fault)
     }
 }

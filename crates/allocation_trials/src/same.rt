@@ -1,14 +1,12 @@
 //! What is compared: what a call was made on, and what it answers.
 
 ghost use Rattle.std.specs.Prelude.{◌≡◌, IsTrue};
-ghost use Rattle.htl_symbols.specs.Ranges.{resolved};
 ghost use Rattle.allocation_trials.specs.Lists.{AreSame};
 
 use crate::refusal::Refusal;
 use htl_analyst::Analyst;
 use htl_case::Case;
 use htl_segment::{Segment, Splitter};
-use htl_symbols::Symbols;
 use htl_tables::{EventKind, Greatest, Latest};
 use htl_taken::Taken;
 use htl_tree::StackTree;
@@ -204,28 +202,4 @@ impl Same for Case {
         }
         are_same(self.segments(), other.segments())
     }
-}
-
-/// Tables are compared at the addresses of the sample table and about them.
-impl Same for Symbols {
-    ghost use Rattle.std.specs.Prelude.{ℕ, ◌<◌, ◌≤◌};
-
-    ghost IsSame = { λ one two. (address : ℕ) → 0xf00 ≤ address → address < 0x3100
-        → resolved one address ≡ resolved two address };
-
-    fn same(&self, other: &Symbols) -> bool {
-        for address in 0xf00..0x3100u64 {
-            if !agree_at(self, other, address) {
-                return false;
-            }
-        }
-        true
-    }
-}
-
-/// Whether two tables resolve an address to the same name and place.
-fn agree_at(one: &Symbols, other: &Symbols, address: u64) -> bool
-    ensures { IsTrue result → resolved one.now address ≡ resolved other.now address }
-{
-    one.resolve(address) == other.resolve(address)
 }

@@ -1,11 +1,10 @@
-//! Calls on segments, on their bytes and on their texts.
+//! Calls on segments and on their bytes.
 
 use allocation_trials::{Equal, Refusal, Same, Trials, answered};
 use htl_event::Event;
 use htl_reading::decode_bundle_by;
 use htl_samples::{RandomTrace, SMALL, TRACE};
 use htl_segment::{Fault, Segment, Splitter, decode, decode_bundle, encode, from_hex};
-use htl_text::dump;
 use std::alloc::Global;
 use std::mem;
 use std::thread::Threads;
@@ -29,8 +28,6 @@ pub fn try_all<R: Threads + Sync>(rt: &R, trials: &mut Trials<'_, HostRuntime>) 
     trials.changes("feed", half_fed, feed);
     trials.changes("build", events, build);
     trials.changes("build2", events, build2);
-    trials.reads("dump", segment, dumped);
-    trials.reads("encode of a text", text, bytes_of_text);
 }
 
 fn segment(alloc: Global) -> Result<Segment, Refusal> {
@@ -41,7 +38,7 @@ fn encoding(alloc: Global) -> Result<Vec<u8>, Refusal> {
     answered(encode(alloc, &segment(alloc)?))
 }
 
-pub fn bundle(alloc: Global) -> Result<Vec<u8>, Refusal> {
+fn bundle(alloc: Global) -> Result<Vec<u8>, Refusal> {
     answered(SMALL.bundle(alloc))
 }
 
@@ -150,21 +147,4 @@ fn handed_back(
             Err(Refusal::from(fault))
         }
     }
-}
-
-fn dumped(alloc: Global, segment: &Segment) -> Result<Equal<Vec<u8>>, Refusal> {
-    Equal::of(dump(alloc, segment))
-}
-
-/// The text of all segments.
-pub fn text(alloc: Global) -> Result<Vec<u8>, Refusal> {
-    let mut text = Vec::new(alloc);
-    for segment in &SMALL.segments(alloc)? {
-        text.extend_from_slice(&dump(alloc, segment)?)?;
-    }
-    Ok(text)
-}
-
-fn bytes_of_text(alloc: Global, text: &Vec<u8>) -> Result<Equal<Vec<u8>>, Refusal> {
-    Equal::of(htl_text::encode(alloc, text))
 }

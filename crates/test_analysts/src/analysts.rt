@@ -1,6 +1,6 @@
 //! Analysts made of lines. A line that is no segment ends a test, and so does refused memory.
 
-use crate::rows::assert_row;
+use crate::rows::{assert_is, assert_row};
 use htl_analyst::{Analyst, TakeFault, Took};
 use htl_samples::{TRACE, Trace};
 use htl_segment::Segment;
@@ -76,6 +76,14 @@ pub fn merge(rt: &impl Abort, analyst: &mut Analyst<Global>, other: &Analyst<Glo
     analyst.merge(other).expect(rt, "a merge");
 }
 
+/// Whether an analyst takes over the other by a move.
+pub fn is_absorbed<A: Allocator + Clone>(analyst: &mut Analyst<A>, other: Analyst<A>) -> bool {
+    match analyst.absorb(other) {
+        Ok(()) => true,
+        Err(_refused) => false,
+    }
+}
+
 /// An analyst that took the segments of lines.
 pub fn taken(rt: &impl Abort, alloc: Global, trace: Trace, lines: &[&str]) -> Analyst<Global> {
     let mut analyst = new(rt, alloc, trace);
@@ -90,7 +98,24 @@ pub fn compacted(rt: &impl Abort, alloc: Global, trace: Trace, lines: &[&str]) -
     analyst
 }
 
-/// The front of processor 0, and how many segments are held and were taken.
-pub fn sizes(analyst: &Analyst<Global>) -> (u32, u64, u64) {
-    (analyst.front(0), analyst.held(), analyst.taken())
+/// The front of processor 0, and how many segments are held and were taken, are these.
+pub fn has_sizes(rt: &impl Abort, analyst: &Analyst<Global>, wanted: (u32, u64, u64)) {
+    let sizes = (analyst.front(0), analyst.held(), analyst.taken());
+    assert_is(rt, sizes, wanted);
+}
+
+/// The fronts of processors 0 and 1, and how many segments are held and were taken, are these.
+pub fn has_numbers(rt: &impl Abort, analyst: &Analyst<Global>, wanted: (u32, u32, u64, u64)) {
+    let (front, other_front, held, taken) = wanted;
+    assert_is(rt, analyst.front(1), other_front);
+    has_sizes(rt, analyst, (front, held, taken));
+}
+
+/// What an analyst answered to a segment is this.
+pub fn assert_took(
+    rt: &impl Abort,
+    found: Result<Took, TakeFault>,
+    wanted: Result<Took, TakeFault>,
+) {
+    assert_is(rt, found, wanted);
 }

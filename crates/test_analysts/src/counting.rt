@@ -1,7 +1,7 @@
 //! Answers that count, before and after what was taken is folded.
 
 use crate::analysts::{compact, taken};
-use crate::rows::{assert_frames, assert_is, assert_list, assert_row};
+use crate::rows::{assert_frames, assert_is, assert_list, assert_row, assert_tree};
 use htl_analyst::Analyst;
 use htl_event::{Count, NoMemory, SharedStack, Sign, Slot};
 use htl_samples::{TRACE, stack};
@@ -59,33 +59,21 @@ fn counted(rt: &impl Abort, alloc: Global) -> StackTree<Global> {
     tree
 }
 
-/// A tree was made, and is this one.
-fn has_tree(rt: &impl Abort, made: Result<StackTree<Global>, NoMemory>, tree: &StackTree<Global>) {
-    let whole = made.expect(rt, "the memory");
-    assert_is(rt, whole.same(tree), true);
-}
-
 /// What an analyst of the shared frames counts.
-fn are_counted(
-    rt: &impl Abort,
-    alloc: Global,
-    analyst: &Analyst<Global>,
-    tree: &StackTree<Global>,
-) {
+fn are_counted(rt: &impl Abort, alloc: Global, analyst: &Analyst<Global>) {
     for (path, count) in UNDER {
         assert_row(rt, *path, analyst.under(path, SLOT), *count);
     }
-    has_tree(rt, analyst.whole_tree(), tree);
+    assert_tree(rt, analyst.whole_tree(), &counted(rt, alloc));
     assert_frames(rt, analyst.stacks(alloc, OBJECT, TAG), STACKS);
 }
 
 #[test]
 fn shared_outer_frames(rt: HostRuntime) {
-    let tree = counted(&rt, rt.alloc());
     let mut analyst = taken(&rt, rt.alloc(), TRACE, SHARED_FRAMES);
-    are_counted(&rt, rt.alloc(), &analyst, &tree);
+    are_counted(&rt, rt.alloc(), &analyst);
     compact(&rt, &mut analyst);
-    are_counted(&rt, rt.alloc(), &analyst, &tree);
+    are_counted(&rt, rt.alloc(), &analyst);
 }
 
 const TAGGED: &[&str] = &[
@@ -127,9 +115,16 @@ const BAD: &[(u32, &[u64], u64)] = &[(0x0, &[], 1), (0x7, &[0x10], 2)];
 /// The rows were made, and are the bad references.
 fn are_bad(rt: &impl Abort, made: Result<Vec<(u32, SharedStack, u64)>, NoMemory>) {
     let rows = made.expect(rt, "the memory");
+    have_bad(rt, &rows);
+}
+
+fn have_bad(rt: &impl Abort, rows: &[(u32, SharedStack, u64)]) {
     assert_is(rt, rows.len(), BAD.len());
-    for ((handle, stack, number), wanted) in rows.iter().zip(BAD) {
-        assert_is(rt, (*handle, stack.frames(), *number), *wanted);
+    let mut rows = rows.iter();
+    for wanted in BAD {
+        let row = rows.next().expect(rt, "a row");
+        assert_is(rt, (row.0, row.2), (wanted.0, wanted.2));
+        assert_is(rt, row.1.frames(), wanted.1);
     }
 }
 

@@ -1,6 +1,6 @@
 //! Answers on handles, before and after what was taken is folded.
 
-use crate::analysts::{TWO_PROCESSORS, compact, sizes, taken};
+use crate::analysts::{TWO_PROCESSORS, compact, has_sizes, taken};
 use crate::rows::{assert_is, assert_row, assert_sequences};
 use htl_analyst::Analyst;
 use std::alloc::Global;
@@ -34,20 +34,25 @@ const OUTSTANDING: &[(&[&str], u32, &[u64])] = &[
     (&["1/0: C 2 0x44", "0/0: O 1 0x44"], 4, &[]),
 ];
 
+/// The opens of the handles that are outstanding in the lines, folded or not.
+fn are_outstanding(rt: &impl Abort, alloc: Global, lines: &[&str], process: u32, opens: &[u64]) {
+    let mut analyst = taken(rt, alloc, TWO_PROCESSORS, lines);
+    assert_sequences(rt, analyst.outstanding(alloc, process), opens);
+    compact(rt, &mut analyst);
+    assert_sequences(rt, analyst.outstanding(alloc, process), opens);
+}
+
 #[test]
 fn outstanding_handles(rt: HostRuntime) {
     for (lines, process, opens) in OUTSTANDING {
-        let mut analyst = taken(&rt, rt.alloc(), TWO_PROCESSORS, lines);
-        assert_sequences(&rt, analyst.outstanding(rt.alloc(), *process), opens);
-        compact(&rt, &mut analyst);
-        assert_sequences(&rt, analyst.outstanding(rt.alloc(), *process), opens);
+        are_outstanding(&rt, rt.alloc(), lines, *process, opens);
     }
 }
 
 #[test]
 fn a_close_before_its_open_is_held(rt: HostRuntime) {
     let analyst = taken(&rt, rt.alloc(), TWO_PROCESSORS, CLOSE_BEFORE_OPEN);
-    assert_is(&rt, sizes(&analyst), (0, 2, 2));
+    has_sizes(&rt, &analyst, (0, 2, 2));
 }
 
 /// Lines, a process, a handle, and the sequence and the handle of its latest event.
@@ -66,13 +71,25 @@ fn latest_of(analyst: &Analyst<Global>, process: u32, handle: u32) -> Option<(u6
     Some((event.sequence, event.handle))
 }
 
+/// The latest event of a handle in the lines, folded or not.
+fn is_latest(
+    rt: &impl Abort,
+    alloc: Global,
+    lines: &[&str],
+    process: u32,
+    handle: u32,
+    latest: Option<(u64, u32)>,
+) {
+    let mut analyst = taken(rt, alloc, TWO_PROCESSORS, lines);
+    assert_row(rt, lines, latest_of(&analyst, process, handle), latest);
+    compact(rt, &mut analyst);
+    assert_row(rt, lines, latest_of(&analyst, process, handle), latest);
+}
+
 #[test]
 fn latest_events(rt: HostRuntime) {
     for (lines, process, handle, latest) in LATEST {
-        let mut analyst = taken(&rt, rt.alloc(), TWO_PROCESSORS, lines);
-        assert_row(&rt, *lines, latest_of(&analyst, *process, *handle), *latest);
-        compact(&rt, &mut analyst);
-        assert_row(&rt, *lines, latest_of(&analyst, *process, *handle), *latest);
+        is_latest(&rt, rt.alloc(), lines, *process, *handle, *latest);
     }
 }
 

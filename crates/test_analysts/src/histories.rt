@@ -3,9 +3,9 @@
 //! whichever order they are merged.
 
 use crate::account::{Account, PROCESSORS};
-use crate::analysts::take_segment;
+use crate::analysts::{has_numbers, take_segment};
 use crate::dice::Dice;
-use crate::rows::{assert_counted, assert_events, assert_is, assert_list, assert_row};
+use crate::rows::{assert_counted, assert_events, assert_is, assert_list, assert_row, assert_tree};
 use crate::{analysts, plain};
 use htl_analyst::{Analyst, Took};
 use htl_event::{Kind, NoMemory, SharedEvent, SharedStack, Slot};
@@ -114,7 +114,8 @@ impl Player {
     /// The same by a move.
     fn absorb(&mut self, rt: &impl Abort, other: Player) {
         self.account.merge(rt, &other.account);
-        assert_is(rt, self.analyst.absorb(other.analyst).is_ok(), true);
+        let is_absorbed = analysts::is_absorbed(&mut self.analyst, other.analyst);
+        assert_is(rt, is_absorbed, true);
     }
 
     /// Moves the fronts, and folds what is below them.
@@ -142,11 +143,11 @@ fn one_of<'a>(rt: &impl Abort, players: &'a [Player], which: usize) -> &'a Playe
 
 /// One random step of a player: mostly a take, else a merge of the other in either way, or a
 /// compaction.
-fn step(rt: &impl Abort, subject: &Subject, player: &mut Player, other: Player, dice: &mut Dice) {
+fn step(rt: &impl Abort, subject: &Subject, player: &mut Player, other: &Player, dice: &mut Dice) {
     match dice.below(8) {
         0 => player.compact(rt),
-        1 => player.merge(rt, &other),
-        2 => player.absorb(rt, other),
+        1 => player.merge(rt, other),
+        2 => player.absorb(rt, other.copy(rt)),
         _ => take_one(rt, subject, player, dice),
     }
 }
@@ -169,7 +170,7 @@ fn step_of_one(
     let which = dice.below(3) as usize;
     let other = one_of(rt, players, dice.below(3) as usize).copy(rt);
     if let Some(player) = players.get_mut(which) {
-        step(rt, subject, player, other, dice);
+        step(rt, subject, player, &other, dice);
     }
     which
 }
@@ -248,9 +249,9 @@ fn compare_answers(
 
 fn compare_states(rt: &impl Abort, subject: &Subject, player: &Player) {
     let Player { analyst, account } = player;
-    assert_is(rt, [analyst.front(0), analyst.front(1)], account.fronts());
-    assert_is(rt, analyst.held(), account.held());
-    assert_is(rt, analyst.taken(), account.taken());
+    let [front, other_front] = account.fronts();
+    let wanted = (front, other_front, account.held(), account.taken());
+    has_numbers(rt, analyst, wanted);
     let complete_to = account.complete_to(&subject.segments);
     assert_is(rt, analyst.complete_to(), complete_to);
     for segment in &subject.segments {
@@ -270,8 +271,7 @@ fn compare_trees(
     made: Result<StackTree<Global>, NoMemory>,
     events: &[SharedEvent],
 ) {
-    let whole = made.expect(rt, "the memory");
-    assert_is(rt, whole.same(&tree_of(rt, alloc, events)), true);
+    assert_tree(rt, made, &tree_of(rt, alloc, events));
 }
 
 /// The tree of the events, counted one by one.
@@ -291,14 +291,22 @@ fn compare_latest(
     process: u32,
 ) {
     for base in BASES {
-        let found = analyst.latest(process, *base);
-        assert!(rt;
-            found == plain::latest(events, process, *base),
-            "{process} {base}"
-        );
+        compare_latest_of(rt, analyst, events, process, *base);
     }
     let mark = plain::last(events, Kind::Snapshot, process);
     assert_row(rt, process, analyst.mark(process), mark);
+}
+
+fn compare_latest_of(
+    rt: &impl Abort,
+    analyst: &Analyst<Global>,
+    events: &[SharedEvent],
+    process: u32,
+    base: u32,
+) {
+    let found = analyst.latest(process, base);
+    let wanted = plain::latest(events, process, base);
+    assert_row(rt, (process, base), found, wanted);
 }
 
 fn compare_opens(
@@ -347,9 +355,20 @@ fn are_bad(
     wanted: &[(u32, &SharedStack, u64)],
 ) {
     let rows = made.expect(rt, "the memory");
+    have_bad(rt, &rows, wanted);
+}
+
+fn have_bad(
+    rt: &impl Abort,
+    rows: &[(u32, SharedStack, u64)],
+    wanted: &[(u32, &SharedStack, u64)],
+) {
     assert_is(rt, rows.len(), wanted.len());
-    for ((handle, stack, number), row) in rows.iter().zip(wanted) {
-        assert_is(rt, (*handle, stack, *number), *row);
+    let mut rows = rows.iter();
+    for row in wanted {
+        let found = rows.next().expect(rt, "a row");
+        assert_is(rt, (found.0, found.2), (row.0, row.2));
+        assert_is(rt, &found.1, row.1);
     }
 }
 

@@ -1,7 +1,8 @@
 //! Fronts, and what analysts take over from one another.
 
 use crate::analysts::{
-    TWO_PROCESSORS, compact, compacted, merge, new, sizes, take, take_all, take_segment, taken,
+    TWO_PROCESSORS, assert_took, compact, compacted, has_numbers, has_sizes, is_absorbed, merge,
+    new, take, take_all, take_segment, taken,
 };
 use crate::rows::{assert_is, assert_list, assert_row, assert_sequences};
 use htl_analyst::{Analyst, Took};
@@ -38,30 +39,31 @@ fn empty_segment(rt: &impl Abort, alloc: Global) -> Segment {
     segment
 }
 
+/// The segment of a line was taken before.
+fn is_repeated(rt: &impl Abort, alloc: Global, analyst: &mut Analyst<Global>, line: &str) {
+    assert_took(rt, take(rt, alloc, analyst, line), Ok(Took::Repeat));
+}
+
 #[test]
 fn an_empty_segment(rt: HostRuntime) {
     let mut analyst = new(&rt, rt.alloc(), TRACE);
     let took = take_segment(&mut analyst, empty_segment(&rt, rt.alloc()));
-    assert_is(&rt, took, Ok(Took::New));
-    assert_is(&rt, sizes(&analyst), (0, 1, 1));
+    assert_took(&rt, took, Ok(Took::New));
+    has_sizes(&rt, &analyst, (0, 1, 1));
     compact(&rt, &mut analyst);
-    assert_is(&rt, sizes(&analyst), (1, 0, 1));
+    has_sizes(&rt, &analyst, (1, 0, 1));
 }
 
 #[test]
 fn the_last_segment_number(rt: HostRuntime) {
     let mut analyst = compacted(&rt, rt.alloc(), TRACE, &[LAST]);
-    assert_is(&rt, sizes(&analyst), (0, 1, 1));
+    has_sizes(&rt, &analyst, (0, 1, 1));
     assert_is(
         &rt,
         (analyst.has(0, 0xffff_fffe), analyst.has(0, 0)),
         (true, false),
     );
-    assert_is(
-        &rt,
-        take(&rt, rt.alloc(), &mut analyst, LAST),
-        Ok(Took::Repeat),
-    );
+    is_repeated(&rt, rt.alloc(), &mut analyst, LAST);
 }
 
 /// It has folded the first three, and holds two after a gap.
@@ -74,17 +76,17 @@ fn behind(rt: &impl Abort, alloc: Global) -> Analyst<Global> {
 #[test]
 fn merge_over_a_gap(rt: HostRuntime) {
     let mut analyst = compacted(&rt, rt.alloc(), TRACE, &SIX[..5]);
-    assert_is(&rt, sizes(&analyst), (5, 0, 5));
+    has_sizes(&rt, &analyst, (5, 0, 5));
     merge(&rt, &mut analyst, &behind(&rt, rt.alloc()));
-    assert_is(&rt, sizes(&analyst), (5, 1, 6));
+    has_sizes(&rt, &analyst, (5, 1, 6));
     compact(&rt, &mut analyst);
-    assert_is(&rt, sizes(&analyst), (6, 0, 6));
+    has_sizes(&rt, &analyst, (6, 0, 6));
 }
 
 /// What holds two after a gap takes over what closes it, and is compacted.
 fn closed_from_behind(rt: &impl Abort, alloc: Global) -> Analyst<Global> {
     let mut analyst = behind(rt, alloc);
-    assert_is(rt, sizes(&analyst), (3, 2, 5));
+    has_sizes(rt, &analyst, (3, 2, 5));
     merge(rt, &mut analyst, &compacted(rt, alloc, TRACE, &SIX[..5]));
     compact(rt, &mut analyst);
     analyst
@@ -118,7 +120,7 @@ fn odd(rt: &impl Abort, alloc: Global) -> Analyst<Global> {
 fn even_and_odd(rt: &impl Abort, alloc: Global) -> Analyst<Global> {
     let mut analyst = even(rt, alloc);
     merge(rt, &mut analyst, &odd(rt, alloc));
-    assert_is(rt, sizes(&analyst), (0, 4, 4));
+    has_sizes(rt, &analyst, (0, 4, 4));
     compact(rt, &mut analyst);
     analyst
 }
@@ -126,7 +128,7 @@ fn even_and_odd(rt: &impl Abort, alloc: Global) -> Analyst<Global> {
 /// The odd segments and then the even ones, merged by moves.
 fn odd_and_even(rt: &impl Abort, alloc: Global) -> Analyst<Global> {
     let mut analyst = odd(rt, alloc);
-    assert_is(rt, analyst.absorb(even(rt, alloc)).is_ok(), true);
+    assert_is(rt, is_absorbed(&mut analyst, even(rt, alloc)), true);
     compact(rt, &mut analyst);
     analyst
 }
@@ -134,7 +136,7 @@ fn odd_and_even(rt: &impl Abort, alloc: Global) -> Analyst<Global> {
 #[test]
 fn gaps_close_each_other(rt: HostRuntime) {
     let one = even_and_odd(&rt, rt.alloc());
-    assert_is(&rt, sizes(&one), (4, 0, 4));
+    has_sizes(&rt, &one, (4, 0, 4));
     are_same(&rt, &one, &odd_and_even(&rt, rt.alloc()));
 }
 
@@ -142,11 +144,7 @@ fn gaps_close_each_other(rt: HostRuntime) {
 fn repeats_count_once(rt: HostRuntime) {
     let mut analyst = taken(&rt, rt.alloc(), TRACE, &[OPEN]);
     for _ in 0..2 {
-        assert_is(
-            &rt,
-            take(&rt, rt.alloc(), &mut analyst, OPEN),
-            Ok(Took::Repeat),
-        );
+        is_repeated(&rt, rt.alloc(), &mut analyst, OPEN);
         assert_is(&rt, analyst.taken(), 1);
         compact(&rt, &mut analyst);
     }
@@ -164,19 +162,9 @@ fn an_analyst_merged_with_its_own_copy(rt: HostRuntime) {
 #[test]
 fn two_processors(rt: HostRuntime) {
     let one = compacted(&rt, rt.alloc(), TWO_PROCESSORS, &[OPEN, CLOSE]);
-    assert_is(&rt, numbers_of(&one), (1, 1, 0, 2));
+    has_numbers(&rt, &one, (1, 1, 0, 2));
     let other = compacted(&rt, rt.alloc(), TWO_PROCESSORS, &[CLOSE, OPEN]);
     are_same(&rt, &one, &other);
-}
-
-/// The fronts of both processors, and how many segments are held and were taken.
-fn numbers_of(analyst: &Analyst<Global>) -> (u32, u32, u64, u64) {
-    (
-        analyst.front(0),
-        analyst.front(1),
-        analyst.held(),
-        analyst.taken(),
-    )
 }
 
 const LOOSE: &[&str] = &["0/0:", "0/1:", "0/3:"];
@@ -184,11 +172,10 @@ const LOOSE: &[&str] = &["0/0:", "0/1:", "0/3:"];
 #[test]
 fn fronts_and_loose_numbers(rt: HostRuntime) {
     let mut analyst = taken(&rt, rt.alloc(), TWO_PROCESSORS, LOOSE);
-    let again = take(&rt, rt.alloc(), &mut analyst, "0/3:");
-    assert_is(&rt, again, Ok(Took::Repeat));
-    assert_is(&rt, numbers_of(&analyst), (0, 0, 3, 3));
+    is_repeated(&rt, rt.alloc(), &mut analyst, "0/3:");
+    has_numbers(&rt, &analyst, (0, 0, 3, 3));
     compact(&rt, &mut analyst);
-    assert_is(&rt, numbers_of(&analyst), (2, 0, 1, 3));
+    has_numbers(&rt, &analyst, (2, 0, 1, 3));
 }
 
 /// Processors and numbers, and whether the loose numbers have them.
@@ -216,7 +203,7 @@ fn loose_numbers_are_united(rt: HostRuntime) {
     let mut analyst = compacted(&rt, rt.alloc(), TWO_PROCESSORS, LOOSE);
     let more = taken(&rt, rt.alloc(), TWO_PROCESSORS, MORE);
     merge(&rt, &mut analyst, &more);
-    assert_is(&rt, numbers_of(&analyst), (2, 0, 3, 5));
+    has_numbers(&rt, &analyst, (2, 0, 3, 5));
     compact(&rt, &mut analyst);
-    assert_is(&rt, numbers_of(&analyst), (4, 1, 0, 5));
+    has_numbers(&rt, &analyst, (4, 1, 0, 5));
 }

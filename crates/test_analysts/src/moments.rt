@@ -14,11 +14,22 @@ const LINES: [&str; 4] = [
     "1/1: C 20 0x48",
 ];
 
-/// Up to when all is known and how many segments are held, once the segment was taken and folded.
-fn after(rt: &impl Abort, alloc: Global, analyst: &mut Analyst<Global>, line: &str) -> (u64, u64) {
+/// All is known up to the moment and one segment is held, once the segment was taken and folded.
+fn is_complete_to(
+    rt: &impl Abort,
+    alloc: Global,
+    analyst: &mut Analyst<Global>,
+    line: &str,
+    moment: u64,
+) {
     take_all(rt, alloc, analyst, &[line]);
     compact(rt, analyst);
-    (analyst.complete_to(), analyst.held())
+    assert_row(
+        rt,
+        line,
+        (analyst.complete_to(), analyst.held()),
+        (moment, 1),
+    );
 }
 
 #[test]
@@ -27,10 +38,8 @@ fn complete_to_a_moment(rt: HostRuntime) {
     assert_is(&rt, analyst.complete_to(), 0);
     compact(&rt, &mut analyst);
     assert_is(&rt, analyst.complete_to(), 7);
-    for (line, moment) in [(LINES[2], 7), (LINES[3], 10)] {
-        let moments = after(&rt, rt.alloc(), &mut analyst, line);
-        assert_row(&rt, line, moments, (moment, 1));
-    }
+    is_complete_to(&rt, rt.alloc(), &mut analyst, LINES[2], 7);
+    is_complete_to(&rt, rt.alloc(), &mut analyst, LINES[3], 10);
 }
 
 #[test]

@@ -8,8 +8,7 @@ use crate::rows::{assert_is, assert_list, assert_row};
 use htl_analyst::{Analyst, AnalystFault, MergeFault, TakeFault, Took};
 use htl_samples::{SampleFault, TRACE, Trace};
 use htl_segment::{Fault, Segment, decode, from_hex};
-use linked_list_allocator::LocalHeap;
-use std::alloc::Global;
+use std::alloc::{Allocator, Global};
 use std::process::Abort;
 
 const STORED: &[u8] = b"484c5331 0100 0100 0000 0000 00000000 0700000000000000 03000000 9c000000
@@ -130,14 +129,26 @@ fn two_held(rt: &impl Abort, alloc: Global) -> Analyst<Global> {
 }
 
 /// A refused merge changes nothing.
-fn merge_is_refused(rt: &impl Abort, alloc: Global, other: &Analyst<Global>, fault: MergeFault) {
+fn merge_is_refused(
+    rt: &impl Abort,
+    alloc: Global,
+    trace: Trace,
+    lines: &[&str],
+    fault: MergeFault,
+) {
     let mut one = two_held(rt, alloc);
-    assert_is(rt, one.merge(other), Err(fault));
+    let merged = one.merge(&taken(rt, alloc, trace, lines));
+    assert_is(rt, merged, Err(fault));
+    is_unchanged(rt, alloc, &one);
+}
+
+/// It holds the two segments alone.
+fn is_unchanged(rt: &impl Abort, alloc: Global, one: &Analyst<Global>) {
     assert_is(rt, one.same(&two_held(rt, alloc)), true);
 }
 
-/// Why an analyst isn't taken over, and the analyst that is handed back. The one that refuses it has
-/// two segments after it.
+/// Why an analyst isn't taken over, and the analyst that is handed back. The one that refuses it
+/// has two segments after it.
 fn not_absorbed(
     rt: &impl Abort,
     alloc: Global,
@@ -181,8 +192,7 @@ const NOT_MERGED: &[(Trace, &[&str], MergeFault)] = &[
 #[test]
 fn analysts_that_are_not_merged(rt: HostRuntime) {
     for (trace, lines, fault) in NOT_MERGED {
-        let other = taken(&rt, rt.alloc(), *trace, lines);
-        merge_is_refused(&rt, rt.alloc(), &other, *fault);
+        merge_is_refused(&rt, rt.alloc(), *trace, lines, *fault);
         absorb_is_refused(&rt, rt.alloc(), *trace, lines, *fault);
     }
 }
@@ -195,10 +205,10 @@ fn a_number_too_large(rt: HostRuntime) {
 }
 
 /// Why the first of the empty segments from number 1 on is refused that is, and its number.
-fn first_refused(
+fn first_refused<A: Allocator + Clone>(
     rt: &impl Abort,
     alloc: Global,
-    analyst: &mut Analyst<&LocalHeap>,
+    analyst: &mut Analyst<A>,
 ) -> Option<(TakeFault, u64)> {
     for number in 1..1000 {
         if let Err((fault, segment)) = analyst.take(empty(rt, alloc, number)) {
@@ -209,9 +219,19 @@ fn first_refused(
 }
 
 /// An analyst in a heap without room for a thousand segments takes all that it has room for.
-fn takes_until_refused(rt: &impl Abort, alloc: Global, heap: &LocalHeap) {
+fn takes_until_refused<A: Allocator + Clone>(rt: &impl Abort, alloc: Global, heap: A) {
     let mut analyst = Analyst::new(heap, 7, 1).expect(rt, "an analyst");
     let refused = first_refused(rt, alloc, &mut analyst);
+    is_full(rt, alloc, &analyst, refused);
+}
+
+/// What was refused is the one after all that were taken, which are held.
+fn is_full<A: Allocator + Clone>(
+    rt: &impl Abort,
+    alloc: Global,
+    analyst: &Analyst<A>,
+    refused: Option<(TakeFault, u64)>,
+) {
     let next = analyst.taken().wrapping_add(1);
     assert_is(rt, refused, Some((TakeFault::NoMemory, next)));
     assert_is(rt, analyst.held(), analyst.taken());

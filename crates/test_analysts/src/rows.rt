@@ -1,6 +1,8 @@
 //! What tests assert, proved once for all of them.
 
 use htl_event::{NoMemory, SharedEvent, SharedStack};
+use htl_tree::StackTree;
+use std::alloc::Global;
 use std::fmt::Debug;
 use std::process::Abort;
 
@@ -43,6 +45,16 @@ where
     assert_list(rt, one, &other);
 }
 
+/// The tree was made, and is this one.
+pub fn assert_tree(
+    rt: &impl Abort,
+    made: Result<StackTree<Global>, NoMemory>,
+    wanted: &StackTree<Global>,
+) {
+    let tree = made.expect(rt, "the memory");
+    assert_is(rt, tree.same(wanted), true);
+}
+
 /// The events were made, and are these.
 pub fn assert_events(
     rt: &impl Abort,
@@ -50,14 +62,28 @@ pub fn assert_events(
     wanted: &[&SharedEvent],
 ) {
     let events = made.expect(rt, "the memory");
-    assert!(rt; events.iter().eq(wanted.iter().copied()));
+    are_events(rt, &events, wanted);
+}
+
+fn are_events(rt: &impl Abort, events: &[SharedEvent], wanted: &[&SharedEvent]) {
+    assert_is(rt, events.len(), wanted.len());
+    let mut events = events.iter();
+    for row in wanted {
+        assert_is(rt, events.next(), Some(*row));
+    }
 }
 
 /// The events were made, and have these sequences.
 pub fn assert_sequences(rt: &impl Abort, made: Result<Vec<SharedEvent>, NoMemory>, wanted: &[u64]) {
     let events = made.expect(rt, "the memory");
+    have_sequences(rt, &events, wanted);
+}
+
+fn have_sequences(rt: &impl Abort, events: &[SharedEvent], wanted: &[u64]) {
     assert_is(rt, events.len(), wanted.len());
-    for (event, sequence) in events.iter().zip(wanted) {
+    let mut events = events.iter();
+    for sequence in wanted {
+        let event = events.next().expect(rt, "an event");
         assert_is(rt, event.sequence, *sequence);
     }
 }
@@ -72,8 +98,17 @@ where
     T: Debug + PartialEq + Drop,
 {
     let rows = made.expect(rt, "the memory");
+    have_stacks(rt, &rows, wanted);
+}
+
+fn have_stacks<T>(rt: &impl Abort, rows: &[(SharedStack, T)], wanted: &[(&SharedStack, T)])
+where
+    T: Debug + PartialEq + Drop,
+{
     assert_is(rt, rows.len(), wanted.len());
-    for (row, (stack, number)) in rows.iter().zip(wanted) {
+    let mut rows = rows.iter();
+    for (stack, number) in wanted {
+        let row = rows.next().expect(rt, "a row");
         assert_is(rt, (&row.0, &row.1), (*stack, number));
     }
 }
@@ -88,8 +123,17 @@ where
     T: Debug + PartialEq + Drop,
 {
     let rows = made.expect(rt, "the memory");
+    have_frames(rt, &rows, wanted);
+}
+
+fn have_frames<T>(rt: &impl Abort, rows: &[(SharedStack, T)], wanted: &[(&[u64], T)])
+where
+    T: Debug + PartialEq + Drop,
+{
     assert_is(rt, rows.len(), wanted.len());
-    for (row, (frames, number)) in rows.iter().zip(wanted) {
+    let mut rows = rows.iter();
+    for (frames, number) in wanted {
+        let row = rows.next().expect(rt, "a row");
         assert_is(rt, (row.0.frames(), &row.1), (*frames, number));
     }
 }

@@ -1,9 +1,10 @@
 //! Sources that several workers read in blocks, beside bytes that lie in memory.
 
+use crate::rows::assert_row;
 use crate::sharing::{bundle, told};
 use htl_device::Reading;
 use htl_reading::{SourceFault, read_in_blocks};
-use htl_segment::{Fault, decode_bundle};
+use htl_segment::{Fault, Segment, decode_bundle};
 use std::alloc::Global;
 use std::io;
 use std::io::Read;
@@ -49,14 +50,18 @@ fn expected(alloc: Global, source: Pieces) -> Result<u64, SourceFault> {
     }
 }
 
+/// The same number where there are segments, or the fault.
+fn told_or_fault(read: Result<Vec<Segment>, SourceFault>) -> Result<u64, SourceFault> {
+    Ok(told(&read?))
+}
+
 /// Reads by every number of workers, in blocks of a few bytes and of many.
 fn by_all(rt: &(impl Abort + Threads + Sync), alloc: Global, source: Pieces) {
     let expected = expected(alloc, source);
     for workers in [1, 2, 3, 8] {
         for block_len in [0, 100, 100_000] {
             let read = read_in_blocks(rt, alloc, workers, &mut Reading::new(source), block_len);
-            let found = read.map(|segments| told(&segments));
-            assert_eq!(rt; found, expected, "{workers} workers, blocks of {block_len}");
+            assert_row(rt, (workers, block_len), told_or_fault(read), expected);
         }
     }
 }

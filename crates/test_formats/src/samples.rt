@@ -1,6 +1,6 @@
 //! What lines write, and that generated segments rise.
 use crate::rows::assert_row;
-use htl_event::{Event, Kind};
+use htl_event::{Event, Kind, SharedEvent};
 use htl_samples::{SMALL, SampleFault, TRACE, Trace, event, events, shared_events};
 use htl_segment::{Segment, decode_bundle};
 use std::alloc::Global;
@@ -40,7 +40,7 @@ fn lines_of_events(rt: HostRuntime) {
 fn has_tag(rt: &impl Abort, line: &str, kind: Kind, tag: [u8; 4]) {
     let event = written(rt, line);
     assert_row(rt, line, (event.kind, event.object), (kind, 0x1000));
-    assert!(rt; event.tag == tag, "of {line}");
+    assert_row(rt, line, event.tag == tag, true);
 }
 
 const KINDS: &[(&str, Kind)] = &[
@@ -104,10 +104,18 @@ fn place(segment: &Segment) -> (u16, u16, u32, usize) {
 fn agree(rt: &impl Abort, alloc: Global, lines: &str) {
     let alone = events(alloc, lines).expect(rt, "the lines are events");
     let shared = shared_events(alloc, lines).expect(rt, "the lines are events");
-    assert_eq!(rt; (alone.len(), shared.len()), (2, 2));
-    for (one, other) in alone.iter().zip(&shared) {
-        assert!(rt; one.sequence == other.sequence && one.stack.frames() == other.stack.frames());
+    assert_row(rt, lines, (alone.len(), shared.len()), (2, 2));
+    assert!(rt; are_alike(&alone, &shared));
+}
+
+/// Whether the events have the same sequences and frames.
+fn are_alike(alone: &[Event], shared: &[SharedEvent]) -> bool {
+    for (one, other) in alone.iter().zip(shared) {
+        if one.sequence != other.sequence || one.stack.frames() != other.stack.frames() {
+            return false;
+        }
     }
+    true
 }
 
 /// Whether some event has more than one frame.
@@ -130,8 +138,16 @@ fn bundled(rt: &impl Abort, alloc: Global) -> Vec<Segment> {
 fn generated_traces(rt: HostRuntime) {
     let segments = SMALL.segments(rt.alloc()).expect(&rt, "the segments");
     let read = bundled(&rt, rt.alloc());
-    assert_eq!(rt; (segments.len(), read.len()), (6, 6));
-    for (made, read) in segments.iter().zip(&read) {
-        assert!(rt; made.same(read) && has_frames(made));
+    assert_row(&rt, "segments", (segments.len(), read.len()), (6, 6));
+    assert!(rt; are_read(&segments, &read));
+}
+
+/// Whether the segments were read as they were made, and each has frames.
+fn are_read(made: &[Segment], read: &[Segment]) -> bool {
+    for (made, read) in made.iter().zip(read) {
+        if !made.same(read) || !has_frames(made) {
+            return false;
+        }
     }
+    true
 }

@@ -253,7 +253,7 @@ fn is_segment(
 /// The segment that ends with the bytes.
 fn whole(rt: &impl Abort, alloc: Global, bytes: &[u8]) -> Segment {
     let (segment, used) = decode(alloc, bytes).expect(rt, "a segment");
-    assert_eq!(rt; used, bytes.len());
+    assert_row(rt, "its length", used, bytes.len());
     segment
 }
 

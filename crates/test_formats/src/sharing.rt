@@ -1,5 +1,6 @@
 //! Bundles that several workers decode, beside one worker.
 
+use crate::rows::assert_row;
 use htl_reading::decode_bundle_by;
 use htl_segment::{Fault, Segment, decode_bundle};
 use std::alloc::Global;
@@ -44,10 +45,8 @@ fn told_or_fault(decoded: Result<Vec<Segment>, (u64, Fault)>) -> Result<u64, (u6
 fn by_all(rt: &(impl Abort + Threads + Sync), alloc: Global, bytes: &[u8]) {
     let alone = told_or_fault(decode_bundle(alloc, bytes));
     for workers in [1, 2, 3, 8] {
-        assert_eq!(rt;
-            told_or_fault(decode_bundle_by(rt, alloc, workers, bytes)),
-            alone
-        );
+        let shared = told_or_fault(decode_bundle_by(rt, alloc, workers, bytes));
+        assert_row(rt, workers, shared, alone);
     }
 }
 

@@ -120,6 +120,6 @@ const CODES: &[(SymbolFault, &str)] = &[
 fn codes_of_faults(rt: HostRuntime) {
     for (fault, code) in CODES {
         let text = format!(in rt.alloc(); "{fault}").expect(&rt, "the memory");
-        assert!(rt; text.as_str() == *code, "{text}");
+        assert_row(&rt, *fault, text.as_str(), *code);
     }
 }

@@ -135,8 +135,9 @@ fn deep_text(rt: &impl Abort, alloc: Global, head: &str, frames: usize) -> Vec<u
 #[test]
 fn the_deepest_stack(rt: HostRuntime) {
     let bytes = encoded(&rt, rt.alloc(), &deep_text(&rt, rt.alloc(), DEEP, 64));
-    assert_eq!(rt; bytes.len(), 580);
-    assert_eq!(rt; dumped(&rt, rt.alloc(), &bytes).len(), 77 + 43 + 64 * 21);
+    assert_row(&rt, "bytes", bytes.len(), 580);
+    let text = dumped(&rt, rt.alloc(), &bytes);
+    assert_row(&rt, "its text", text.len(), 77 + 43 + 64 * 21);
 }
 
 #[test]
@@ -275,7 +276,12 @@ fn fault_of(rt: &impl Abort, alloc: Global, parts: &[&str]) -> Option<TextFault>
 fn more_events_than_a_segment_holds(rt: HostRuntime) {
     let text = repeated(&rt, rt.alloc(), SEGMENT, OPEN, 4097);
     let wanted = TextFault::Line(1, LineFault::Segment(Fault::Count));
-    assert_eq!(rt; encode(rt.alloc(), &text).err(), Some(wanted));
+    assert_row(
+        &rt,
+        "4097 opens",
+        encode(rt.alloc(), &text).err(),
+        Some(wanted),
+    );
 }
 
 #[test]
@@ -283,7 +289,8 @@ fn random_bundles(rt: HostRuntime) {
     for seed in 0..300 {
         let bytes = random_bundle(&rt, rt.alloc(), seed);
         let text = dumped(&rt, rt.alloc(), &bytes);
-        assert!(rt; encoded(&rt, rt.alloc(), &text) == bytes, "{seed}");
+        let again = encoded(&rt, rt.alloc(), &text);
+        assert_row(&rt, seed, again.as_slice(), bytes.as_slice());
     }
 }
 

@@ -431,7 +431,7 @@ fn asked(rt: &impl Abort, alloc: Global, line: &str) -> Asked {
 
 /// The text of the usage fault that a line is refused with.
 fn usage_text(rt: &impl Abort, alloc: Global, line: &str, fault: &ParseFault) -> String {
-    assert!(rt; matches!(fault, ParseFault::Usage(_)), "of {line}");
+    assert_row(rt, line, matches!(fault, ParseFault::Usage(_)), true);
     text_of(rt, alloc, fault)
 }
 
@@ -442,11 +442,10 @@ fn parts<'a>(rt: &impl Abort, row: &'a str) -> (&'a str, &'a str) {
 
 /// The files of a line have these names.
 fn has_files(rt: &impl Abort, line: &str, files: &[String], names: &[&str]) {
-    let are_so = files
-        .iter()
-        .map(|file| file.as_str())
-        .eq(names.iter().copied());
-    assert!(rt; are_so, "the files of {line}");
+    assert_row(rt, line, files.len(), names.len());
+    for (file, name) in files.iter().zip(names) {
+        assert_row(rt, line, file.as_str(), *name);
+    }
 }
 
 #[test]
@@ -516,7 +515,7 @@ fn lines_ask_for_codes(rt: HostRuntime) {
 }
 
 /// Whether a line converts files, which way, and how.
-fn conversion(command: Command) -> Option<(bool, Conversion)> {
+fn conversion(command: &Command) -> Option<(bool, &Conversion)> {
     match command {
         Command::Dump(of) => Some((true, of)),
         Command::Encode(of) => Some((false, of)),
@@ -527,7 +526,8 @@ fn conversion(command: Command) -> Option<(bool, Conversion)> {
 #[test]
 fn lines_convert_files(rt: HostRuntime) {
     for (line, hex, files) in CONVERTED {
-        let (dumps, of) = conversion(command(&rt, rt.alloc(), line)).expect(&rt, line);
+        let command = command(&rt, rt.alloc(), line);
+        let (dumps, of) = conversion(&command).expect(&rt, line);
         has_files(&rt, line, &of.files, files);
         assert_row(
             &rt,
@@ -591,7 +591,8 @@ fn is_no_question(rt: &impl Abort, alloc: Global, row: &str) {
     let refused = parse_question(alloc, &words(rt, alloc, line));
     let fault = refused.expect_err(rt, "no question");
     let text = usage_text(rt, alloc, line, &fault);
-    assert!(rt; text.as_str().contains(named), "of {line}: {text}");
+    let text = text.as_str();
+    assert_row(rt, (line, text), text.contains(named), true);
 }
 
 #[test]
@@ -615,9 +616,7 @@ fn refused_lines_name_what_is_wrong(rt: HostRuntime) {
 fn is_refused(rt: &impl Abort, alloc: Global, row: &str) {
     let (line, named) = parts(rt, row);
     let text = usage_text(rt, alloc, line, &fault_of(rt, alloc, line));
-    let (text, ending) = (text.as_str(), "--help'.\n");
-    assert!(rt;
-        text.contains(named) && text.ends_with(ending),
-        "of {line}: {text}"
-    );
+    let text = text.as_str();
+    let found = (text.contains(named), text.ends_with("--help'.\n"));
+    assert_row(rt, (line, text), found, (true, true));
 }

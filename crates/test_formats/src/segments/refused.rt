@@ -2,6 +2,7 @@
 //! that meets it has to report out of memory, and has to answer when it is asked again.
 
 use super::deep_event;
+use crate::rows::assert_row;
 use htl_event::Event;
 use htl_segment::{
     Fault, HexFault, Segment, Splitter, decode, decode_bundle, decode_pieces, encode, from_hex,
@@ -18,7 +19,7 @@ fn decoded(rt: &impl Abort, alloc: Global, bytes: &[u8]) -> Segment {
     match decode(alloc, bytes) {
         Ok((segment, _)) => segment,
         Err(fault) => {
-            assert_eq!(rt; fault, Fault::NoMemory);
+            assert_row(rt, "a segment", fault, Fault::NoMemory);
             decode(alloc, bytes).expect(rt, "a segment").0
         }
     }
@@ -33,8 +34,8 @@ fn encoded(rt: &impl Abort, alloc: Global, segment: &Segment) -> Vec<u8> {
 
 /// A segment of the bundle is refused, out of memory.
 fn is_no_memory(rt: &impl Abort, (offset, fault): (u64, Fault)) {
+    assert_row(rt, offset, fault, Fault::NoMemory);
     assert!(rt; offset == 0 || offset == 32);
-    assert_eq!(rt; fault, Fault::NoMemory);
 }
 
 /// How many segments the bundle has.
@@ -65,7 +66,7 @@ fn bytes_of(rt: &impl Abort, alloc: Global, digits: &[u8]) -> Vec<u8> {
     match from_hex(alloc, digits) {
         Ok(bytes) => bytes,
         Err(fault) => {
-            assert_eq!(rt; fault, HexFault::NoMemory);
+            assert_row(rt, "digits", fault, HexFault::NoMemory);
             from_hex(alloc, digits).expect(rt, "bytes")
         }
     }
@@ -80,9 +81,11 @@ fn refused_allocations_of_a_segment(rt: HostRuntime) {
 
 #[test]
 fn refused_allocations_of_a_bundle(rt: HostRuntime) {
-    assert_eq!(rt; number_in_bundle(&rt, rt.alloc(), BUNDLE), 2);
+    let whole = number_in_bundle(&rt, rt.alloc(), BUNDLE);
+    assert_row(&rt, "a bundle", whole, 2);
     let (front, back) = BUNDLE.split_at(40);
-    assert_eq!(rt; number_in_pieces(&rt, rt.alloc(), front, back), 2);
+    let parted = number_in_pieces(&rt, rt.alloc(), front, back);
+    assert_row(&rt, "pieces", parted, 2);
 }
 
 #[test]
@@ -113,7 +116,7 @@ fn refused_allocations_of_a_splitter(rt: HostRuntime) {
     for piece in BUNDLE.chunks(40) {
         found = number_fed(&rt, rt.alloc(), &mut splitter, piece).wrapping_add(found);
     }
-    assert_eq!(rt; (found, splitter.finish()), (2, Ok(())));
+    assert_row(&rt, "fed", (found, splitter.finish()), (2, Ok(())));
 }
 
 fn built(rt: &impl Abort, alloc: Global, events: Vec<Event>) -> Segment {
@@ -133,5 +136,6 @@ fn refused_allocations_of_building(rt: HostRuntime) {
     if events.push(deep_event()).is_err() {
         return;
     }
-    assert_eq!(rt; built(&rt, rt.alloc(), events).events().len(), 1);
+    let segment = built(&rt, rt.alloc(), events);
+    assert_row(&rt, "built", segment.events().len(), 1);
 }

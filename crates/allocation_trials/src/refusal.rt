@@ -9,6 +9,7 @@ ghost use Rattle.htl_case.specs.declared.fault.CaseFault.TheVariants as cases;
 ghost use Rattle.htl_case.specs.declared.fault.PlayFault.TheVariants as plays;
 ghost use Rattle.htl_exchange.specs.declared.fault.StartFault.TheVariants as starts;
 ghost use Rattle.htl_exchange.specs.declared.fault.SurveyFault.TheVariants as surveys;
+ghost use Rattle.htl_main.specs.declared.fault.RunFault.TheVariants as runs;
 ghost use Rattle.htl_samples.specs.declared.fault.SampleFault.TheVariants as samples;
 ghost use Rattle.htl_segment.specs.declared.fault.Fault.TheVariants as segments;
 ghost use Rattle.htl_segment.specs.declared.hexadecimal.HexFault.TheVariants as digits;
@@ -17,6 +18,7 @@ use htl_analyst::{AnalystFault, MergeFault, TakeFault};
 use htl_case::{CaseFault, PlayFault};
 use htl_event::NoMemory;
 use htl_exchange::{StartFault, SurveyFault};
+use htl_main::{Refused, RunFault};
 use htl_samples::SampleFault;
 use htl_segment::{Fault, HexFault};
 use std::alloc::{AllocError, AllocFailed};
@@ -173,5 +175,23 @@ impl From<SurveyFault> for Refusal {
 
     fn from(fault: SurveyFault) -> Refusal {
         Refusal::of(fault != SurveyFault::Workers)
+    }
+}
+
+impl From<RunFault> for Refusal {
+    ghost from_gives = { λ fault refusal.
+        IsOutOfMemory refusal ↔ ((fault ≡ runs.Memory) ⊎ (fault ≡ runs.NoThread)) };
+
+    fn from(fault: RunFault) -> Refusal {
+        Refusal::of(fault == RunFault::Memory || fault == RunFault::NoThread)
+    }
+}
+
+impl From<Refused> for Refusal {
+    ghost from_gives = { λ refused refusal. IsOutOfMemory refusal
+        ↔ ((refused.fault ≡ runs.Memory) ⊎ (refused.fault ≡ runs.NoThread)) };
+
+    fn from(refused: Refused) -> Refusal {
+        Refusal::from(refused.fault)
     }
 }

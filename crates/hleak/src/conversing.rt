@@ -63,15 +63,14 @@ fn opened_and_asked(
 }
 
 /// Reads the table of symbols, and then the inputs, and replies to the lines.
-fn read_and_asked<'a>(
+fn read_and_asked<R: Source>(
     host: &HostRuntime,
     rt: &(impl Threads + Wait + Sync),
     of: &Dialogue,
-    inputs: &mut [Reading<Input<'a, Device<'a>>>],
+    inputs: &mut [R],
     listener: &mut Listener,
 ) -> Result<bool, AskFault>
-    requires { All (λ input.
-        ⟦<Reading<Input<'a, Device<'a>>> as Source>⟧.has_failed input ≡ false) inputs.old }
+    requires { All (λ input. R.has_failed input ≡ false) inputs.old }
 {
     let symbols = match symbols(host, of.symbols.as_ref()) {
         Ok(symbols) => symbols,

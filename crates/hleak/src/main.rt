@@ -48,8 +48,7 @@ use ending::Ending;
 use explained::Explained;
 use explanation::Explanation;
 use htl_command::{Asked, Command, Conversion, ParseFault, parse};
-use htl_main::{Between, Completed, Reading, Refused, RunFault, Source, Writing, run_from};
-use input::{Device, Input};
+use htl_main::{Between, Completed, Refused, RunFault, Source, Writing, run_from};
 use note::Note;
 use opening::{opened, symbols};
 use progress::Progress;
@@ -265,14 +264,13 @@ fn opened_and_run(
 }
 
 /// Reads the table of symbols, and then the inputs.
-fn read_and_run<'a>(
+fn read_and_run<R: Source>(
     host: &HostRuntime,
     rt: &(impl Threads + Wait + Sync),
     asked: &Asked,
-    inputs: &mut [Reading<Input<'a, Device<'a>>>],
+    inputs: &mut [R],
 ) -> Result<Completed, Refused>
-    requires { All (λ input.
-        ⟦<Reading<Input<'a, Device<'a>>> as Source>⟧.has_failed input ≡ false) inputs.old }
+    requires { All (λ input. R.has_failed input ≡ false) inputs.old }
 {
     let symbols = symbols(host, asked.symbols.as_ref())?;
     let symbols = symbols.as_deref();

@@ -14,6 +14,7 @@ ghost use Rattle.htl_tree.specs.Rows.{entries_of, sum_at, AreRows, AreShort, IsG
 
 use crate::node::Node;
 use crate::row::Row;
+use crate::sorting::sort_rows;
 use htl_event::NoMemory;
 use std::alloc::Allocator;
 use std::cmp::Ordering;
@@ -30,7 +31,7 @@ pub fn root_of<A: Allocator + Clone>(
     ensures counts { IfOk result (λ root. (slot : Slot) (stack : List ℕ)
         → count_at (tree_of root) slot stack ≡ sum_at (entries_of rows.old.items) slot stack) }
 {
-    rows.sort_unstable_by(|a, b| by_fingerprint(a, b));
+    sort_rows(rows);
     let mut groups = groups_of(alloc.clone()?, rows)?;
     groups.sort_unstable_by(|a, b| by_stack(a, b));
     let mut root = None;
@@ -38,13 +39,6 @@ pub fn root_of<A: Allocator + Clone>(
         add_group(&mut root, alloc, group)?;
     }
     Ok(root)
-}
-
-fn by_fingerprint(a: &Row<'_>, b: &Row<'_>) -> Ordering {
-    match a.fingerprint.cmp(&b.fingerprint) {
-        Ordering::Equal => a.slot.cmp(&b.slot),
-        order => order,
-    }
 }
 
 /// In stack order, and then by the first slot.

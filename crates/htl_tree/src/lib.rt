@@ -10,9 +10,10 @@
 //! number), `cursor.rt` (a position in the tree, where each step is one frame, and look-up),
 //! `order.rt` (what the two lists of a node are sorted by). The tree of many events is made by
 //! rows that hints find and one descent for each stack: `counting.rt`, `hints.rt`, `row.rt`,
-//! `building.rt`, `filling.rt`. Then `sums.rt` (copy and plus), `compare.rt` (equality),
-//! `prefix.rt` (the prefix tally), `listing.rt` and `slot_sums.rt` (lists of counts, and their
-//! sums by slot), `laws.rt` (the canonical form).
+//! `sorting.rt` (rows of one fingerprint brought together), `building.rt`, `filling.rt`. Then
+//! `sums.rt` (copy and plus), `compare.rt` (equality), `prefix.rt` (the prefix tally),
+//! `listing.rt` and `slot_sums.rt` (lists of counts, and their sums by slot), `laws.rt` (the
+//! canonical form).
 //!
 //! `specs/Trees` and `specs/Asked` have the words of public contracts, the other files of `specs/`
 //! those of private ones.
@@ -34,6 +35,7 @@ mod root;
 mod row;
 mod slot_sums;
 mod slots;
+mod sorting;
 mod sums;
 mod tree;
 

@@ -91,7 +91,7 @@ fn analyst_of(alloc: Global, folded: &[(u16, u32)], held: &[(u16, u32)]) -> Resu
     Ok(analyst)
 }
 
-pub fn analyst(alloc: Global) -> Result<Own, Refusal> {
+fn analyst(alloc: Global) -> Result<Own, Refusal> {
     analyst_of(alloc, &FOLDED, &HELD)
 }
 

@@ -1,13 +1,15 @@
 //! Refuses the allocations of each call that takes memory. `allocation_trials` says what is tried.
 //!
 //! First come the calls on what an analyst's state is made of: segments, trees, tables and sets;
-//! and then those on analysts, cases and exchanges. Each file of calls begins with their table. What
-//! only reads and prints is tried as whole runs of the program (`.ci/refused-allocations`).
+//! and then those on analysts, cases and exchanges, and runs over bytes. Each file of calls begins
+//! with their table. The calls of which the program is made are tried as whole runs of it
+//! (`.ci/refused-allocations`).
 #![tactic(auto)]
 
 mod analysts;
 mod cases;
 mod desks;
+mod runs;
 mod segments;
 mod sets;
 mod tables;
@@ -24,5 +26,6 @@ fn main(rt: HostRuntime) -> anyhow::Result<()> {
     analysts::try_all(&mut trials);
     cases::try_all(&mut trials);
     desks::try_all(&rt, &mut trials);
+    runs::try_all(&rt, &mut trials);
     trials.finish()
 }

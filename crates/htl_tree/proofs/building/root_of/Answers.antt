@@ -26,11 +26,11 @@ none = record { ref_ptr = (0, 0); now = [] }
 -- the rows and their groups in their new order are those that were there
 rows_moved : (g : Over) (c : At-loop-group g) → IsPermutation c.args.rows.now.items c.deref.result.now
 rows_moved g c = subst (λ (l : List Row). IsPermutation c.args.rows.now.items l) (sym c.deref.ensures.value)
-    c.sort_unstable_by.ensures.permutation
+    c.sort_rows.ensures
 
 groups_moved : (g : Over) (c : At-loop-group g) → IsPermutation c.in_ok-groups.groups.items c.deref-group-items.result.now
 groups_moved g c = subst (λ (l : List (Bor (List Row))). IsPermutation c.in_ok-groups.groups.items l)
-    (sym c.deref-group-items.ensures.value) c.sort_unstable_by-2.ensures.permutation
+    (sym c.deref-group-items.ensures.value) c.sort_unstable_by.ensures.permutation
 
 -- what all groups count is what the rows count
 all_counted : (g : Over) (c : At-loop-group g) (slot : Slot) (stack : List ℕ)

@@ -1,0 +1,7 @@
+-- The rows of a bucket more change their places.
+use Rattle.std.proofs.lemmas.List.Sorted.{IsPermutation-trans}
+use Rattle.htl_tree.proofs.sorting.sort_buckets.Goals as goal
+
+pub loop-bucket-preserved : goal.loop-bucket-preserved
+loop-bucket-preserved c =
+    IsPermutation-trans c.args.rows.now c.loop-bucket.rows c.sort_part.new.rows c.loop-bucket.invariant c.sort_part.ensures

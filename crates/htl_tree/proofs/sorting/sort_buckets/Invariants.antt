@@ -1,0 +1,6 @@
+-- The rows only change their places.
+use Rattle.std.specs.List.Sorted.{IsPermutation}
+use Rattle.htl_tree.proofs.sorting.sort_buckets.Given as goal
+
+abbrev pub invariant-loop-bucket : goal.invariant-loop-bucket
+invariant-loop-bucket l = IsPermutation l.fn.rows l.rows

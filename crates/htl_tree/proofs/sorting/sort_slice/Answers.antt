@@ -1,0 +1,6 @@
+-- The rows change their places twice.
+use Rattle.std.proofs.lemmas.List.Sorted.{IsPermutation-trans}
+use Rattle.htl_tree.proofs.sorting.sort_slice.Goals as goal
+
+pub returns : goal.returns
+returns c = IsPermutation-trans c.args.rows.now c.put_in_buckets.new.rows c.sort_buckets.new.rows c.put_in_buckets.ensures c.sort_buckets.ensures

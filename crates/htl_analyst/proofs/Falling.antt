@@ -1,15 +1,15 @@
 -- The least of the last folded sequences: what it says of a trace, and that it never falls.
-use Rattle.std.proofs.Common.{◌≡◌, ℕ, ◌+◌, ◌<◌, ◌≤◌, min, ltb, eqb, List, [], ◌∷◌, sym, ap, ◌∙◌, subst, arith, inl, inr}
+use Rattle.std.proofs.Common.{◌≡◌, ℕ, ◌+◌, ◌<◌, ◌≤◌, min, ltb, eqb, sym, ap, ◌∙◌, subst, arith, inl, inr}
 use Rattle.std.specs.Prelude.{Contains}
 use Rattle.std.proofs.lemmas.Bool.{cases_Bool, false≢true, cases_lt, lt-ltb, ltb-true, and_from, and_parts, eqb-true, eq-eqb}
 use Rattle.htl_event.specs.Events.{Event}
 use Rattle.htl_event.specs.Handles.{IsGreatestSequence}
-use Rattle.htl_event.proofs.Members.{Contains-nil, Contains-cases, at_member}
+use Rattle.htl_event.proofs.Members.{at_member}
 use Rattle.htl_event.proofs.Determined.{IsGreatestSequence-unique}
-use Rattle.htl_segment.specs.declared.version.Version.{Version}
-use Rattle.htl_segment.specs.Content.{Content, Fits, EventsFit}
+use Rattle.htl_segment.specs.Content.{Content, Fits}
 use Rattle.htl_segment.specs.Keys.{run_below}
 use Rattle.htl_segment.specs.Traces.{Trace}
+use Rattle.htl_segment.proofs.Spans.{above}
 use Rattle.htl_segment.proofs.Traces.{members_agree}
 use Rattle.htl_taken.specs.Numbers.{front_at}
 use Rattle.htl_analyst.specs.States.{State, folded_at}
@@ -71,15 +71,6 @@ complete T a n right kept = record {
   reached = subst (λ (m : ℕ). IsLastFolded T a kept.processor m) (sym kept.reached) (right.each kept.processor kept.within).folded.last;
 }
 
--- the events of a segment have sequences above 0
-sequences_above : (v : Version) (last : ℕ) (es : List Event) → EventsFit v last es → (e : Event) → Contains es e → last < e.sequence
-sequences_above v last [] fit e h = absurd (Contains-nil e h)
-sequences_above v last (x ∷ xs) fit e h =
-    elim (Contains-cases x xs e h) [
-      | inl is ↦ let lt = fit.1 in let s : x.sequence ≡ e.sequence = ap (λ (y : Event). y.sequence) is in omega (arith, lt, s)
-      | inr there ↦ let lt = fit.1 in let more = sequences_above v x.sequence xs fit.2 e there in omega (arith, lt, more)
-    ]
-
 -- an event below a front is of a segment below it
 below_front : (T : Trace) (p front : ℕ) (x : Event) → Contains (run_events T p front) x
     → (s : Content) × Contains T.segments s × (s.processor ≡ p) × (s.number < front) × Contains s.events x
@@ -96,7 +87,7 @@ nothing_missing T a n right kept rise s h absent e is =
     let b = kept.bound s.processor lt in
     let high : front_at a.taken s.processor ≤ s.number = not_below (λ low. absent (inl low)) in
     elim last.reached [
-      | inl zero_is ↦ let pos = sequences_above s.version 0 s.events fits.events e is in omega (arith, b, zero_is, pos)
+      | inl zero_is ↦ let pos = above s.version 0 s.events fits.events e is in omega (arith, b, zero_is, pos)
       | inr r ↦
           let f = below_front T s.processor (front_at a.taken s.processor) r.0 r.1 in
           let up = rise s f.0 h f.1 f.2 (let low = f.3 in omega (arith, low, high)) e r.0 is f.4 in

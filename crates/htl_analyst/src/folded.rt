@@ -1,12 +1,7 @@
 //! What is left of the segments of one processor that were folded.
-ghost use Rattle.std.specs.Prelude.{◌≡◌, ◌++◌, ◌≤◌, ◌<◌, ◌+◌, ◌*◌, ◌^◌, ◌↔◌, ℕ, List, length};
-ghost use Rattle.std.specs.Prelude.{Contains, IsTrue, IfOk, OnOk};
-ghost use Rattle.htl_event.specs.Events.{Event};
-ghost use Rattle.htl_event.specs.Handles.{IsGreatestSequence};
-ghost use Rattle.htl_segment.specs.Traces.{all_events};
 
-use htl_event::{NoMemory, SharedEvent};
-use htl_segment::Segment;
+use htl_event::NoMemory;
+use htl_segment::{Segment, greatest_sequence};
 use htl_tables::{Exits, Latest, Marks};
 use htl_tree::StackTree;
 use std::alloc::Allocator;
@@ -157,26 +152,4 @@ impl<A: Allocator + Clone> Folded<A> {
             last_sequence: self.last_sequence,
         })
     }
-}
-
-/// The greatest sequence of the segments' events, 0 where there are none.
-fn greatest_sequence(segments: &[Segment]) -> u64
-    ensures { IsGreatestSequence (Contains (all_events segments.now)) result }
-{
-    let mut greatest = 0;
-    for segment in segments {
-        greatest = last_sequence(segment.events()).max(greatest);
-    }
-    greatest
-}
-
-/// The greatest sequence of the events, 0 where there are none.
-fn last_sequence(events: &[SharedEvent]) -> u64
-    ensures { IsGreatestSequence (Contains events.now) result }
-{
-    let mut greatest = 0;
-    for event in events {
-        greatest = event.sequence.max(greatest);
-    }
-    greatest
 }

@@ -17,7 +17,7 @@ use Rattle.htl_case.specs.Faults.{IsLeastSuch, Differs, HasOtherTrace, HasOtherP
 use Rattle.htl_case.specs.Faults.{HaveOneTrace, HaveOneCount, HaveOneContent, ComesTwice, Falls, IsRefusal, IsOutcome}
 use Rattle.htl_case.specs.Faults.{key_of}
 use Rattle.htl_case.proofs.KeyOrder.{cases_key, not_itself, before_before}
-use Rattle.htl_case.proofs.Spans.{at_place}
+use Rattle.htl_segment.proofs.Spans.{at_place}
 use Rattle.htl_case.proofs.Twice.{twice_counted, times_from_own}
 
 -- ---- one case

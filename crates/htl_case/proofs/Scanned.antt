@@ -14,7 +14,7 @@ use Rattle.htl_segment.specs.Rising.{IsKeyBefore, SequencesRise}
 use Rattle.htl_case.specs.Faults.{IsLeastSuch, Falls, key_of}
 use Rattle.htl_case.specs.Sequences.{IsSpan}
 use Rattle.htl_case.proofs.KeyOrder.{not_itself, before_before}
-use Rattle.htl_case.proofs.Spans.{above}
+use Rattle.htl_segment.proofs.Spans.{above}
 
 pub falls_moved : (a b : List Content) (key : ℕ × ℕ) → ((s : Content) → Contains a s → Contains b s) → Falls a key → Falls b key
 falls_moved a b key into falls = record {

@@ -24,7 +24,7 @@ use Rattle.htl_case.specs.declared.step.Step.TheVariants.{Take, Merge, Compact}
 use Rattle.htl_case.specs.Reached.{is_key_at, after_step}
 use Rattle.htl_case.specs.Histories.{History, IsTake, IsCompaction, IsTriedCompaction, Leaves, history_after, AreRight}
 use Rattle.htl_case.specs.Changes.{Changes, IsMergeFrom, IsStep, IsTriedStep}
-use Rattle.htl_case.proofs.Spans.{at_place}
+use Rattle.htl_segment.proofs.Spans.{at_place}
 
 -- ---- a list with one item exchanged
 

@@ -13,7 +13,7 @@ use Rattle.htl_event.specs.Events.{Event}
 use Rattle.htl_event.proofs.Members.{Contains-cases, Contains-nil}
 use Rattle.htl_segment.specs.declared.version.Version.{Version}
 use Rattle.htl_segment.specs.Content.{Content, EventsFit, Fits}
-use Rattle.htl_case.proofs.Spans.{above, at_place}
+use Rattle.htl_segment.proofs.Spans.{above, at_place}
 use Rattle.htl_case.specs.Faults.{Falls, HaveOneContent, IsRefusal, key_of}
 use Rattle.htl_case.specs.declared.fault.CaseFault.TheVariants.{TwoContents, SequenceTwice, Falling}
 use Rattle.htl_symbols.proofs.Searches.{list_any-true}

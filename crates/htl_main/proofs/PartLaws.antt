@@ -6,7 +6,7 @@ use Rattle.std.proofs.lemmas.List.Elements.{All-append, All-cons, All-head, All-
 use Rattle.std.proofs.lemmas.List.Folds.{find-append}
 use Rattle.std.proofs.lemmas.Option.{slice_get_within}
 use Rattle.htl_segment.specs.Content.{Content}
-use Rattle.htl_case.proofs.Spans.{at_place}
+use Rattle.htl_segment.proofs.Spans.{at_place}
 use Rattle.htl_main.specs.Inputs.{Decodes}
 use Rattle.htl_main.specs.Parts.{AreParts, part_at}
 use Rattle.htl_main.specs.declared.decoded.Part.{Part}

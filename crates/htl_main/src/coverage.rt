@@ -1,10 +1,9 @@
 //! How much of its trace a case has. Nothing here looks at more than the last event of a segment, and
 //! only the list of gaps takes memory.
 
-ghost use Rattle.std.specs.Prelude.{◌≡◌, ◌<◌, ◌≤◌, ◌+◌, ◌++◌, ℕ, length, take, All, Contains};
+ghost use Rattle.std.specs.Prelude.{◌≡◌, ◌<◌, ◌≤◌, ◌+◌, ◌++◌, ℕ, length, take, All};
 ghost use Rattle.std.specs.Prelude.{IfNone, IfOk, IfSome, OnOk};
-ghost use Rattle.htl_event.specs.Handles.{IsGreatestSequence};
-ghost use Rattle.htl_segment.specs.Traces.{AreInOrder, HasKey, all_events};
+ghost use Rattle.htl_segment.specs.Traces.{AreInOrder, HasKey};
 ghost use Rattle.htl_taken.specs.Gaps.{IsGaps};
 ghost use Rattle.htl_taken.specs.GapLists.{gaps_from, gaps_of};
 ghost use Rattle.htl_taken.specs.Rising.{reach_from};
@@ -13,7 +12,7 @@ ghost use Rattle.htl_main.specs.Numbers.{numbers_of};
 
 use htl_case::Case;
 use htl_event::NoMemory;
-use htl_segment::Segment;
+use htl_segment::{Segment, greatest_sequence};
 use htl_taken::Gap;
 use std::alloc::Global;
 
@@ -154,25 +153,4 @@ fn unbroken(own: &[Segment]) -> &[Segment]
         }
     }
     own
-}
-
-/// The greatest sequence of the segments, 0 where they have no event.
-fn greatest_sequence(segments: &[Segment]) -> u64
-    ensures { IsGreatestSequence (Contains (all_events segments.now)) result }
-{
-    let mut greatest = 0;
-    for segment in segments {
-        greatest = last_sequence(segment).max(greatest);
-    }
-    greatest
-}
-
-/// The greatest sequence of a segment, which its last event has.
-fn last_sequence(segment: &Segment) -> u64
-    ensures { IsGreatestSequence (Contains segment.now.events) result }
-{
-    match segment.events().last() {
-        Some(last) => last.sequence,
-        None => 0,
-    }
 }

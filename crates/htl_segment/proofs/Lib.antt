@@ -13,3 +13,5 @@ pub mod ContentsEqual
 pub mod BundleLaws
 pub mod MoreBytes
 pub mod PiecesLaws
+pub mod Spans
+pub mod Greatest

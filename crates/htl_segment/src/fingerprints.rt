@@ -52,15 +52,9 @@ impl<'a> Fingerprints<'a> {
 
 /// The fingerprint of a stack whose addresses these are, eight bytes each.
 pub fn fingerprint_of(frames: &[u8]) -> u64 {
-    // Two chains that take turns, so that a multiplication needn't wait for the one before it.
-    let mut chain: u64 = 0x9e37_79b9_7f4a_7c15 ^ frames.len() as u64;
-    let mut other: u64 = 0xe703_7ed1_a0b4_28db;
+    let mut mixed = frames.len() as u64;
     for place in 0..frames.len() / 8 {
-        let mixed = (chain ^ u64_at(frames, 8 * place)).wrapping_mul(0x9e37_79b9_7f4a_7c15);
-        chain = other;
-        other = mixed ^ (mixed >> 29);
+        mixed = (mixed ^ u64_at(frames, 8 * place)).wrapping_mul(0x9e37_79b9_7f4a_7c15);
     }
-    let both = (chain ^ (chain >> 32)).wrapping_mul(0x9e37_79b9_7f4a_7c15)
-        ^ (other ^ (other >> 29)).wrapping_mul(0xe703_7ed1_a0b4_28db);
-    both ^ (both >> 32)
+    mixed ^ (mixed >> 32)
 }

@@ -9,8 +9,9 @@
 //! their rules), `fault.rt`, `records.rt` and `segment_bytes.rt` (records and a checked segment
 //! where they lie in bytes), `stack_cache.rt` and `fingerprints.rt` (stacks that were met lately,
 //! so that equal ones are kept once), `segment.rt`, `decoding.rt`, `encoding.rt` and `building.rt`
-//! (a segment in memory, from bytes, to bytes, from its parts), `bundle.rt`, `splitter.rt` and
-//! `feeding.rt` (segments one after another, whole and in pieces), `hexadecimal.rt`, `laws.rt`.
+//! (a segment in memory, from bytes, to bytes, from its parts), `rising.rt` (the greatest sequence
+//! of segments), `bundle.rt`, `splitter.rt` and `feeding.rt` (segments one after another, whole and
+//! in pieces), `hexadecimal.rt`, `laws.rt`.
 //!
 //! `specs/Lib` names the definitions in the order in which they are read. In `proofs/`,
 //! `RecordLaws`, `HeaderLaws` and `SegmentLaws` show both directions between bytes and segments,
@@ -32,6 +33,7 @@ mod kinds;
 pub mod laws;
 mod record;
 mod records;
+mod rising;
 mod segment;
 mod segment_bytes;
 mod splitter;
@@ -46,6 +48,7 @@ pub use header::whole_len;
 pub use hexadecimal::{HexFault, from_hex};
 pub use record::Record;
 pub use records::Records;
+pub use rising::greatest_sequence;
 pub use segment::Segment;
 pub use segment_bytes::SegmentBytes;
 pub use splitter::{Splitter, decode_pieces};

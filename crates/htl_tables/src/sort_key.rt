@@ -1,7 +1,8 @@
 //! Small keys of events, by which the latest of a handle are found: they are sorted in place of the
 //! events.
 
-ghost use Rattle.std.specs.Prelude.{◌≡◌, ◌+◌, ◌≤◌, length, Contains, IfOk};
+ghost use Rattle.std.specs.Prelude.{◌≡◌, ◌+◌, ◌≤◌, length, true, Contains, IfOk};
+ghost use Rattle.htl_event.specs.Handles.{opens_or_closes};
 ghost use Rattle.htl_tables.specs.declared.sort_key.SortKey.{SortKey};
 ghost use Rattle.htl_tables.specs.Asked.{touches};
 ghost use Rattle.htl_tables.specs.SortKeys.{IsKeyIn, AreEventsFrom};
@@ -91,9 +92,17 @@ pub(crate) fn events_between<'a, R: EventList, A: Allocator>(
     let mut events = Vec::with_capacity(alloc, end - start)?;
     for place in start..end {
         let event = keys[place].event(lists);
-        if event.kind.opens_or_closes() {
+        if opens_or_closes(event) {
             events.push(event)?;
         }
     }
     Ok(events)
+}
+
+/// True of an event that opens or closes a handle. Both ends of the event are looked at, since both
+/// are needed next.
+fn opens_or_closes(event: &SharedEvent) -> bool
+    ensures { opens_or_closes event.now.kind ≡ true → result ≡ true }
+{
+    event.kind.opens_or_closes() | (event.tag != [0; 4])
 }

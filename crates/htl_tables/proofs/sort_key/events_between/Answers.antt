@@ -1,10 +1,9 @@
 -- The event of each key opens or closes a handle, so it comes to the others.
-use Rattle.std.proofs.Common.{◌<◌, length, get_or, sym, ◌∙◌, arith, [], ◌∷◌}
+use Rattle.std.proofs.Common.{◌<◌, length, get_or, arith, [], ◌∷◌}
 use Rattle.std.proofs.lemmas.Bool.{both_ways}
 use Rattle.std.proofs.lemmas.List.{length-append}
 use Rattle.std.proofs.lemmas.List.Elements.{Contains-get_or}
 use Rattle.std.proofs.lemmas.Option.{slice_get-get_or}
-use Rattle.htl_event.specs.Handles.{opens_or_closes}
 use Rattle.htl_tables.specs.declared.sort_key.SortKey.{SortKey}
 use Rattle.htl_tables.specs.Asked.{touches}
 use Rattle.htl_tables.proofs.AskedKeys.{touches-opens}
@@ -47,6 +46,6 @@ loop-place-preserved g c =
             (slice_get-get_or keys n no_key within) c.event-event.ensures),
         rw (w.events-is, w.in_ok-push.ensures.items, length-append events (e ∷ [])) (omega (arith, all)),
       )
-      | else-opens_or_closes w ↦ absurd (both_ways (opens_or_closes e.now.kind)
-          (sym c.opens_or_closes.ensures ∙ w.if-opens_or_closes.false) opens)
+      | else-opens_or_closes w ↦ absurd (both_ways c.opens_or_closes.result w.if-opens_or_closes.false
+          (c.opens_or_closes.ensures opens))
     ]

@@ -3,7 +3,8 @@ use Rattle.std.proofs.Common.{sym, subst}
 use Rattle.htl_answers.proofs.JoinedTables.{tables_joined}
 use Rattle.htl_analyst.specs.States.{Folded, folded}
 use Rattle.htl_analyst.specs.Right.{IsFolded}
-use Rattle.htl_analyst.proofs.Joined.{tally_joined, last_joined}
+use Rattle.htl_segment.proofs.Greatest.{greatest_joined}
+use Rattle.htl_analyst.proofs.Joined.{tally_joined}
 use Rattle.htl_analyst.proofs.folded.Folded.joined.Goals as goal
 
 pub returns-clause-folded : goal.returns-clause-folded
@@ -22,5 +23,5 @@ returns-clause-folded g c = λ events more one two.
             c.in_ok-join-3.field-0 i.exits o.exits c.in_ok-join.ensures c.in_ok-join-2.ensures c.in_ok-join-3.ensures
             d.fold.tables e.fold.tables;
       };
-      last = last_joined events more c.max.result i.last_sequence o.last_sequence c.max.ensures d.last e.last;
+      last = greatest_joined events more c.max.result i.last_sequence o.last_sequence c.max.ensures d.last e.last;
     }

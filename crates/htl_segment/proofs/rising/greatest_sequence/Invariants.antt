@@ -3,7 +3,7 @@ use Rattle.std.proofs.Common.{take}
 use Rattle.std.specs.Prelude.{Contains}
 use Rattle.htl_event.specs.Handles.{IsGreatestSequence}
 use Rattle.htl_segment.specs.Traces.{all_events}
-use Rattle.htl_main.proofs.coverage.greatest_sequence.Given as goal
+use Rattle.htl_segment.proofs.rising.greatest_sequence.Given as goal
 
 abbrev pub invariant-loop-segment : goal.invariant-loop-segment
 invariant-loop-segment l = IsGreatestSequence (Contains (all_events (take l.segment-index l.segments))) l.greatest

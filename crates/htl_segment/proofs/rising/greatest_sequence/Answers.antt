@@ -1,6 +1,6 @@
 -- A segment more may have a greater sequence.
-use Rattle.htl_analyst.proofs.Joined.{greatest_none, greatest_of_all, greatest_of_more}
-use Rattle.htl_main.proofs.coverage.greatest_sequence.Goals as goal
+use Rattle.htl_segment.proofs.Greatest.{greatest_none, greatest_of_all, greatest_of_more}
+use Rattle.htl_segment.proofs.rising.greatest_sequence.Goals as goal
 
 pub loop-segment-init : goal.loop-segment-init
 loop-segment-init c = greatest_none

@@ -74,8 +74,8 @@ impl Session {
     }
 }
 
-/// The compacted state of the whole case. Where not all workers can be started, this thread does
-/// their work.
+/// The compacted state of the whole case. One worker needs no thread beside this one, and where not
+/// all workers can be started, this thread does their work.
 fn fold<Rt: Threads + Wait + Sync>(
     rt: &Rt,
     alloc: Global,
@@ -84,6 +84,9 @@ fn fold<Rt: Threads + Wait + Sync>(
 ) -> Result<Analyst<Global>, NoMemory>
     ensures { IfOk result (IsWholeStanding case.now) }
 {
+    if workers == 1 {
+        return fold_alone(rt, alloc, case);
+    }
     match survey(rt, alloc, case, workers, &Free) {
         Ok(analyst) => Ok(analyst),
         Err(SurveyFault::NoMemory) => Err(NoMemory),

@@ -12,10 +12,14 @@ use std::process::Abort;
 fn words(rt: &impl Abort, alloc: Global, line: &str) -> Vec<String> {
     let mut words = Vec::new(alloc);
     for word in line.split('|') {
-        let word = String::from_str(alloc, word).expect(rt, "the memory");
+        let word = owned(rt, alloc, word);
         words.push(word).expect(rt, "the memory");
     }
     words
+}
+
+fn owned(rt: &impl Abort, alloc: Global, word: &str) -> String {
+    String::from_str(alloc, word).expect(rt, "the memory")
 }
 
 /// Why a line is refused, or the help that it asks for.

@@ -4,7 +4,9 @@ use allocation_trials::{Equal, Refusal, Same, Trials, answered};
 use htl_event::Event;
 use htl_reading::decode_bundle_by;
 use htl_samples::{RandomTrace, SMALL, TRACE};
-use htl_segment::{Fault, Segment, Splitter, decode, decode_bundle, encode, from_hex};
+use htl_segment::{
+    Fault, Segment, Splitter, decode, decode_bundle, decode_pieces, encode, from_hex,
+};
 use std::alloc::Global;
 use std::mem;
 use std::thread::Threads;
@@ -18,6 +20,7 @@ const LONG: RandomTrace = RandomTrace {
 pub fn try_all<R: Threads + Sync>(rt: &R, trials: &mut Trials<'_, HostRuntime>) {
     trials.reads("decode", encoding, decoded);
     trials.reads("decode_bundle", bundle, decoded_bundle);
+    trials.reads("decode_pieces", bundle, decoded_pieces);
     trials.reads(
         "decode_bundle_by two workers",
         long_bundle,
@@ -57,6 +60,12 @@ fn decoded(alloc: Global, bytes: &Vec<u8>) -> Result<Segment, Refusal> {
 
 fn decoded_bundle(alloc: Global, bytes: &Vec<u8>) -> Result<Vec<Segment>, Refusal> {
     answered(decode_bundle(alloc, bytes))
+}
+
+/// The bundle's segments, of which the second is in both pieces.
+fn decoded_pieces(alloc: Global, bytes: &Vec<u8>) -> Result<Vec<Segment>, Refusal> {
+    let (front, back) = bytes.split_at(FIRST_PIECE.min(bytes.len()));
+    answered(decode_pieces(alloc, &[front, back]))
 }
 
 fn decoded_by_two<R: Threads + Sync>(

@@ -2,8 +2,8 @@
 //! of answers, devices and the command line.
 //!
 //! Each file tests the crate of its name by what that crate makes public: outside vectors, printed
-//! texts, faults and refused allocations. They stand here, over proved crates, so that no crate is
-//! proved a second time with its tests. `rows` has what tests of a table assert of each row.
+//! texts and faults. They stand here, over proved crates, so that no crate is proved a second time
+//! with its tests. `rows` has what tests of a table assert of each row.
 #![tactic(auto)]
 
 #[cfg(test)]

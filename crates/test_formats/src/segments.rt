@@ -1,7 +1,5 @@
 //! Worked segments and bundles, and their faults.
 
-mod refused;
-
 use crate::rows::assert_row;
 use htl_event::{Event, Kind, MAX_FRAMES, SharedEvent, Stack};
 use htl_segment::{

@@ -4,7 +4,7 @@ use crate::rows::{assert_is, assert_row};
 use htl_analyst::{Analyst, TakeFault, Took};
 use htl_samples::{TRACE, Trace};
 use htl_segment::Segment;
-use std::alloc::Global;
+use std::alloc::{Allocator, Global};
 use std::process::Abort;
 
 /// The samples' trace with two processors.
@@ -26,7 +26,10 @@ pub fn segment(rt: &impl Abort, alloc: Global, trace: Trace, line: &str) -> Segm
 }
 
 /// What an analyst answers to a segment.
-pub fn take_segment(analyst: &mut Analyst<Global>, segment: Segment) -> Result<Took, TakeFault> {
+pub fn take_segment<A: Allocator + Clone>(
+    analyst: &mut Analyst<A>,
+    segment: Segment,
+) -> Result<Took, TakeFault> {
     match analyst.take(segment) {
         Ok(took) => Ok(took),
         Err((fault, _segment)) => Err(fault),
@@ -34,10 +37,10 @@ pub fn take_segment(analyst: &mut Analyst<Global>, segment: Segment) -> Result<T
 }
 
 /// What an analyst answers to the segment of a line of this trace.
-pub fn take_of(
+pub fn take_of<A: Allocator + Clone>(
     rt: &impl Abort,
     alloc: Global,
-    analyst: &mut Analyst<Global>,
+    analyst: &mut Analyst<A>,
     trace: Trace,
     line: &str,
 ) -> Result<Took, TakeFault> {
@@ -74,7 +77,7 @@ pub fn merge(rt: &impl Abort, analyst: &mut Analyst<Global>, other: &Analyst<Glo
 }
 
 /// Whether an analyst takes over the other by a move.
-pub fn is_absorbed(analyst: &mut Analyst<Global>, other: Analyst<Global>) -> bool {
+pub fn is_absorbed<A: Allocator + Clone>(analyst: &mut Analyst<A>, other: Analyst<A>) -> bool {
     match analyst.absorb(other) {
         Ok(()) => true,
         Err(_refused) => false,

@@ -3,11 +3,11 @@
 use crate::analysts::{
     TWO_PROCESSORS, compacted, merge, new, segment, take, take_of, take_segment, taken,
 };
+use crate::heaps::heap;
 use crate::rows::{assert_is, assert_list, assert_row};
 use htl_analyst::{Analyst, AnalystFault, MergeFault, TakeFault, Took};
 use htl_samples::{SampleFault, TRACE, Trace};
 use htl_segment::{Fault, Segment, decode, from_hex};
-use linked_list_allocator::LocalHeap;
 use std::alloc::{Allocator, Global};
 use std::process::Abort;
 
@@ -240,8 +240,7 @@ fn is_full<A: Allocator + Clone>(
 
 #[test]
 fn a_small_heap_refuses_a_segment(rt: HostRuntime) {
-    let heap = LocalHeap::new(rt.alloc(), 4096).expect(&rt, "the memory");
-    takes_until_refused(&rt, rt.alloc(), &heap);
+    takes_until_refused(&rt, rt.alloc(), &heap(&rt, rt.alloc(), 4096));
 }
 
 /// A segment without an event.

@@ -1,9 +1,9 @@
 //! Tests of the crates that keep lists, trees, tables and sets, and that answer from them: what no
-//! clause of theirs says, as worked rows, orders, and in whose heap an answer lies.
+//! clause of theirs says, as worked rows, orders and refused allocations.
 //!
 //! Each file tests the crate of its name by what that crate makes public. They stand here, over
 //! proved crates, so that no crate is proved a second time with its tests. `rows` has what they
-//! assert of each row, `lines` the events of lines, and `heaps` the heaps of a size.
+//! assert of each row, `lines` the events of lines, and `heaps` the heaps that refuse memory.
 #![tactic(auto)]
 
 #[cfg(test)]

@@ -1,4 +1,5 @@
-//! Tests of what no clause says: worked rows, generated segments, and in whose heap a join lies.
+//! Tests of what no clause says: worked rows, generated segments, and refused allocations, each call
+//! under heaps of its own.
 
 use crate::heaps::heap;
 use crate::lines::events_of;
@@ -78,15 +79,14 @@ impl<K: EventKind, A: Allocator + Clone> Table<A> for Greatest<K, A> {
     }
 }
 
-/// Notes the events, if there is memory.
-fn note_all<A: Allocator, T: Table<A>>(
-    table: &mut T,
-    events: &[SharedEvent],
-) -> Result<(), NoMemory> {
-    for event in events {
-        table.note(event)?;
+/// Notes the events until one is refused, and says how many were noted.
+fn note_all<A: Allocator, T: Table<A>>(table: &mut T, events: &[SharedEvent]) -> usize {
+    for (place, event) in events.iter().enumerate() {
+        if table.note(event).is_err() {
+            return place;
+        }
     }
-    Ok(())
+    events.len()
 }
 
 /// The table of the events of the lists, noted one by one from the last list to the first, if there
@@ -97,7 +97,9 @@ fn try_noted<A: Allocator, T: Table<A>, L: EventList>(
 ) -> Result<T, NoMemory> {
     let mut table = T::empty(alloc);
     for list in lists.iter().rev() {
-        note_all(&mut table, list.events())?;
+        if note_all(&mut table, list.events()) < list.events().len() {
+            return Err(NoMemory);
+        }
     }
     Ok(table)
 }
@@ -130,10 +132,24 @@ fn gathered_of_two<T: Table<Global>>(
     )
 }
 
+// Whether no table was made. One that was made is the twin's.
+fn is_none<A: Allocator, T: Table<A>>(
+    rt: &impl Abort,
+    made: Result<T, NoMemory>,
+    twin: &T,
+) -> bool {
+    match made {
+        Ok(table) => {
+            assert_is(rt, table.same(twin), true);
+            false
+        }
+        Err(NoMemory) => true,
+    }
+}
+
 /// The table was made, and is this one.
 fn is_same<A: Allocator, T: Table<A>>(rt: &impl Abort, made: Result<T, NoMemory>, table: &T) {
-    let made = made.expect(rt, "the memory");
-    assert_is(rt, made.same(table), true);
+    assert_is(rt, is_none(rt, made, table), false);
 }
 
 /// A copy, the joins with an empty table, and the table of the events gathered together are the
@@ -296,25 +312,148 @@ fn tables_of_generated_segments(rt: HostRuntime) {
     have_marks(&rt, rt.alloc(), &heap(&rt, rt.alloc(), 16384), &segments);
 }
 
-/// The join of two tables of the same events is either, if the heap on the right holds one.
-fn are_joined_under<A: Allocator + Clone, L: EventList>(
+// ---- refused allocations
+
+/// Opens, closes and exits, most of which make a row of their own.
+const LINES: &str = "O 1 0x44, exit 2, C 3 0x48, exit 4 process=3, O 5 0x10, O 6 0x44 process=2, \
+    exit 7 process=2, C 8 0x44, O 9 0x50, exit 10 process=9, exit 11 process=8";
+
+// Heaps of so many bytes, from one that holds nothing to one that holds all.
+const STEP: usize = 8;
+
+const STEPS: usize = 512;
+
+/// The tables.
+#[derive(Clone, Copy)]
+enum Kind {
+    Latest,
+    Exits,
+}
+
+/// The calls that take memory.
+#[derive(Clone, Copy)]
+enum Call {
+    Note,
+    Of,
+    Join,
+    Copy,
+}
+
+const CALLS: &[(&str, Kind, Call)] = &[
+    ("a note of latest events", Kind::Latest, Call::Note),
+    ("latest events gathered", Kind::Latest, Call::Of),
+    ("latest events joined", Kind::Latest, Call::Join),
+    ("latest events copied", Kind::Latest, Call::Copy),
+    ("a note of exits", Kind::Exits, Call::Note),
+    ("exits gathered", Kind::Exits, Call::Of),
+    ("exits joined", Kind::Exits, Call::Join),
+    ("exits copied", Kind::Exits, Call::Copy),
+];
+
+// Whether a note was refused. What was noted before it stands. The twin has room.
+fn is_note_refused<A: Allocator, T: Table<A>>(
     rt: &impl Abort,
-    left: A,
-    right: A,
-    lists: &[L],
-) {
-    if let Ok(other) = try_noted::<_, Latest<A>, _>(right, lists) {
-        let one: Latest<A> = noted(rt, left, lists);
-        is_same(rt, one.join(&other), &one);
+    mut table: T,
+    mut twin: T,
+    events: &[SharedEvent],
+) -> bool {
+    let noted = note_all(&mut table, events);
+    assert!(rt; noted <= events.len());
+    assert_is(rt, note_all(&mut twin, &events[..noted]), noted);
+    assert_is(rt, table.same(&twin), true);
+    noted < events.len()
+}
+
+// Whether a join with the twin was refused, if the table was made.
+fn is_join_refused<A: Allocator, T: Table<A>>(
+    rt: &impl Abort,
+    made: Result<T, NoMemory>,
+    twin: &T,
+) -> Result<bool, NoMemory> {
+    let table = made?;
+    // The left table's heap is asked, however full the right one's is.
+    is_same(rt, twin.join(&table), twin);
+    Ok(is_none(rt, table.join(twin), twin))
+}
+
+// Whether a copy was refused, if the table was made.
+fn is_copy_refused<A: Allocator, T: Table<A>>(
+    rt: &impl Abort,
+    made: Result<T, NoMemory>,
+    twin: &T,
+) -> Result<bool, NoMemory> {
+    let table = made?;
+    Ok(is_none(rt, table.copy(), twin))
+}
+
+// Whether the call was refused. It takes its memory from the small heap alone, and where that
+// doesn't hold the table that is called, there is no answer. The twin has room.
+fn is_refused<A: Allocator + Clone, T: Table<A>>(
+    rt: &impl Abort,
+    call: Call,
+    small: A,
+    empty: T,
+    twin: &T,
+    events: &Vec<SharedEvent>,
+) -> Result<bool, NoMemory> {
+    let lists = slice::from_ref(events);
+    match call {
+        Call::Note => Ok(is_note_refused(rt, T::empty(small), empty, events)),
+        Call::Of => Ok(is_none(rt, T::of(small, lists), twin)),
+        Call::Join => is_join_refused(rt, try_noted(small, lists), twin),
+        Call::Copy => is_copy_refused(rt, try_noted(small, lists), twin),
     }
 }
 
-// However full the right table's heap is.
+// The same of a table of this kind.
+fn is_refused_of(
+    rt: &impl Abort,
+    kind: Kind,
+    call: Call,
+    small: &LocalHeap,
+    roomy: &LocalHeap,
+    events: &Vec<SharedEvent>,
+) -> Result<bool, NoMemory> {
+    let lists = slice::from_ref(events);
+    match kind {
+        Kind::Latest => {
+            let twin = noted(rt, roomy, lists);
+            is_refused(rt, call, small, Latest::new(roomy), &twin, events)
+        }
+        Kind::Exits => {
+            let twin = noted(rt, roomy, lists);
+            is_refused(rt, call, small, Exits::new(roomy), &twin, events)
+        }
+    }
+}
+
+// Whether the call is refused in some heaps, and whether it answers in others.
+fn outcomes(
+    rt: &impl Abort,
+    alloc: Global,
+    kind: Kind,
+    call: Call,
+    roomy: &LocalHeap,
+    events: &Vec<SharedEvent>,
+) -> (bool, bool) {
+    let (mut refused, mut answered) = (false, false);
+    for step in 1..STEPS {
+        let small = heap(rt, alloc, step * STEP);
+        match is_refused_of(rt, kind, call, &small, roomy, events) {
+            Ok(true) => refused = true,
+            Ok(false) => answered = true,
+            Err(NoMemory) => {}
+        }
+    }
+    (refused, answered)
+}
+
 #[test]
-fn a_join_lies_in_the_left_heap(rt: HostRuntime) {
-    let lists = [events_of(&rt, rt.alloc(), LISTED)];
-    for eighth in 1..512 {
-        let right = heap(&rt, rt.alloc(), 8 * eighth);
-        are_joined_under(&rt, &heap(&rt, rt.alloc(), 65536), &right, &lists);
+fn each_call_is_refused_until_its_heap_is_large_enough(rt: HostRuntime) {
+    let events = events_of(&rt, rt.alloc(), LINES);
+    let roomy = heap(&rt, rt.alloc(), 65536);
+    for (name, kind, call) in CALLS {
+        let outcomes = outcomes(&rt, rt.alloc(), *kind, *call, &roomy, &events);
+        assert_row(&rt, *name, outcomes, (true, true));
     }
 }

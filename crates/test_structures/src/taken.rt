@@ -1,9 +1,11 @@
-//! Tests of what no clause says: worked rows, and in whose heap a union lies.
+//! Tests of what no clause says: worked rows, and refused allocations, each call under heaps of its
+//! own.
 
 use crate::heaps::heap;
-use crate::rows::{assert_is, assert_list, assert_row};
+use crate::rows::{assert_is, assert_list, assert_row, is_done};
 use htl_event::NoMemory;
 use htl_taken::{Gap, MAX_FRONT, Taken};
+use linked_list_allocator::LocalHeap;
 use std::alloc::{Allocator, Global};
 use std::process::Abort;
 
@@ -18,6 +20,20 @@ fn try_insert<A: Allocator + Clone>(
     taken.insert(processor, number)
 }
 
+/// Inserts the segments until one is refused, and says how many were inserted.
+fn insert_all<A: Allocator + Clone>(
+    rt: &impl Abort,
+    taken: &mut Taken<A>,
+    segments: &[(u16, u32)],
+) -> usize {
+    for (place, (processor, number)) in segments.iter().enumerate() {
+        if try_insert(rt, taken, *processor, *number).is_err() {
+            return place;
+        }
+    }
+    segments.len()
+}
+
 /// A set of these segments of two processors, if there is memory.
 fn try_filled<A: Allocator + Clone>(
     rt: &impl Abort,
@@ -25,8 +41,8 @@ fn try_filled<A: Allocator + Clone>(
     segments: &[(u16, u32)],
 ) -> Result<Taken<A>, NoMemory> {
     let mut taken = Taken::new(alloc, 2)?;
-    for (processor, number) in segments {
-        try_insert(rt, &mut taken, *processor, *number)?;
+    if insert_all(rt, &mut taken, segments) < segments.len() {
+        return Err(NoMemory);
     }
     Ok(taken)
 }
@@ -95,17 +111,7 @@ fn has_three(rt: &impl Abort, taken: &Taken<Global>) {
     assert_is(rt, taken.has(0, 2), false);
     assert_is(rt, taken.search(0, 3), Ok(0));
     assert_is(rt, taken.search(0, 4), Err(1));
-    is_same(rt, taken.copy(), taken);
-}
-
-/// The set was made, and is this one.
-fn is_same<A: Allocator + Clone>(
-    rt: &impl Abort,
-    made: Result<Taken<A>, NoMemory>,
-    taken: &Taken<A>,
-) {
-    let made = made.expect(rt, "the memory");
-    assert_is(rt, made.same(taken), true);
+    assert_is(rt, is_none(rt, taken.copy(), taken), false);
 }
 
 /// The union of two sets of two processors, if there is memory.
@@ -164,6 +170,8 @@ fn gaps_of_two_processors(rt: HostRuntime) {
     assert_list(&rt, taken.gaps(rt.alloc()), GAPS);
 }
 
+// ---- refused allocations
+
 const SEGMENTS: &[(u16, u32)] = &[
     (0, 0),
     (0, 9),
@@ -175,19 +183,120 @@ const SEGMENTS: &[(u16, u32)] = &[
     (0, 1),
 ];
 
-/// The union of two sets of the same segments is either, if the heap on the right holds one.
-fn are_united<A: Allocator + Clone>(rt: &impl Abort, left: A, right: A) {
-    if let Ok(other) = try_filled(rt, right, SEGMENTS) {
-        let one = filled(rt, left, SEGMENTS);
-        is_same(rt, try_union(rt, &one, &other), &one);
+// Heaps of so many bytes, from one that holds nothing to one that holds all.
+const STEP: usize = 8;
+
+const STEPS: usize = 128;
+
+/// The calls that take memory.
+#[derive(Clone, Copy)]
+enum Call {
+    New,
+    Insert,
+    Copy,
+    Union,
+}
+
+const CALLS: &[(&str, Call)] = &[
+    ("new", Call::New),
+    ("insert", Call::Insert),
+    ("copy", Call::Copy),
+    ("union", Call::Union),
+];
+
+// Whether an insertion was refused. What was taken before it stands. The twin has room.
+fn is_insertion_refused<A: Allocator + Clone>(
+    rt: &impl Abort,
+    made: Result<Taken<A>, NoMemory>,
+    mut twin: Taken<A>,
+) -> Result<bool, NoMemory> {
+    let mut taken = made?;
+    let inserted = insert_all(rt, &mut taken, SEGMENTS);
+    assert!(rt; inserted <= SEGMENTS.len());
+    let before = &SEGMENTS[..inserted];
+    assert_is(rt, insert_all(rt, &mut twin, before), inserted);
+    assert_is(rt, taken.same(&twin), true);
+    Ok(inserted < SEGMENTS.len())
+}
+
+// Whether the call was refused. What it made is the twin's.
+fn is_none<A: Allocator + Clone>(
+    rt: &impl Abort,
+    made: Result<Taken<A>, NoMemory>,
+    twin: &Taken<A>,
+) -> bool {
+    match made {
+        Ok(taken) => {
+            assert_is(rt, taken.same(twin), true);
+            false
+        }
+        Err(NoMemory) => true,
     }
 }
 
-// However full the right set's heap is.
+// The same of a copy of a set, if that was made.
+fn is_copy_refused<A: Allocator + Clone>(
+    rt: &impl Abort,
+    made: Result<Taken<A>, NoMemory>,
+    twin: &Taken<A>,
+) -> Result<bool, NoMemory> {
+    let taken = made?;
+    Ok(is_none(rt, taken.copy(), twin))
+}
+
+// The same of the union of a set, if that was made, and its twin.
+fn is_union_refused<A: Allocator + Clone>(
+    rt: &impl Abort,
+    made: Result<Taken<A>, NoMemory>,
+    twin: &Taken<A>,
+) -> Result<bool, NoMemory> {
+    let taken = made?;
+    // The left set's heap is asked, however full the right one's is.
+    assert_is(rt, is_none(rt, try_union(rt, twin, &taken), twin), false);
+    Ok(is_none(rt, try_union(rt, &taken, twin), twin))
+}
+
+// Whether the call was refused. It takes its memory from the small heap alone, and where that
+// doesn't hold the set that is called, there is no answer.
+fn is_refused<A: Allocator + Clone>(
+    rt: &impl Abort,
+    call: Call,
+    small: A,
+    roomy: A,
+) -> Result<bool, NoMemory> {
+    match call {
+        Call::New => Ok(!is_done(Taken::new(small, 8))),
+        Call::Insert => is_insertion_refused(rt, Taken::new(small, 2), filled(rt, roomy, &[])),
+        Call::Copy => {
+            let twin = filled(rt, roomy, SEGMENTS);
+            is_copy_refused(rt, try_filled(rt, small, SEGMENTS), &twin)
+        }
+        Call::Union => {
+            let twin = filled(rt, roomy, SEGMENTS);
+            is_union_refused(rt, try_filled(rt, small, SEGMENTS), &twin)
+        }
+    }
+}
+
+// Whether the call is refused in some heaps, and whether it answers in others.
+fn outcomes(rt: &impl Abort, alloc: Global, call: Call, roomy: &LocalHeap) -> (bool, bool) {
+    let (mut refused, mut answered) = (false, false);
+    for step in 1..STEPS {
+        let small = heap(rt, alloc, step * STEP);
+        match is_refused(rt, call, &small, roomy) {
+            Ok(true) => refused = true,
+            Ok(false) => answered = true,
+            Err(NoMemory) => {}
+        }
+    }
+    (refused, answered)
+}
+
 #[test]
-fn a_union_lies_in_the_left_heap(rt: HostRuntime) {
-    for eighth in 1..128 {
-        let right = heap(&rt, rt.alloc(), 8 * eighth);
-        are_united(&rt, &heap(&rt, rt.alloc(), 4096), &right);
+fn each_call_is_refused_until_its_heap_is_large_enough(rt: HostRuntime) {
+    let roomy = heap(&rt, rt.alloc(), 4096);
+    for (name, call) in CALLS {
+        let outcomes = outcomes(&rt, rt.alloc(), *call, &roomy);
+        assert_row(&rt, *name, outcomes, (true, true));
     }
 }

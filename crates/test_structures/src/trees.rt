@@ -1,7 +1,7 @@
-//! Worked trees, and trees of random events.
+//! Worked trees, trees of random events, and refused allocations.
 
 use crate::heaps::heap;
-use crate::rows::{assert_counted, assert_is, assert_list, assert_row};
+use crate::rows::{assert_counted, assert_is, assert_list, assert_row, is_done};
 use htl_event::{Count, Event, Kind, NoMemory, SharedEvent, SharedStack, Sign, Slot};
 use htl_samples::stack;
 use htl_tree::{Slots, StackTree, fits_events};
@@ -324,16 +324,29 @@ fn runs(rt: &impl Abort, alloc: Global, first: u64) -> Vec<Vec<SharedEvent>> {
     runs
 }
 
+// Counts the event, if there is memory.
+fn try_note<A: Allocator + Clone>(
+    rt: &impl Abort,
+    tree: &mut StackTree<A>,
+    event: &SharedEvent,
+) -> Result<(), NoMemory> {
+    assert!(rt; tree.fits(1));
+    tree.note(event)
+}
+
 // Counts the events one by one.
-fn note(rt: &impl Abort, tree: &mut StackTree<Global>, events: &[SharedEvent]) {
+fn note<A: Allocator + Clone>(rt: &impl Abort, tree: &mut StackTree<A>, events: &[SharedEvent]) {
     for event in events {
-        assert!(rt; tree.fits(1));
-        tree.note(event).expect(rt, "the memory");
+        try_note(rt, tree, event).expect(rt, "the memory");
     }
 }
 
 // The tree of the events, one by one.
-fn noted(rt: &impl Abort, alloc: Global, runs: &[Vec<SharedEvent>]) -> StackTree<Global> {
+fn noted<A: Allocator + Clone>(
+    rt: &impl Abort,
+    alloc: A,
+    runs: &[Vec<SharedEvent>],
+) -> StackTree<A> {
     let mut tree = StackTree::new(alloc);
     for run in runs {
         note(rt, &mut tree, run);
@@ -341,23 +354,120 @@ fn noted(rt: &impl Abort, alloc: Global, runs: &[Vec<SharedEvent>]) -> StackTree
     tree
 }
 
-// The tree of the events, made at once.
-fn gathered(
+// The tree of the events, made at once, if there is memory.
+fn try_of<A: Allocator + Clone>(
     rt: &impl Abort,
-    alloc: Global,
+    alloc: A,
     runs: &[Vec<SharedEvent>],
-) -> Result<StackTree<Global>, NoMemory> {
+) -> Result<StackTree<A>, NoMemory> {
     assert!(rt; fits_events(runs));
     StackTree::of(alloc, runs)
 }
 
 // The tree that is made at once is that of the events one by one.
+fn is_made_as_noted<A: Allocator + Clone + Copy>(
+    rt: &impl Abort,
+    alloc: A,
+    runs: &[Vec<SharedEvent>],
+) {
+    let noted = noted(rt, alloc, runs);
+    assert_is(rt, noted.total() > 40, true);
+    assert_is(rt, is_same(try_of(rt, alloc, runs), &noted), true);
+}
+
 #[test]
 fn events_together_make_the_tree_of_events_one_by_one(rt: HostRuntime) {
     for first in 0..8 {
         let runs = runs(&rt, rt.alloc(), first);
-        let noted = noted(&rt, rt.alloc(), &runs);
-        assert_is(&rt, noted.total() > 40, true);
-        assert_is(&rt, is_same(gathered(&rt, rt.alloc(), &runs), &noted), true);
+        is_made_as_noted(&rt, rt.alloc(), &runs);
+        is_made_as_noted(&rt, &heap(&rt, rt.alloc(), 65536), &runs);
+    }
+}
+
+#[derive(Clone, Copy)]
+enum Call {
+    Of,
+    Add,
+    Note,
+    Plus,
+    Copy,
+}
+
+const CALLS: &[(&str, Call)] = &[
+    ("of", Call::Of),
+    ("add", Call::Add),
+    ("note", Call::Note),
+    ("plus", Call::Plus),
+    ("copy", Call::Copy),
+];
+
+// Whether the call is done on this tree.
+fn is_done_on<A: Allocator + Clone>(
+    rt: &impl Abort,
+    call: Call,
+    tree: &mut StackTree<A>,
+    event: &SharedEvent,
+) -> bool {
+    match call {
+        Call::Plus => is_done(try_plus(rt, tree, tree)),
+        Call::Copy => is_done(tree.copy()),
+        Call::Add => is_done(try_add(rt, tree, SLOT, Sign::Plus, &[0x50, 0x10])),
+        Call::Note | Call::Of => is_done(try_note(rt, tree, event)),
+    }
+}
+
+// Whether the call is done in this heap. A refused one leaves its tree as it was; a heap that
+// doesn't hold that is an error.
+fn is_done_in<A: Allocator + Clone>(
+    rt: &impl Abort,
+    call: Call,
+    alloc: A,
+    runs: &[Vec<SharedEvent>],
+    event: &SharedEvent,
+) -> Result<bool, NoMemory> {
+    if matches!(call, Call::Of) {
+        return Ok(is_done(try_of(rt, alloc, runs)));
+    }
+    let mut tree = try_tree(rt, alloc, THREE)?;
+    let done = is_done_on(rt, call, &mut tree, event);
+    let changes = done && matches!(call, Call::Add | Call::Note);
+    assert_is(rt, tree.total(), if changes { 4 } else { 3 });
+    Ok(done)
+}
+
+// Whether the call is refused in some heaps before one is large enough for it, and whether one is.
+fn outcomes(
+    rt: &impl Abort,
+    alloc: Global,
+    call: Call,
+    runs: &[Vec<SharedEvent>],
+    event: &SharedEvent,
+) -> (bool, bool) {
+    let mut refused = false;
+    for step in 4..1024usize {
+        match is_done_in(rt, call, &heap(rt, alloc, 16 * step), runs, event) {
+            Ok(true) => return (refused, true),
+            Ok(false) => refused = true,
+            Err(NoMemory) => {}
+        }
+    }
+    (refused, false)
+}
+
+// A reference at a stack that no other event has.
+fn reference(rt: &impl Abort, alloc: Global) -> SharedEvent {
+    let mut event = event(rt, alloc, 1);
+    event.kind = Kind::Ref;
+    event.stack = shared(rt, alloc, &[0x60, 0x50], 4);
+    event
+}
+
+#[test]
+fn each_call_is_refused_until_its_heap_is_large_enough(rt: HostRuntime) {
+    let runs = runs(&rt, rt.alloc(), 1);
+    let event = reference(&rt, rt.alloc());
+    for (name, call) in CALLS {
+        let outcomes = outcomes(&rt, rt.alloc(), *call, &runs, &event);
+        assert_row(&rt, *name, outcomes, (true, true));
     }
 }

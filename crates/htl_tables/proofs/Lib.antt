@@ -1,4 +1,5 @@
 pub mod KeyOrder
+pub mod KeyRuns
 pub mod Noting
 pub mod Tables
 pub mod ProcessRows

@@ -1,9 +1,9 @@
 -- What a table has once the events of the first sort keys were noted: of each handle the event of its first key.
-use Rattle.std.specs.Prelude.{◌≡◌, ℕ, ◌<◌, ◌≤◌, Bool, List, Option, Some, slice_get, MatchOption}
+use Rattle.std.specs.Prelude.{◌≡◌, ℕ, ◌+◌, ◌<◌, ◌≤◌, Bool, List, Option, Some, length, slice_get, IsSorted, MatchOption}
 use Rattle.htl_event.specs.Events.{Event}
 use Rattle.htl_tables.specs.declared.sort_key.SortKey.{SortKey}
 use Rattle.htl_tables.specs.Latest.{event_at}
-use Rattle.htl_tables.specs.SortKeys.{StandsAt}
+use Rattle.htl_tables.specs.SortKeys.{sort_key_cmp, StandsAt, AreCandidates}
 
 -- the key is of this handle
 pub record HasHandle (process base : ℕ) (k : SortKey) : Type 0 where
@@ -29,3 +29,13 @@ module _ {X : Type 0} (events_of : X → List Event) (lists : List X) (test : Ev
   -- each handle has the event of its first key among the first n
   abbrev pub HaveFirstKeys : ℕ → List Event → Type 0
   HaveFirstKeys n rows = (process base : ℕ) → FirstKeyIs process base n (event_at rows process base)
+
+-- the keys are those that stand among all from place n on
+abbrev pub StandFrom : List SortKey → ℕ → List SortKey → Type 0
+StandFrom all n keys = (i : ℕ) (k : SortKey) → slice_get keys i ≡ Some k → slice_get all (n + i) ≡ Some k
+
+-- Whatever candidates the keys stand among: where the first of them had been noted, up to these keys, these are, too.
+abbrev pub NotesKeys : {X : Type 0} → (X → List Event) → List X → (Event → Bool) → List SortKey → List Event → List Event → Type 0
+NotesKeys events_of lists test keys old new = (all : List SortKey) (n : ℕ) → AreCandidates events_of lists test all
+    → IsSorted sort_key_cmp all → StandFrom all n keys → HaveFirstKeys events_of lists test all n old
+    → HaveFirstKeys events_of lists test all (n + length keys) new

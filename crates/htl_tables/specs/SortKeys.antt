@@ -1,6 +1,6 @@
 -- The sort keys of events that open or close a handle: by handle, of one handle the latest first, and of
 -- one sequence the first of the list.
-use Rattle.std.specs.Prelude.{◌≡◌, ℕ, ◌+◌, ◌⊎◌, Bool, true, false, List, Some, Contains, slice_get}
+use Rattle.std.specs.Prelude.{◌≡◌, ℕ, ◌⊎◌, Bool, true, false, List, Some, Contains, slice_get}
 use Rattle.std.specs.Borrow.{Bor}
 use Rattle.std.specs.Ordering.{is_lt}
 use Rattle.std.specs.declared.cmp.Ordering.{Ordering}
@@ -30,6 +30,10 @@ pub record IsKeyIn {X : Type 0} (events_of : X → List Event) (lists : List X) 
   pub passes : test event ≡ true
   pub is : k ≡ sort_key_of event k.list k.index
 
+-- each key is that of such an event
+abbrev pub AreKeysIn : {X : Type 0} → (X → List Event) → List X → (Event → Bool) → List SortKey → Type 0
+AreKeysIn events_of lists test keys = (k : SortKey) → Contains keys k → IsKeyIn events_of lists test k
+
 -- one of the keys is of the same handle and comes no later
 pub record IsMet (keys : List SortKey) (k : SortKey) : Type 0 where
   pub key : SortKey
@@ -41,7 +45,7 @@ pub record IsMet (keys : List SortKey) (k : SortKey) : Type 0 where
 -- the keys are of events of the lists that pass the test, and meet each of these
 pub record AreCandidates {X : Type 0} (events_of : X → List Event) (lists : List X) (test : Event → Bool) (keys : List SortKey)
     : Type 0 where
-  pub each : (k : SortKey) → Contains keys k → IsKeyIn events_of lists test k
+  pub each : AreKeysIn events_of lists test keys
   pub all : (r i : ℕ) (e : Event) → StandsAt events_of lists r i e → test e ≡ true → IsMet keys (sort_key_of e r i)
 
 -- the key is that of an event of the r-th list that passes the test
@@ -76,7 +80,7 @@ pub record IsEventAt {X : Type 0} (events_of : X → List Event) (lists : List X
   pub at : slice_get keys place ≡ Some key
   pub stands : StandsAt events_of lists key.list key.index e
 
--- the events are those of the keys from this place on
-abbrev pub AreEventsFrom : {X : Type 0} → (X → List Event) → List X → List SortKey → ℕ → List (Bor Event) → Type 0
-AreEventsFrom events_of lists keys start events = (i : ℕ) (e : Bor Event) → slice_get events i ≡ Some e
-    → IsEventAt events_of lists keys (start + i) e.now
+-- the events are those of the keys
+abbrev pub AreEventsOfKeys : {X : Type 0} → (X → List Event) → List X → List SortKey → List (Bor Event) → Type 0
+AreEventsOfKeys events_of lists keys events = (i : ℕ) (e : Bor Event) → slice_get events i ≡ Some e
+    → IsEventAt events_of lists keys i e.now

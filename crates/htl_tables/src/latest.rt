@@ -3,7 +3,7 @@
 use crate::by_handle::ByHandle;
 use crate::candidates::candidates_in;
 use crate::of_process::of_process;
-use crate::sort_key::{SortKey, events_between, handles_in};
+use crate::sort_key::{SortKey, drop_first, events_of, handles_in};
 use htl_event::{EventList, NoMemory, SharedEvent, base};
 use htl_sorted::{merge, search};
 use std::alloc::Allocator;
@@ -118,13 +118,13 @@ impl<A: Allocator> Latest<A> {
 }
 
 impl<A: Allocator + Clone> Latest<A> {
-    ghost use Rattle.std.specs.Prelude.{◌≡◌, ◌≢◌, ◌==◌, ◌<◌, ◌≤◌, ℕ, [], None, Ok, IfOk, Contains};
+    ghost use Rattle.std.specs.Prelude.{◌≡◌, ◌≢◌, ◌==◌, ◌<◌, ◌≤◌, ℕ, [], None, Ok, OnOk, IfOk, Contains};
     ghost use Rattle.std.specs.Prelude.{filter, flat_map, length, IsSorted};
     ghost use Rattle.htl_event.specs.Handles.{LatestIs, later};
     ghost use Rattle.htl_tables.specs.Latest.{event_at, noted};
     ghost use Rattle.htl_tables.specs.Asked.{noted_of, touches};
-    ghost use Rattle.htl_tables.specs.SortKeys.{sort_key_cmp, AreCandidates};
-    ghost use Rattle.htl_tables.specs.FirstKeys.{HaveFirstKeys};
+    ghost use Rattle.htl_tables.specs.SortKeys.{sort_key_cmp, AreCandidates, AreKeysIn};
+    ghost use Rattle.htl_tables.specs.FirstKeys.{HaveFirstKeys, NotesKeys};
 
     /// The later event of both tables for each handle, this table's where their sequences are
     /// equal, under a clone of this table's allocator.
@@ -215,37 +215,69 @@ impl<A: Allocator + Clone> Latest<A> {
         let mut latest = Latest {
             rows: Vec::with_capacity(alloc, handles_in(&keys))?,
         };
-        let mut noted = 0;
-        while noted < keys.len() {
-            noted = latest.note_block(&keys, noted, lists, asked)?;
-        }
+        latest.note_all(keys, lists, asked)?;
         Ok(latest)
     }
 
-    /// Notes the events of a block of candidates' sort keys, which begins at this place. The answer
-    /// is where the next block begins.
+    /// Notes the events of candidates' sort keys. Each half of the keys that are left is dropped once
+    /// it is noted, and its memory is given back while the rows take more.
+    fn note_all<R: EventList>(
+        &mut self,
+        keys: Vec<SortKey, A>,
+        lists: &[R],
+        asked: Option<u32>,
+    ) -> Result<(), NoMemory>
+        requires keys { AreCandidates R.events_of lists.now (touches asked) keys.items }
+        requires sorted { IsSorted sort_key_cmp keys.items }
+        requires none { self.old ≡ [] }
+        ensures { OnOk result (HaveFirstKeys R.events_of lists.now (touches asked) keys.items
+            (length keys.items) self.new) }
+    {
+        let mut rest = keys;
+        while !rest.is_empty() {
+            let half = rest.len().div_ceil(2);
+            self.note_keys(&rest[..half], lists, asked)?;
+            drop_first(&mut rest, half);
+        }
+        Ok(())
+    }
+
+    /// Notes the events of candidates' sort keys that come next.
+    fn note_keys<R: EventList>(
+        &mut self,
+        keys: &[SortKey],
+        lists: &[R],
+        asked: Option<u32>,
+    ) -> Result<(), NoMemory>
+        requires { AreKeysIn R.events_of lists.now (touches asked) keys.now }
+        ensures { OnOk result (NotesKeys R.events_of lists.now (touches asked) keys.now
+            self.old self.new) }
+    {
+        let mut noted = 0;
+        while noted < keys.len() {
+            let end = noted.saturating_add(BLOCK).min(keys.len());
+            self.note_block(&keys[noted..end], lists, asked)?;
+            noted = end;
+        }
+        Ok(())
+    }
+
+    /// Notes the events of a few such keys, which are looked at together.
     fn note_block<R: EventList>(
         &mut self,
         keys: &[SortKey],
-        start: usize,
         lists: &[R],
         asked: Option<u32>,
-    ) -> Result<usize, NoMemory>
-        requires within { start < length keys.now }
-        requires keys { AreCandidates R.events_of lists.now (touches asked) keys.now }
-        requires sorted { IsSorted sort_key_cmp keys.now }
-        requires before { HaveFirstKeys R.events_of lists.now (touches asked) keys.now start
-            self.old }
-        ensures within { IfOk result (λ end. (start < end) × (end ≤ length keys.now)) }
-        ensures noted { IfOk result (λ end.
-            HaveFirstKeys R.events_of lists.now (touches asked) keys.now end self.new) }
+    ) -> Result<(), NoMemory>
+        requires { AreKeysIn R.events_of lists.now (touches asked) keys.now }
+        ensures { OnOk result (NotesKeys R.events_of lists.now (touches asked) keys.now
+            self.old self.new) }
     {
-        let end = start.saturating_add(BLOCK).min(keys.len());
         let alloc = self.rows.allocator().clone()?;
-        let events = events_between(alloc, keys, start, end, lists, asked)?;
+        let events = events_of(alloc, keys, lists, asked)?;
         for event in &events {
             self.note(event)?;
         }
-        Ok(end)
+        Ok(())
     }
 }

@@ -1,11 +1,11 @@
 //! Small keys of events, by which the latest of a handle are found: they are sorted in place of the
 //! events.
 
-ghost use Rattle.std.specs.Prelude.{◌≡◌, ◌+◌, ◌≤◌, length, true, Contains, IfOk};
+ghost use Rattle.std.specs.Prelude.{◌≡◌, ◌≤◌, length, drop, true, IfOk};
 ghost use Rattle.htl_event.specs.Handles.{opens_or_closes};
 ghost use Rattle.htl_tables.specs.declared.sort_key.SortKey.{SortKey};
 ghost use Rattle.htl_tables.specs.Asked.{touches};
-ghost use Rattle.htl_tables.specs.SortKeys.{IsKeyIn, AreEventsFrom};
+ghost use Rattle.htl_tables.specs.SortKeys.{AreKeysIn, AreEventsOfKeys};
 
 use htl_event::{EventList, NoMemory, SharedEvent, base};
 use std::alloc::{AllocError, Allocator};
@@ -72,31 +72,36 @@ pub(crate) fn handles_in(keys: &[SortKey]) -> usize
     keys.chunk_by(|one, next| one.is_of_handle_of(next)).count()
 }
 
-/// The events of the keys from one place on and below another. All of them are looked at before
-/// one is used, so that the memory of many is fetched at once.
-pub(crate) fn events_between<'a, R: EventList, A: Allocator>(
+/// The events of the keys. All of them are looked at before one is used, so that the memory of many
+/// is fetched at once.
+pub(crate) fn events_of<'a, R: EventList, A: Allocator>(
     alloc: A,
     keys: &[SortKey],
-    start: usize,
-    end: usize,
     lists: &'a [R],
     asked: Option<u32>,
 ) -> Result<Vec<&'a SharedEvent, A>, NoMemory>
-    requires within { (start ≤ end) × (end ≤ length keys.now) }
-    requires keys { (k : SortKey) → Contains keys.now k
-        → IsKeyIn R.events_of lists.now (touches asked) k }
+    requires { AreKeysIn R.events_of lists.now (touches asked) keys.now }
     ensures each { IfOk result (λ events.
-        AreEventsFrom R.events_of lists.now keys.now start events.items) }
-    ensures all { IfOk result (λ events. start + length events.items ≡ end) }
+        AreEventsOfKeys R.events_of lists.now keys.now events.items) }
+    ensures all { IfOk result (λ events. length events.items ≡ length keys.now) }
 {
-    let mut events = Vec::with_capacity(alloc, end - start)?;
-    for place in start..end {
-        let event = keys[place].event(lists);
+    let mut events = Vec::with_capacity(alloc, keys.len())?;
+    for key in keys {
+        let event = key.event(lists);
         if opens_or_closes(event) {
             events.push(event)?;
         }
     }
     Ok(events)
+}
+
+/// Drops the first keys, and gives back the memory that the others don't need.
+pub(crate) fn drop_first<A: Allocator>(keys: &mut Vec<SortKey, A>, count: usize)
+    requires { count ≤ length keys.old.items }
+    ensures { keys.new.items ≡ drop count keys.old.items }
+{
+    let _ = keys.drain(..count);
+    keys.shrink_to_fit();
 }
 
 /// True of an event that opens or closes a handle. Both ends of the event are looked at, since both

@@ -1,8 +1,13 @@
--- Each handle has the event of its first key among those so far.
-use Rattle.std.proofs.Common.{◌+◌}
+-- Whatever candidates the keys stand among: where the first of them had been noted, these are, too, as far as they were noted.
+use Rattle.std.proofs.Common.{ℕ, List, ◌+◌, IsSorted}
+use Rattle.htl_tables.specs.declared.sort_key.SortKey.{SortKey}
 use Rattle.htl_tables.specs.Asked.{touches}
-use Rattle.htl_tables.specs.FirstKeys.{HaveFirstKeys}
+use Rattle.htl_tables.specs.SortKeys.{sort_key_cmp, AreCandidates}
+use Rattle.htl_tables.specs.FirstKeys.{HaveFirstKeys, StandFrom}
 use Rattle.htl_tables.proofs.latest.Latest.note_block.Given as goal
 
 abbrev pub invariant-loop-event : goal.invariant-loop-event
-invariant-loop-event g l = HaveFirstKeys g.R.EventList.events_of l.fn.lists (touches l.fn.asked) l.fn.keys (l.fn.start + l.event-index) l.self
+invariant-loop-event g l = (all : List SortKey) (n : ℕ) → AreCandidates g.R.EventList.events_of l.fn.lists (touches l.fn.asked) all
+    → IsSorted sort_key_cmp all → StandFrom all n l.fn.keys
+    → HaveFirstKeys g.R.EventList.events_of l.fn.lists (touches l.fn.asked) all n l.initial.self
+    → HaveFirstKeys g.R.EventList.events_of l.fn.lists (touches l.fn.asked) all (n + l.event-index) l.self

@@ -1,5 +1,8 @@
-"""What the tools beside this file share: names of frames, texts and their faults."""
+"""What the tools beside this file share: names of frames, texts and their faults, and dialogues with the program."""
+import contextlib
+import json
 import os
+import subprocess
 import sys
 
 BAD_INPUT, UNREADABLE = 3, 5  # the statuses of hleak for them
@@ -39,8 +42,40 @@ def ended(tool, act):
     except Fault as fault:
         print(f"{tool}: {': '.join(fault.args)}", file=sys.stderr)
         return BAD_INPUT
+    except Ended as ended_with:
+        return ended_with.args[0]
     except OSError as error:
         if isinstance(error, BrokenPipeError):
             os.dup2(os.open(os.devnull, os.O_WRONLY), sys.stdout.fileno())  # (the end of the run flushes once more)
         print(f"{tool}: {error.filename or 'output'}: {error.strerror}", file=sys.stderr)
         return UNREADABLE
+
+
+class Ended(Exception):
+    """The program ended in the middle of a dialogue, with this status. It has said why."""
+
+
+class Dialogue:
+    """`hleak ask` over files, which it reads once."""
+
+    def __init__(self, program, words):
+        pipes = {"stdin": subprocess.PIPE, "stdout": subprocess.PIPE, "encoding": "utf-8"}
+        self.hleak = subprocess.Popen([program, "ask", *words], **pipes)
+
+    def __enter__(self):
+        return self
+
+    def __exit__(self, *_):
+        with contextlib.suppress(BrokenPipeError):
+            self.hleak.stdin.close()
+        self.hleak.wait()
+
+    def values(self, question):
+        """The lines of an answer as JSON, one by one. All have to be taken before the next question."""
+        with contextlib.suppress(BrokenPipeError):
+            print(question, "--json", file=self.hleak.stdin, flush=True)
+        for line in self.hleak.stdout:
+            if line == "\n":  # ends the answer
+                return
+            yield json.loads(line)
+        raise Ended(self.hleak.wait())

@@ -45,9 +45,9 @@ def ended(tool, act):
     except Ended as ended_with:
         return ended_with.args[0]
     except OSError as error:
-        if isinstance(error, BrokenPipeError):
-            os.dup2(os.open(os.devnull, os.O_WRONLY), sys.stdout.fileno())  # (the end of the run flushes once more)
         print(f"{tool}: {error.filename or 'output'}: {error.strerror}", file=sys.stderr)
+        if not error.filename:
+            os.dup2(os.open(os.devnull, os.O_WRONLY), sys.stdout.fileno())  # what is left is flushed once more at the end
         return UNREADABLE
 
 
@@ -68,6 +68,7 @@ class Dialogue:
     def __exit__(self, *_):
         with contextlib.suppress(BrokenPipeError):
             self.hleak.stdin.close()
+        self.hleak.stdout.close()  # (it would wait for the rest of an answer to be read)
         self.hleak.wait()
 
     def values(self, question):

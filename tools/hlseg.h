@@ -9,9 +9,7 @@
  *   hlseg_drain                     hands out the segments that wait: one thread at a time
  *   hlseg_flush                     hands out all segments, also those that aren't full: when no event can come
  *
- * samples/driver.c shows how it is used.
- *
- * A driver defines these macros before it includes this header. Programs for GCC or Clang can leave them out.
+ * samples/driver.c is an example. A driver defines these macros before it includes this header. Programs for GCC or Clang can leave them out.
  *
  *   HLSEG_STATE                     the type of what HLSEG_ENTER saves
  *   HLSEG_ENTER(trace, state)       enters, and gives this processor's number. Until HLSEG_LEAVE nothing else that records an event may
@@ -109,6 +107,7 @@ static inline unsigned hlseg_most_frames(unsigned version) {
     return version == 1 ? 32 : 64;
 }
 
+/* A record and its frames. */
 static inline size_t hlseg_record_bytes(size_t depth) {
     return 36 + 8 * depth;
 }
@@ -260,7 +259,7 @@ static inline int hlseg_snapshot(struct hlseg_trace *trace, const struct hlseg_o
     return hlseg_add(trace, HLSEG_SNAPSHOT, origin, 0, 0, NULL);
 }
 
-/* An object was referenced or dereferenced under a tag of four letters. */
+/* An object was referenced or dereferenced under a tag of four letters. One that is a ULONG is given as (const char *)&tag. */
 static inline int hlseg_reference(struct hlseg_trace *trace, const struct hlseg_origin *origin, uint64_t object, const char *tag) {
     return hlseg_add(trace, HLSEG_REFERENCE, origin, 0, object, tag);
 }

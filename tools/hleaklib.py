@@ -35,6 +35,7 @@ def lines_of(path):
 
 def ended(tool, act):
     """The status of a tool. A fault, a file that can't be read and an output that is gone are one line on standard error."""
+    sys.stdout.reconfigure(encoding="utf-8", errors="backslashreplace")  # names are such, whatever the terminal is
     try:
         status = act()
         sys.stdout.flush()

@@ -1,0 +1,83 @@
+"""What the tools beside this file share: names of frames, texts and their faults, and dialogues with the program."""
+import contextlib
+import json
+import os
+import subprocess
+import sys
+
+BAD_INPUT, UNREADABLE = 3, 5  # the statuses of hleak for them
+
+
+class Fault(Exception):
+    """A place, as a file and its line, and why what stands there can't be taken."""
+
+
+def name_of(frame, with_offset=True):
+    """A frame of an answer as JSON, as the texts of answers have it."""
+    if "name" not in frame:
+        return frame["address"]
+    offset = f"+0x{frame['offset']:x}" if with_offset and frame["offset"] else ""
+    return f"{frame['module']}!{frame['name']}{offset}"
+
+
+def lines_of(path):
+    """The numbered lines of a text file, each with its place for a fault."""
+    with open(path, "rb") as file:
+        data = file.read()
+    try:
+        text = data.decode("utf-8-sig")
+    except UnicodeDecodeError as error:
+        before = data[: error.start]
+        raise Fault(f"{path}, line {before.count(10) + 1}", "not a text in UTF-8") from None
+    for line, words in enumerate(text.split("\n"), 1):
+        yield f"{path}, line {line}", words.rstrip("\r")
+
+
+def ended(tool, act):
+    """The status of a tool. A fault, a file that can't be read and an output that is gone are one line on standard error."""
+    sys.stdout.reconfigure(encoding="utf-8", errors="backslashreplace")  # names are such, whatever the terminal is
+    try:
+        status = act()
+        sys.stdout.flush()
+        return status
+    except Fault as fault:
+        print(f"{tool}: {': '.join(fault.args)}", file=sys.stderr)
+        return BAD_INPUT
+    except Ended as ended_with:
+        return ended_with.args[0]
+    except OSError as error:
+        print(f"{tool}: {error.filename or 'output'}: {error.strerror}", file=sys.stderr)
+        if not error.filename:
+            os.dup2(os.open(os.devnull, os.O_WRONLY), sys.stdout.fileno())  # what is left is flushed once more at the end
+        return UNREADABLE
+
+
+class Ended(Exception):
+    """The program ended in the middle of a dialogue, with this status. It has said why."""
+
+
+class Dialogue:
+    """`hleak ask` over files, which it reads once."""
+
+    def __init__(self, program, words):
+        pipes = {"stdin": subprocess.PIPE, "stdout": subprocess.PIPE, "encoding": "utf-8"}
+        self.hleak = subprocess.Popen([program, "ask", *words], **pipes)
+
+    def __enter__(self):
+        return self
+
+    def __exit__(self, *_):
+        with contextlib.suppress(BrokenPipeError):
+            self.hleak.stdin.close()
+        self.hleak.stdout.close()  # (it would wait for the rest of an answer to be read)
+        self.hleak.wait()
+
+    def values(self, question):
+        """The lines of an answer as JSON, one by one. All have to be taken before the next question."""
+        with contextlib.suppress(BrokenPipeError):
+            print(question, "--json", file=self.hleak.stdin, flush=True)
+        for line in self.hleak.stdout:
+            if line == "\n":  # ends the answer
+                return
+            yield json.loads(line)
+        raise Ended(self.hleak.wait())

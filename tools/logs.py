@@ -1,0 +1,144 @@
+"""What the tools that read logs of the debugger share: the text of a log, its faults, the names of addresses, the text form of
+segments, and what is written where."""
+import argparse
+import collections
+import csv
+import io
+import re
+import sys
+
+GREATEST = 2**64 - 1
+MOST_EVENTS, MOST_FRAMES, MOST_FRAMES_OF_VERSION_1 = 4096, 64, 32
+HEADER = ("start", "end", "module", "name")
+# a prompt of the kernel's or of a user program's debugger, as `0: kd>` and `0:004>`
+PROMPT = re.compile(r"\s*(?:(?:\d+:\s*)?l?kd|\d+:\d+(?::[\w.]+)?)>\s*(.*)$", re.I)
+
+Row = collections.namedtuple("Row", HEADER)
+Name = collections.namedtuple("Name", "start module name")
+
+
+class Fault(Exception):
+    """A line, from 1, and why it can't be read; or None and why the log can't be taken."""
+
+
+def lines_of(path):
+    """The numbered lines of a file. The debugger can write UTF-16."""
+    with open(path, "rb") as file:
+        data = file.read()
+    text = data.decode("utf-16" if data.startswith((b"\xff\xfe", b"\xfe\xff")) else "utf-8-sig", "replace")
+    return list(enumerate(text.replace("\r\n", "\n").split("\n"), 1))
+
+
+def number(line, digits, most=GREATEST):
+    """The value of hexadecimal digits, between which the debugger may write a backquote."""
+    value = int(digits.replace("`", ""), 16)
+    if value > most:
+        raise Fault(line, f"0x{value:x} is above 0x{most:x}")
+    return value
+
+
+def segments(events):
+    """The text form of events in the order of their sequences, of which each is a line and its frames."""
+    lines = []
+    for place, first in enumerate(range(0, len(events), MOST_EVENTS)):
+        run = events[first : first + MOST_EVENTS]
+        version = 2 if any(len(frames) > MOST_FRAMES_OF_VERSION_1 for _, frames in run) else 1
+        lines.append(f"segment version={version} trace=0x{1:016x} processors=1 processor=0 number={place}\n")
+        for line, frames in run:
+            lines.append(f"{line}\n")
+            lines += [f"  0x{frame:016x}\n" for frame in frames]
+    return "".join(lines)
+
+
+class Names:
+    """The names of addresses. Of two at one address the first stays, but a module alone is no name where there is one."""
+
+    def __init__(self):
+        self.names = {}
+        self.others = []
+
+    def add(self, line, address, name):
+        first = self.names.setdefault(address, name)
+        if first != name and name.name:
+            if first.name:
+                self.others.append(f"line {line}: {text_of(address, name)} was {text_of(address, first)} before, which stays its name")
+            else:
+                self.names[address] = name
+
+    def notes(self):
+        more = f" ({len(self.others) - 1} more such)" if len(self.others) > 1 else ""
+        return [self.others[0] + more] if self.others else []
+
+    def rows(self):
+        """A row for each name, from its start to behind the greatest address that has it. Where another name's addresses lie
+        between, an address has a row of its own, and the offset is part of the name: so it is shown as the log has it."""
+        rows = []
+        for address, (start, module, name) in sorted(self.names.items()):
+            end = min(address + 1, GREATEST)
+            if rows and (rows[-1].start, *rows[-1][2:]) == (start, module, name):
+                rows[-1] = rows[-1]._replace(end=end)
+            elif not rows or rows[-1].end <= start:
+                rows.append(Row(start, end, module, name))
+            else:
+                rows.append(Row(address, end, module, f"{name}+0x{address - start:x}"))
+        return [row for row in rows if row.start < row.end]
+
+
+def text_of(address, name):
+    """An address as an answer shows it."""
+    offset = address - name.start
+    return f"{name.module}!{name.name}" + (f"+0x{offset:x}" if offset else "")
+
+
+def table_of(rows):
+    """The text of a symbol table."""
+    text = io.StringIO()
+    written = [(f"0x{row.start:x}", f"0x{row.end:x}", row.module, row.name) for row in rows]
+    csv.writer(text, lineterminator="\n").writerows([HEADER, *written])
+    return text.getvalue()
+
+
+def write(text, path=None):
+    """Writes a text to a file, or to standard output."""
+    if path is None:
+        sys.stdout.buffer.write(text.encode())
+        sys.stdout.flush()
+    else:
+        with open(path, "w", encoding="utf-8", newline="") as file:
+            file.write(text)
+
+
+def arguments(about):
+    """A parser of arguments, for a tool that is described so."""
+    parser = argparse.ArgumentParser(description=about, formatter_class=argparse.RawDescriptionHelpFormatter)
+    parser.add_argument("-o", metavar="FILE", dest="output", help="write to this file in place of standard output, and only where all went well")
+    return parser
+
+
+def arguments_of_log(about):
+    """The same for one that makes the text of segments, and a symbol table, of one log."""
+    parser = arguments(about)
+    parser.add_argument("--symbols", metavar="NAMES.csv", help="write the names in the log to this file, as a symbol table")
+    parser.add_argument("log", metavar="LOG")
+    return parser
+
+
+def run(tool, work, given):
+    """Makes what is to be written, writes it, and then the notes. The status is 0, 3 for a fault of a log, and 1 for one of files.
+
+    The work gives the text, the rows of a symbol table or None, and the notes."""
+    try:
+        text, rows, notes = work(given)
+        if rows is not None:
+            write(table_of(rows), given.symbols)
+        write(text, given.output)
+    except Fault as fault:
+        line, why = fault.args
+        print(f"{tool}: line {line}: {why}" if line else f"{tool}: {why}", file=sys.stderr)
+        return 3
+    except OSError as error:
+        print(f"{tool}: {error.filename or 'output'}: {error.strerror}", file=sys.stderr)
+        return 1
+    for note in notes:
+        print(f"{tool}: note: {note}", file=sys.stderr)
+    return 0

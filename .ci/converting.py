@@ -48,10 +48,9 @@ class Converting:
         """Compares the text, the notes and the table, where there is to be one, of logs: on standard output, and in a file."""
         words = [*words, *(["--symbols", "names.csv"] if table is not None else [])]
         lines = "".join(f"{self.tool}: note: {note}\n" for note in notes)
-        got = *self.run(words, logs), self.written("names.csv")
-        self.demand(name, (0, text, lines, table), got)
-        got = *self.run([*words, "-o", "written"], logs), self.written("names.csv"), self.written("written")
-        self.demand(f"{name}, with -o", (0, "", lines, table, text), got)
+        plain = *self.run(words, logs), self.written("names.csv")
+        to_file = *self.run([*words, "-o", "written"], logs), self.written("names.csv"), self.written("written")
+        self.demand(name, ((0, text, lines, table), (0, "", lines, table, text)), (plain, to_file))
 
     def refuse(self, logs, why, words=()):
         """Nothing is written for logs with this fault."""

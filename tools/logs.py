@@ -2,8 +2,6 @@
 segments, and what is written where."""
 import argparse
 import collections
-import csv
-import io
 import re
 import sys
 
@@ -26,7 +24,7 @@ def lines_of(path):
     with open(path, "rb") as file:
         data = file.read()
     text = data.decode("utf-16" if data.startswith((b"\xff\xfe", b"\xfe\xff")) else "utf-8-sig", "replace")
-    return list(enumerate(text.replace("\r\n", "\n").split("\n"), 1))
+    return list(enumerate(re.split(r"\r*\n", text), 1))
 
 
 def number(line, digits, most=GREATEST):
@@ -90,12 +88,15 @@ def text_of(address, name):
     return f"{name.module}!{name.name}" + (f"+0x{offset:x}" if offset else "")
 
 
+def quoted(text):
+    """A field of a symbol table."""
+    return '"' + text.replace('"', '""') + '"' if re.search('[,"\r\n]', text) else text
+
+
 def table_of(rows):
     """The text of a symbol table."""
-    text = io.StringIO()
-    written = [(f"0x{row.start:x}", f"0x{row.end:x}", row.module, row.name) for row in rows]
-    csv.writer(text, lineterminator="\n").writerows([HEADER, *written])
-    return text.getvalue()
+    lines = [f"0x{row.start:x},0x{row.end:x},{quoted(row.module)},{quoted(row.name)}\n" for row in rows]
+    return ",".join(HEADER) + "\n" + "".join(lines)
 
 
 def write(text, path=None):
@@ -123,6 +124,12 @@ def arguments_of_log(about):
     return parser
 
 
+def say(tool, text):
+    """Prints a line on standard error, with what a terminal would take for more than text shown by its escapes."""
+    shown = "".join(letter if letter.isprintable() else ascii(letter)[1:-1] for letter in text)
+    print(f"{tool}: {shown}", file=sys.stderr)
+
+
 def run(tool, work, given):
     """Makes what is to be written, writes it, and then the notes. The status is 0, 3 for a fault of a log, and 1 for one of files.
 
@@ -134,11 +141,11 @@ def run(tool, work, given):
         write(text, given.output)
     except Fault as fault:
         line, why = fault.args
-        print(f"{tool}: line {line}: {why}" if line else f"{tool}: {why}", file=sys.stderr)
+        say(tool, f"line {line}: {why}" if line else why)
         return 3
     except OSError as error:
-        print(f"{tool}: {error.filename or 'output'}: {error.strerror}", file=sys.stderr)
+        say(tool, f"{error.filename or 'output'}: {error.strerror}")
         return 1
     for note in notes:
-        print(f"{tool}: note: {note}", file=sys.stderr)
+        say(tool, f"note: {note}")
     return 0

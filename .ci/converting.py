@@ -57,6 +57,11 @@ class Converting:
         got = *self.run([*words, "-o", "written"], logs), self.written("names.csv"), self.written("written")
         self.demand(why, (3, "", f"{self.tool}: {why}\n", None, None), got)
 
+    def sample(self, name):
+        """The text of a file of samples/."""
+        with open(os.path.join(TOP, "samples", name), encoding="utf-8") as file:
+            return file.read()
+
     def ask_about_sample(self, commands, answers):
         """Runs the commands, which write into a folder {0}, and asks the program about what they made there. Each answer has to be
         a text in samples/."""
@@ -64,7 +69,5 @@ class Converting:
         folder = asking.folder.name
         subprocess.run(["bash", "-e", "-o", "pipefail", "-c", commands.format(folder)], cwd=TOP, check=True)
         for name, words, bundle in answers:
-            with open(os.path.join(TOP, "samples", name)) as file:
-                text = file.read()
-            asking.expect(name, f"{words} --symbols {folder}/names.csv", [f"{folder}/{bundle}"], 0, text)
+            asking.expect(name, f"{words} --symbols {folder}/names.csv", [f"{folder}/{bundle}"], 0, self.sample(name))
         return asking.asked

@@ -131,7 +131,7 @@ def say(tool, text):
 
 
 def run(tool, work, given):
-    """Makes what is to be written, writes it, and then the notes. The status is 0, 3 for a fault of a log, and 1 for one of files.
+    """Makes what is to be written, writes it, and then the notes. The status is 0, 3 for a fault of a log, and 5 for one of files.
 
     The work gives the text, the rows of a symbol table or None, and the notes."""
     try:
@@ -145,7 +145,7 @@ def run(tool, work, given):
         return 3
     except OSError as error:
         say(tool, f"{error.filename or 'output'}: {error.strerror}")
-        return 1
+        return 5
     for note in notes:
         say(tool, f"note: {note}")
     return 0

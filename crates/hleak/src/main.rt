@@ -15,10 +15,11 @@
 //! dialogue stopped. `shown.rt` keeps control characters of names from the terminal.
 #![tactic(auto)]
 
-ghost use Rattle.std.specs.Prelude.{◌≡◌, ⊤, All, IfErr, IfOk, false};
+ghost use Rattle.std.specs.Prelude.{◌≡◌, ⊤, All, IfErr, IfOk, Some, false};
 ghost use Rattle.std.specs.Process.{exit_status};
 ghost use Rattle.htl_command.specs.Refusals.{IsUsageWith};
 ghost use Rattle.htl_main.specs.Origins.{by_fault};
+ghost use Rattle.htl_main.specs.Picked.{asks_about};
 ghost use Rattle.hleak.specs.Arguments.{AreArguments};
 ghost use Rattle.hleak.specs.Endings.{EndsRefusal, IsTextStatus, conversion_status, end_status};
 
@@ -48,9 +49,10 @@ use ending::Ending;
 use explained::Explained;
 use explanation::Explanation;
 use htl_command::{Asked, Command, Conversion, ParseFault, parse};
-use htl_main::{Between, Completed, Refused, RunFault, Source, Writing, run_from};
+use htl_main::{Between, Completed, Interest, Refused, RunFault, Source, Writing};
+use htl_main::{interest, pick_from, run_from};
 use note::Note;
-use opening::{opened, symbols};
+use opening::{can_be_read_again, opened, symbols};
 use progress::Progress;
 use shown::Shown;
 use std::alloc::AllocError;
@@ -252,7 +254,8 @@ fn answered(
     ended
 }
 
-/// Looks for the files, and runs what is asked for.
+/// Looks for the files, and runs what is asked for: of files that can be read again, by what the
+/// question asks about alone, where that tells what comes of them.
 fn opened_and_run(
     host: &HostRuntime,
     rt: &(impl Threads + Wait + Sync),
@@ -260,7 +263,31 @@ fn opened_and_run(
     progress: Option<&Progress>,
 ) -> Result<Completed, Refused> {
     let mut inputs = opened(host, &asked.files, progress)?;
+    if can_be_read_again(host, &asked.files) {
+        if let Some(interest) = interest(&asked.job) {
+            if let Some(completed) = read_and_pick(host, asked, interest, &mut inputs)? {
+                return Ok(completed);
+            }
+            inputs = opened(host, &asked.files, progress)?;
+        }
+    }
     read_and_run(host, rt, asked, &mut inputs)
+}
+
+/// Reads the table of symbols, and then what the question asks about of the inputs.
+fn read_and_pick<R: Source>(
+    host: &HostRuntime,
+    asked: &Asked,
+    interest: Interest,
+    inputs: &mut [R],
+) -> Result<Option<Completed>, RunFault>
+    requires fresh { All (λ input. R.has_failed input ≡ false) inputs.old }
+    requires about { asks_about asked.now.job.hex asked.now.job.question ≡ Some interest }
+{
+    let symbols = symbols(host, asked.symbols.as_ref())?;
+    let symbols = symbols.as_deref();
+    let mut out = Writing::new(io::writer(host));
+    pick_from(host.alloc(), &asked.job, interest, inputs, symbols, &mut out)
 }
 
 /// Reads the table of symbols, and then the inputs.

@@ -5,7 +5,7 @@ ghost use Rattle.std.specs.Prelude.{max};
 ghost use Rattle.std.specs.List.{AllZip};
 ghost use Rattle.hleak.specs.Openings.{IsFirstRefused, IsFoundBy, IsOpenFault, IsSymbolsFault};
 
-use crate::file::InputFile;
+use crate::file::{InputFile, known_len};
 use crate::input::{Device, Input};
 use crate::progress::Progress;
 use htl_main::{Reading, RunFault, Source};
@@ -30,6 +30,16 @@ pub fn opened<'a>(
     }
     let found = all_found(rt.alloc(), attempts(rt, files)?)?;
     Ok(file_inputs(rt.alloc(), found, progress)?)
+}
+
+/// Whether all of the files can be read again: they are named, and each is a regular file. A pipe or a
+/// device gives other bytes then, and so may standard input.
+pub fn can_be_read_again(rt: &HostRuntime, files: &[String]) -> bool {
+    !files.is_empty() && files.iter().all(|name| is_regular(rt, name))
+}
+
+fn is_regular(rt: &HostRuntime, name: &str) -> bool {
+    known_len(&fs::metadata(rt, name)).is_some()
 }
 
 /// The files as inputs, in order.

@@ -7,7 +7,7 @@ use Rattle.std.proofs.lemmas.Option.{slice_get_within, get_or_from_slice_get}
 use Rattle.htl_case.specs.declared.step.Step.{Step}
 use Rattle.htl_case.specs.declared.fault.PlayFault.{PlayFault}
 use Rattle.htl_case.specs.declared.fault.PlayFault.TheVariants.{NoAnalyst, NoSegment, NoMemory}
-use Rattle.htl_case.specs.Faults.{IsLeastSuch}
+use Rattle.htl_event.specs.Members.{IsLeastSuch}
 use Rattle.htl_case.specs.Plays.{HasAt, NamesNoAnalyst, NamesNoSegment, IsFaulty, NoneIsFaulty, IsPlayRefusal, IsAnswerRefusal}
 
 one_least : (P : ℕ → Type 0) (i j : ℕ) → IsLeastSuch ◌<◌ P i → IsLeastSuch ◌<◌ P j → i ≡ j

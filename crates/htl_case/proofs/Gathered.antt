@@ -6,7 +6,7 @@ use Rattle.std.proofs.lemmas.List.Concat.{flat_map-append}
 use Rattle.htl_event.specs.Events.{Event}
 use Rattle.htl_segment.specs.Content.{Content}
 use Rattle.htl_segment.specs.Traces.{all_events}
-use Rattle.htl_case.specs.Sequences.{sequence_of}
+use Rattle.htl_segment.specs.Repeated.{sequence_of}
 
 -- the events of one segment more
 events_more : (ss : List Content) (i : ℕ) (s : Content) → i < length ss → s ≡ get_or ss i s

@@ -13,7 +13,7 @@ use Rattle.htl_segment.specs.Content.{Content}
 use Rattle.htl_segment.specs.Traces.{AreInOrder, IsBefore}
 use Rattle.htl_segment.specs.Rising.{IsKeyBefore}
 use Rattle.htl_case.specs.Faults.{key_of}
-use Rattle.htl_case.specs.Ordered.{AreSorted}
+use Rattle.htl_case.specs.Ordered.{AreSortedBy}
 
 -- ---- keys
 
@@ -55,23 +55,24 @@ before_lt : (a b : ℕ × ℕ) → IsKeyBefore a b → is_lt (key_cmp a b) ≡ t
 before_lt a b (inl lt) = rw (lt-ltb a.0 b.0 lt) refl
 before_lt a b (inr same) = rw (le-ltb a.0 b.0 (omega (arith, same.0)), eq-eqb a.0 b.0 same.0, lt-ltb a.1 b.1 same.1) refl
 
-abbrev precedes : Content → Content → Bool
-precedes s t = is_lt (key_cmp (key_of s) (key_of t))
+module _ {X : Type 0} (key : X → ℕ × ℕ) where
+  abbrev precedes : X → X → Bool
+  precedes x y = is_lt (key_cmp (key x) (key y))
 
-precedes_order : IsStrictWeakOrder precedes
-precedes_order = ranks_by key_cmp_total key_of
+  precedes_order : IsStrictWeakOrder precedes
+  precedes_order = ranks_by key_cmp_total key
 
-pub sorted_by_key : (ss : List Content) → IsSortedByKey key_of key_cmp ss → AreSorted ss
-sorted_by_key [] up = tt
-sorted_by_key (s ∷ ss) up =
-    let later : (t : Content) → Contains ss t → IsKeyBefore (key_of t) (key_of s) → ⊥ = λ t h before.
-    (let far = sorted_far precedes precedes_order (s ∷ ss) up 0 (suc h.0) t (omega arith) (omega (arith, h.1)) in
-    let here : precedes t s ≡ false = ap (λ (x : Content). precedes x s) (sym h.2) ∙ far in
-    both_ways (precedes t s) here (before_lt (key_of t) (key_of s) before)) in (
-      each_member (λ t. IsKeyBefore (key_of t) (key_of s) → ⊥) ss later,
-      sorted_by_key ss (λ k d low lt. let e : suc k + 1 ≡ suc (k + 1) = omega arith in
-          rw e at (up (suc k) d (omega arith) (omega (arith, lt)))),
-    )
+  pub sorted_by_key : (xs : List X) → IsSortedByKey key key_cmp xs → AreSortedBy key xs
+  sorted_by_key [] up = tt
+  sorted_by_key (x ∷ xs) up =
+      let later : (y : X) → Contains xs y → IsKeyBefore (key y) (key x) → ⊥ = λ y h before.
+      (let far = sorted_far precedes precedes_order (x ∷ xs) up 0 (suc h.0) y (omega arith) (omega (arith, h.1)) in
+      let here : precedes y x ≡ false = ap (λ (z : X). precedes z x) (sym h.2) ∙ far in
+      both_ways (precedes y x) here (before_lt (key y) (key x) before)) in (
+        each_member (λ y. IsKeyBefore (key y) (key x) → ⊥) xs later,
+        sorted_by_key xs (λ k d low lt. let e : suc k + 1 ≡ suc (k + 1) = omega arith in
+            rw e at (up (suc k) d (omega arith) (omega (arith, lt)))),
+      )
 
 -- ---- lists in strict order
 

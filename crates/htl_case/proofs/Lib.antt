@@ -3,13 +3,15 @@ pub mod Places
 pub mod KeyOrder
 pub mod Repeats
 pub mod Gathered
-pub mod Times
 pub mod Twice
 pub mod Spans
 pub mod Scanned
+pub mod Outlined
+pub mod Moved
 pub mod Listings
 pub mod Refusals
 pub mod Outcomes
+pub mod Pickings
 pub mod FirstFaults
 pub mod Stepped
 pub mod Histories

@@ -16,9 +16,9 @@ use Rattle.htl_event.specs.Slots.{base_of}
 use Rattle.htl_event.specs.Members.{IsRising}
 use Rattle.htl_event.specs.Handles.{HaveOwnSequences, IsOfHandle, NewestFirst, IsListing}
 use Rattle.htl_event.proofs.Members.{each_member, at_member, Contains-filter, Contains-from_filter, filter-pass, filter-skip}
-use Rattle.htl_case.specs.Sequences.{sequence_of, times}
+use Rattle.htl_segment.specs.Repeated.{sequence_of, times}
 use Rattle.htl_case.specs.Listed.{is_listed_kind, is_of_handle, IsNewestFirst}
-use Rattle.htl_case.proofs.Times.{times-cons}
+use Rattle.htl_segment.proofs.Times.{times-cons}
 use Rattle.htl_case.proofs.Twice.{own_from_times, times_from_own}
 
 -- ---- the newest first
@@ -88,7 +88,7 @@ of_handle process base e = (
 
 -- ---- the listing
 
-fewer : (p : Event → Bool) (x : ℕ) (es : List Event) → times x (map sequence_of (filter p es)) ≤ times x (map sequence_of es)
+pub fewer : (p : Event → Bool) (x : ℕ) (es : List Event) → times x (map sequence_of (filter p es)) ≤ times x (map sequence_of es)
 fewer p x [] = omega arith
 fewer p x (e ∷ es) =
     let rest = fewer p x es in
@@ -99,7 +99,7 @@ fewer p x (e ∷ es) =
       | inr fails ↦ rw (filter-skip p e es fails) (omega (arith, rest, all))
     ]
 
-times-moved : (x : ℕ) (xs ys : List Event) → IsPermutation xs ys → times x (map sequence_of ys) ≡ times x (map sequence_of xs)
+pub times-moved : (x : ℕ) (xs ys : List Event) → IsPermutation xs ys → times x (map sequence_of ys) ≡ times x (map sequence_of xs)
 times-moved x xs ys moved = sum_by-IsPermutation (λ (y : ℕ). cond (eqb y x) 1 0) (map sequence_of xs) (map sequence_of ys)
     (IsPermutation-map sequence_of xs ys moved)
 

@@ -13,7 +13,8 @@ use Rattle.htl_segment.specs.Rising.{IsKeyBefore}
 use Rattle.htl_case.specs.declared.fault.CaseFault.TheVariants.{Empty, OtherTrace, OtherProcessors, TwoContents}
 use Rattle.htl_case.specs.declared.fault.CaseFault.TheVariants.{SequenceTwice, NoMemory, Falling}
 use Rattle.htl_case.specs.Cases.{IsCaseOf}
-use Rattle.htl_case.specs.Faults.{IsLeastSuch, Differs, HasOtherTrace, HasOtherProcessors, HasTwoContents}
+use Rattle.htl_event.specs.Members.{IsLeastSuch}
+use Rattle.htl_case.specs.Faults.{Differs, HasOtherTrace, HasOtherProcessors, HasTwoContents}
 use Rattle.htl_case.specs.Faults.{HaveOneTrace, HaveOneCount, HaveOneContent, ComesTwice, Falls, IsRefusal, IsOutcome}
 use Rattle.htl_case.specs.Faults.{key_of}
 use Rattle.htl_case.proofs.KeyOrder.{cases_key, not_itself, before_before}
@@ -55,7 +56,7 @@ one_case given S T a b =
 -- ---- a case breaks no rule
 
 -- segments in order have one content a key
-content_in_order : (ss : List Content) → AreInOrder ss → (s t : Content) → Contains ss s → Contains ss t → key_of s ≡ key_of t → s ≡ t
+pub content_in_order : (ss : List Content) → AreInOrder ss → (s t : Content) → Contains ss s → Contains ss t → key_of s ≡ key_of t → s ≡ t
 content_in_order [] ordered s t h k same = absurd (Contains-nil s h)
 content_in_order (u ∷ us) ordered s t h k same =
     elim (Contains-cases u us s h) [
@@ -77,7 +78,7 @@ module _ (given : List Content) (T : Trace) (is : IsCaseOf given T) where
   in_case : (s : Content) → Contains given s → Contains T.segments s
   in_case s h = (is.members s).1 h
 
-  of_case : (s : Content) → Contains given s → (s.trace_id ≡ T.id) × (s.processors ≡ T.processors)
+  pub of_case : (s : Content) → Contains given s → (s.trace_id ≡ T.id) × (s.processors ≡ T.processors)
   of_case s h = at_member (λ s. (s.trace_id ≡ T.id) × (s.processors ≡ T.processors)) T.segments s is.is_case.trace.same (in_case s h)
 
   pub case_one_trace : HaveOneTrace given
@@ -89,12 +90,12 @@ module _ (given : List Content) (T : Trace) (is : IsCaseOf given T) where
   case_content : HaveOneContent given
   case_content s t h k same = content_in_order T.segments is.is_case.trace.in_order s t (in_case s h) (in_case t k) same
 
-  case_some : given ≢ []
+  pub case_some : given ≢ []
   case_some none =
       let first = a_member T.segments is.is_case.some in
       Contains-nil first.0 (subst (λ (ss : List Content). Contains ss first.0) none ((is.members first.0).0 first.1))
 
-  case_once : (x : ℕ) → ComesTwice given x → ⊥
+  pub case_once : (x : ℕ) → ComesTwice given x → ⊥
   case_once x two =
       let twice = twice_counted T.segments x (record {
         one = two.one;
@@ -107,7 +108,7 @@ module _ (given : List Content) (T : Trace) (is : IsCaseOf given T) where
       }) in
       omega (arith, twice, times_from_own (all_events T.segments) is.is_case.trace.sequences x)
 
-  case_rises : (key : ℕ × ℕ) → Falls given key → ⊥
+  pub case_rises : (key : ℕ × ℕ) → Falls given key → ⊥
   case_rises key falls =
       let rises = is.is_case.rising falls.segment falls.lower (in_case falls.segment falls.has_segment)
       (in_case falls.lower falls.has_lower) falls.same_processor falls.lower_number falls.event falls.earlier falls.has_event

@@ -8,7 +8,8 @@ use Rattle.std.proofs.lemmas.Option.{same_Some, none-some, slice_get-get_or, get
 use Rattle.std.proofs.lemmas.List.Quantifiers.{position-Some}
 use Rattle.std.proofs.lemmas.List.Sums.{fails_before_first}
 use Rattle.htl_segment.specs.Content.{Content}
-use Rattle.htl_case.specs.Faults.{IsLeastSuch, Differs}
+use Rattle.htl_event.specs.Members.{IsLeastSuch}
+use Rattle.htl_case.specs.Faults.{Differs}
 
 module _ (value : Content → ℕ) (v : ℕ) where
   abbrev other : Content → Bool

@@ -9,7 +9,8 @@ use Rattle.htl_segment.specs.Traces.{trace, all_events}
 use Rattle.htl_case.specs.declared.fault.CaseFault.{CaseFault}
 use Rattle.htl_case.specs.Cases.{IsCase, IsCaseOf}
 use Rattle.htl_segment.specs.Rising.{IsKeyBefore}
-use Rattle.htl_case.specs.Faults.{IsLeastSuch, ComesTwice, Falls, AreOfOneTrace, IsRefusal}
+use Rattle.htl_event.specs.Members.{IsLeastSuch}
+use Rattle.htl_case.specs.Faults.{ComesTwice, Falls, AreOfOneTrace, IsRefusal}
 use Rattle.htl_case.specs.Ordered.{AreOf, IsInOrder, IsTwoContents}
 use Rattle.htl_case.proofs.Scanned.{falls_moved, rise_from_none}
 
@@ -22,6 +23,17 @@ two_refused given id processors fault of (processor, number, is, least) =
       least,
     )
 
+pub twice_moved : (a b : List Content) (x : ℕ) → ((s : Content) → Contains a s → Contains b s) → ComesTwice a x → ComesTwice b x
+twice_moved a b x into two = record {
+  one = two.one;
+  other = two.other;
+  has_one = into two.one two.has_one;
+  has_other = into two.other two.has_other;
+  differ = two.differ;
+  in_one = two.in_one;
+  in_other = two.in_other;
+}
+
 module _ (given ordered : List Content) (id processors : ℕ) (of : AreOf given id processors) (put : IsInOrder given ordered) where
   pub of_one_trace : AreOfOneTrace given
   of_one_trace = record {
@@ -29,17 +41,6 @@ module _ (given ordered : List Content) (id processors : ℕ) (of : AreOf given 
     trace = λ s t h k. of.trace s h ∙ sym (of.trace t k);
     count = λ s t h k. of.count s h ∙ sym (of.count t k);
     content = put.content;
-  }
-
-  twice_moved : (a b : List Content) (x : ℕ) → ((s : Content) → Contains a s → Contains b s) → ComesTwice a x → ComesTwice b x
-  twice_moved a b x into two = record {
-    one = two.one;
-    other = two.other;
-    has_one = into two.one two.has_one;
-    has_other = into two.other two.has_other;
-    differ = two.differ;
-    in_one = two.in_one;
-    in_other = two.in_other;
   }
 
   pub twice_refused : (x : ℕ) → IsLeastSuch ◌<◌ (ComesTwice ordered) x → AreOfOneTrace given × IsLeastSuch ◌<◌ (ComesTwice given) x

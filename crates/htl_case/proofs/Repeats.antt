@@ -12,7 +12,8 @@ use Rattle.htl_event.proofs.Members.{each_member}
 use Rattle.htl_segment.specs.Content.{Content}
 use Rattle.htl_segment.specs.Traces.{AreInOrder, IsBefore}
 use Rattle.htl_segment.specs.Rising.{IsKeyBefore}
-use Rattle.htl_case.specs.Faults.{IsLeastSuch, HasTwoContents, HaveOneContent, key_of}
+use Rattle.htl_event.specs.Members.{IsLeastSuch}
+use Rattle.htl_case.specs.Faults.{HasTwoContents, HaveOneContent, key_of}
 use Rattle.htl_case.specs.Ordered.{AreSorted, same_key, IsInOrder}
 use Rattle.htl_case.proofs.KeyOrder.{same_pair, cases_key, not_itself}
 

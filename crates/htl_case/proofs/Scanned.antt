@@ -1,19 +1,23 @@
 -- Where sequences fall, among segments in order.
 use Rattle.std.proofs.Common.{◌≡◌, ℕ, ◌+◌, ◌<◌, ◌≤◌, Bool, eqb, cond, List, [], ◌∷◌, ◌++◌, length, get_or, take}
-use Rattle.std.proofs.Common.{drop, refl, sym, ap, ◌∙◌, subst, inl, inr, ◌⊎◌, arith}
+use Rattle.std.proofs.Common.{drop, map, max, zero, suc, All, refl, sym, ap, ◌∙◌, subst, inl, inr, ◌⊎◌, arith}
 use Rattle.std.specs.Prelude.{Contains}
 use Rattle.std.proofs.lemmas.Bool.{cases_lt, cases_Bool, eqb-true, eqb-false}
-use Rattle.std.proofs.lemmas.List.{drop_more, take_more, take_all, take-append-drop}
+use Rattle.std.proofs.lemmas.List.{drop_more, take_more, take_all, take-append-drop, length-map}
 use Rattle.std.proofs.lemmas.List.Elements.{Contains-push, Contains-push_cases, Contains-append_cases, Contains-append_left}
 use Rattle.std.proofs.lemmas.List.Elements.{Contains-append_right}
 use Rattle.htl_event.specs.Events.{Event}
 use Rattle.htl_event.proofs.Members.{Contains-here, Contains-cases, Contains-nil, at_member}
 use Rattle.htl_segment.specs.Content.{Content, Fits}
+use Rattle.htl_segment.specs.Outlines.{outline_of, last_sequence}
+use Rattle.htl_segment.specs.declared.outline.Outline.{Outline}
 use Rattle.htl_segment.specs.Traces.{AreInOrder, IsBefore}
 use Rattle.htl_segment.specs.Rising.{IsKeyBefore, SequencesRise}
-use Rattle.htl_case.specs.Faults.{IsLeastSuch, Falls, key_of}
-use Rattle.htl_case.specs.Sequences.{IsSpan}
+use Rattle.htl_event.specs.Members.{IsLeastSuch}
+use Rattle.htl_case.specs.Faults.{Falls, key_of}
+use Rattle.htl_case.specs.Outlined.{outline_key}
 use Rattle.htl_case.proofs.KeyOrder.{not_itself, before_before}
+use Rattle.htl_case.proofs.Spans.{IsSpan, none_or_some}
 use Rattle.htl_segment.proofs.Spans.{above}
 
 pub falls_moved : (a b : List Content) (key : ℕ × ℕ) → ((s : Content) → Contains a s → Contains b s) → Falls a key → Falls b key
@@ -101,7 +105,7 @@ floor_at seen s left processor highest floor scanned is =
           record {
             bound = λ t f h at in_t. (let le = scanned.bound t f h (at ∙ same) in_t in omega (arith, le, top));
             reached = elim scanned.reached [
-              | inl zero ↦ inl (top ∙ zero)
+              | inl none ↦ inl (top ∙ none)
               | inr (t, f, h, at, in_t, reached) ↦ inr (t, f, h, at ∙ sym same, in_t, reached ∙ sym top)
             ];
           }
@@ -197,7 +201,7 @@ scanned_empty seen s left floor place low none empty = record {
     | inr is ↦ absurd (no_event f (subst (λ (x : Content). Contains x.events f) (sym is) in_t))
   ];
   reached = elim low.reached [
-    | inl zero ↦ inl zero
+    | inl none ↦ inl none
     | inr (t, f, h, at, in_t, is) ↦ inr (t, f, Contains-append_left seen (s ∷ []) t h, at, in_t, is)
   ];
   below = below_more seen s left place;
@@ -224,10 +228,10 @@ fall_found : (seen : List Content) (s : Content) (left : List Content) (floor fi
     → Fits s → IsSpan s.events first last → first ≤ floor → IsLeastSuch IsKeyBefore (Falls (seen ++ s ∷ left)) (key_of s)
 fall_found seen s left floor first last place low none fit span le = record {
   holds = elim low.reached [
-    | inl zero ↦
+    | inl none ↦
         let (e, in_s, is) = span.has_first in
         let some = above s.version 0 s.events fit.events e in_s in
-        absurd (omega (arith, zero, le, is, some))
+        absurd (omega (arith, none, le, is, some))
     | inr (t, f, h, at, in_t, is) ↦
         let (e, in_s, first_is) = span.has_first in
         record {
@@ -294,28 +298,86 @@ module _ (ss : List Content) (ordered : AreInOrder ss) (i : ℕ) (s : Content) (
       floor_at (take i ss) s (drop (i + 1) ss) processor highest floor
       (subst (λ (left : List Content). AreScanned (take i ss) left processor highest) here scanned) floor_is
 
-  pub scan_some : (processor highest floor first last : ℕ) → AreScanned (take i ss) (drop i ss) processor highest
-      → floor ≡ cond (eqb s.processor processor) highest 0
-      → IsSpan s.events first last → floor < first → AreScanned (take (i + 1) ss) (drop (i + 1) ss) s.processor last
-  scan_some processor highest floor first last scanned floor_is span above_floor =
-      rw more (scanned_some (take i ss) s (drop (i + 1) ss) floor first last place (floor_here processor highest floor scanned floor_is)
-      scanned.none span above_floor)
+  more_here : (processor highest floor : ℕ) (o : Outline) → Fits s → o ≡ outline_of s
+      → AreScanned (take i ss) (drop i ss) processor highest → floor ≡ cond (eqb o.processor processor) highest 0
+      → ((0 < o.first) × (o.first ≤ floor) → ⊥) → AreScanned (take (i + 1) ss) (drop (i + 1) ss) o.processor (max o.last floor)
+  more_here processor highest floor o fit outlined scanned floor_is none =
+      let at : o.processor ≡ s.processor = ap (λ (p : Outline). p.processor) outlined in
+      let first = ap (λ (p : Outline). p.first) outlined in
+      let last : o.last ≡ last_sequence 0 s.events = ap (λ (p : Outline). p.last) outlined in
+      let low = floor_here processor highest floor scanned (floor_is ∙ ap (λ (p : ℕ). cond (eqb p processor) highest 0) at) in
+      rw (more, at) (elim (none_or_some s fit) [
+        | inl empty ↦
+            let top : max o.last floor ≡ floor = (let none_last = empty.last in omega (arith, last, none_last)) in
+            rw top (scanned_empty (take i ss) s (drop (i + 1) ss) floor place low scanned.none empty.none)
+        | inr some ↦
+            let begun = some.first in
+            let up : floor < o.first = elim (cases_lt floor o.first) [
+              | inl lt ↦ lt
+              | inr le ↦ absurd (none (omega (arith, first, begun), le))
+            ] in
+            let (e, in_s, e_is) = some.span.has_first in
+            let under = (some.span.between e in_s).1 in
+            let top : max o.last floor ≡ last_sequence 0 s.events = omega (arith, last, first, up, e_is, under) in
+            rw top (scanned_some (take i ss) s (drop (i + 1) ss) floor _ _ place low scanned.none some.span (omega (arith, up, first)))
+      ])
 
-  pub scan_empty : (processor highest floor : ℕ) → AreScanned (take i ss) (drop i ss) processor highest
-      → floor ≡ cond (eqb s.processor processor) highest 0
-      → s.events ≡ [] → AreScanned (take (i + 1) ss) (drop (i + 1) ss) s.processor floor
-  scan_empty processor highest floor scanned floor_is empty =
-      rw more (scanned_empty (take i ss) s (drop (i + 1) ss) floor place (floor_here processor highest floor scanned floor_is)
-      scanned.none empty)
+  found_here : (processor highest floor : ℕ) (o : Outline) → Fits s → o ≡ outline_of s
+      → AreScanned (take i ss) (drop i ss) processor highest → floor ≡ cond (eqb o.processor processor) highest 0
+      → 0 < o.first → o.first ≤ floor → IsLeastSuch IsKeyBefore (Falls ss) (key_of s)
+  found_here processor highest floor o fit outlined scanned floor_is begun le =
+      let at : o.processor ≡ s.processor = ap (λ (p : Outline). p.processor) outlined in
+      let first = ap (λ (p : Outline). p.first) outlined in
+      let low = floor_here processor highest floor scanned (floor_is ∙ ap (λ (p : ℕ). cond (eqb p processor) highest 0) at) in
+      elim (none_or_some s fit) [
+        | inl empty ↦ absurd (let none_first = empty.first in omega (arith, first, none_first, begun))
+        | inr some ↦ subst (λ (all : List Content). IsLeastSuch IsKeyBefore (Falls all) (key_of s)) whole
+            (fall_found (take i ss) s (drop (i + 1) ss) floor _ _ place low scanned.none fit some.span (omega (arith, le, first)))
+      ]
 
-  pub scan_found : (processor highest floor first last : ℕ) → AreScanned (take i ss) (drop i ss) processor highest
-      → floor ≡ cond (eqb s.processor processor) highest 0
-      → Fits s → IsSpan s.events first last → first ≤ floor → IsLeastSuch IsKeyBefore (Falls ss) (key_of s)
-  scan_found processor highest floor first last scanned floor_is fit span le =
-      subst (λ (all : List Content). IsLeastSuch IsKeyBefore (Falls all) (key_of s)) whole
-      (fall_found (take i ss) s (drop (i + 1) ss) floor first last place (floor_here processor highest floor scanned floor_is)
-      scanned.none fit span le)
+-- ---- the segment behind an outline
 
-pub scan_all : (ss : List Content) (i processor highest : ℕ) → length ss ≤ i → AreScanned (take i ss) (drop i ss) processor highest
-    → (key : ℕ × ℕ) → Falls ss key → ⊥
-scan_all ss i processor highest le scanned key falls = scanned.none key (rw (take_all i ss le) falls)
+record IsBehind (ss : List Content) (i : ℕ) (o : Outline) : Type 0 where
+  pub segment : Content
+  pub within : i < length ss
+  pub here : segment ≡ get_or ss i segment
+  pub outlined : o ≡ outline_of segment
+
+behind : (ss : List Content) (i : ℕ) (o d : Outline) → i < length (map outline_of ss) → o ≡ get_or (map outline_of ss) i d → IsBehind ss i o
+behind [] i o d lt is = absurd (omega (arith, lt))
+behind (s ∷ ss) zero o d lt is = record { segment = s; within = omega arith; here = refl; outlined = is }
+behind (s ∷ ss) (suc i) o d lt is =
+    let rest = behind ss i o d (omega (arith, lt)) is in
+    let within = rest.within in
+    record { segment = rest.segment; within = omega (arith, within); here = rest.here; outlined = rest.outlined }
+
+-- what the loop keeps, for all segments that the outlines are of
+abbrev pub AreScannedTo : List Outline → ℕ → ℕ → ℕ → Type 0
+AreScannedTo outlines i processor highest = (ss : List Content) → outlines ≡ map outline_of ss → AreInOrder ss → All Fits ss
+    → AreScanned (take i ss) (drop i ss) processor highest
+
+module _ (outlines : List Outline) (i : ℕ) (o d : Outline) (lt : i < length outlines) (is : o ≡ get_or outlines i d)
+    (processor highest floor : ℕ) (scanned : AreScannedTo outlines i processor highest)
+    (floor_is : floor ≡ cond (eqb o.processor processor) highest 0) where
+  behind_here : (ss : List Content) → outlines ≡ map outline_of ss → IsBehind ss i o
+  behind_here ss are = behind ss i o d (rw are at lt) (rw are at is)
+
+  pub scan_more : ((0 < o.first) × (o.first ≤ floor) → ⊥) → AreScannedTo outlines (i + 1) o.processor (max o.last floor)
+  scan_more none ss are ordered fit =
+      let at = behind_here ss are in
+      more_here ss ordered i at.segment at.within at.here processor highest floor o
+      (rw (← at.here) at (fit i at.segment at.within)) at.outlined (scanned ss are ordered fit) floor_is none
+
+  pub scan_found : 0 < o.first → o.first ≤ floor → (ss : List Content) → outlines ≡ map outline_of ss → AreInOrder ss → All Fits ss
+      → IsLeastSuch IsKeyBefore (Falls ss) (outline_key o)
+  scan_found begun le ss are ordered fit =
+      let at = behind_here ss are in
+      subst (λ (p : Outline). IsLeastSuch IsKeyBefore (Falls ss) (outline_key p)) (sym at.outlined)
+      (found_here ss ordered i at.segment at.within at.here processor highest floor o
+      (rw (← at.here) at (fit i at.segment at.within)) at.outlined (scanned ss are ordered fit) floor_is begun le)
+
+pub scan_all : (outlines : List Outline) (i processor highest : ℕ) → length outlines ≤ i → AreScannedTo outlines i processor highest
+    → (ss : List Content) → outlines ≡ map outline_of ss → AreInOrder ss → All Fits ss → (key : ℕ × ℕ) → Falls ss key → ⊥
+scan_all outlines i processor highest le scanned ss are ordered fit key falls =
+    let end : length ss ≤ i = subst (λ (n : ℕ). n ≤ i) (ap length are ∙ length-map ss outline_of) le in
+    (scanned ss are ordered fit).none key (rw (take_all i ss end) falls)

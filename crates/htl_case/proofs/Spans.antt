@@ -1,21 +1,50 @@
--- The first and the last event of a segment have its least and its greatest sequence.
-use Rattle.std.proofs.Common.{◌≡◌, ◌-◌, length, Some, refl, arith}
-use Rattle.std.specs.Prelude.{slice_get}
-use Rattle.std.proofs.lemmas.Option.{slice_get_within}
+-- The first and the last sequence of a segment with events are its least and its greatest.
+use Rattle.std.proofs.Common.{◌≡◌, ℕ, ◌<◌, ◌≤◌, List, [], ◌∷◌, refl, ap, inl, inr, ◌⊎◌, arith}
+use Rattle.std.specs.Prelude.{Contains}
 use Rattle.htl_event.specs.Events.{Event}
-use Rattle.htl_segment.specs.Content.{Content, Fits}
-use Rattle.htl_segment.proofs.Spans.{at_place, least_first, greatest_last}
-use Rattle.htl_case.specs.Sequences.{IsSpan}
+use Rattle.htl_event.proofs.Members.{Contains-here, Contains-cases}
+use Rattle.htl_segment.specs.Content.{Content, EventsFit, Fits}
+use Rattle.htl_segment.specs.Outlines.{first_sequence, last_sequence}
+use Rattle.htl_segment.proofs.Spans.{above}
+use Rattle.htl_segment.proofs.OutlineLaws.{last_is_greatest}
 
-pub span : (s : Content) (first last : Event) → Fits s → slice_get s.events 0 ≡ Some first
-    → slice_get s.events (length s.events - 1) ≡ Some last → IsSpan s.events first.sequence last.sequence
-span s first last fit at_first at_last =
-    let within = slice_get_within s.events 0 first at_first in
-    record {
-      has_first = (first, at_place s.events 0 first at_first, refl);
-      has_last = (last, at_place s.events (length s.events - 1) last at_last, refl);
-      between = λ x h. (
-        least_first s.version 0 s.events first fit.events at_first x h,
-        greatest_last s.version 0 s.events (length s.events - 1) last fit.events (omega (arith, within)) at_last x h,
-      );
-    }
+-- the least and the greatest sequence of some events
+pub record IsSpan (events : List Event) (first last : ℕ) : Type 0 where
+  pub has_first : (e : Event) × Contains events e × (e.sequence ≡ first)
+  pub has_last : (e : Event) × Contains events e × (e.sequence ≡ last)
+  pub between : (e : Event) → Contains events e → (first ≤ e.sequence) × (e.sequence ≤ last)
+
+pub record HasNone (events : List Event) : Type 0 where
+  pub none : events ≡ []
+  pub first : first_sequence events ≡ 0
+  pub last : last_sequence 0 events ≡ 0
+
+pub record HasSome (events : List Event) : Type 0 where
+  pub first : 0 < first_sequence events
+  pub span : IsSpan events (first_sequence events) (last_sequence 0 events)
+
+pub none_or_some : (s : Content) → Fits s → HasNone s.events ⊎ HasSome s.events
+none_or_some s fit = go s.events fit.events refl
+  where
+    go : (es : List Event) → EventsFit s.version 0 es → s.events ≡ es → HasNone es ⊎ HasSome es
+    go [] fits is = inl (record { none = refl; first = refl; last = refl })
+    go (e ∷ es) fits is =
+        let up = fits.1 in
+        let greatest = rw is at (last_is_greatest s fit) in
+        inr (record {
+          first = up;
+          span = record {
+            has_first = (e, Contains-here e es, refl);
+            has_last = elim greatest.reached [
+              | inl zero ↦ absurd (let le = greatest.bound e (Contains-here e es) in omega (arith, le, zero, up))
+              | inr reached ↦ reached
+            ];
+            between = λ x h. (
+              elim (Contains-cases e es x h) [
+                | inl here ↦ (let same : e.sequence ≡ x.sequence = ap (λ (y : Event). y.sequence) here in omega (arith, same))
+                | inr there ↦ (let later = above s.version e.sequence es fits.2 x there in omega (arith, later))
+              ],
+              greatest.bound x h,
+            );
+          };
+        })

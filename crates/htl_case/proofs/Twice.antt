@@ -1,12 +1,11 @@
 -- Which sequences come twice among segments in order.
-use Rattle.std.proofs.Common.{◌≡◌, ◌≢◌, ℕ, ◌+◌, ◌<◌, ◌≤◌, eqb, List, [], ◌∷◌, map, Option, None, Some, All}
+use Rattle.std.proofs.Common.{◌≡◌, ◌≢◌, ℕ, ◌+◌, ◌<◌, ◌≤◌, List, [], ◌∷◌, map, Option, None, Some, All}
 use Rattle.std.proofs.Common.{IsPermutation, refl, sym, ap, ◌∙◌, subst, inl, inr, arith}
-use Rattle.std.specs.Prelude.{Contains, cond, MatchOption}
+use Rattle.std.specs.Prelude.{Contains, MatchOption}
 use Rattle.std.specs.List.{AllByRecursion}
 use Rattle.std.proofs.lemmas.Bool.{cases_eq, cases_lt}
 use Rattle.std.proofs.lemmas.List.{map-append}
 use Rattle.std.proofs.lemmas.List.Elements.{recursion_from_All}
-use Rattle.std.proofs.lemmas.List.Sorted.{sum_by-IsPermutation}
 use Rattle.htl_event.specs.Events.{Event}
 use Rattle.htl_event.specs.Handles.{HaveOwnSequences}
 use Rattle.htl_event.proofs.Counts.{count_by-append}
@@ -15,10 +14,11 @@ use Rattle.htl_event.proofs.Members.{Contains-from_map, Contains-flat_map, Conta
 use Rattle.htl_segment.specs.declared.version.Version.{Version}
 use Rattle.htl_segment.specs.Content.{Content, EventsFit, Fits}
 use Rattle.htl_segment.specs.Traces.{AreInOrder, all_events}
-use Rattle.htl_case.specs.Faults.{IsLeastSuch, ComesTwice}
-use Rattle.htl_case.specs.Sequences.{sequence_of, times}
+use Rattle.htl_event.specs.Members.{IsLeastSuch}
+use Rattle.htl_case.specs.Faults.{ComesTwice}
+use Rattle.htl_segment.specs.Repeated.{sequence_of, times}
 use Rattle.htl_case.proofs.KeyOrder.{in_order_differ}
-use Rattle.htl_case.proofs.Times.{times-cons, times_same, times_other, some_times, some_there}
+use Rattle.htl_segment.proofs.Times.{times-cons, times_same, times_other, some_times, some_there, times-IsPermutation}
 
 -- ---- events of a sequence
 
@@ -151,8 +151,9 @@ times_from_own (e ∷ es) own x =
 
 -- ---- sorted sequences, as the code looks at them
 
-times-IsPermutation : (x : ℕ) (xs ys : List ℕ) → IsPermutation xs ys → times x ys ≡ times x xs
-times-IsPermutation x xs ys moved = sum_by-IsPermutation (λ (y : ℕ). cond (eqb y x) 1 0) xs ys moved
+pub none_twice : (ss : List Content) → ((x : ℕ) → times x (map sequence_of (all_events ss)) ≤ 1)
+    → ((x : ℕ) → ComesTwice ss x → ⊥) × HaveOwnSequences (all_events ss)
+none_twice ss once = (λ x two. (let n = twice_counted ss x two in omega (arith, n, once x)), own_from_times (all_events ss) once)
 
 pub told_twice : (ss : List Content) (sequences sorted : List ℕ) (r : Option ℕ) → AreInOrder ss → All Fits ss
     → sequences ≡ map sequence_of (all_events ss) → IsPermutation sequences sorted
@@ -161,10 +162,7 @@ pub told_twice : (ss : List Content) (sequences sorted : List ℕ) (r : Option �
 told_twice ss sequences sorted r ordered fit is moved told = elim r as (λ (o : Option ℕ).
     MatchOption o ((x : ℕ) → times x sorted ≤ 1) (IsLeastSuch ◌<◌ (λ x. 2 ≤ times x sorted))
     → MatchOption o (((x : ℕ) → ComesTwice ss x → ⊥) × HaveOwnSequences (all_events ss)) (IsLeastSuch ◌<◌ (ComesTwice ss))) [
-      | None ↦ λ once. (
-        λ x two. (let n = twice_counted ss x two in omega (arith, n, same x, once x)),
-        own_from_times (all_events ss) (λ x. omega (arith, same x, once x)),
-      )
+      | None ↦ λ once. none_twice ss (λ x. omega (arith, same x, once x))
       | Some y ↦ λ least. record {
         holds = two_segments ss y ordered (recursion_from_All Fits ss fit) (omega (arith, same y, least.holds));
         least = λ x lt two. (let n = twice_counted ss x two in least.least x lt (omega (arith, n, same x)));

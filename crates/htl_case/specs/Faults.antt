@@ -2,6 +2,7 @@
 -- with repeats.
 use Rattle.std.specs.Prelude.{◌≡◌, ◌≢◌, ℕ, ◌<◌, ◌≤◌, List, [], Some, Contains, slice_get, Result, Ok, Err}
 use Rattle.htl_event.specs.Events.{Event}
+use Rattle.htl_event.specs.Members.{IsLeastSuch}
 use Rattle.htl_segment.specs.Content.{Content}
 use Rattle.htl_segment.specs.Traces.{Trace}
 use Rattle.htl_segment.specs.Rising.{IsKeyBefore}
@@ -9,11 +10,6 @@ use Rattle.htl_case.specs.declared.fault.CaseFault.{CaseFault}
 use Rattle.htl_case.specs.declared.fault.CaseFault.TheVariants.{Empty, OtherTrace, OtherProcessors, TwoContents}
 use Rattle.htl_case.specs.declared.fault.CaseFault.TheVariants.{SequenceTwice, NoMemory, Falling}
 use Rattle.htl_case.specs.Cases.{IsCaseOf}
-
--- it has the property, and nothing before it has
-pub record IsLeastSuch {X : Type 0} (Before : X → X → Type 0) (P : X → Type 0) (x : X) : Type 0 where
-  pub holds : P x
-  pub least : (y : X) → Before y x → P y → ⊥
 
 -- the segment at a place has another value than that at place 0
 pub record Differs (value : Content → ℕ) (segments : List Content) (place : ℕ) : Type 0 where

@@ -1,6 +1,7 @@
 -- cited by public contracts
 pub mod Cases
 pub mod Faults
+pub mod Picked
 pub mod Plays
 pub mod Reached
 pub mod Answers
@@ -9,6 +10,6 @@ pub mod Histories
 pub mod Headline
 -- cited by private contracts alone
 pub mod Ordered
-pub mod Sequences
+pub mod Outlined
 pub mod Listed
 pub mod Changes

@@ -6,15 +6,19 @@ use Rattle.htl_segment.specs.Traces.{AreInOrder}
 use Rattle.htl_case.specs.declared.fault.CaseFault.{CaseFault}
 use Rattle.htl_case.specs.declared.fault.CaseFault.TheVariants.{TwoContents}
 use Rattle.htl_segment.specs.Rising.{IsKeyBefore}
-use Rattle.htl_case.specs.Faults.{IsLeastSuch, HasTwoContents, HaveOneContent, key_of}
+use Rattle.htl_event.specs.Members.{IsLeastSuch}
+use Rattle.htl_case.specs.Faults.{HasTwoContents, HaveOneContent, key_of}
 
 abbrev pub same_key : Content → Content → Bool
 same_key s t = (s.processor == t.processor) && (s.number == t.number)
 
--- no segment's key comes before that of one in front of it, and keys may come again
+-- no element's key comes before that of one in front of it, and keys may come again
+abbrev pub AreSortedBy : {X : Type 0} → (X → ℕ × ℕ) → List X → Type 0
+AreSortedBy key [] = Unit {0}
+AreSortedBy key (x ∷ xs) = AllByRecursion (λ y. IsKeyBefore (key y) (key x) → ⊥) xs × AreSortedBy key xs
+
 abbrev pub AreSorted : List Content → Type 0
-AreSorted [] = Unit {0}
-AreSorted (s ∷ ss) = AllByRecursion (λ t. IsKeyBefore (key_of t) (key_of s) → ⊥) ss × AreSorted ss
+AreSorted segments = AreSortedBy key_of segments
 
 -- the segments of a list in which no key has two contents, each once and in the order of their keys
 pub record IsInOrder (segments ordered : List Content) : Type 0 where

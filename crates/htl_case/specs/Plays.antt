@@ -4,7 +4,7 @@ use Rattle.htl_case.specs.declared.step.Step.{Step}
 use Rattle.htl_case.specs.declared.step.Step.TheVariants.{Take, Merge, Compact}
 use Rattle.htl_case.specs.declared.fault.PlayFault.{PlayFault}
 use Rattle.htl_case.specs.declared.fault.PlayFault.TheVariants.{NoAnalyst, NoSegment, NoMemory}
-use Rattle.htl_case.specs.Faults.{IsLeastSuch}
+use Rattle.htl_event.specs.Members.{IsLeastSuch}
 
 -- an analyst that isn't one of the first n
 abbrev pub NamesNoAnalyst : ℕ → Step → Type 0

@@ -2,9 +2,11 @@
 
 use crate::fault::CaseFault;
 use crate::ordering::{check_one_trace, in_order};
+use crate::outlines::outlines_of;
 use crate::rising::falling;
 use crate::sequences::repeated_sequence;
-use htl_segment::Segment;
+use htl_event::NoMemory;
+use htl_segment::{Outline, Segment};
 use std::alloc::Global;
 use std::marker::Model;
 
@@ -28,7 +30,8 @@ impl Model for Case {
 }
 
 impl Case {
-    ghost use Rattle.std.specs.Prelude.{◌≡◌, ◌⊎◌, Result, IfOk, IfErr};
+    ghost use Rattle.std.specs.Prelude.{◌≡◌, ◌⊎◌, Result, IfOk, IfErr, map};
+    ghost use Rattle.htl_segment.specs.Outlines.{outline_of};
     ghost use Rattle.htl_segment.specs.Traces.{Trace};
     ghost use Rattle.htl_case.specs.declared.fault.CaseFault.{CaseFault};
     ghost use Rattle.htl_case.specs.Cases.{IsCase, IsCaseOf};
@@ -50,7 +53,8 @@ impl Case {
         if let Some(sequence) = repeated_sequence(alloc, &segments)? {
             return Err(CaseFault::SequenceTwice(sequence));
         }
-        if let Some((processor, number)) = falling(&segments) {
+        let outlines = outlines_of(alloc, &segments)?;
+        if let Some((processor, number)) = falling(&outlines) {
             return Err(CaseFault::Falling(processor, number));
         }
         Ok(Case {
@@ -81,5 +85,15 @@ impl Case {
         ensures is_case { IsCase self.now }
     {
         self.segments.as_slice()
+    }
+
+    /// The outlines of the segments, in the same order.
+    pub fn outlines(&self, alloc: Global) -> Result<Vec<Outline>, NoMemory>
+        ensures value { IfOk result (λ outlines.
+            outlines.items ≡ map outline_of self.now.segments) }
+        // What every case keeps, so that callers have it too.
+        ensures is_case { IsCase self.now }
+    {
+        outlines_of(alloc, &self.segments)
     }
 }

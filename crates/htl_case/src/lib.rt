@@ -3,25 +3,29 @@
 //!
 //! `Case::of` accepts a list of segments exactly where, equal repeats dropped, it is a trace whose
 //! sequences rise along each processor; of another list it reports the first rule that it breaks.
-//! `answer_after` does a list of takes, merges and compactions over a case, and asks one of the
-//! analysts: its answer is the definition's over exactly the segments that reached it. `play` hands
-//! out the analysts. `laws` has the headline, which says the same of every trace, and the laws of
-//! merge.
+//! `PickedCase::of` tells the same of what was picked of segments for a question about a process or
+//! an object, unless only whole segments tell. `answer_after` does a list of takes, merges and
+//! compactions over a case, and asks one of the analysts: its answer is the definition's over
+//! exactly the segments that reached it. `play` hands out the analysts. `laws` has the headline,
+//! which says the same of every trace, and the laws of merge.
 //!
-//! Files, in reading order: `case.rt` (a case), `fault.rt` (why a list is refused), `ordering.rt`,
-//! `sequences.rt` and `rising.rt` (the tests that make a list of segments a case), `listing.rt`
-//! (the events of a handle), `step.rt` and `question.rt` (steps, questions and answers),
-//! `asking.rt` (an analyst's answer after steps), `playing.rt` (lists of steps), `laws.rt`.
+//! Files, in reading order: `case.rt` (a case), `fault.rt` (why a list is refused), `picked.rt` (a
+//! case of which only what is asked about is in hand), `ordering.rt`, `sequences.rt`, `outlines.rt`
+//! and `rising.rt` (the tests that make a list of segments a case), `listing.rt` (the events of a
+//! handle), `step.rt` and `question.rt` (steps, questions and answers), `asking.rt` (an analyst's
+//! answer after steps), `playing.rt` (lists of steps), `laws.rt`.
 //!
 //! `specs/` is read in this order: `Cases` (what a case is), `Faults` (the rules that a list of
-//! segments may break); `Reached` (which keys a list of steps brings to an analyst), `Answers` (the
-//! answers to its questions) and `Plays` (why steps aren't played), which are all that
-//! `answer_after` says; `Asked`, `Histories` and `Headline`, which speak of states. `Ordered`,
-//! `Sequences`, `Listed` and `Changes` serve private clauses alone. In `proofs/`, `KeyOrder` shows
-//! what a sort by key leaves, `Repeats` what is left without equal repeats, `Twice` which sequences
-//! come twice, `Scanned` where they fall, `Outcomes` that a list is one case or breaks one rule
-//! first, `Stepped` what a step leaves of each analyst, `Histories` what a history does, `Determined`
-//! that a question has one answer, and `Headlines` the headline.
+//! segments may break), `Picked` (what is picked of a case); `Reached` (which keys a list of steps
+//! brings to an analyst), `Answers` (the answers to its questions) and `Plays` (why steps aren't
+//! played), which are all that `answer_after` says; `Asked`, `Histories` and `Headline`, which
+//! speak of states. `Ordered`, `Outlined`, `Listed` and `Changes` serve private clauses alone. In
+//! `proofs/`, `KeyOrder` shows what a sort by key leaves, `Repeats` what is left without equal
+//! repeats, `Twice` which sequences come twice, `Scanned` where they fall, `Outcomes` that a list
+//! is one case or breaks one rule first, `Outlined` which keys come twice, `Moved` what stays
+//! where elements change places, `Pickings` what was picked of segments, `Stepped` what a step
+//! leaves of each analyst, `Histories` what a history does, `Determined` that a question has one
+//! answer, and `Headlines` the headline.
 #![tactic(auto)]
 
 mod asking;
@@ -30,6 +34,8 @@ mod fault;
 pub mod laws;
 mod listing;
 mod ordering;
+mod outlines;
+mod picked;
 mod playing;
 mod question;
 mod rising;
@@ -39,6 +45,7 @@ mod step;
 pub use asking::{answer_after, ask};
 pub use case::Case;
 pub use fault::{CaseFault, PlayFault};
+pub use picked::PickedCase;
 pub use playing::play;
 pub use question::{AnalystAnswer, AnalystQuestion};
 pub use step::Step;

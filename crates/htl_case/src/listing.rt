@@ -7,6 +7,7 @@ ghost use Rattle.htl_event.specs.Handles.{NewestFirst};
 ghost use Rattle.htl_case.specs.Listed.{is_of_handle, IsNewestFirst};
 
 use crate::case::Case;
+use crate::picked::PickedCase;
 use htl_event::{Kind, NoMemory, SharedEvent, base};
 use std::alloc::Global;
 use std::cmp::Reverse;
@@ -32,6 +33,31 @@ impl Case {
         for segment in self.segments() {
             push_rows(&mut rows, segment.events(), process, base)?;
         }
+        newest_first(&mut rows);
+        Ok(rows)
+    }
+}
+
+impl PickedCase {
+    ghost use Rattle.std.specs.Prelude.{Contains, IfOk};
+    ghost use Rattle.htl_event.specs.Handles.{IsListing};
+    ghost use Rattle.htl_event.specs.declared.interest.Interest.{Interest};
+    ghost use Rattle.htl_segment.specs.Traces.{Trace, IsTrace};
+    ghost use Rattle.htl_case.specs.Picked.{IsPickedOf};
+
+    /// The same listing, over the events that are asked about.
+    pub fn trace(
+        &self,
+        alloc: Global,
+        process: u32,
+        handle: u32,
+    ) -> Result<Vec<SharedEvent>, NoMemory>
+        ensures { (interest : Interest) (T : Trace) → IsTrace T → IsPickedOf interest T self.now
+            → IfOk result (λ rows.
+            IsListing (Contains self.now.events) process handle rows.items) }
+    {
+        let mut rows = Vec::new(alloc);
+        push_rows(&mut rows, self.events(), process, base(handle))?;
         newest_first(&mut rows);
         Ok(rows)
     }

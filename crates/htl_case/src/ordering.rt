@@ -5,7 +5,8 @@ ghost use Rattle.std.specs.Prelude.{IsTrue, IfOk, IfErr, MatchOption};
 ghost use Rattle.std.specs.List.{dedup};
 ghost use Rattle.std.specs.List.Sorted.{IsPermutation};
 ghost use Rattle.htl_segment.specs.Rising.{IsKeyBefore};
-ghost use Rattle.htl_case.specs.Faults.{IsLeastSuch, HasTwoContents, HaveOneContent, IsRefusal};
+ghost use Rattle.htl_event.specs.Members.{IsLeastSuch};
+ghost use Rattle.htl_case.specs.Faults.{HasTwoContents, HaveOneContent, IsRefusal};
 ghost use Rattle.htl_case.specs.Faults.{key_of};
 ghost use Rattle.htl_case.specs.Ordered.{AreSorted, AreOf, IsInOrder, same_key, IsTwoContents};
 

@@ -1,58 +1,54 @@
 //! Whether sequences of a trace rise along each processor. Nothing here takes memory.
 
-ghost use Rattle.std.specs.Prelude.{◌≡◌, ℕ, [], if◌then◌else◌, ◌==◌, All, MatchOption};
-ghost use Rattle.htl_segment.specs.Content.{Fits};
-ghost use Rattle.htl_segment.specs.Traces.{AreInOrder};
+ghost use Rattle.std.specs.Prelude.{◌≡◌, ℕ, ◌<◌, ◌≤◌, ◌↔◌, if◌then◌else◌, ◌==◌, List, map, All};
+ghost use Rattle.std.specs.Prelude.{IsTrue, MatchOption};
+ghost use Rattle.htl_event.specs.Members.{IsLeastSuch};
+ghost use Rattle.htl_segment.specs.Content.{Content, Fits};
+ghost use Rattle.htl_segment.specs.Outlines.{outline_of};
 ghost use Rattle.htl_segment.specs.Rising.{IsKeyBefore};
-ghost use Rattle.htl_case.specs.Faults.{IsLeastSuch, Falls};
-ghost use Rattle.htl_case.specs.Sequences.{IsSpan};
+ghost use Rattle.htl_segment.specs.Traces.{AreInOrder};
+ghost use Rattle.htl_case.specs.Faults.{Falls};
 
-use crate::ordering::key;
-use htl_segment::Segment;
+use crate::outlines::key;
+use htl_segment::Outline;
 
-/// The first segment with an event that isn't above all those in lower segments of its processor.
-pub fn falling(segments: &[Segment]) -> Option<(u16, u32)>
-    requires in_order { AreInOrder segments.now }
-    requires fit { All Fits segments.now }
-    ensures { MatchOption result
-        ((key : ℕ × ℕ) → Falls segments.now key → ⊥)
-        (IsLeastSuch IsKeyBefore (Falls segments.now)) }
+/// The first segment with an event that isn't above all those in lower segments of its processor,
+/// among segments in the order of their keys.
+pub fn falling(outlines: &[Outline]) -> Option<(u16, u32)>
+    ensures { (segments : List Content) → outlines.now ≡ map outline_of segments
+        → AreInOrder segments → All Fits segments
+        → MatchOption result
+        ((key : ℕ × ℕ) → Falls segments key → ⊥)
+        (IsLeastSuch IsKeyBefore (Falls segments)) }
 {
     let mut processor = 0;
     let mut highest = 0;
-    for segment in segments {
-        let floor = floor_of(segment, processor, highest);
-        processor = segment.processor();
-        highest = floor;
-        if let Some((first, last)) = span(segment) {
-            if first <= floor {
-                return Some(key(segment));
-            }
-            highest = last;
+    for outline in outlines {
+        let floor = floor_of(outline, processor, highest);
+        if begins_within(outline, floor) {
+            return Some(key(outline));
         }
+        processor = outline.processor;
+        highest = outline.last.max(floor);
     }
     None
 }
 
 /// What a segment's sequences have to be above, where the processor of the one before it has come
 /// to a highest sequence.
-fn floor_of(segment: &Segment, processor: u16, highest: u64) -> u64
-    ensures { result ≡ (if segment.now.processor == processor then highest else 0) }
+fn floor_of(outline: &Outline, processor: u16, highest: u64) -> u64
+    ensures { result ≡ (if outline.now.processor == processor then highest else 0) }
 {
-    if segment.processor() == processor {
+    if outline.processor == processor {
         highest
     } else {
         0
     }
 }
 
-/// The least and the greatest sequence of a segment's events.
-fn span(segment: &Segment) -> Option<(u64, u64)>
-    ensures { MatchOption result (segment.now.events ≡ [])
-        (λ span. IsSpan segment.now.events span.0 span.1) }
+/// Whether the segment has a first event, and its sequence isn't above the floor.
+fn begins_within(outline: &Outline, floor: u64) -> bool
+    ensures { IsTrue result ↔ ((0 < outline.now.first) × (outline.now.first ≤ floor)) }
 {
-    let events = segment.events();
-    let first = events.first()?.sequence;
-    let last = events.last()?.sequence;
-    Some((first, last))
+    outline.first > 0 && outline.first <= floor
 }

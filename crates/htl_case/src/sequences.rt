@@ -1,15 +1,18 @@
 //! Whether a sequence of a trace comes twice.
 
-ghost use Rattle.std.specs.Prelude.{◌≡◌, ℕ, ◌<◌, ◌≤◌, ◌++◌, map, All, IfOk, OnOk, MatchOption};
+ghost use Rattle.std.specs.Prelude.{◌≡◌, ℕ, ◌<◌, ◌≤◌, ◌++◌, false, List, map, All, IfOk, OnOk};
+ghost use Rattle.std.specs.Prelude.{MatchOption};
 ghost use Rattle.std.specs.List.Sorted.{IsNonDecreasing};
 ghost use Rattle.htl_event.specs.Handles.{HaveOwnSequences};
 ghost use Rattle.htl_segment.specs.Content.{Fits};
 ghost use Rattle.htl_segment.specs.Traces.{AreInOrder, all_events};
-ghost use Rattle.htl_case.specs.Faults.{IsLeastSuch, ComesTwice};
-ghost use Rattle.htl_case.specs.Sequences.{sequence_of, times};
+ghost use Rattle.htl_event.specs.Members.{IsLeastSuch};
+ghost use Rattle.htl_case.specs.Faults.{ComesTwice};
+ghost use Rattle.htl_segment.specs.Repeated.{sequence_of, times};
+ghost use Rattle.htl_segment.specs.Seen.{Saw};
 
 use htl_event::{NoMemory, SharedEvent};
-use htl_segment::Segment;
+use htl_segment::{Seen, Segment, first_repeated};
 use std::alloc::Global;
 
 /// The least sequence that comes twice in segments of different keys.
@@ -20,9 +23,35 @@ pub fn repeated_sequence(alloc: Global, segments: &[Segment]) -> Result<Option<u
         (IsLeastSuch ◌<◌ (ComesTwice segments.now))) }
     ensures fit { OnOk result (All Fits segments.now) }
 {
+    if !one_comes_twice(alloc, segments)? {
+        return Ok(None);
+    }
     let mut sequences = sequences_of(alloc, segments)?;
     sequences.sort()?;
     Ok(first_repeated(&sequences))
+}
+
+/// Whether a sequence comes twice. One pass over the events tells that; which one, a sort.
+fn one_comes_twice(alloc: Global, segments: &[Segment]) -> Result<bool, NoMemory>
+    ensures once { IfOk result (λ twice. twice ≡ false
+        → (n : ℕ) → times n (map sequence_of (all_events segments.now)) ≤ 1) }
+    ensures fit { OnOk result (All Fits segments.now) }
+{
+    let mut seen = Seen::new(alloc);
+    for segment in segments {
+        note_sequences(&mut seen, segment.events())?;
+    }
+    Ok(seen.comes_twice())
+}
+
+fn note_sequences(seen: &mut Seen, events: &[SharedEvent]) -> Result<(), NoMemory>
+    ensures { (numbers : List ℕ) → Saw seen.old numbers
+        → OnOk result (Saw seen.new (numbers ++ map sequence_of events.now)) }
+{
+    for event in events {
+        seen.note(event.sequence)?;
+    }
+    Ok(())
 }
 
 fn sequences_of(alloc: Global, segments: &[Segment]) -> Result<Vec<u64>, NoMemory>
@@ -54,22 +83,4 @@ fn push_sequences(sequences: &mut Vec<u64>, events: &[SharedEvent]) -> Result<()
         sequences.push(event.sequence)?;
     }
     Ok(())
-}
-
-/// The least number that comes twice, among numbers in rising order.
-fn first_repeated(sequences: &[u64]) -> Option<u64>
-    requires { IsNonDecreasing sequences.now }
-    ensures { MatchOption result
-        ((x : ℕ) → times x sequences.now ≤ 1)
-        (IsLeastSuch ◌<◌ (λ x. 2 ≤ times x sequences.now)) }
-{
-    let (first, rest) = sequences.split_first()?;
-    let mut last = *first;
-    for sequence in rest {
-        if *sequence == last {
-            return Some(last);
-        }
-        last = *sequence;
-    }
-    None
 }

@@ -12,3 +12,4 @@ pub mod RowsCounts
 pub mod EventsEqual
 pub mod Sums
 pub mod Summarized
+pub mod Wanted

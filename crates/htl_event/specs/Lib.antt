@@ -1,5 +1,5 @@
 -- What public contracts cite, in the order in which a reader wants it: events as values, what they are counted
--- under, the orders, the questions about handles and about counts, what a summary states, and the laws.
+-- under, the orders, the questions about handles and about counts, what a summary states, what a question asks about, and the laws.
 pub mod Events
 pub mod Slots
 pub mod SlotOrder
@@ -9,6 +9,7 @@ pub mod Members
 pub mod Handles
 pub mod Tallies
 pub mod Summaries
+pub mod Interests
 pub mod Laws
 -- What only private contracts cite: the laws that the comparisons owe.
 pub mod OrderLaws

@@ -16,3 +16,8 @@ pub record Lists {X : Type 0} (before : X → X → Type 0) (P : X → Type 0) (
 pub record IsStrictOrder {X : Type 0} (before : X → X → Type 0) : Type 0 where
   pub irreflexive : (x : X) → before x x → ⊥
   pub transitive : (x y z : X) → before x y → before y z → before x z
+
+-- it has the property, and nothing before it has
+pub record IsLeastSuch {X : Type 0} (Before : X → X → Type 0) (P : X → Type 0) (x : X) : Type 0 where
+  pub holds : P x
+  pub least : (y : X) → Before y x → P y → ⊥

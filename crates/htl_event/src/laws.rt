@@ -1,12 +1,15 @@
 //! Laws of the definitions. Each function's contract is the law; none does anything when it runs.
 
-ghost use Rattle.std.specs.Prelude.{List};
+ghost use Rattle.std.specs.Prelude.{List, ℕ};
 ghost use Rattle.std.specs.List.Sorted.{IsPermutation};
 ghost use Rattle.htl_event.specs.Events.{Event};
+ghost use Rattle.htl_event.specs.Interests.{ProcessNeedsItsOwn, ObjectNeedsItsOwn, wanted};
 ghost use Rattle.htl_event.specs.Laws.{HaveSame, HandlesAreDetermined};
 ghost use Rattle.htl_event.specs.Laws.{CountsAreDetermined, CountsAddUp, IsUnion};
 ghost use Rattle.htl_event.specs.Laws.{LaterOfBoth, PrefixTallyIsSum, BalanceIsSum};
 ghost use Rattle.htl_event.specs.Summaries.{SummariesAreDetermined};
+
+use crate::interest::Interest;
 
 /// Each answer about handles is the only one, and depends on which events there are and not on
 /// their order. (The latest event where no two have one sequence; an outstanding handle's event has
@@ -46,4 +49,15 @@ pub fn prefix_tally_is_sum()
 /// The balance of a tag is the sum of its tally over all stacks.
 pub fn balance_is_sum()
     ensures { BalanceIsSum }
+{}
+
+/// An answer about a process or an object over all events is the one over its own events alone, in
+/// whatever order these are.
+pub fn answers_need_what_is_wanted()
+    ensures process { (process : ℕ) (events own : List Event)
+        → IsPermutation (wanted (Interest.Process process) events) own
+        → ProcessNeedsItsOwn process events own }
+    ensures object { (object : ℕ) (events own : List Event)
+        → IsPermutation (wanted (Interest.Object object) events) own
+        → ObjectNeedsItsOwn object events own }
 {}

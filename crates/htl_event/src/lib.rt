@@ -3,7 +3,8 @@
 //! `specs/` has the definitions, which everything above cites; `specs/Lib` names them in reading
 //! order: what an event counts (`Slots`), which handles are outstanding and what a handle's
 //! listing is (`Handles`), how often a slot came (`Tallies`), the rows of a summary (`Summaries`),
-//! each over events as a set or as a flat list, and what follows from them (`Laws`). The code has
+//! each over events as a set or as a flat list, what
+//! a question asks about (`Interests`), and what follows from them (`Laws`). The code has
 //! the types alone: no call of this crate takes memory but the making of a shared stack.
 //!
 //! Files, in reading order: `kind.rt` and `event.rt` (an event), `stack.rt` and `shared_stack.rt`
@@ -19,6 +20,7 @@
 
 mod event;
 mod event_list;
+mod interest;
 mod kind;
 pub mod laws;
 mod memory;
@@ -32,6 +34,7 @@ ghost use Rattle.htl_event.specs.Slots.{base_of};
 
 pub use event::{Event, SharedEvent};
 pub use event_list::EventList;
+pub use interest::Interest;
 pub use kind::Kind;
 pub use memory::NoMemory;
 pub use shared_stack::SharedStack;

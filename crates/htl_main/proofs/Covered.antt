@@ -1,10 +1,10 @@
 -- One processor more of a trace: its gaps, and up to which sequence none of its segments is missing.
-use Rattle.std.proofs.Common.{◌≡◌, ◌≢◌, ℕ, zero, suc, ◌+◌, ◌-◌, ◌^◌, ◌<◌, ◌≤◌, ltb, eqb, List, [], ◌∷◌, ◌++◌, take, min, All}
+use Rattle.std.proofs.Common.{◌≡◌, ◌≢◌, ℕ, zero, suc, ◌+◌, ◌-◌, ◌^◌, ◌<◌, ◌≤◌, ltb, eqb, List, [], ◌∷◌, ◌++◌, map, take, min, All}
 use Rattle.std.proofs.Common.{refl, ap, subst, arith, inl, inr, ◌⊎◌, eq-eqb, eqb-true, ltb-true}
 use Rattle.std.specs.Prelude.{Contains, ◌↔◌}
 use Rattle.std.specs.List.{AllByRecursion}
 use Rattle.std.proofs.lemmas.Bool.{and_from, and_parts, cases_eq, cases_lt, lt-ltb}
-use Rattle.std.proofs.lemmas.List.Elements.{All-contains, All-from_recursion, Contains-append_cases, Contains-append_left, Contains-append_right}
+use Rattle.std.proofs.lemmas.List.Elements.{All-contains, Contains-append_cases, Contains-append_left, Contains-append_right}
 use Rattle.htl_event.specs.Events.{Event}
 use Rattle.htl_event.specs.Handles.{IsGreatestSequence}
 use Rattle.htl_event.proofs.Determined.{IsGreatestSequence-unique}
@@ -23,7 +23,6 @@ use Rattle.htl_taken.specs.declared.gap.Gap.TheVariants.{Between, Absent}
 use Rattle.htl_taken.proofs.GapLists.{gaps_more}
 use Rattle.htl_taken.proofs.Reaching.{before_reach, reach-next, reach-stop, reach_absent}
 use Rattle.htl_taken.proofs.Rising.{Rises-member}
-use Rattle.htl_main.specs.Numbers.{numbers_of}
 use Rattle.htl_main.specs.Summaries.{IsCompleteTo, IsFirstMissing, IsUnbrokenTo}
 
 -- ---- the segments of one processor
@@ -39,10 +38,6 @@ pub record AreFrom (T : Trace) (p : ℕ) (rest : List Content) : Type 0 where
 
 pub from_first : (T : Trace) → IsTrace T → AreFrom T 0 T.segments
 from_first T is = record { in_order = is.in_order; members = λ s. ((λ h. (h, omega arith)), (λ h. h.0)) }
-
-pub none_before : (T : Trace) (p : ℕ) (rest : List Content) → AreFrom T p rest → All (λ s. p ≤ s.processor) rest
-none_before T p rest from =
-    All-from_recursion (λ s. p ≤ s.processor) rest (each_member (λ s. p ≤ s.processor) rest (λ s h. ((from.members s).0 h).1))
 
 order_front : (ss ts : List Content) → AreInOrder (ss ++ ts) → AreInOrder ss
 order_front [] ts ordered = tt
@@ -84,13 +79,16 @@ module _ (T : Trace) (p : ℕ) (own after : List Content) (rest : AreFrom T p (o
 
 -- ---- their numbers
 
+abbrev pub segment_numbers : List Content → List ℕ
+segment_numbers segments = map (λ s. s.number) segments
+
 -- above all numbers
 abbrev high : ℕ
 high = 2 ^ 32
 
 rises_from : (p low : ℕ) (own : List Content) → low ≤ high → AreInOrder own
     → AllByRecursion (λ s. (s.processor ≡ p) × (s.number < high)) own → AllByRecursion (λ s. low ≤ s.number) own
-    → Rises low high (numbers_of own)
+    → Rises low high (segment_numbers own)
 rises_from p low [] le ordered are above = le
 rises_from p low (s ∷ ss) le ordered are above = (
   above.0,
@@ -105,15 +103,15 @@ rises_from p low (s ∷ ss) le ordered are above = (
 )
 
 module _ (T : Trace) (is : IsTrace T) (p : ℕ) (own : List Content) (mine : AreOwn T p own) where
-  pub rises : Rises 0 high (numbers_of own)
+  pub rises : Rises 0 (2 ^ 32) (segment_numbers own)
   rises = rises_from p 0 own (omega arith) mine.in_order (each_member (λ s. (s.processor ≡ p) × (s.number < high)) own (λ s h.
       let there = (mine.members s).0 h in
       let number = (at_member Fits T.segments s is.fit there.0).number in
       (there.1, omega (arith, number)))) (each_member (λ s. 0 ≤ s.number) own (λ s h. omega arith))
 
-  has_number : (n : ℕ) → HasKey T p n ↔ Has (record { front = 0; loose = numbers_of own }) n
+  has_number : (n : ℕ) → HasKey T p n ↔ Has (record { front = 0; loose = segment_numbers own }) n
   has_number n = (
-    (λ key. inr (subst (Contains (numbers_of own)) key.3 (Contains-map (λ s. s.number) own key.0 ((mine.members key.0).1 (key.1, key.2))))),
+    (λ key. inr (subst (Contains (segment_numbers own)) key.3 (Contains-map (λ s. s.number) own key.0 ((mine.members key.0).1 (key.1, key.2))))),
     (λ has. elim has [
       | inl lt ↦ absurd (omega (arith, lt))
       | inr loose ↦
@@ -123,18 +121,18 @@ module _ (T : Trace) (is : IsTrace T) (p : ℕ) (own : List Content) (mine : Are
     ]),
   )
 
-  pub more_gaps : (gaps : List Gap) → IsGaps (HasKey T) p gaps → IsGaps (HasKey T) (p + 1) (gaps ++ gaps_of p 0 (numbers_of own))
-  more_gaps gaps so_far = gaps_more (HasKey T) p high 0 (numbers_of own) gaps rises has_number so_far
+  pub more_gaps : (gaps : List Gap) → IsGaps (HasKey T) p gaps → IsGaps (HasKey T) (p + 1) (gaps ++ gaps_of p 0 (segment_numbers own))
+  more_gaps gaps so_far = gaps_more (HasKey T) p high 0 (segment_numbers own) gaps rises has_number so_far
 
   abbrev first : ℕ
-  first = reach_from 0 (numbers_of own)
+  first = reach_from 0 (segment_numbers own)
 
   pub first_is : IsFirstMissing T p first
   first_is = record {
-    below = λ m lt. (has_number m).1 (inr (before_reach 0 (numbers_of own) m (omega arith) lt));
+    below = λ m lt. (has_number m).1 (inr (before_reach 0 (segment_numbers own) m (omega arith) lt));
     missing = λ key. elim ((has_number first).0 key) [
       | inl lt ↦ absurd (omega (arith, lt))
-      | inr loose ↦ reach_absent 0 high (numbers_of own) rises loose
+      | inr loose ↦ reach_absent 0 high (segment_numbers own) rises loose
     ];
   }
 
@@ -148,24 +146,24 @@ no_gaps T = record { rising = tt; members = λ gap. ((λ h. absurd (Contains-nil
 -- ---- before the first that is missing
 
 -- of segments whose numbers rise from k on, those before the first that is missing are a first part
-before_first : (j k : ℕ) (own : List Content) → j + k ≡ reach_from k (numbers_of own) → Rises k high (numbers_of own) → (s : Content)
-    → Contains (take j own) s ↔ (Contains own s × (s.number < reach_from k (numbers_of own)))
+before_first : (j k : ℕ) (own : List Content) → j + k ≡ reach_from k (segment_numbers own) → Rises k high (segment_numbers own) → (s : Content)
+    → Contains (take j own) s ↔ (Contains own s × (s.number < reach_from k (segment_numbers own)))
 before_first zero k [] at rising s = ((λ h. absurd (Contains-nil s h)), (λ h. h.0))
 before_first (suc j) k [] at rising s = ((λ h. absurd (Contains-nil s h)), (λ h. h.0))
 before_first zero k (t ∷ ts) at rising s = (
   (λ h. absurd (Contains-nil s h)),
   (λ h.
       let lt = h.1 in
-      let up = (Rises-member k high (numbers_of (t ∷ ts)) s.number rising (Contains-map (λ x. x.number) (t ∷ ts) s h.0)).0 in
+      let up = (Rises-member k high (segment_numbers (t ∷ ts)) s.number rising (Contains-map (λ x. x.number) (t ∷ ts) s h.0)).0 in
       absurd (omega (arith, at, lt, up))),
 )
 before_first (suc j) k (t ∷ ts) at rising s =
     let here : t.number ≡ k = elim (cases_eq t.number k) [
       | inl e ↦ e
-      | inr ne ↦ let stop = reach-stop k t.number (numbers_of ts) ne in absurd (omega (arith, at, stop))
+      | inr ne ↦ let stop = reach-stop k t.number (segment_numbers ts) ne in absurd (omega (arith, at, stop))
     ] in
-    let next = reach-next k t.number (numbers_of ts) here in
-    let later = subst (λ (n : ℕ). Rises (n + 1) high (numbers_of ts)) here rising.1 in
+    let next = reach-next k t.number (segment_numbers ts) here in
+    let later = subst (λ (n : ℕ). Rises (n + 1) high (segment_numbers ts)) here rising.1 in
     let rest = before_first j (k + 1) ts (omega (arith, at, next)) later s in (
       (λ h. elim (Contains-cases t (take j ts) s h) [
         | inl is ↦ (
@@ -191,9 +189,9 @@ same_greatest A B n same greatest = record {
 
 module _ (T : Trace) (is : IsTrace T) (p : ℕ) (own : List Content) (mine : AreOwn T p own) where
   abbrev till : ℕ
-  till = reach_from 0 (numbers_of own)
+  till = reach_from 0 (segment_numbers own)
 
-  cut : (s : Content) → Contains (take till own) s ↔ (Contains own s × (s.number < till))
+  pub cut : (s : Content) → Contains (take till own) s ↔ (Contains own s × (s.number < till))
   cut = before_first till 0 own (omega arith) (rises T is p own mine)
 
   below : (e : Event) → Contains (all_events (take till own)) e ↔ Contains (events_of (run_below p till) T.segments) e

@@ -6,6 +6,7 @@ pub mod EncodeLaws
 pub mod FewSegments
 pub mod OfProcessor
 pub mod Covered
+pub mod Outlined
 pub mod WholeLaws
 pub mod Missing
 pub mod OneSummary
@@ -20,3 +21,6 @@ pub mod PairLaws
 pub mod CaseRefused
 pub mod AfterDecoding
 pub mod AfterStanding
+pub mod PickedAnswers
+pub mod PickLaws
+pub mod AfterPicking

@@ -11,7 +11,7 @@ use Rattle.htl_main.specs.Reads.{FailsOnly, NamesOnly, ReportsFailure}
 use Rattle.htl_main.specs.Readings.{AreRead}
 use Rattle.htl_main.specs.Sources.{AreReadWithin, IsTrueAt}
 use Rattle.htl_main.specs.declared.fault.RunFault.{RunFault}
-use Rattle.htl_main.specs.declared.fault.RunFault.TheVariants.{Memory}
+use Rattle.htl_main.specs.declared.fault.RunFault.TheVariants.{Memory, Read}
 use Rattle.htl_main.proofs.SourceLaws.{ended_next, endless_at, known_now, none_read_within, one_read_within, other_value, slice_get-set_other}
 use Rattle.htl_main.proofs.SourceLaws.{stopped_at, stopped_before, true_nowhere, true_of_all, true_of_new, true_there}
 
@@ -99,6 +99,19 @@ read_to has_failed has_ended good_reads remaining first now place x y fault befo
   unread = λ later ends.
       let above : place < later = is.named later ends in
       slice_get-set_other now place later y (λ e. omega (arith, above, e)) ∙ before.left later (omega (arith, above));
+}
+
+-- a run ends for the fault, whatever it gives else
+pub ends_too : {R S T : Type 0} (has_failed has_ended : R → Bool) (good_reads : R → ℕ) (remaining : R → Option (List ℕ)) (first now : List R)
+    (fault : RunFault) → AreRead has_failed has_ended good_reads remaining first now (ill {S = S} fault)
+    → AreRead has_failed has_ended good_reads remaining first now (ill {S = T} fault)
+ends_too has_failed has_ended good_reads remaining first now fault read = record {
+  ended = tt;
+  in_order = read.in_order;
+  reported = λ at failed. (let told = read.reported at failed in let same : fault ≡ Read at = cc told in rw same refl);
+  read = λ at told. (let same : fault ≡ Read at = cc told in read.read at (rw same refl));
+  bounded = read.bounded;
+  unread = read.unread;
 }
 
 -- a source was read, and then memory was refused

@@ -21,8 +21,7 @@ abbrev pub PrintsPart : Job → List (List ℕ) → Option (List ℕ) → Option
 PrintsPart job inputs symbols old new =
     (lines : List ℕ) × Printed job inputs symbols (Ok lines) × AppendsPrefix old new lines
 
--- Why nothing is printed of decoded segments. Memory is asked for where the rules of a case that take none hold; to look for gaps
--- takes none.
+-- Why nothing is printed of decoded segments. Memory is asked for where the rules of a case that take none hold.
 abbrev pub IsCauseAfter : List Content → Option (List ℕ) → Job → RunFault → Type 0
 IsCauseAfter segments symbols job Memory = IsRefusal segments case_faults.NoMemory ⊎ ((T : Trace) × IsTaken segments job T)
 IsCauseAfter segments symbols job fault = IsPrinted segments symbols job (Err fault)

@@ -13,6 +13,7 @@ pub mod Dumps
 pub mod Encodings
 pub mod Origins
 pub mod Standings
+pub mod Picked
 pub mod Statuses
 -- What only private contracts cite.
 pub mod Faults
@@ -20,6 +21,7 @@ pub mod Questions
 pub mod Reads
 pub mod Dumping
 pub mod Unfolded
-pub mod Numbers
+pub mod CaseOutlines
 pub mod Parts
 pub mod Pairs
+pub mod Picking

@@ -7,29 +7,32 @@ ghost use Rattle.htl_event.specs.Handles.{HaveOwnSequences, IsMark};
 ghost use Rattle.htl_segment.specs.Traces.{all_events};
 ghost use Rattle.htl_answers.specs.Parts.{AreEventsOf, size_of_all};
 ghost use Rattle.htl_main.specs.Answers.{IsAnswer, IsAnswerOver};
+ghost use Rattle.htl_main.specs.CaseOutlines.{AreOutlinesOf};
 ghost use Rattle.htl_main.specs.Coverages.{IsCoverage};
 ghost use Rattle.htl_main.specs.Questions.{IsOfParts};
-ghost use Rattle.htl_main.specs.Unfolded.{contents_of};
 
 use crate::coverage::Coverage;
 use crate::summarizing::summary;
 use crate::unfolded::Unfolded;
-use htl_answers::{bad, diff, leaks, mark, outstanding, stacks, tags};
+use htl_answers::{Part, bad, diff, leaks, mark, outstanding, stacks, tags};
 use htl_case::Case;
 use htl_command::Question;
 use htl_event::NoMemory;
 use htl_report::Answer;
+use htl_segment::Outline;
 use std::alloc::Global;
 
-/// The answer to a question, over a case of this coverage: from the segments as they lie there,
-/// without folding any.
+/// The answer to a question, over a case with these outlines and of this coverage: from the segments
+/// as they lie there, without folding any.
 pub(crate) fn answer(
     alloc: Global,
     question: Question,
     case: &Case,
+    outlines: &[Outline],
     coverage: Coverage,
 ) -> Result<Answer, NoMemory>
-    requires { IsCoverage case.now coverage }
+    requires outlines { AreOutlinesOf case.now.processors outlines.now case.now }
+    requires coverage { IsCoverage case.now coverage }
     ensures { IfOk result (IsAnswer case.now question) }
 {
     match question {
@@ -39,7 +42,7 @@ pub(crate) fn answer(
             rows: case.trace(alloc, process, handle)?,
         }),
         Question::Summary => {
-            let answer = summary(alloc, case, coverage)?;
+            let answer = summary(alloc, case, outlines, coverage)?;
             Ok(answer)
         }
         question => {
@@ -60,11 +63,15 @@ fn answer_over(alloc: Global, case: &Case, question: Question) -> Result<Answer,
 }
 
 /// The answer of parts to a question about events.
-fn answer_of(alloc: Global, parts: &[Unfolded<'_>], question: Question) -> Result<Answer, NoMemory>
+pub(crate) fn answer_of<P: Part>(
+    alloc: Global,
+    parts: &[P],
+    question: Question,
+) -> Result<Answer, NoMemory>
     requires about { IsOfParts question }
-    requires few { size_of_all (map contents_of parts.now) < 2 ^ 64 }
+    requires few { size_of_all (map P.contents parts.now) < 2 ^ 64 }
     ensures { IfOk result (λ answer. (events : List Event)
-        → AreEventsOf (map contents_of parts.now) events → HaveOwnSequences events
+        → AreEventsOf (map P.contents parts.now) events → HaveOwnSequences events
         → IsAnswerOver events question answer) }
 {
     Ok(match question {
@@ -102,10 +109,10 @@ fn answer_of(alloc: Global, parts: &[Unfolded<'_>], question: Question) -> Resul
 }
 
 /// The moment that is given, or else the mark of the process.
-fn moment(parts: &[Unfolded<'_>], process: u32, given: Option<u64>) -> u64
+fn moment<P: Part>(parts: &[P], process: u32, given: Option<u64>) -> u64
     ensures given { IfSome given (λ since. result ≡ since) }
     ensures mark { IfNone given ((events : List Event)
-        → AreEventsOf (map contents_of parts.now) events
+        → AreEventsOf (map P.contents parts.now) events
         → IsMark (Contains events) process result) }
 {
     match given {

@@ -81,17 +81,14 @@ fn any_about(question: Question, segments: &[Segment]) -> bool
 {
     segments
         .iter()
-        .any(|segment| has_event_about(question, segment))
+        .any(|segment| has_event_about(question, segment.events()))
 }
 
-/// Whether the segment has such an event.
-fn has_event_about(question: Question, segment: &Segment) -> bool
-    ensures { result ≡ list_any (is_about question) segment.now.events }
+/// Whether one of the events is such.
+pub(crate) fn has_event_about(question: Question, events: &[SharedEvent]) -> bool
+    ensures { result ≡ list_any (is_about question) events.now }
 {
-    segment
-        .events()
-        .iter()
-        .any(|event| is_about(question, event))
+    events.iter().any(|event| is_about(question, event))
 }
 
 /// Whether the event is of what the question is about.

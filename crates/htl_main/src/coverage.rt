@@ -1,18 +1,18 @@
-//! How much of its trace a case has. Nothing here looks at more than the last event of a segment, and
-//! only the list of gaps takes memory.
+//! How much of its trace a case has, by the outlines of its segments. Once these are there, only the
+//! list of gaps takes memory.
 
-ghost use Rattle.std.specs.Prelude.{◌≡◌, ◌<◌, ◌≤◌, ◌+◌, ◌++◌, ℕ, length, take, All};
-ghost use Rattle.std.specs.Prelude.{IfNone, IfOk, IfSome, OnOk};
-ghost use Rattle.htl_segment.specs.Traces.{AreInOrder, HasKey};
+ghost use Rattle.std.specs.Prelude.{◌≡◌, ◌<◌, ◌≤◌, ◌+◌, ◌++◌, ◌^◌, ℕ, [], length, take, All};
+ghost use Rattle.std.specs.Prelude.{IfNone, IfOk, IfSome, MatchOption, OnOk};
+ghost use Rattle.std.specs.List.Sorted.{IsNonDecreasingBy};
+ghost use Rattle.htl_segment.specs.Traces.{Trace, HasKey};
 ghost use Rattle.htl_taken.specs.Gaps.{IsGaps};
 ghost use Rattle.htl_taken.specs.GapLists.{gaps_from, gaps_of};
-ghost use Rattle.htl_taken.specs.Rising.{reach_from};
+ghost use Rattle.htl_taken.specs.Rising.{Rises, reach_from};
+ghost use Rattle.htl_main.specs.CaseOutlines.{AreOutlinesOf, greatest_from, numbers_of};
 ghost use Rattle.htl_main.specs.Completeness.{IsComplete, IsLeastMissing};
-ghost use Rattle.htl_main.specs.Numbers.{numbers_of};
 
-use htl_case::Case;
 use htl_event::NoMemory;
-use htl_segment::{Segment, greatest_sequence};
+use htl_segment::Outline;
 use htl_taken::Gap;
 use std::alloc::Global;
 
@@ -28,50 +28,59 @@ pub struct Coverage {
 }
 
 impl Coverage {
+    ghost use Rattle.htl_segment.specs.Traces.{Trace};
+    ghost use Rattle.htl_main.specs.CaseOutlines.{AreOutlinesOf};
     ghost use Rattle.htl_main.specs.Coverages.{IsCoverage};
 
-    /// That of a case.
-    pub(crate) fn of(case: &Case) -> Coverage
-        ensures { IsCoverage case.now result }
+    /// That of the case with these outlines.
+    pub(crate) fn of(processors: u16, outlines: &[Outline]) -> Coverage
+        ensures { (T : Trace) → AreOutlinesOf processors outlines.now T → IsCoverage T result }
     {
         let mut gaps = 0;
         let mut complete_to = u64::MAX;
-        let mut rest = case.segments();
-        for processor in 0..case.processors() {
+        let mut rest = outlines;
+        for processor in 0..processors {
             let (own, after) = split_at_processor(rest, processor);
             gaps += gap_count(own);
-            complete_to = greatest_sequence(unbroken(own)).min(complete_to);
+            complete_to = greatest_last(unbroken(own)).min(complete_to);
             rest = after;
         }
         Coverage { gaps, complete_to }
     }
 }
 
-/// The processor and the number of the least key that the case misses: of the first processor that
-/// has a gap the first missing number.
-pub(crate) fn first_missing(case: &Case) -> Option<(u16, u32)>
-    ensures some { IfSome result (λ key. IsLeastMissing case.now key.0 key.1) }
-    ensures none { IfNone result (IsComplete case.now) }
+/// The processor and the number of the least key that the case with these outlines misses: of the
+/// first processor that has a gap the first missing number.
+pub(crate) fn first_missing(processors: u16, outlines: &[Outline]) -> Option<(u16, u32)>
+    ensures some { IfSome result (λ key. (T : Trace) → AreOutlinesOf processors outlines.now T
+        → IsLeastMissing T key.0 key.1) }
+    ensures none { IfNone result ((T : Trace) → AreOutlinesOf processors outlines.now T
+        → IsComplete T) }
 {
-    let mut rest = case.segments();
-    for processor in 0..case.processors() {
+    let mut rest = outlines;
+    for processor in 0..processors {
         let (own, after) = split_at_processor(rest, processor);
-        if gap_count(own) > 0 {
-            return Some((processor, unbroken(own).len() as u32));
+        if let Some(number) = first_gap(own) {
+            return Some((processor, number));
         }
         rest = after;
     }
     None
 }
 
-/// The gaps of a case: for each processor, in order, the longest unbroken runs of numbers that are
-/// missing below one that is there; or that it has no segment.
-pub(crate) fn gaps(alloc: Global, case: &Case) -> Result<Vec<Gap>, NoMemory>
-    ensures { IfOk result (λ gaps. IsGaps (HasKey case.now) case.now.processors gaps.items) }
+/// The gaps of the case with these outlines: for each processor, in order, the longest unbroken runs
+/// of numbers that are missing below one that is there; or that it has no segment.
+pub(crate) fn gaps(
+    alloc: Global,
+    processors: u16,
+    outlines: &[Outline],
+) -> Result<Vec<Gap>, NoMemory>
+    ensures { IfOk result (λ gaps. (T : Trace) → AreOutlinesOf processors outlines.now T
+        → IsGaps (HasKey T) T.processors gaps.items) }
 {
     let mut gaps = Vec::new(alloc);
-    let mut rest = case.segments();
-    for processor in 0..case.processors() {
+    let mut rest = outlines;
+    for processor in 0..processors {
         let (own, after) = split_at_processor(rest, processor);
         add_gaps(&mut gaps, processor, own)?;
         rest = after;
@@ -79,8 +88,8 @@ pub(crate) fn gaps(alloc: Global, case: &Case) -> Result<Vec<Gap>, NoMemory>
     Ok(gaps)
 }
 
-/// Adds the gaps of a processor with these segments.
-fn add_gaps(gaps: &mut Vec<Gap>, processor: u16, own: &[Segment]) -> Result<(), NoMemory>
+/// Adds the gaps of a processor with these outlines.
+fn add_gaps(gaps: &mut Vec<Gap>, processor: u16, own: &[Outline]) -> Result<(), NoMemory>
     ensures { OnOk result (gaps.new.items
         ≡ gaps.old.items ++ gaps_of processor 0 (numbers_of own.now)) }
 {
@@ -91,14 +100,14 @@ fn add_gaps(gaps: &mut Vec<Gap>, processor: u16, own: &[Segment]) -> Result<(), 
     add_runs(gaps, processor, own)
 }
 
-/// Adds the runs of missing numbers before each of these segments.
-fn add_runs(gaps: &mut Vec<Gap>, processor: u16, segments: &[Segment]) -> Result<(), NoMemory>
+/// Adds the runs of missing numbers before each of these outlines.
+fn add_runs(gaps: &mut Vec<Gap>, processor: u16, outlines: &[Outline]) -> Result<(), NoMemory>
     ensures { OnOk result (gaps.new.items
-        ≡ gaps.old.items ++ gaps_from processor 0 (numbers_of segments.now)) }
+        ≡ gaps.old.items ++ gaps_from processor 0 (numbers_of outlines.now)) }
 {
     let mut next = 0;
-    for segment in segments {
-        let number = segment.number();
+    for outline in outlines {
+        let number = outline.number;
         if next < u64::from(number) {
             gaps.push(Gap::Between {
                 processor,
@@ -111,20 +120,21 @@ fn add_runs(gaps: &mut Vec<Gap>, processor: u16, segments: &[Segment]) -> Result
     Ok(())
 }
 
-/// The segments of the processor, and those of the processors after it, where there are none of
-/// the processors before it.
-fn split_at_processor(segments: &[Segment], processor: u16) -> (&[Segment], &[Segment])
-    requires in_order { AreInOrder segments.now }
-    requires none_before { All (λ s. processor ≤ s.processor) segments.now }
-    ensures parts { result.0.now ++ result.1.now ≡ segments.now }
-    ensures own { All (λ s. s.processor ≡ processor) result.0.now }
-    ensures after { All (λ s. processor < s.processor) result.1.now }
+/// The outlines of the processor, and those of the processors after it, where they are in order and
+/// none is of a processor before it.
+fn split_at_processor(outlines: &[Outline], processor: u16) -> (&[Outline], &[Outline])
+    ensures parts { result.0.now ++ result.1.now ≡ outlines.now }
+    ensures own { IsNonDecreasingBy (λ o. o.processor) outlines.now
+        → All (λ o. processor ≤ o.processor) outlines.now
+        → All (λ o. o.processor ≡ processor) result.0.now }
+    ensures after { IsNonDecreasingBy (λ o. o.processor) outlines.now
+        → All (λ o. processor < o.processor) result.1.now }
 {
-    segments.split_at(segments.partition_point(|segment| segment.processor() <= processor))
+    outlines.split_at(outlines.partition_point(|outline| outline.processor <= processor))
 }
 
-/// How many gaps a processor with these segments has.
-fn gap_count(own: &[Segment]) -> u64
+/// How many gaps a processor with these outlines has.
+fn gap_count(own: &[Outline]) -> u64
     ensures value { (p : ℕ) → result ≡ length (gaps_of p 0 (numbers_of own.now)) }
     ensures few { result ≤ length own.now + 1 }
 {
@@ -133,8 +143,8 @@ fn gap_count(own: &[Segment]) -> u64
     }
     let mut next = 0;
     let mut gaps = 0;
-    for segment in own {
-        let number = u64::from(segment.number());
+    for outline in own {
+        let number = u64::from(outline.number);
         if next < number {
             gaps += 1;
         }
@@ -143,14 +153,43 @@ fn gap_count(own: &[Segment]) -> u64
     gaps
 }
 
-/// The segments of a processor before the first that is missing.
-fn unbroken(own: &[Segment]) -> &[Segment]
+/// The first number that is missing of a processor with these outlines, where it has a gap.
+fn first_gap(own: &[Outline]) -> Option<u32>
+    ensures { Rises 0 (2 ^ 32) (numbers_of own.now) → (p : ℕ) → MatchOption result
+        (gaps_of p 0 (numbers_of own.now) ≡ [])
+        (λ number. (0 < length (gaps_of p 0 (numbers_of own.now)))
+        × (number ≡ reach_from 0 (numbers_of own.now))) }
+{
+    if own.is_empty() {
+        return Some(0);
+    }
+    for (place, outline) in own.iter().enumerate() {
+        if place < outline.number as usize {
+            return Some(place as u32);
+        }
+    }
+    None
+}
+
+/// The outlines of a processor before the first that is missing.
+fn unbroken(own: &[Outline]) -> &[Outline]
     ensures { result.now ≡ take (reach_from 0 (numbers_of own.now)) own.now }
 {
-    for (place, segment) in own.iter().enumerate() {
-        if segment.number() as usize != place {
+    for (place, outline) in own.iter().enumerate() {
+        if outline.number as usize != place {
             return &own[..place];
         }
     }
     own
+}
+
+/// The greatest last sequence of these outlines, 0 where there are none.
+fn greatest_last(outlines: &[Outline]) -> u64
+    ensures { result ≡ greatest_from 0 outlines.now }
+{
+    let mut greatest = 0;
+    for outline in outlines {
+        greatest = outline.last.max(greatest);
+    }
+    greatest
 }

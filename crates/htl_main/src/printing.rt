@@ -5,14 +5,17 @@ ghost use Rattle.std.specs.Io.KnownBytes.{Appends};
 ghost use Rattle.std.specs.Option.{option_copied};
 ghost use Rattle.htl_device.specs.Devices.{AppendsPrefix};
 ghost use Rattle.htl_segment.specs.Content.{Content};
+ghost use Rattle.htl_segment.specs.Traces.{Trace};
 ghost use Rattle.htl_case.specs.Cases.{IsCaseOf};
 ghost use Rattle.htl_main.specs.Answers.{Finds, FindsIn};
+ghost use Rattle.htl_main.specs.CaseOutlines.{AreOutlinesOf};
 ghost use Rattle.htl_main.specs.Completeness.{IsComplete, ReportsMissing};
 ghost use Rattle.htl_main.specs.Coverages.{Covers, CoversSegments};
 ghost use Rattle.htl_main.specs.Printed.{AreAnswerLines, HasSymbols, HasSymbolFault, WorkersFit};
 ghost use Rattle.htl_main.specs.Printed.{lines_of};
 ghost use Rattle.htl_main.specs.Causes.{Prints, PrintsPart, IsCause, IsCauseAfter};
 ghost use Rattle.htl_main.specs.Origins.{IsBetween, by_fault};
+ghost use Rattle.htl_main.specs.Picking.{EndsAnswer};
 ghost use Rattle.htl_main.specs.Subjects.{ReportsSubject, has_subject as has_subject_of};
 
 use crate::answering::answer;
@@ -28,6 +31,7 @@ use htl_device::{Sink, write_whole};
 use htl_event::NoMemory;
 use htl_json::json_lines;
 use htl_report::{Answer, folded, text};
+use htl_segment::Outline;
 use htl_symbols::{SymbolFault, Symbols};
 use std::alloc::Global;
 use std::sync::Wait;
@@ -115,10 +119,11 @@ pub(crate) fn answered(
     ensures err { IfErr result (λ fault. (segments : List Content) → IsCaseOf segments case.now
         → IsCauseAfter segments (option_copied symbols.entry) job.now fault) }
 {
-    check_gaps(job.complete, case)?;
+    let outlines = case.outlines(alloc)?;
+    check_gaps(job.complete, case.processors(), &outlines)?;
     let symbols = read_symbols(alloc, symbols)?;
-    let coverage = Coverage::of(case);
-    let answer = answer(alloc, job.question, case, coverage)?;
+    let coverage = Coverage::of(case.processors(), &outlines);
+    let answer = answer(alloc, job.question, case, &outlines, coverage)?;
     let lines = lines(alloc, job, &answer, &symbols)?;
     let has_subject = has_subject(job.question, case);
     Ok((
@@ -148,15 +153,23 @@ pub fn lines(
     }
 }
 
-/// Refuses a case with a gap where a complete one is asked for. Takes no memory.
-pub(crate) fn check_gaps(complete: bool, case: &Case) -> Result<(), RunFault>
-    ensures ok { OnOk result (complete ≡ true → IsComplete case.now) }
-    ensures err { IfErr result (λ fault. (complete ≡ true) × ReportsMissing case.now fault) }
+/// Refuses the case with these outlines where it has a gap and a complete one is asked for. Takes no
+/// memory.
+pub(crate) fn check_gaps(
+    complete: bool,
+    processors: u16,
+    outlines: &[Outline],
+) -> Result<(), RunFault>
+    ensures ok { OnOk result (complete ≡ true
+        → (T : Trace) → AreOutlinesOf processors outlines.now T → IsComplete T) }
+    ensures err { IfErr result (λ fault. (complete ≡ true)
+        × ((T : Trace) → AreOutlinesOf processors outlines.now T → ReportsMissing T fault)) }
+    ensures after { IfErr result EndsAnswer }
 {
     if !complete {
         return Ok(());
     }
-    match first_missing(case) {
+    match first_missing(processors, outlines) {
         Some((processor, number)) => Err(RunFault::Incomplete { processor, number }),
         None => Ok(()),
     }

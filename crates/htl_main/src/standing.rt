@@ -106,9 +106,10 @@ fn stand(
         → IsCaseOf segments case
         → IsCauseAfter segments (option_copied symbols.entry) (in_setting setting job) fault) }
 {
-    check_gaps(setting.complete, &case)?;
+    let outlines = case.outlines(alloc)?;
+    check_gaps(setting.complete, case.processors(), &outlines)?;
     let symbols = read_symbols(alloc, symbols)?;
-    let coverage = Coverage::of(&case);
+    let coverage = Coverage::of(case.processors(), &outlines);
     Ok(Standing {
         case,
         coverage,

@@ -4,6 +4,7 @@ ghost use Rattle.std.specs.Prelude.{◌≡◌, ◌<◌, ◌^◌, IfOk, length};
 ghost use Rattle.htl_segment.specs.Traces.{all_events};
 ghost use Rattle.htl_event.specs.Summaries.{IsNumberOfObjects, IsProcesses, IsUnbalanced};
 ghost use Rattle.htl_main.specs.Answers.{IsAnswer};
+ghost use Rattle.htl_main.specs.CaseOutlines.{AreOutlinesOf};
 ghost use Rattle.htl_main.specs.Coverages.{IsCoverage};
 ghost use Rattle.htl_main.specs.Summaries.{AreTotals};
 ghost use Rattle.htl_command.specs.declared.question.Question.TheVariants as asked;
@@ -13,18 +14,25 @@ use crate::unfolded::Unfolded;
 use htl_case::Case;
 use htl_event::{NoMemory, ProcessRow};
 use htl_report::{Answer, Totals};
-use htl_segment::Segment;
+use htl_segment::{Outline, Segment};
 use htl_summary::{Objects, Summary, summarize};
 use std::alloc::Global;
 
-/// The summary of a case of this coverage, by one part that holds all its segments.
-pub(crate) fn summary(alloc: Global, case: &Case, coverage: Coverage) -> Result<Answer, NoMemory>
-    requires { IsCoverage case.now coverage }
+/// The summary of a case with these outlines and of this coverage, by one part that holds all its
+/// segments.
+pub(crate) fn summary(
+    alloc: Global,
+    case: &Case,
+    outlines: &[Outline],
+    coverage: Coverage,
+) -> Result<Answer, NoMemory>
+    requires outlines { AreOutlinesOf case.now.processors outlines.now case.now }
+    requires coverage { IsCoverage case.now coverage }
     ensures { IfOk result (IsAnswer case.now asked.Summary) }
 {
     let part = Unfolded::new(alloc, case.segments());
     let Summary { objects, processes } = summarize(alloc, &alloc, &[part])?;
-    let answer = summary_of(alloc, case, coverage, processes, objects)?;
+    let answer = summary_with(alloc, case, outlines, coverage, processes, objects)?;
     Ok(answer)
 }
 
@@ -42,8 +50,29 @@ pub fn summary_of(
     requires unbalanced { IsUnbalanced (all_events case.now.segments) objects.unbalanced.items }
     ensures { IfOk result (IsAnswer case.now asked.Summary) }
 {
+    let outlines = case.outlines(alloc)?;
+    let answer = summary_with(alloc, case, &outlines, coverage, processes, objects)?;
+    Ok(answer)
+}
+
+/// The same, where its outlines are known too.
+fn summary_with(
+    alloc: Global,
+    case: &Case,
+    outlines: &[Outline],
+    coverage: Coverage,
+    processes: Vec<ProcessRow>,
+    objects: Objects,
+) -> Result<Answer, NoMemory>
+    requires outlines { AreOutlinesOf case.now.processors outlines.now case.now }
+    requires coverage { IsCoverage case.now coverage }
+    requires processes { IsProcesses (all_events case.now.segments) processes.items }
+    requires number { IsNumberOfObjects (all_events case.now.segments) objects.number }
+    requires unbalanced { IsUnbalanced (all_events case.now.segments) objects.unbalanced.items }
+    ensures { IfOk result (IsAnswer case.now asked.Summary) }
+{
     let Objects { number, unbalanced } = objects;
-    let gaps = gaps(alloc, case)?;
+    let gaps = gaps(alloc, case.processors(), outlines)?;
     Ok(Answer::Summary {
         totals: totals(case, coverage, number),
         gaps,

@@ -1,48 +1,54 @@
-//! The segments of a case as a part of an answer, of which nothing was folded.
+//! Lists of events as a part of an answer, of which nothing was folded.
+
+ghost use Rattle.std.specs.Prelude.{◌≡◌};
+ghost use Rattle.htl_main.specs.Unfolded.{unfolded};
 
 use htl_answers::Part;
-use htl_segment::Segment;
+use htl_event::{EventList, SharedEvent};
 use htl_tables::{Exits, Latest, Marks};
 use htl_tree::StackTree;
 use std::alloc::Global;
+use std::slice;
 
-/// Segments that stay where they lie, beside an empty tree and empty tables.
+/// Lists of events that stay where they lie, beside an empty tree and empty tables.
 #[derive(Drop)]
-pub(crate) struct Unfolded<'a> {
-    pub(crate) tree: StackTree<Global>,
-    pub(crate) latest: Latest<Global>,
-    pub(crate) marks: Marks<Global>,
-    pub(crate) exits: Exits<Global>,
-    pub(crate) segments: &'a [Segment],
+pub(crate) struct Unfolded<'a, E> {
+    tree: StackTree<Global>,
+    latest: Latest<Global>,
+    marks: Marks<Global>,
+    exits: Exits<Global>,
+    held: &'a [E],
 }
 
-impl Unfolded<'_> {
-    ghost use Rattle.std.specs.Prelude.{◌≡◌};
-    ghost use Rattle.htl_segment.specs.Traces.{all_events};
-    ghost use Rattle.htl_main.specs.Unfolded.{contents_of, unfolded};
+impl<'a, E: EventList> Unfolded<'a, E> {
+    ghost use Rattle.std.specs.Prelude.{◌≡◌, flat_map};
+    ghost use Rattle.htl_main.specs.Unfolded.{unfolded};
 
     /// Takes no memory.
-    pub(crate) fn new(alloc: Global, segments: &[Segment]) -> Unfolded<'_>
-        ensures { contents_of result ≡ unfolded (all_events segments.now) }
+    pub(crate) fn new(alloc: Global, held: &'a [E]) -> Unfolded<'a, E>
+        ensures { ⟦<Unfolded<'a, E> as Part>⟧.contents result
+            ≡ unfolded (flat_map E.events_of held.now) }
     {
         Unfolded {
             tree: StackTree::new(alloc),
             latest: Latest::new(alloc),
             marks: Marks::new(alloc),
             exits: Exits::new(alloc),
-            segments,
+            held,
         }
     }
 }
 
-impl Part for Unfolded<'_> {
+impl<'a, E: EventList> Part for Unfolded<'a, E> {
+    ghost use Rattle.std.specs.Prelude.{flat_map};
     ghost use Rattle.htl_main.specs.Unfolded.{contents_of};
 
-    type Held = Segment;
+    type Held = E;
 
     type Alloc = Global;
 
-    ghost contents = { contents_of };
+    ghost contents = { λ part. contents_of part.tree part.latest part.marks part.exits
+        (flat_map E.events_of part.held.now) };
 
     fn tree(&self) -> &StackTree<Global> {
         &self.tree
@@ -60,7 +66,18 @@ impl Part for Unfolded<'_> {
         &self.exits
     }
 
-    fn held(&self) -> &[Segment] {
-        self.segments
+    fn held(&self) -> &[E] {
+        self.held
     }
+}
+
+/// One list of events as such a part.
+pub(crate) fn unfolded_list<'a>(
+    alloc: Global,
+    events: &'a Vec<SharedEvent>,
+) -> Unfolded<'a, Vec<SharedEvent>>
+    ensures { ⟦<Unfolded<'a, Vec<SharedEvent>> as Part>⟧.contents result
+        ≡ unfolded events.now.items }
+{
+    Unfolded::new(alloc, slice::from_ref(events))
 }

@@ -41,11 +41,12 @@ refusal_of bytes offset fault refused =
       | inr asked ↦ rw (asked.0) (offset, asked.1)
     ]
 
-pub block_refused : (segments : List Content) (bytes : List ℕ) (offset inside : ℕ) (fault : Fault) → IsGathered segments offset
-    → IsRefused bytes inside fault → IsRefusal (taken segments bytes) (of_segment (offset + inside) fault)
-block_refused segments bytes offset inside fault at refused =
-    rw (at.offset_is) (refusal_of (taken segments bytes) (length (bundle segments) + inside) fault
-    (refused_after (bundle segments) bytes segments inside fault (whole_before segments at.fits) refused))
+pub block_refused : (segments : List Content) (bytes : List ℕ) (offset inside : ℕ) (fault : Fault) → All Fits segments
+    → offset ≡ length (bundle segments) → IsRefused bytes inside fault
+    → IsRefusal (taken segments bytes) (of_segment (offset + inside) fault)
+block_refused segments bytes offset inside fault fits offset_is refused =
+    rw offset_is (refusal_of (taken segments bytes) (length (bundle segments) + inside) fault
+    (refused_after (bundle segments) bytes segments inside fault (whole_before segments fits) refused))
 
 -- ---- a decoded block
 

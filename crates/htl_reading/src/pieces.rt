@@ -1,4 +1,4 @@
-//! A source that is read in pieces, each of which is split at once.
+//! The first reads of a source that several workers decode, each of which is split at once.
 
 ghost use Rattle.std.specs.Prelude.{◌≡◌, ◌≢◌, ◌+◌, ◌*◌, ◌<◌, ◌≤◌, ◌^◌, ◌++◌, ℕ, []};
 ghost use Rattle.std.specs.Prelude.{false, true, length, None, Err, IfOk, IfErr, IfSome, OnOk};
@@ -14,15 +14,6 @@ use htl_device::{MAX_READ_LEN, Source};
 use htl_segment::{Segment, Splitter};
 use std::alloc::Global;
 
-/// How far a source is read in pieces.
-#[derive(Clone, Copy, Debug, PartialEq, Eq)]
-pub enum Until {
-    /// To its end.
-    End,
-    /// To its first segment.
-    Segment,
-}
-
 /// What the first reads of a source came to.
 #[derive(Drop)]
 pub struct Begun {
@@ -34,12 +25,12 @@ pub struct Begun {
     pub ended: bool,
 }
 
-/// Reads a source in reads of the buffer's length, of which at most `most` give bytes.
-pub fn read_pieces<R: Source>(
+/// Reads a source to its first segments, or to its end, in reads of the buffer's length, of which at
+/// most `most` give bytes.
+pub fn read_first<R: Source>(
     alloc: Global,
     source: &mut R,
     buffer: &mut [u8],
-    until: Until,
     most: u64,
 ) -> Result<Begun, SourceFault>
     requires fresh { R.has_failed source.old ≡ false }
@@ -47,7 +38,6 @@ pub fn read_pieces<R: Source>(
     requires few { most * MAX_READ_LEN < 2 ^ 64 }
     ensures ok { IfOk result (λ begun. IsBegun (R.remaining source.old) (R.remaining source.new)
         (R.has_ended source.new) begun.segments.items begun.splitter begun.ended) }
-    ensures until { IfOk result (λ begun. begun.ended ≡ false → until ≡ Until.Segment) }
     ensures counted { IfOk result (λ begun. (begun.reads ≤ most)
         × IsCounted (taken begun.segments.items begun.splitter.rest) begun.reads
         (R.good_reads source.old) (R.good_reads source.new)) }
@@ -65,7 +55,6 @@ pub fn read_pieces<R: Source>(
     ensures whole { length buffer.new ≡ MAX_READ_LEN }
 {
     let mut splitter = Splitter::new(alloc);
-    let mut segments = Vec::new(alloc);
     for reads in 0..most {
         let Ok(count) = source.read(buffer) else {
             return Err(SourceFault::Read);
@@ -73,14 +62,13 @@ pub fn read_pieces<R: Source>(
         if count == 0 {
             return Ok(Begun {
                 splitter,
-                segments,
+                segments: Vec::new(alloc),
                 reads,
                 ended: true,
             });
         }
-        let mut more = feed(alloc, &mut splitter, &buffer[..count])?;
-        segments.append(&mut more)?;
-        if until == Until::Segment && !segments.is_empty() {
+        let segments = feed(alloc, &mut splitter, &buffer[..count])?;
+        if !segments.is_empty() {
             return Ok(Begun {
                 splitter,
                 segments,

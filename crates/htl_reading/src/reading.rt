@@ -7,12 +7,13 @@ ghost use Rattle.htl_reading.specs.Sources.{FailsOnly, IsReadToFault, IsReported
 ghost use Rattle.htl_reading.specs.Sources.{read_ahead};
 ghost use Rattle.htl_reading.specs.declared.fault.SourceFault.TheVariants.{Read};
 
+use crate::alone::read_alone;
 use crate::blocks::{Gathered, read_blocks};
 use crate::fault::SourceFault;
 use crate::filling::Limits;
-use crate::pieces::{Begun, Until, finish, read_pieces};
+use crate::pieces::{finish, read_first};
 use htl_device::{MAX_READ_LEN, MAX_READS, Source};
-use htl_segment::Segment;
+use htl_segment::{Segment, Segments, StackCache};
 use std::alloc::Global;
 use std::thread::Threads;
 
@@ -23,9 +24,9 @@ pub const BLOCK_LEN: usize = 4_194_304;
 /// They are the same for every number of workers, and the first fault of the bytes is reported
 /// wherever it was found. A read that fails is reported where no fault stands before it.
 ///
-/// One worker splits each read at once. Several begin so, and decode what comes after the first
-/// segment in blocks, of which the last may have fewer bytes. While they decode one, this thread reads
-/// the next.
+/// One worker decodes each read before the next. Several begin so, and decode what comes after the
+/// first segments in blocks, of which the last may have fewer bytes. While they decode one, this thread
+/// reads the next.
 pub fn read_bundle<T: Threads + Sync, R: Source>(
     rt: &T,
     alloc: Global,
@@ -101,6 +102,7 @@ fn read_within<T: Threads + Sync, R: Source>(
 ) -> Result<Vec<Segment>, SourceFault>
     requires fresh { R.has_failed source.old ≡ false }
     requires whole { length buffer.old ≡ MAX_READ_LEN }
+    requires some { 0 < most }
     requires few { most * MAX_READ_LEN < 2 ^ 64 }
     ensures ok { IfOk result (λ segments. IfSome (R.remaining source.old)
         (λ bytes. Splits bytes segments.items [])) }
@@ -118,12 +120,15 @@ fn read_within<T: Threads + Sync, R: Source>(
     ensures to_fault { IsReadToFault (read_ahead workers block_len) (R.remaining source.old)
         (R.remaining source.new) }
 {
-    let until = if workers <= 1 {
-        Until::End
-    } else {
-        Until::Segment
-    };
-    let begun = read_pieces(alloc, source, buffer, until, most)?;
+    if workers <= 1 {
+        let mut segments = Segments {
+            cache: StackCache::new(alloc),
+            list: Vec::new(alloc),
+        };
+        read_alone(alloc, source, &mut segments, buffer, most)?;
+        return Ok(segments.list);
+    }
+    let begun = read_first(alloc, source, buffer, most)?;
     if begun.ended {
         return finish(begun);
     }

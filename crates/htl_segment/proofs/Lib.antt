@@ -15,3 +15,8 @@ pub mod MoreBytes
 pub mod PiecesLaws
 pub mod Spans
 pub mod Greatest
+pub mod Batches
+pub mod Times
+pub mod SeenLaws
+pub mod PicksLaws
+pub mod OutlineLaws

@@ -1,5 +1,5 @@
--- The first and the last event of a segment have its least and its greatest sequence.
-use Rattle.std.proofs.Common.{◌≡◌, ℕ, zero, suc, ◌+◌, ◌<◌, ◌≤◌, List, [], ◌∷◌, length, Some, sym, ap}
+-- The last event of a segment has its greatest sequence.
+use Rattle.std.proofs.Common.{◌≡◌, ℕ, zero, suc, ◌+◌, ◌<◌, ◌≤◌, List, [], ◌∷◌, length, Some, ap}
 use Rattle.std.proofs.Common.{subst, inl, inr, arith}
 use Rattle.std.specs.Prelude.{Contains, slice_get}
 use Rattle.std.proofs.lemmas.Option.{same_Some, slice_get_within, get_or_from_slice_get}
@@ -19,17 +19,6 @@ above version low (e ∷ es) fit x h =
     elim (Contains-cases e es x h) [
       | inl is ↦ subst (λ (y : Event). low < y.sequence) is fit.1
       | inr there ↦ (let up = above version e.sequence es fit.2 x there in let first = fit.1 in omega (arith, up, first))
-    ]
-
--- the first event has the least sequence
-pub least_first : (version : Version) (low : ℕ) (es : List Event) (first : Event) → EventsFit version low es → slice_get es 0 ≡ Some first
-    → (x : Event) → Contains es x → first.sequence ≤ x.sequence
-least_first version low [] first fit at x h = absurd (Contains-nil x h)
-least_first version low (e ∷ es) first fit at x h =
-    let same : first.sequence ≡ e.sequence = ap (λ (y : Event). y.sequence) (sym (same_Some e first at)) in
-    elim (Contains-cases e es x h) [
-      | inl is ↦ (let here : e.sequence ≡ x.sequence = ap (λ (y : Event). y.sequence) is in omega (arith, same, here))
-      | inr there ↦ (let up = above version e.sequence es fit.2 x there in omega (arith, up, same))
     ]
 
 -- the last event has the greatest sequence

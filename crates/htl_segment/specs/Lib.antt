@@ -17,6 +17,10 @@ pub mod Keys
 pub mod Traces
 pub mod TraceLaws
 pub mod Rising
+pub mod Outlines
+pub mod Repeated
+pub mod Seen
+pub mod Picks
 -- What only private contracts and invariants cite: a segment in place, and the steps of splitting.
 pub mod InPlace
 pub mod Feeding

@@ -1,5 +1,6 @@
 //! Segments one after another.
-ghost use Rattle.std.specs.Prelude.{◌≡◌, ◌⊎◌, [], IfOk, IfErr, MatchResult};
+ghost use Rattle.std.specs.Prelude.{◌≡◌, ◌⊎◌, ◌++◌, List, [], IfOk, IfErr, MatchResult};
+ghost use Rattle.htl_segment.specs.Content.{Content};
 ghost use Rattle.htl_segment.specs.Bundles.{Splits, IsBoundary, IsRest, IsRefused};
 ghost use Rattle.htl_segment.specs.Feeding.{SplitsMore};
 ghost use Rattle.htl_segment.specs.Bundles.{BundleFault, SegmentAt, cut_off};
@@ -7,8 +8,11 @@ ghost use Rattle.htl_segment.specs.Bundles.{BundleFault, SegmentAt, cut_off};
 use crate::decoding::decode_with;
 use crate::fault::Fault;
 use crate::header::HEADER_LEN;
+use crate::keeper::Keeper;
 use crate::segment::Segment;
+use crate::segment_bytes::SegmentBytes;
 use crate::stack_cache::StackCache;
+use htl_event::NoMemory;
 use std::alloc::Global;
 
 /// The segments whose bytes, one after another, are `bytes`. A refusal reports the offset at which
@@ -67,6 +71,34 @@ pub fn split<'a>(
             }
             Err(fault) if fault.is_early_end() => return Ok(rest),
             Err(fault) => return Err((offset, fault)),
+        }
+    }
+}
+
+/// Takes whole segments off the front of `bytes`, up to bytes that more bytes may make a segment of.
+/// Those are left. A refusal reports the offset of the refused segment; what was taken before it
+/// stays.
+pub fn split_into<'a, K: Keeper>(
+    alloc: Global,
+    keeper: &mut K,
+    bytes: &'a [u8],
+) -> Result<&'a [u8], (u64, Fault)>
+    ensures gathered { IfOk result (λ rest. (more : List Content) × Splits bytes.now more rest.now
+        × ((start : K) (segments : List Content) → K.gathers start keeper.old segments
+        → K.gathers start keeper.new (segments ++ more))) }
+    ensures rest { IfOk result (λ rest. IsRest rest.now) }
+    ensures refused { IfErr result (λ refused. IsRefused bytes.now refused.0 refused.1) }
+{
+    let mut rest = bytes;
+    loop {
+        let offset = (bytes.len() - rest.len()) as u64;
+        match SegmentBytes::check(rest) {
+            Ok(found) => match keeper.take(alloc, &found) {
+                Ok(()) => rest = &rest[found.byte_len()..],
+                Err(NoMemory) => return Err((offset, Fault::NoMemory)),
+            },
+            Err(end) if end.is_early_end() => return Ok(rest),
+            Err(other) => return Err((offset, other)),
         }
     }
 }

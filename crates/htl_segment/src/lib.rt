@@ -7,11 +7,13 @@
 //! Files, in reading order: `version.rt` and `kinds.rt` (the limits of both versions, the codes of
 //! kinds), `fields.rt` (numbers at their places), `header.rt` and `record.rt` (the fields and
 //! their rules), `fault.rt`, `records.rt` and `segment_bytes.rt` (records and a checked segment
-//! where they lie in bytes), `stack_cache.rt` and `fingerprints.rt` (stacks that were met lately,
-//! so that equal ones are kept once), `segment.rt`, `decoding.rt`, `encoding.rt` and `building.rt`
-//! (a segment in memory, from bytes, to bytes, from its parts), `rising.rt` (the greatest sequence
-//! of segments), `bundle.rt`, `splitter.rt` and `feeding.rt` (segments one after another, whole and
-//! in pieces), `hexadecimal.rt`, `laws.rt`.
+//! where they lie in bytes), `stack_cache.rt`, `fingerprints.rt` and `sharing.rt` (stacks that were
+//! met lately, so that equal ones are kept once), `segment.rt`, `decoding.rt`, `encoding.rt` and
+//! `building.rt` (a segment in memory, from bytes, to bytes, from its parts), `rising.rt` (the
+//! greatest sequence of segments), `bundle.rt`, `splitter.rt` and `feeding.rt` (segments one after
+//! another, whole and in pieces), `keeper.rt` (what is made of segments as they are read),
+//! `outline.rt`, `seen.rt`, `repeated.rt` and `picks.rt` (what a question about a process or an
+//! object needs of them), `hexadecimal.rt`, `laws.rt`.
 //!
 //! `specs/Lib` names the definitions in the order in which they are read. In `proofs/`,
 //! `RecordLaws`, `HeaderLaws` and `SegmentLaws` show both directions between bytes and segments,
@@ -29,26 +31,37 @@ mod fields;
 mod fingerprints;
 mod header;
 mod hexadecimal;
+mod keeper;
 mod kinds;
 pub mod laws;
+mod outline;
+mod picks;
 mod record;
 mod records;
+mod repeated;
 mod rising;
+mod seen;
 mod segment;
 mod segment_bytes;
+mod sharing;
 mod splitter;
 mod stack_cache;
 mod version;
 
-pub use bundle::{cut_off, decode_bundle, split};
+pub use bundle::{cut_off, decode_bundle, split, split_into};
 pub use decoding::decode;
 pub use encoding::encode;
 pub use fault::Fault;
 pub use header::whole_len;
 pub use hexadecimal::{HexFault, from_hex};
+pub use keeper::{Keeper, Segments};
+pub use outline::Outline;
+pub use picks::Picks;
 pub use record::Record;
 pub use records::Records;
+pub use repeated::first_repeated;
 pub use rising::greatest_sequence;
+pub use seen::Seen;
 pub use segment::Segment;
 pub use segment_bytes::SegmentBytes;
 pub use splitter::{Splitter, decode_pieces};

@@ -8,7 +8,7 @@ use crate::fault::Fault;
 use crate::fields::{u16_at, u32_at, u64_at};
 use crate::stack_cache::StackCache;
 use crate::version::Version;
-use htl_event::{Event, Kind, MAX_FRAMES, NoMemory, SharedEvent, Stack, base};
+use htl_event::{Event, Interest, Kind, MAX_FRAMES, NoMemory, SharedEvent, Stack, base};
 use std::alloc::Global;
 
 /// The bytes of a record without its frames.
@@ -86,7 +86,18 @@ impl<'a> Record<'a> {
 
 impl Record<'_> {
     ghost use Rattle.std.specs.Prelude.{◌≡◌, IfOk};
+    ghost use Rattle.htl_event.specs.Interests.{wants};
     ghost use Rattle.htl_segment.specs.Records.{event_of};
+
+    /// Whether the event is one of those that are asked about.
+    pub(crate) fn is_wanted(&self, interest: Interest) -> bool
+        ensures { result ≡ wants interest (event_of self.now) }
+    {
+        match interest {
+            Interest::Process(process) => self.process == process,
+            Interest::Object(object) => self.object == object,
+        }
+    }
 
     /// The event that this record describes, with a stack of the cache.
     pub(crate) fn shared(

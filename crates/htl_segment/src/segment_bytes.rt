@@ -1,16 +1,22 @@
 //! A segment where it lies in bytes.
-ghost use Rattle.std.specs.Prelude.{◌≡◌, None, Some, IfOk, MatchResult};
+ghost use Rattle.std.specs.Prelude.{◌≡◌, ◌++◌, ℕ, List, None, Some, IfOk, OnOk, MatchResult};
+ghost use Rattle.htl_event.specs.Interests.{wanted};
 ghost use Rattle.htl_segment.specs.Faults.{records_fault};
+ghost use Rattle.htl_segment.specs.Outlines.{last_sequence};
+ghost use Rattle.htl_segment.specs.Repeated.{sequences_of};
+ghost use Rattle.htl_segment.specs.Seen.{Saw};
 
 use crate::fault::Fault;
-use crate::fingerprints::Fingerprints;
 use crate::header::{HEADER_LEN, Header, read_header};
+use crate::outline::Outline;
 use crate::record::{Record, check_record};
 use crate::records::Records;
+use crate::seen::Seen;
 use crate::segment::Segment;
+use crate::sharing::{BATCH, put, share_all};
 use crate::stack_cache::StackCache;
 use crate::version::Version;
-use htl_event::{NoMemory, SharedEvent};
+use htl_event::{Interest, NoMemory, SharedEvent};
 use std::alloc::Global;
 use std::marker::Model;
 use std::sync::Arc;
@@ -106,9 +112,8 @@ impl<'a> SegmentBytes<'a> {
     ) -> Result<Segment, NoMemory>
         ensures { IfOk result (λ segment. segment ≡ self.now) }
     {
-        let fingerprints = Fingerprints::of(self.records());
         let count = self.header.count as usize;
-        let events = gather(alloc, cache, fingerprints, count, self.records())?;
+        let events = gather(alloc, cache, count, self.records())?;
         Ok(Segment::new(
             self.header.version,
             self.header.trace_id,
@@ -117,6 +122,58 @@ impl<'a> SegmentBytes<'a> {
             self.header.number,
             Arc::new(alloc, events)?,
         ))
+    }
+}
+
+impl SegmentBytes<'_> {
+    ghost use Rattle.std.specs.Prelude.{◌≡◌, ◌++◌, ℕ, List, IfOk, OnOk};
+    ghost use Rattle.htl_event.specs.Interests.{wanted};
+    ghost use Rattle.htl_segment.specs.Outlines.{first_sequence, last_sequence, outline_of};
+    ghost use Rattle.htl_segment.specs.Repeated.{sequences_of};
+    ghost use Rattle.htl_segment.specs.Seen.{Saw};
+
+    /// Puts the events that are asked about after others, notes the sequences of all, and gives the
+    /// last sequence, 0 where there is none.
+    pub(crate) fn pick_with(
+        &self,
+        alloc: Global,
+        cache: &mut StackCache,
+        interest: Interest,
+        seen: &mut Seen,
+        events: &mut Vec<SharedEvent>,
+    ) -> Result<u64, NoMemory>
+        ensures events { OnOk result
+            (events.new.items ≡ events.old.items ++ wanted interest self.now.events) }
+        ensures seen { (numbers : List ℕ) → Saw seen.old numbers
+            → OnOk result (Saw seen.new (numbers ++ sequences_of self.now.events)) }
+        ensures last { IfOk result (λ last. last ≡ last_sequence 0 self.now.events) }
+    {
+        pick(alloc, cache, interest, seen, events, self.records())
+    }
+
+    /// What is kept of the segment beside its events, of which the last has this sequence.
+    pub(crate) fn outline(&self, last: u64) -> Outline
+        requires { last ≡ last_sequence 0 self.now.events }
+        ensures { result ≡ outline_of self.now }
+    {
+        Outline {
+            trace_id: self.header.trace_id,
+            processors: self.header.processors,
+            processor: self.header.processor,
+            number: self.header.number,
+            first: self.first_sequence(),
+            last,
+        }
+    }
+
+    /// The sequence of the first event, 0 where there is none.
+    fn first_sequence(&self) -> u64
+        ensures { result ≡ first_sequence self.now.events }
+    {
+        match self.records().next() {
+            Some(first) => first.sequence,
+            None => 0,
+        }
     }
 }
 
@@ -161,22 +218,51 @@ impl SegmentBytes<'_> {
     }
 }
 
-/// The events of `count` records, whose stacks have these fingerprints.
+/// The events of `count` records.
 fn gather(
     alloc: Global,
     cache: &mut StackCache,
-    mut fingerprints: Fingerprints<'_>,
     count: usize,
     records: Records<'_>,
 ) -> Result<Vec<SharedEvent>, NoMemory>
     ensures { IfOk result (λ events. events.items ≡ records.entry) }
 {
     let mut events = Vec::with_capacity(alloc, count)?;
+    let mut batch = Vec::with_capacity(alloc, BATCH)?;
     for record in records {
-        let fingerprint = fingerprints.next(cache);
-        events.push(record.shared(alloc, cache, fingerprint)?)?;
+        put(alloc, cache, &mut batch, &mut events, record)?;
     }
+    share_all(alloc, cache, &batch, &mut events)?;
     Ok(events)
+}
+
+/// Puts the events of records that are asked about after others, notes the sequences of all, and gives
+/// the last sequence, 0 where there is none.
+fn pick(
+    alloc: Global,
+    cache: &mut StackCache,
+    interest: Interest,
+    seen: &mut Seen,
+    events: &mut Vec<SharedEvent>,
+    records: Records<'_>,
+) -> Result<u64, NoMemory>
+    ensures events { OnOk result
+        (events.new.items ≡ events.old.items ++ wanted interest records.entry) }
+    ensures seen { (numbers : List ℕ) → Saw seen.old numbers
+        → OnOk result (Saw seen.new (numbers ++ sequences_of records.entry)) }
+    ensures last { IfOk result (λ last. last ≡ last_sequence 0 records.entry) }
+{
+    let mut last = 0;
+    let mut batch = Vec::with_capacity(alloc, BATCH)?;
+    for record in records {
+        last = record.sequence;
+        seen.note(last)?;
+        if record.is_wanted(interest) {
+            put(alloc, cache, &mut batch, events, record)?;
+        }
+    }
+    share_all(alloc, cache, &batch, events)?;
+    Ok(last)
 }
 
 /// Tests this many records, which have to fill `body`.

@@ -7,5 +7,5 @@ use Rattle.htl_case.proofs.ordering.sort_by_key.Goals as goal
 
 pub returns-clause-sorted : goal.returns-clause-sorted
 returns-clause-sorted c =
-    sorted_by_key c.sort_unstable_by_key.new.self.items
+    sorted_by_key key_of c.sort_unstable_by_key.new.self.items
     (c.sort_unstable_by_key.ensures.sorted key_of (answers_always _ _ _ (λ f a r g h. search rules)))

@@ -1,32 +1,26 @@
 -- The first segment that falls has the least such key.
-use Rattle.htl_case.proofs.Scanned.{scan_some, scan_empty, scan_found, scan_all}
-use Rattle.htl_case.proofs.rising.falling.Goals.{in-Some+else-first-floor, in_default}
+use Rattle.std.proofs.Common.{get_or, refl, rules}
+use Rattle.htl_segment.specs.declared.outline.Outline.{Outline}
+use Rattle.htl_case.proofs.Scanned.{scan_more, scan_found, scan_all}
 use Rattle.htl_case.proofs.rising.falling.Goals as goal
 
-pub returns-then-first-floor : goal.returns-then-first-floor
-returns-then-first-floor c =
-    rw c.key.ensures (scan_found c.args.segments.now c.requires.in_order c.loop-segment.segment-index c.segment-item.result
-    c.loop-segment-test.true c.segment-item.is
-    c.loop-segment.processor c.loop-segment.highest c.floor_of-floor.result c.in-Some.first c.in-Some.last c.loop-segment.invariant
-    c.floor_of-floor.ensures
-    (rw (← c.segment-item.is) at (c.requires.fit c.loop-segment.segment-index c.segment-item.result c.loop-segment-test.true))
-    c.in-Some.ensures c.if-first-floor.true)
+abbrev no_outline : Outline
+no_outline = record { trace_id = 0; processors = 0; processor = 0; number = 0; first = 0; last = 0 }
 
-pub loop-segment-preserved : goal.loop-segment-preserved
-loop-segment-preserved c =
-    rw c.processor-processor.ensures.value (elim c.match-span.branch [
-      | in-Some+else-first-floor w ↦
-          rw w.highest-is (scan_some c.args.segments.now c.requires.in_order c.loop-segment.segment-index c.segment-item.result
-          c.loop-segment-test.true c.segment-item.is
-          c.loop-segment.processor c.loop-segment.highest c.floor_of-floor.result w.in-Some.first w.in-Some.last c.loop-segment.invariant
-          c.floor_of-floor.ensures w.in-Some.ensures w.if-first-floor.false)
-      | in_default w ↦
-          rw w.highest-is (scan_empty c.args.segments.now c.requires.in_order c.loop-segment.segment-index c.segment-item.result
-          c.loop-segment-test.true c.segment-item.is
-          c.loop-segment.processor c.loop-segment.highest c.floor_of-floor.result c.loop-segment.invariant c.floor_of-floor.ensures
-          w.in_default.ensures)
-    ])
+pub returns-then-begins_within : goal.returns-then-begins_within
+returns-then-begins_within c =
+    let begun = c.begins_within.ensures.0 c.if-begins_within.true in
+    rw c.key.ensures (scan_found c.args.outlines.now c.loop-outline.outline-index
+    (get_or c.args.outlines.now c.loop-outline.outline-index no_outline) no_outline c.loop-outline-test.true refl
+    c.loop-outline.processor c.loop-outline.highest c.floor_of-floor.result c.loop-outline.invariant c.floor_of-floor.ensures
+    begun.0 begun.1)
+
+pub loop-outline-preserved : goal.loop-outline-preserved
+loop-outline-preserved c = rw c.max-highest.ensures (scan_more c.args.outlines.now c.loop-outline.outline-index
+    (get_or c.args.outlines.now c.loop-outline.outline-index no_outline) no_outline c.loop-outline-test.true refl
+    c.loop-outline.processor c.loop-outline.highest c.floor_of-floor.result c.loop-outline.invariant c.floor_of-floor.ensures
+    (λ begun. search (rules, begun)))
 
 pub returns : goal.returns
-returns c = scan_all c.args.segments.now c.loop-segment.segment-index c.loop-segment.processor c.loop-segment.highest
-    c.loop-segment-test.false c.loop-segment.invariant
+returns c = scan_all c.args.outlines.now c.loop-outline.outline-index c.loop-outline.processor c.loop-outline.highest
+    c.loop-outline-test.false c.loop-outline.invariant

@@ -1,8 +1,6 @@
 -- Sequences rise over the segments that were gone through, up to the highest of the last processor.
-use Rattle.std.proofs.Common.{take, drop}
-use Rattle.htl_case.proofs.Scanned.{AreScanned}
+use Rattle.htl_case.proofs.Scanned.{AreScannedTo}
 use Rattle.htl_case.proofs.rising.falling.Given as goal
 
-abbrev pub invariant-loop-segment : goal.invariant-loop-segment
-invariant-loop-segment l =
-    AreScanned (take l.segment-index l.segments) (drop l.segment-index l.segments) l.processor l.highest
+abbrev pub invariant-loop-outline : goal.invariant-loop-outline
+invariant-loop-outline l = AreScannedTo l.outlines l.outline-index l.processor l.highest

@@ -1,6 +1,6 @@
 -- So far the sequences of the events that were gone through were put after those that were there.
 use Rattle.std.proofs.Common.{◌≡◌, ◌++◌, map, take}
-use Rattle.htl_case.specs.Sequences.{sequence_of}
+use Rattle.htl_segment.specs.Repeated.{sequence_of}
 use Rattle.htl_case.proofs.sequences.push_sequences.Given as goal
 
 abbrev pub invariant-loop-event : goal.invariant-loop-event

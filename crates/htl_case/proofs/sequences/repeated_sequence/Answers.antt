@@ -1,8 +1,11 @@
 -- The least number that the sorted sequences repeat is the least sequence that comes twice.
-use Rattle.std.proofs.Common.{ℕ}
+use Rattle.std.proofs.Common.{ℕ, rules}
 use Rattle.std.proofs.lemmas.List.Sorted.{IsNonDecreasingBy-from_sort}
-use Rattle.htl_case.proofs.Twice.{told_twice}
+use Rattle.htl_case.proofs.Twice.{none_twice, told_twice}
 use Rattle.htl_case.proofs.sequences.repeated_sequence.Goals as goal
+
+pub returns-then-not-branch-clause-found : goal.returns-then-not-branch-clause-found
+returns-then-not-branch-clause-found c = none_twice c.args.segments.now (c.in_ok-one_comes_twice.ensures.once (search rules))
 
 pub first_repeated-requires : goal.first_repeated-requires
 first_repeated-requires c =

@@ -2,7 +2,7 @@
 use Rattle.std.proofs.Common.{◌≡◌, map, take, All}
 use Rattle.htl_segment.specs.Content.{Fits}
 use Rattle.htl_segment.specs.Traces.{all_events}
-use Rattle.htl_case.specs.Sequences.{sequence_of}
+use Rattle.htl_segment.specs.Repeated.{sequence_of}
 use Rattle.htl_case.proofs.sequences.sequences_of.Given as goal
 
 abbrev pub invariant-loop-segment : goal.invariant-loop-segment

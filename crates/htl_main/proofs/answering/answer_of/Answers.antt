@@ -4,7 +4,6 @@ use Rattle.htl_event.specs.Events.{Event}
 use Rattle.htl_event.specs.Handles.{IsDiff, IsMark}
 use Rattle.htl_answers.specs.Parts.{Contents, AreEventsOf}
 use Rattle.htl_main.specs.Answers.{IsDiffSince}
-use Rattle.htl_main.specs.Unfolded.{contents_of}
 use Rattle.htl_main.proofs.answering.answer_of.Goals as goal
 use Rattle.htl_main.proofs.answering.answer_of.Goals.{in-Outstanding+in_ok-outstanding-in-Outstanding, in-Diff+in_ok-diff-in-Diff}
 use Rattle.htl_main.proofs.answering.answer_of.Goals.{in-Tags+in_ok-tags-in-Tags, in-Bad+in_ok-bad-in-Bad}
@@ -22,8 +21,8 @@ diff_over parts events process moment (Some since) rows are given mark is =
     (given, subst (λ (n : ℕ). IsDiff (Contains events) process n rows) given is)
 
 pub returns : goal.returns
-returns c = λ events are own.
-    let parts = map contents_of c.args.parts.now in
+returns g c = λ events are own.
+    let parts = map g.P.Part.contents c.args.parts.now in
     elim c.match-question.branch [
       | in-Outstanding+in_ok-outstanding-in-Outstanding w ↦
           let rows = w.in_ok-outstanding-in-Outstanding.ensures events are own in search (rules, w, rows)

@@ -1,16 +1,15 @@
 -- The case's segments are one part, which stands for all its events.
 use Rattle.htl_segment.specs.Traces.{all_events}
-use Rattle.htl_main.specs.Unfolded.{contents_of}
 use Rattle.htl_main.proofs.UnfoldedLaws.{are_events, size_fits}
 use Rattle.htl_main.proofs.answering.answer_over.Goals as goal
 
 pub answer_of-requires-clause-few : goal.answer_of-requires-clause-few
 answer_of-requires-clause-few c =
-    size_fits c.args.case.now (contents_of c.new-part.result) c.segments.result.now c.new-part.ensures c.segments.ensures.value
+    size_fits c.args.case.now _ c.segments.result.now c.new-part.ensures c.segments.ensures.value
     c.segments.ensures.is_case.trace
 
 pub returns : goal.returns
 returns c =
     let T = c.args.case.now in
-    let are = are_events T (contents_of c.new-part.result) c.segments.result.now c.new-part.ensures c.segments.ensures.value in
+    let are = are_events T _ c.segments.result.now c.new-part.ensures c.segments.ensures.value in
     c.in_ok-answer.ensures (all_events T.segments) are c.segments.ensures.is_case.trace.sequences

@@ -6,5 +6,5 @@ use Rattle.htl_main.proofs.coverage.gap_count.Goals as goal
 pub returns-clause-value : goal.returns-clause-value
 returns-clause-value c =
     let some : 0 < length c.args.own.now = search rules in
-    λ p. all_counted p c.loop-segment.next c.loop-segment.gaps c.loop-segment.segment-index c.args.own.now some
-    c.loop-segment-test.false (c.loop-segment.invariant.counted p)
+    λ p. all_counted p c.loop-outline.next c.loop-outline.gaps c.loop-outline.outline-index c.args.own.now some
+    c.loop-outline-test.false (c.loop-outline.invariant.counted p)

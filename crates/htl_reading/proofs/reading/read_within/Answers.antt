@@ -1,9 +1,11 @@
--- What the first reads came to is whole, or is read on in blocks.
-use Rattle.std.proofs.Common.{◌≡◌, arith, true, false}
+-- One worker's list is the segments taken; what the first reads came to is whole, or is read on in blocks.
+use Rattle.std.proofs.Common.{◌≡◌, ◌++◌, ◌∙◌, List, [], ap, append-nil, arith, false, sym, true}
 use Rattle.std.proofs.lemmas.Grind.{common_steps}
 use Rattle.std.proofs.lemmas.List.{length-append}
+use Rattle.std.proofs.lemmas.Option.{IfSome_then}
 use Rattle.std.proofs.lemmas.Result.{err_from_is_err_and}
 use Rattle.htl_segment.specs.Bundles.{bundle}
+use Rattle.htl_segment.specs.Content.{Content}
 use Rattle.htl_reading.specs.declared.fault.SourceFault.TheVariants.{NoMemory}
 use Rattle.htl_reading.specs.Blocks.{taken}
 use Rattle.htl_reading.specs.Sources.{read_ahead}
@@ -55,3 +57,12 @@ read_blocks-requires-clause-gathered g c κs within =
       some = rw (made.0) some;
       offset_is = rw (made.0) (omega (arith, made.1.0, at.fed, length-append (bundle begun.segments.items) begun.splitter.rest));
     }
+
+pub returns-then-workers-le1-clause-ok : goal.returns-then-workers-le1-clause-ok
+returns-then-workers-le1-clause-ok g c =
+    let old = c.new-then-workers-le1.result in
+    let none : old.items ≡ [] = grind (arith, common_steps) in
+    IfSome_then (g.R.Source.remaining c.args.source.now) c.in_ok-read_alone.ensures.ok (λ bytes took.
+    let list : c.read_alone.new.keeper.list.items ≡ took.0 = took.2 (record { cache = c.new.result; list = old }) []
+    (sym (append-nil old.items)) ∙ ap (λ (l : List Content). l ++ took.0) none in
+    rw list took.1)

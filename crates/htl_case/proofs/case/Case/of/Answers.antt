@@ -49,6 +49,13 @@ returns-in-Some-clause-exact c outcome is =
     c.in_ok-trace_id.processors of c.in_ok-segments.ensures.ok c.in-Some.sequence (rw c.deref-2.ensures.value at found) in
     exact_fault c.args.segments.items (SequenceTwice c.in-Some.sequence) outcome refused is
 
+pub returns-in_err-outlines-clause-err : goal.returns-in_err-outlines-clause-err
+returns-in_err-outlines-clause-err c =
+    let p = err_from_is_err_and c.from_residual-in_err-outlines.result c.from_residual-in_err-outlines.ensures.1 in
+    let of = rw c.deref.ensures.value at c.in_ok-trace_id.ensures.ok in
+    rw (p.1, p.2) (of_one_trace c.args.segments.items c.in_ok-segments.segments.items c.in_ok-trace_id.trace_id
+    c.in_ok-trace_id.processors of c.in_ok-segments.ensures.ok)
+
 pub returns-in-Some-falling-clause-err : goal.returns-in-Some-falling-clause-err
 returns-in-Some-falling-clause-err c =
     let of = rw c.deref.ensures.value at c.in_ok-trace_id.ensures.ok in
@@ -56,7 +63,9 @@ returns-in-Some-falling-clause-err c =
     let once = rw c.deref-2.ensures.value at found.0 in
     falling_refused c.args.segments.items c.in_ok-segments.segments.items c.in_ok-trace_id.trace_id c.in_ok-trace_id.processors of
     c.in_ok-segments.ensures.ok (c.in-Some-falling.processor, c.in-Some-falling.number) once
-    (rw c.deref-3.ensures.value at c.in-Some-falling.ensures)
+    ((rw c.deref-4.ensures.value at c.in-Some-falling.ensures) c.in_ok-segments.segments.items
+    (rw c.deref-3.ensures.value at c.in_ok-outlines.ensures) c.in_ok-segments.ensures.ok.in_order
+    (rw c.deref-2.ensures.value at c.in_ok-sequence.ensures.fit))
 
 pub returns-in-Some-falling-clause-exact : goal.returns-in-Some-falling-clause-exact
 returns-in-Some-falling-clause-exact c outcome is =
@@ -65,7 +74,9 @@ returns-in-Some-falling-clause-exact c outcome is =
     let once = rw c.deref-2.ensures.value at found.0 in
     let refused = falling_refused c.args.segments.items c.in_ok-segments.segments.items c.in_ok-trace_id.trace_id
     c.in_ok-trace_id.processors of c.in_ok-segments.ensures.ok (c.in-Some-falling.processor, c.in-Some-falling.number) once
-    (rw c.deref-3.ensures.value at c.in-Some-falling.ensures) in
+    ((rw c.deref-4.ensures.value at c.in-Some-falling.ensures) c.in_ok-segments.segments.items
+    (rw c.deref-3.ensures.value at c.in_ok-outlines.ensures) c.in_ok-segments.ensures.ok.in_order
+    (rw c.deref-2.ensures.value at c.in_ok-sequence.ensures.fit)) in
     exact_fault c.args.segments.items (Falling c.in-Some-falling.processor c.in-Some-falling.number) outcome refused is
 
 pub invariant_of-result : goal.invariant_of-result
@@ -75,7 +86,9 @@ invariant_of-result c =
     is_case c.args.segments.items c.in_ok-segments.segments.items c.in_ok-trace_id.trace_id c.in_ok-trace_id.processors of
     c.in_ok-segments.ensures.ok
     (rw c.deref-2.ensures.value at c.in_ok-sequence.ensures.fit) (rw c.deref-2.ensures.value at found.1)
-    (rw c.deref-3.ensures.value at c.in_default-falling.ensures)
+    ((rw c.deref-4.ensures.value at c.in_default-falling.ensures) c.in_ok-segments.segments.items
+    (rw c.deref-3.ensures.value at c.in_ok-outlines.ensures) c.in_ok-segments.ensures.ok.in_order
+    (rw c.deref-2.ensures.value at c.in_ok-sequence.ensures.fit))
 
 pub returns-clause-ok : goal.returns-clause-ok
 returns-clause-ok c =
@@ -84,7 +97,9 @@ returns-clause-ok c =
     is_case_of c.args.segments.items c.in_ok-segments.segments.items c.in_ok-trace_id.trace_id c.in_ok-trace_id.processors of
     c.in_ok-segments.ensures.ok
     (rw c.deref-2.ensures.value at c.in_ok-sequence.ensures.fit) (rw c.deref-2.ensures.value at found.1)
-    (rw c.deref-3.ensures.value at c.in_default-falling.ensures)
+    ((rw c.deref-4.ensures.value at c.in_default-falling.ensures) c.in_ok-segments.segments.items
+    (rw c.deref-3.ensures.value at c.in_ok-outlines.ensures) c.in_ok-segments.ensures.ok.in_order
+    (rw c.deref-2.ensures.value at c.in_ok-sequence.ensures.fit))
 
 pub returns-clause-exact : goal.returns-clause-exact
 returns-clause-exact c outcome is =
@@ -94,5 +109,7 @@ returns-clause-exact c outcome is =
     (is_case_of c.args.segments.items c.in_ok-segments.segments.items c.in_ok-trace_id.trace_id c.in_ok-trace_id.processors of
     c.in_ok-segments.ensures.ok
     (rw c.deref-2.ensures.value at c.in_ok-sequence.ensures.fit) (rw c.deref-2.ensures.value at found.1)
-    (rw c.deref-3.ensures.value at c.in_default-falling.ensures))
+    ((rw c.deref-4.ensures.value at c.in_default-falling.ensures) c.in_ok-segments.segments.items
+    (rw c.deref-3.ensures.value at c.in_ok-outlines.ensures) c.in_ok-segments.ensures.ok.in_order
+    (rw c.deref-2.ensures.value at c.in_ok-sequence.ensures.fit)))
     is

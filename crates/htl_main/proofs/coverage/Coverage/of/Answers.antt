@@ -3,27 +3,19 @@ use Rattle.std.proofs.Common.{◌≡◌, ◌++◌, [], length, length-append, �
 use Rattle.htl_segment.specs.Traces.{HasKey}
 use Rattle.htl_taken.specs.Gaps.{IsGaps}
 use Rattle.htl_taken.specs.GapLists.{gaps_of}
-use Rattle.htl_main.specs.Numbers.{numbers_of}
-use Rattle.htl_main.proofs.FewSegments.{few_segments}
-use Rattle.htl_main.proofs.Covered.{IsCompleteBelow, complete_below_more, complete_below_none, complete_to_all, from_first}
-use Rattle.htl_main.proofs.Covered.{more_gaps, next_back, no_gaps, none_before, own_front, some_processor, unbroken_to}
+use Rattle.htl_main.specs.CaseOutlines.{numbers_of}
+use Rattle.htl_main.specs.Summaries.{IsUnbrokenTo}
+use Rattle.htl_main.proofs.Covered.{IsCompleteBelow, complete_below_more, complete_below_none, complete_to_all, no_gaps, some_processor}
+use Rattle.htl_main.proofs.Outlined.{outlines_after, outlines_from_first, own_gaps, own_outlines, own_unbroken}
 use Rattle.htl_main.proofs.coverage.Coverage.of.Goals as goal
 
 pub loop-processor-init : goal.loop-processor-init
-loop-processor-init c =
-    let T = c.args.case.now in
-    let is = c.segments-rest.ensures.is_case.trace in
-    rw (c.segments-rest.ensures.value) (record {
-      rest = from_first T is;
-      counted = ([], no_gaps T, refl);
-      few = let few = few_segments T.segments is.in_order is.fit in omega (arith, few);
-      complete = complete_below_none T;
-    })
-
-pub split_at_processor-requires : goal.split_at_processor-requires
-split_at_processor-requires c =
-    let rest = c.loop-processor.invariant.rest in
-    record { in_order = rest.in_order; none_before = none_before c.args.case.now c.loop-processor.processor c.loop-processor.rest.now rest }
+loop-processor-init c = record {
+  rest = λ T are. outlines_from_first T c.args.processors c.args.outlines.now are;
+  counted = λ T are. ([], no_gaps T, refl);
+  few = omega arith;
+  complete = λ T are. complete_below_none T;
+}
 
 pub overflow_add-gaps : goal.overflow_add-gaps
 overflow_add-gaps c =
@@ -34,47 +26,46 @@ overflow_add-gaps c =
 
 pub loop-processor-preserved : goal.loop-processor-preserved
 loop-processor-preserved c =
-    let T = c.args.case.now in
-    let is = c.segments-rest.ensures.is_case.trace in
     let p = c.loop-processor.processor in
+    let rest = c.loop-processor.rest.now in
     let own = c.split_at_processor.result.0.now in
     let after = c.split_at_processor.result.1.now in
     let inv = c.loop-processor.invariant in
     let split = c.split_at_processor.ensures in
-    let rest = rw (← split.parts) at inv.rest in
-    let mine = own_front T p own after rest split.own split.after in
-    let gaps = inv.counted.0 in
     let few = c.gap_count-gaps.ensures.few in
     let all = ap length split.parts in
     let both = length-append own after in
-    let greatest = rw (c.unbroken.ensures) at c.greatest_sequence.ensures in
     record {
-      rest = next_back T p own after rest split.own split.after;
-      counted = (
-        gaps ++ gaps_of p 0 (numbers_of own),
-        more_gaps T is p own mine gaps inv.counted.1,
-        let sum = length-append gaps (gaps_of p 0 (numbers_of own)) in
-            let here = c.gap_count-gaps.ensures.value p in
-            let so_far = inv.counted.2 in
-            omega (arith, sum, here, so_far),
-      );
+      rest = λ T are. outlines_after T p rest own after (inv.rest T are) split.parts split.own split.after;
+      counted = λ T are.
+          let mine = own_outlines T p rest own after (inv.rest T are) split.parts split.own split.after in
+          let so_far = inv.counted T are in
+          let sum = length-append so_far.0 (gaps_of p 0 (numbers_of own)) in
+          let here = c.gap_count-gaps.ensures.value p in
+          let before = so_far.2 in (
+            so_far.0 ++ gaps_of p 0 (numbers_of own),
+            own_gaps T are.0.trace p own mine so_far.0 so_far.1,
+            omega (arith, sum, here, before),
+          );
       few = omega (arith, inv.few, few, all, both);
-      complete = complete_below_more T p c.loop-processor.complete_to c.greatest_sequence.result c.min-complete_to.result
-          c.greatest_sequence.type_inv c.min-complete_to.ensures (unbroken_to T is p own mine c.greatest_sequence.result greatest) inv.complete;
+      complete = λ T are.
+          let mine = own_outlines T p rest own after (inv.rest T are) split.parts split.own split.after in
+          let unbroken : IsUnbrokenTo T p c.greatest_last.result =
+          rw (c.greatest_last.ensures, c.unbroken.ensures) (own_unbroken T are.0.trace p own mine) in
+          complete_below_more T p c.loop-processor.complete_to c.greatest_last.result c.min-complete_to.result
+          c.greatest_last.type_inv c.min-complete_to.ensures unbroken (inv.complete T are);
     }
 
 pub returns : goal.returns
-returns c =
-    let T = c.args.case.now in
-    let inv = c.loop-processor.invariant in
-    let count = c.processors-processor-end.ensures in
+returns c = λ T are.
+    let counted = c.loop-processor.invariant.counted T are in
     let all : c.loop-processor.processor ≡ T.processors =
-    omega (arith, c.loop-processor-test.false, c.loop-processor.auto.processor-end, count) in
-    let some = some_processor T c.segments-rest.ensures.is_case.trace c.segments-rest.ensures.is_case.some in
+    omega (arith, c.loop-processor-test.false, c.loop-processor.auto.processor-end, are.1) in
+    let some = some_processor T are.0.trace are.0.some in
     record {
-      gaps = inv.counted.0;
-      are_gaps = subst (λ (n : ℕ). IsGaps (HasKey T) n inv.counted.0) all inv.counted.1;
-      counted = inv.counted.2;
+      gaps = counted.0;
+      are_gaps = subst (λ (n : ℕ). IsGaps (HasKey T) n counted.0) all counted.1;
+      counted = counted.2;
       complete_to = complete_to_all T c.loop-processor.complete_to some
-          (subst (λ (n : ℕ). IsCompleteBelow T n c.loop-processor.complete_to) all inv.complete);
+          (subst (λ (n : ℕ). IsCompleteBelow T n c.loop-processor.complete_to) all (c.loop-processor.invariant.complete T are));
     }

@@ -11,7 +11,8 @@ returns-in-Err-clause-err g c =
     let at = c.requires.gathered in
     let block = c.args.self.now.block.items in
     let refused : IsRefused block c.in-Err.inside c.in-Err.fault = search rules in
-    rw (c.of_segment.ensures) (block_refused c.args.self.now.segments.items block c.args.self.now.offset c.in-Err.inside c.in-Err.fault at refused)
+    rw (c.of_segment.ensures) (block_refused c.args.self.now.segments.items block c.args.self.now.offset c.in-Err.inside c.in-Err.fault at.fits
+    at.offset_is refused)
 
 pub returns-in_err-append-clause-err : goal.returns-in_err-append-clause-err
 returns-in_err-append-clause-err g c =

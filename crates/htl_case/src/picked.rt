@@ -1,0 +1,85 @@
+//! A case of which only what a question asks about is in hand.
+
+use crate::outlines::{key_comes_twice, processors_of, sort_by_key};
+use crate::rising::falling;
+use htl_event::SharedEvent;
+use htl_segment::{Outline, Picks};
+use std::marker::Model;
+
+/// A case, as far as a question about a process or an object needs it: an outline of each segment,
+/// and the events that are asked about.
+#[derive(Debug, Drop)]
+pub struct PickedCase {
+    processors: u16,
+    outlines: Vec<Outline>,
+    events: Vec<SharedEvent>,
+}
+
+impl Model for PickedCase {
+    ghost use Rattle.htl_case.specs.Picked.{Picked, picked};
+
+    ghost Value = { Picked };
+
+    ghost view = { λ c. picked c.processors c.outlines.items c.events.items };
+}
+
+impl PickedCase {
+    ghost use Rattle.std.specs.Prelude.{◌≡◌, List, All, IfSome, IfNone};
+    ghost use Rattle.htl_event.specs.declared.interest.Interest.{Interest};
+    ghost use Rattle.htl_segment.specs.Content.{Content, Fits};
+    ghost use Rattle.htl_segment.specs.Picks.{ArePicksOf};
+    ghost use Rattle.htl_segment.specs.Traces.{Trace};
+    ghost use Rattle.htl_case.specs.Cases.{IsCaseOf};
+    ghost use Rattle.htl_case.specs.Picked.{IsPickedOf, NeedsWhole};
+
+    /// The case of what was picked of segments, which may come in any order. It takes no memory.
+    /// None: a key comes twice, or the segments are no case. Which of these it is, and why, only
+    /// whole segments tell.
+    pub fn of(picks: Picks) -> Option<PickedCase>
+        ensures some { IfSome result (λ case.
+            (interest : Interest) (segments : List Content)
+            → ArePicksOf interest picks segments → All Fits segments
+            → (T : Trace) × IsCaseOf segments T × IsPickedOf interest T case) }
+        ensures none { IfNone result
+            ((interest : Interest) (segments : List Content)
+            → ArePicksOf interest picks segments → All Fits segments → NeedsWhole segments) }
+    {
+        let Picks {
+            mut outlines,
+            events,
+            seen,
+            ..
+        } = picks;
+        let processors = processors_of(&outlines)?;
+        sort_by_key(&mut outlines);
+        if key_comes_twice(&outlines) || seen.comes_twice() || falling(&outlines).is_some() {
+            return None;
+        }
+        Some(PickedCase {
+            processors,
+            outlines,
+            events,
+        })
+    }
+
+    /// How many processors the trace has.
+    pub fn processors(&self) -> u16
+        ensures { result ≡ self.now.processors }
+    {
+        self.processors
+    }
+
+    /// The outlines of all segments, by processor, then by number.
+    pub fn outlines(&self) -> &[Outline]
+        ensures { result.now ≡ self.now.outlines }
+    {
+        self.outlines.as_slice()
+    }
+
+    /// The events that are asked about, in any order.
+    pub fn events(&self) -> &Vec<SharedEvent>
+        ensures { result.now.items ≡ self.now.events }
+    {
+        &self.events
+    }
+}

@@ -1,0 +1,177 @@
+-- Answers over events that agree on a process or an object are the same.
+use Rattle.std.proofs.Common.{IsPermutation, ◌≡◌, ℕ, ◌+◌, ◌<◌, Bool, true, cond, List, [], ◌∷◌, refl, sym, ap, ◌∙◌, inl, inr, ◌&&◌, arith}
+use Rattle.std.specs.Prelude.{Contains, filter, count_by, ◌↔◌}
+use Rattle.std.proofs.lemmas.Bool.{cases_Bool, eqb-true, eq-eqb, and_parts}
+use Rattle.std.proofs.lemmas.List.Sorted.{Contains-permutation, IsPermutation-sym}
+use Rattle.std.proofs.lemmas.List.Sums.{sum_by-cons}
+use Rattle.htl_event.specs.Events.{Event}
+use Rattle.htl_event.specs.Slots.{base_of, is_slot, slot_by_kind, is_counted}
+use Rattle.htl_event.specs.declared.kind.Kind.{Kind}
+use Rattle.htl_event.specs.declared.kind.Kind.TheVariants.{Opened, Closed, BadRef, Snapshot, Ref, Deref, Exited}
+use Rattle.htl_event.specs.declared.slot.Slot.{Slot}
+use Rattle.htl_event.specs.declared.slot.Slot.TheVariants.{Tagged, Bad}
+use Rattle.htl_event.specs.declared.slot.Sign.{Sign}
+use Rattle.htl_event.specs.declared.slot.Sign.TheVariants.{Plus, Minus}
+use Rattle.htl_event.specs.declared.slot.Count.{Count}
+use Rattle.htl_event.specs.Members.{Lists}
+use Rattle.htl_event.specs.Handles.{IsGreatestSequence, IsOf, IsLatest, IsOpen, IsOutstanding, IsOfHandle}
+use Rattle.htl_event.specs.Tallies.{count_where, times, has_stack, tally, balance, IsPositive, IsLeaks}
+use Rattle.htl_event.proofs.Counts.{count_where-IsPermutation}
+use Rattle.htl_event.proofs.Members.{filter-pass, filter-skip, Contains-filter, Contains-from_filter}
+use Rattle.htl_event.specs.declared.interest.Interest.TheVariants.{Process, Object}
+use Rattle.htl_event.specs.Interests.{wants, wanted, ProcessNeedsItsOwn, ObjectNeedsItsOwn}
+
+-- ---- sets of events that have the same events of a process
+
+abbrev Agree : ℕ → (Event → Type 0) → (Event → Type 0) → Type 0
+Agree p A B = (x : Event) → x.process ≡ p → A x ↔ B x
+
+turned : (p : ℕ) (A B : Event → Type 0) → Agree p A B → Agree p B A
+turned p A B same = λ x owner. ((same x owner).1, (same x owner).0)
+
+greatest : (p : ℕ) (A B : Event → Type 0) (kind : Kind) (n : ℕ) → Agree p A B → IsGreatestSequence (λ e. A e × IsOf kind p e) n
+    → IsGreatestSequence (λ e. B e × IsOf kind p e) n
+greatest p A B kind n same g = record {
+  bound = λ x h. g.bound x ((same x h.1.1).1 h.0, h.1);
+  reached = elim (g.reached) [
+    | inl zero ↦ inl zero
+    | inr found ↦ inr (found.0, ((same found.0 found.1.1.1).0 found.1.0, found.1.1), found.2)
+  ];
+}
+
+latest : (p base : ℕ) (A B : Event → Type 0) (e : Event) → Agree p A B → IsLatest A p base e → IsLatest B p base e
+latest p base A B e same l = record {
+  here = (same e l.of_handle.owner).0 l.here;
+  of_handle = l.of_handle;
+  greatest = λ x here of. l.greatest x ((same x of.owner).1 here) of;
+}
+
+open_too : (p : ℕ) (A B : Event → Type 0) (e : Event) → Agree p A B → IsOpen A p e → IsOpen B p e
+open_too p A B e same o = record {
+  opens = o.opens;
+  latest = latest p (base_of e.handle) A B e same o.latest;
+  outlives = λ n last. o.outlives n (greatest p B A Exited n (turned p A B same) last);
+}
+
+open_same : (p : ℕ) (A B : Event → Type 0) (e : Event) → Agree p A B → IsOpen A p e ↔ IsOpen B p e
+open_same p A B e same = (open_too p A B e same, open_too p B A e (turned p A B same))
+
+lists_too : {X : Type 0} {before : X → X → Type 0} (P Q : X → Type 0) (rows : List X) → ((x : X) → P x ↔ Q x) → Lists before P rows
+    → Lists before Q rows
+lists_too P Q rows same l = record {
+  rising = l.rising;
+  members = λ x. (λ h. (same x).0 ((l.members x).0 h), λ h. (l.members x).1 ((same x).1 h));
+}
+
+lists_same : {X : Type 0} {before : X → X → Type 0} (P Q : X → Type 0) (rows : List X) → ((x : X) → P x ↔ Q x)
+    → Lists before P rows ↔ Lists before Q rows
+lists_same P Q rows same = (lists_too P Q rows same, lists_too Q P rows (λ x. ((same x).1, (same x).0)))
+
+outstanding_too : (p : ℕ) (A B : Event → Type 0) (rows : List Event) → Agree p A B → IsOutstanding A p rows → IsOutstanding B p rows
+outstanding_too p A B rows same = lists_too (IsOpen A p) (IsOpen B p) rows (λ e. open_same p A B e same)
+
+leaks_too : (p : ℕ) (A B : Event → Type 0) (rows : List (List ℕ × ℕ)) → Agree p A B → IsLeaks A p rows → IsLeaks B p rows
+leaks_too p A B rows same l = record {
+  outstanding = l.outstanding;
+  is = outstanding_too p A B l.outstanding same l.is;
+  stacks = l.stacks;
+}
+
+-- ---- counts of what passes another test too
+
+count_same : {X : Type 0} (p w : X → Bool) → ((x : X) → p x ≡ true → w x ≡ true) → (xs : List X) → count_by p xs ≡ count_by p (filter w xs)
+count_same p w implied [] = refl
+count_same p w implied (x ∷ xs) =
+    let others = count_same p w implied xs in
+    let all : count_by p (x ∷ xs) ≡ cond (p x) 1 0 + count_by p xs = sum_by-cons (λ y. cond (p y) 1 0) x xs in
+    elim (cases_Bool (w x)) [
+      | inl kept ↦ rw (filter-pass w x xs kept) (all ∙ ap (λ n. cond (p x) 1 0 + n) others
+          ∙ sym (sum_by-cons (λ y. cond (p y) 1 0) x (filter w xs)))
+      | inr left ↦ rw (filter-skip w x xs left) (elim (cases_Bool (p x)) [
+        | inl counted ↦ absurd (cc (sym left ∙ implied x counted))
+        | inr skipped ↦
+            let none : ◌≡◌ {A = ℕ} (cond (p x) 1 0) 0 = ap (λ (t : Bool). cond {A = ℕ} t 1 0) skipped in
+            let here : count_by p (x ∷ xs) ≡ count_by p xs = omega (arith, all, none) in
+            here ∙ others
+      ])
+    ]
+
+count_where_same : (passes w : Event → Bool) (slot : Slot) → ((sign : Sign) (e : Event) → is_counted slot sign e ≡ true → w e ≡ true)
+    → (es : List Event) → count_where passes es slot ≡ count_where passes (filter w es) slot
+count_where_same passes w slot implied es =
+    let side : (sign : Sign) → times passes es slot sign ≡ times passes (filter w es) slot sign =
+    (λ sign. count_same (λ e. is_counted slot sign e && passes e) w
+    (λ e counted. implied sign e (and_parts (is_counted slot sign e) (passes e) counted).0) es) in
+    rw (side Plus, side Minus) refl
+
+-- ---- what is counted under a slot of a process or an object
+
+bad_owner : (k : Kind) (p h : ℕ) (sign : Sign) (e : Event) → is_slot (Bad p h) sign (slot_by_kind k e) ≡ true → p ≡ e.process
+bad_owner Opened p h sign e is = absurd cc
+bad_owner Closed p h sign e is = absurd cc
+bad_owner BadRef p h sign e is = eqb-true _ _ (and_parts _ _ (and_parts _ _ is).0).0
+bad_owner Snapshot p h sign e is = absurd cc
+bad_owner Ref p h sign e is = absurd cc
+bad_owner Deref p h sign e is = absurd cc
+bad_owner Exited p h sign e is = absurd cc
+
+tagged_object : (k : Kind) (o : ℕ) (t : List ℕ) (sign : Sign) (e : Event) → is_slot (Tagged o t) sign (slot_by_kind k e) ≡ true
+    → o ≡ e.object
+tagged_object Opened o t sign e is = absurd cc
+tagged_object Closed o t sign e is = absurd cc
+tagged_object BadRef o t sign e is = absurd cc
+tagged_object Snapshot o t sign e is = absurd cc
+tagged_object Ref o t sign e is = eqb-true _ _ (and_parts _ _ (and_parts _ _ is).0).0
+tagged_object Deref o t sign e is = eqb-true _ _ (and_parts _ _ (and_parts _ _ is).0).0
+tagged_object Exited o t sign e is = absurd cc
+
+same_rows : {K V : Type 0} (f g : K → V) (Q : V → Type 0) → ((k : K) → f k ≡ g k) → (row : K × V)
+    → ((row.1 ≡ f row.0) × Q row.1) ↔ ((row.1 ≡ g row.0) × Q row.1)
+same_rows f g Q same row = (λ h. (h.0 ∙ same row.0, h.1), λ h. (h.0 ∙ sym (same row.0), h.1))
+
+-- ---- the laws
+
+agrees : (p : ℕ) (es own : List Event) → IsPermutation (wanted (Process p) es) own → Agree p (Contains es) (Contains own)
+agrees p es own moved x owner = (
+  λ here. Contains-permutation (wanted (Process p) es) own x moved (Contains-filter (wants (Process p)) es x here (eq-eqb _ _ owner)),
+  λ here. (Contains-from_filter (wants (Process p)) es x (Contains-permutation own (wanted (Process p) es) x
+      (IsPermutation-sym (wanted (Process p) es) own moved) here)).0,
+)
+
+pub process_needs_its_own : (process : ℕ) (events own : List Event) → IsPermutation (wanted (Process process) events) own
+    → ProcessNeedsItsOwn process events own
+process_needs_its_own p es own moved =
+    let A = Contains es in
+    let B = Contains own in
+    let same : Agree p A B = agrees p es own moved in
+    let back : Agree p B A = turned p A B same in
+    record {
+      outstanding = λ rows. (outstanding_too p A B rows same, outstanding_too p B A rows back);
+      mark = λ n. (greatest p A B Snapshot n same, greatest p B A Snapshot n back);
+      diff = λ since rows. lists_same (λ e. IsOpen A p e × (since < e.sequence)) (λ e. IsOpen B p e × (since < e.sequence)) rows
+          (λ e. (λ h. ((open_same p A B e same).0 h.0, h.1), λ h. ((open_same p A B e same).1 h.0, h.1)));
+      listing = λ handle rows. lists_same (λ e. A e × IsOfHandle p (base_of handle) e) (λ e. B e × IsOfHandle p (base_of handle) e) rows
+          (λ e. (λ h. ((same e h.1.owner).0 h.0, h.1), λ h. ((same e h.1.owner).1 h.0, h.1)));
+      leaks = λ rows. (leaks_too p A B rows same, leaks_too p B A rows back);
+      bad = λ rows. lists_same _ _ rows (λ row.
+          let counts = count_where_same (has_stack row.1) (wants (Process p)) (Bad p row.0)
+          (λ sign e counted. eq-eqb _ _ (sym (bad_owner e.kind p row.0 sign e counted))) es
+          ∙ count_where-IsPermutation (has_stack row.1) (wanted (Process p) es) own moved (Bad p row.0) in
+          (λ h. (h.0 ∙ ap (λ (c : Count). c.plus) counts, h.1), λ h. (h.0 ∙ ap (λ (c : Count). c.plus) (sym counts), h.1)));
+    }
+
+pub object_needs_its_own : (object : ℕ) (events own : List Event) → IsPermutation (wanted (Object object) events) own
+    → ObjectNeedsItsOwn object events own
+object_needs_its_own o es own moved =
+    let counts : (passes : Event → Bool) (tag : List ℕ) → count_where passes es (Tagged o tag)
+    ≡ count_where passes own (Tagged o tag) =
+    (λ passes tag. count_where_same passes (wants (Object o)) (Tagged o tag)
+    (λ sign e counted. eq-eqb _ _ (sym (tagged_object e.kind o tag sign e counted))) es
+    ∙ count_where-IsPermutation passes (wanted (Object o) es) own moved (Tagged o tag)) in
+    record {
+      tags = λ rows. lists_same _ _ rows
+          (same_rows (balance es o) (balance own o) IsPositive (λ tag. counts (λ e. true) tag));
+      stacks = λ tag rows. lists_same _ _ rows
+          (same_rows (tally es (Tagged o tag)) (tally own (Tagged o tag)) IsPositive
+          (λ stack. counts (has_stack stack) tag));
+    }

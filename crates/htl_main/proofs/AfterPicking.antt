@@ -1,0 +1,119 @@
+-- A run of picks after its inputs were read, and why it ends.
+use Rattle.std.proofs.Common.{◌≡◌, ◌≢◌, ℕ, Bool, true, false, List, [], ◌∷◌, map, All, Option, Some, None, Result, Ok, Err, refl, inr}
+use Rattle.std.specs.Prelude.{IfErr, IfNone, IfOk, IfSome}
+use Rattle.std.specs.Io.KnownBytes.{Appends}
+use Rattle.std.proofs.lemmas.List.Elements.{All-nil, All-append}
+use Rattle.htl_device.specs.Devices.{AppendsPrefix}
+use Rattle.htl_event.specs.declared.interest.Interest.{Interest}
+use Rattle.htl_segment.specs.Content.{Content, Fits}
+use Rattle.htl_segment.specs.declared.picks.Picks.{Picks}
+use Rattle.htl_command.specs.declared.question.Question.{Question}
+use Rattle.htl_command.specs.declared.question.Job.{Job}
+use Rattle.htl_main.specs.Causes.{IsCauseAfter, Prints, PrintsPart}
+use Rattle.htl_main.specs.Inputs.{DecodeAll}
+use Rattle.htl_main.specs.Picked.{Reports, asks_about, interest_of}
+use Rattle.htl_main.specs.Picking.{ArePickedFor, ArePicksOfAll, EndsPrinting, PrintsOf, ReportsOf}
+use Rattle.htl_main.specs.Printed.{WorkersFit}
+use Rattle.htl_main.specs.Readings.{AreRead}
+use Rattle.htl_main.specs.Sources.{IsSourcesCause}
+use Rattle.htl_main.specs.declared.completed.Completed.{Completed}
+use Rattle.htl_main.specs.declared.fault.RunFault.{RunFault}
+use Rattle.htl_main.specs.declared.fault.RunFault.TheVariants.{Workers, Incomplete, Symbols, Memory, Write}
+use Rattle.htl_main.proofs.AfterDecoding.{sources_cause_of}
+use Rattle.htl_main.proofs.ReadingLaws.{ill}
+use Rattle.htl_main.proofs.SourceLaws.{none_read_within, true_nowhere}
+
+-- nothing was read
+pub unread : {R B : Type 0} (has_failed has_ended : R → Bool) (good_reads : R → ℕ) (remaining : R → Option (List ℕ)) (first : List R)
+    → All (λ source. has_failed source ≡ false) first
+    → AreRead has_failed has_ended good_reads remaining first first (ill {S = B} Workers)
+unread has_failed has_ended good_reads remaining first fine = record {
+  ended = tt;
+  in_order = λ earlier later below. inr refl;
+  reported = λ place failed. absurd (true_nowhere has_failed first place fine failed);
+  read = λ place told. absurd (cc told);
+  bounded = none_read_within (map good_reads first);
+  unread = λ place before. refl;
+}
+
+-- ---- what was picked
+
+bytes_of : (hex : Bool) (question : Question) (interest : Interest) → asks_about hex question ≡ Some interest → hex ≡ false
+bytes_of true question interest is = absurd (cc is)
+bytes_of false question interest is = refl
+
+about_of : (hex : Bool) (question : Question) (interest : Interest) → asks_about hex question ≡ Some interest
+    → interest_of question ≡ Some interest
+about_of true question interest is = absurd (cc is)
+about_of false question interest is = is
+
+decoded_fit : (hex : Bool) (inputs : List (List ℕ)) (segments : List Content) → DecodeAll hex inputs segments → All Fits segments
+decoded_fit hex [] segments decoded = rw decoded (All-nil Fits)
+decoded_fit hex (input ∷ inputs) segments decoded =
+    rw decoded.4 (All-append Fits decoded.0 decoded.1 decoded.2.splits.fits (decoded_fit hex inputs decoded.1 decoded.3))
+
+-- the segments of all inputs, of which the picks are for the job's question
+pub record IsPickedRun (job : Job) (inputs : List (List ℕ)) (picks : Picks) : Type 0 where
+  pub segments : List Content
+  pub decoded : DecodeAll job.hex inputs segments
+  pub picked : ArePickedFor job.question picks segments
+
+pub picked_run : (job : Job) (inputs : List (List ℕ)) (interest : Interest) (picks : Picks)
+    → asks_about job.hex job.question ≡ Some interest → ArePicksOfAll interest inputs picks → IsPickedRun job inputs picks
+picked_run job inputs interest picks about all = record {
+  segments = all.segments;
+  decoded = rw (bytes_of job.hex job.question interest about) all.decoded;
+  picked = record {
+    interest = interest;
+    about = about_of job.hex job.question interest about;
+    picks_of = all.picks_of;
+    fits = decoded_fit false inputs all.segments all.decoded;
+  };
+}
+
+pub prints : (job : Job) (inputs : List (List ℕ)) (segments : List Content) (symbols old new : Option (List ℕ)) → WorkersFit job.workers
+    → DecodeAll job.hex inputs segments → PrintsOf segments symbols job (Appends old new) → Prints job inputs symbols old new
+prints job inputs segments symbols old new fit decoded of = (of.lines, (fit, segments, decoded, of.are), of.written)
+
+pub prints_part : (job : Job) (inputs : List (List ℕ)) (segments : List Content) (symbols old new : Option (List ℕ)) → WorkersFit job.workers
+    → DecodeAll job.hex inputs segments → PrintsOf segments symbols job (AppendsPrefix old new) → PrintsPart job inputs symbols old new
+prints_part job inputs segments symbols old new fit decoded of = (of.lines, (fit, segments, decoded, of.are), of.written)
+
+pub reports : (hex : Bool) (inputs : List (List ℕ)) (segments : List Content) (question : Question) (completed : Completed)
+    → DecodeAll hex inputs segments → ReportsOf segments question completed → Reports hex inputs question completed
+reports hex inputs segments question completed decoded of = record {
+  coverage = (segments, decoded, of.coverage);
+  subject = (segments, decoded, of.subject);
+  finding = (segments, decoded, of.finding);
+}
+
+-- ---- how the run ends
+
+pub if_done : {E : Type 0} (result : Result (Option Completed) E) (P Q : Completed → Type 0) → ((x : Completed) → P x → Q x)
+    → IfOk result (λ done. IfSome done P) → IfOk result (λ done. IfSome done Q)
+if_done (Ok None) P Q more is = tt
+if_done (Ok (Some x)) P Q more is = more x is
+if_done (Err e) P Q more is = tt
+
+pub if_whole : {E P Q : Type 0} (result : Result (Option Completed) E) → (P → Q) → IfOk result (λ done. IfNone done P)
+    → IfOk result (λ done. IfNone done Q)
+if_whole (Ok None) more is = more is
+if_whole (Ok (Some x)) more is = tt
+if_whole (Err e) more is = tt
+
+pub ends_for : (job : Job) (inputs : List (List ℕ)) (lefts : List (Option (List ℕ))) (ends : List Bool) (symbols : Option (List ℕ))
+    (segments : List Content) (Written : List ℕ → Type 0) (result : Result (Option Completed) RunFault) → WorkersFit job.workers
+    → DecodeAll job.hex inputs segments
+    → IfErr result EndsPrinting → IfErr result (λ fault. fault ≢ Write → IsCauseAfter segments symbols job fault)
+    → (result ≡ Err Write → PrintsOf segments symbols job Written)
+    → IfErr result (IsSourcesCause job inputs lefts ends symbols)
+ends_for job inputs lefts ends symbols segments W (Ok done) fit decoded after cause write = tt
+ends_for job inputs lefts ends symbols segments W (Err Write) fit decoded after cause write =
+    let of = write refl in (of.lines, (fit, segments, decoded, of.are))
+ends_for job inputs lefts ends symbols segments W (Err (Incomplete processor number)) fit decoded after cause write =
+    sources_cause_of job inputs lefts ends symbols segments (Incomplete processor number) fit decoded (cause (λ e. cc e))
+ends_for job inputs lefts ends symbols segments W (Err (Symbols fault)) fit decoded after cause write =
+    sources_cause_of job inputs lefts ends symbols segments (Symbols fault) fit decoded (cause (λ e. cc e))
+ends_for job inputs lefts ends symbols segments W (Err Memory) fit decoded after cause write =
+    sources_cause_of job inputs lefts ends symbols segments Memory fit decoded (cause (λ e. cc e))
+ends_for job inputs lefts ends symbols segments W (Err other) fit decoded after cause write = absurd after

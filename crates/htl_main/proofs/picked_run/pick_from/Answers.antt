@@ -1,0 +1,67 @@
+-- What comes of the picks comes of the segments of all inputs.
+use Rattle.std.proofs.Common.{map}
+use Rattle.std.specs.Option.{option_copied}
+use Rattle.std.specs.Io.KnownBytes.{Appends}
+use Rattle.std.proofs.lemmas.Result.{err_from_is_err_and}
+use Rattle.htl_device.specs.Devices.{AppendsPrefix}
+use Rattle.htl_device.specs.declared.source.TheConstants.{MAX_READ_LEN}
+use Rattle.htl_main.specs.Causes.{Prints}
+use Rattle.htl_main.specs.Picked.{AskForWhole, Reports}
+use Rattle.htl_main.specs.Picking.{PrintsOf, ReportsOf}
+use Rattle.htl_case.specs.Picked.{NeedsWhole}
+use Rattle.htl_main.proofs.AfterPicking.{ends_for, if_done, if_whole, picked_run, prints, prints_part, reports, unread}
+use Rattle.htl_main.proofs.SourceLaws.{none_read}
+use Rattle.htl_main.proofs.picked_run.pick_from.Goals as goal
+
+pub returns-in_err-check_workers-clause-reading : goal.returns-in_err-check_workers-clause-reading
+returns-in_err-check_workers-clause-reading g c =
+    let p = err_from_is_err_and c.from_residual.result c.from_residual.ensures.1 in
+    let fault = c.in_err-check_workers.ensures.err in
+    rw (p.1, p.2, fault.0) (unread g.R.Source.has_failed g.R.Source.has_ended g.R.Source.good_reads g.R.Source.remaining c.args.inputs.now
+    c.requires.inputs)
+
+pub returns-in_err-check_workers-clause-to_fault : goal.returns-in_err-check_workers-clause-to_fault
+returns-in_err-check_workers-clause-to_fault g c = none_read MAX_READ_LEN (map g.R.Source.remaining c.args.inputs.now)
+
+pub returns-clause-ok : goal.returns-clause-ok
+returns-clause-ok g c = λ texts all.
+    let job = c.args.job.now in
+    let symbols = option_copied c.args.symbols in
+    let run = picked_run job texts c.args.interest c.in_ok-picks.picks c.requires.about (c.in_ok-picks.ensures.ok texts all) in
+    let old = g.W.Sink.contents c.args.out.now in
+    let new = g.W.Sink.contents c.print_picks.new.out in
+    if_done c.print_picks.result (λ x. PrintsOf run.segments symbols job (Appends old new)) (λ x. Prints job texts symbols old new)
+    (λ x of. prints job texts run.segments symbols old new c.in_ok-check_workers.ensures.ok run.decoded of)
+    (c.print_picks.ensures.ok run.segments run.picked)
+
+pub returns-clause-reports : goal.returns-clause-reports
+returns-clause-reports g c = λ texts all.
+    let job = c.args.job.now in
+    let run = picked_run job texts c.args.interest c.in_ok-picks.picks c.requires.about (c.in_ok-picks.ensures.ok texts all) in
+    if_done c.print_picks.result (ReportsOf run.segments job.question) (Reports job.hex texts job.question)
+    (λ x of. reports job.hex texts run.segments job.question x run.decoded of) (c.print_picks.ensures.reports run.segments run.picked)
+
+pub returns-clause-whole : goal.returns-clause-whole
+returns-clause-whole g c = λ texts all.
+    let job = c.args.job.now in
+    let run = picked_run job texts c.args.interest c.in_ok-picks.picks c.requires.about (c.in_ok-picks.ensures.ok texts all) in
+    if_whole {P = NeedsWhole run.segments} {Q = AskForWhole job.hex texts} c.print_picks.result (λ needs. (run.segments, run.decoded, needs))
+    (c.print_picks.ensures.whole run.segments run.picked)
+
+pub returns-clause-cause : goal.returns-clause-cause
+returns-clause-cause g c = λ texts all.
+    let job = c.args.job.now in
+    let symbols = option_copied c.args.symbols in
+    let run = picked_run job texts c.args.interest c.in_ok-picks.picks c.requires.about (c.in_ok-picks.ensures.ok texts all) in
+    ends_for job texts (map g.R.Source.remaining c.pick_all.new.sources) (map g.R.Source.has_ended c.pick_all.new.sources) symbols run.segments
+    (AppendsPrefix (g.W.Sink.contents c.args.out.now) (g.W.Sink.contents c.print_picks.new.out)) c.print_picks.result
+    c.in_ok-check_workers.ensures.ok run.decoded c.print_picks.ensures.after (c.print_picks.ensures.cause run.segments run.picked)
+    (c.print_picks.ensures.write run.segments run.picked)
+
+pub returns-clause-write : goal.returns-clause-write
+returns-clause-write g c = λ texts all told.
+    let job = c.args.job.now in
+    let symbols = option_copied c.args.symbols in
+    let run = picked_run job texts c.args.interest c.in_ok-picks.picks c.requires.about (c.in_ok-picks.ensures.ok texts all) in
+    prints_part job texts run.segments symbols (g.W.Sink.contents c.args.out.now) (g.W.Sink.contents c.print_picks.new.out)
+    c.in_ok-check_workers.ensures.ok run.decoded (c.print_picks.ensures.write run.segments run.picked told)

@@ -1,0 +1,39 @@
+-- A run that keeps of its inputs only what its question asks about (this project's own).
+use Rattle.std.specs.Prelude.{ℕ, Bool, true, false, List, Option, Some, None}
+use Rattle.htl_event.specs.declared.interest.Interest.{Interest}
+use Rattle.htl_event.specs.declared.interest.Interest.TheVariants.{Process, Object}
+use Rattle.htl_segment.specs.Content.{Content}
+use Rattle.htl_case.specs.Picked.{NeedsWhole}
+use Rattle.htl_command.specs.declared.question.Question.{Question}
+use Rattle.htl_command.specs.declared.question.Question.TheVariants as asked
+use Rattle.htl_main.specs.Answers.{Finds}
+use Rattle.htl_main.specs.Coverages.{Covers}
+use Rattle.htl_main.specs.Inputs.{DecodeAll}
+use Rattle.htl_main.specs.Subjects.{ReportsSubject}
+use Rattle.htl_main.specs.declared.completed.Completed.{Completed}
+
+-- the process or the object that a question is about
+abbrev pub interest_of : Question → Option Interest
+interest_of asked.Summary = None
+interest_of (asked.Outstanding process) = Some (Process process)
+interest_of (asked.Diff process since) = Some (Process process)
+interest_of (asked.Bad process) = Some (Process process)
+interest_of (asked.Leaks process) = Some (Process process)
+interest_of (asked.Trace process handle) = Some (Process process)
+interest_of (asked.Tags object) = Some (Object object)
+interest_of (asked.Stacks object tag) = Some (Object object)
+
+-- what a job asks about, where its inputs are bytes
+abbrev pub asks_about : Bool → Question → Option Interest
+asks_about true question = None
+asks_about false question = interest_of question
+
+-- what is reported beside the answer holds of the inputs
+pub record Reports (hex : Bool) (inputs : List (List ℕ)) (question : Question) (completed : Completed) : Type 0 where
+  pub coverage : Covers hex inputs completed.coverage
+  pub subject : ReportsSubject hex inputs question completed.has_subject
+  pub finding : Finds hex inputs question completed.has_finding
+
+-- Whole segments tell what comes of the inputs: a key comes twice in them, or they are no case.
+abbrev pub AskForWhole : Bool → List (List ℕ) → Type 0
+AskForWhole hex inputs = (segments : List Content) × DecodeAll hex inputs segments × NeedsWhole segments

@@ -1,0 +1,73 @@
+-- For the clauses of private functions: what is picked of one source more, and of all, and why no answer is made of it.
+use Rattle.std.specs.Prelude.{◌≡◌, ⊤, ℕ, List, [], ◌++◌, false, All, Option, Some}
+use Rattle.htl_event.specs.declared.interest.Interest.{Interest}
+use Rattle.htl_segment.specs.Bundles.{Splits}
+use Rattle.htl_segment.specs.Content.{Content, Fits}
+use Rattle.htl_segment.specs.Picks.{ArePicksOf}
+use Rattle.htl_segment.specs.declared.picks.Picks.{Picks}
+use Rattle.htl_segment.specs.Traces.{Trace}
+use Rattle.htl_case.specs.Cases.{IsCaseOf}
+use Rattle.htl_case.specs.Picked.{Picked, IsPickedOf}
+use Rattle.htl_command.specs.declared.question.Question.{Question}
+use Rattle.htl_command.specs.declared.question.Job.{Job}
+use Rattle.htl_main.specs.Answers.{FindsIn}
+use Rattle.htl_main.specs.Coverages.{CoversSegments}
+use Rattle.htl_main.specs.Inputs.{DecodeAll}
+use Rattle.htl_main.specs.Picked.{interest_of}
+use Rattle.htl_main.specs.Printed.{AreAnswerLines}
+use Rattle.htl_main.specs.Subjects.{has_subject}
+use Rattle.htl_main.specs.declared.completed.Completed.{Completed}
+use Rattle.htl_main.specs.declared.fault.RunFault.{RunFault}
+use Rattle.htl_main.specs.declared.fault.RunFault.TheVariants.{Incomplete, Symbols, Memory, Write}
+
+-- the picks are those of these bytes too, after whichever they were of before
+pub record ArePicksMore (old new : Picks) (bytes : List ℕ) : Type 0 where
+  pub more : List Content
+  pub splits : Splits bytes more []
+  pub picks : (interest : Interest) (segments : List Content) → ArePicksOf interest old segments
+      → ArePicksOf interest new (segments ++ more)
+
+-- the picks are those of all inputs
+pub record ArePicksOfAll (interest : Interest) (inputs : List (List ℕ)) (picks : Picks) : Type 0 where
+  pub segments : List Content
+  pub decoded : DecodeAll false inputs segments
+  pub picks_of : ArePicksOf interest picks segments
+
+-- what a question is about was picked of the case of these segments
+pub record IsPickedFor (question : Question) (case : Picked) (segments : List Content) : Type 0 where
+  pub trace : Trace
+  pub interest : Interest
+  pub about : interest_of question ≡ Some interest
+  pub case_of : IsCaseOf segments trace
+  pub picked : IsPickedOf interest trace case
+
+-- these are picks of these segments, for the question
+pub record ArePickedFor (question : Question) (picks : Picks) (segments : List Content) : Type 0 where
+  pub interest : Interest
+  pub about : interest_of question ≡ Some interest
+  pub picks_of : ArePicksOf interest picks segments
+  pub fits : All Fits segments
+
+-- The lines of the answer over the case of these segments were written, or a first part of them.
+pub record PrintsOf (segments : List Content) (symbols : Option (List ℕ)) (job : Job) (Written : List ℕ → Type 0) : Type 0 where
+  pub lines : List ℕ
+  pub are : AreAnswerLines segments symbols job lines
+  pub written : Written lines
+
+-- what is reported beside the answer holds of the case of these segments
+pub record ReportsOf (segments : List Content) (question : Question) (completed : Completed) : Type 0 where
+  pub coverage : CoversSegments segments completed.coverage
+  pub subject : completed.has_subject ≡ has_subject question segments
+  pub finding : FindsIn segments question completed.has_finding
+
+-- why an answer over a case isn't made
+abbrev pub EndsAnswer : RunFault → Type 0
+EndsAnswer (Incomplete processor number) = ⊤
+EndsAnswer (Symbols fault) = ⊤
+EndsAnswer Memory = ⊤
+EndsAnswer other = ⊥
+
+-- or isn't written
+abbrev pub EndsPrinting : RunFault → Type 0
+EndsPrinting Write = ⊤
+EndsPrinting fault = EndsAnswer fault

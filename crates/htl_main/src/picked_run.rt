@@ -1,0 +1,133 @@
+//! The run of a question about a process or an object, which keeps of its inputs only what the
+//! question asks about.
+
+ghost use Rattle.std.specs.Prelude.{◌≡◌, ◌≢◌, ℕ, List, All, Some, false, true, map};
+ghost use Rattle.std.specs.Prelude.{IfErr, IfNone, IfOk, IfSome, OnOk, Err, is_some};
+ghost use Rattle.std.specs.Option.{option_copied};
+ghost use Rattle.std.specs.Io.KnownBytes.{Appends};
+ghost use Rattle.htl_device.specs.Devices.{AppendsPrefix};
+ghost use Rattle.htl_device.specs.declared.source.TheConstants.{MAX_READ_LEN};
+ghost use Rattle.htl_segment.specs.Content.{Content};
+ghost use Rattle.htl_case.specs.Picked.{NeedsWhole};
+ghost use Rattle.htl_main.specs.Causes.{IsCauseAfter, Prints, PrintsPart};
+ghost use Rattle.htl_main.specs.Picked.{AskForWhole, Reports, asks_about, interest_of};
+ghost use Rattle.htl_main.specs.Picking.{ArePickedFor, EndsPrinting, PrintsOf, ReportsOf};
+ghost use Rattle.htl_main.specs.Readings.{AreRead};
+ghost use Rattle.htl_main.specs.Sources.{AreReadToFault, IsSourcesCause, ReadsNoFault};
+
+use crate::completed::Completed;
+use crate::fault::RunFault;
+use crate::picked::answered_of_picks;
+use crate::picking::pick_all;
+use crate::printing::{check_workers, write_lines};
+use htl_case::PickedCase;
+use htl_command::{Job, Question};
+use htl_device::{MAX_READ_LEN, Sink, Source};
+use htl_event::Interest;
+use htl_segment::Picks;
+use std::alloc::Global;
+
+/// The process or the object that the job asks about, where its inputs are bytes.
+pub fn interest(job: &Job) -> Option<Interest>
+    ensures { result ≡ asks_about job.now.hex job.now.question }
+{
+    if job.hex {
+        return None;
+    }
+    match job.question {
+        Question::Summary => None,
+        Question::Outstanding { process }
+        | Question::Diff { process, .. }
+        | Question::Bad { process }
+        | Question::Leaks { process }
+        | Question::Trace { process, .. } => Some(Interest::Process(process)),
+        Question::Tags { object } | Question::Stacks { object, .. } => {
+            Some(Interest::Object(object))
+        }
+    }
+}
+
+/// The same as `run_from` for a question about a process or an object. It makes only the events that
+/// the question asks about, and reads each source by one worker.
+///
+/// It ends without an answer where only whole segments tell what comes of the inputs: where a key
+/// comes twice, of which the contents have to be compared, or where the segments are no case. Then
+/// nothing was written, and `run_from` answers over the same inputs, read again, or says why not.
+pub fn pick_from<R: Source, W: Sink>(
+    alloc: Global,
+    job: &Job,
+    interest: Interest,
+    inputs: &mut [R],
+    symbols: Option<&[u8]>,
+    out: &mut W,
+) -> Result<Option<Completed>, RunFault>
+    requires inputs { All (λ source. R.has_failed source ≡ false) inputs.old }
+    requires out { W.has_failed out.old ≡ false }
+    requires about { asks_about job.now.hex job.now.question ≡ Some interest }
+    // What the sources' bytes come to is printed, or reported.
+    ensures ok { (texts : List (List ℕ)) → map R.remaining inputs.old ≡ map Some texts
+        → IfOk result (λ done. IfSome done (λ _. Prints job.now texts
+        (option_copied symbols.entry) (W.contents out.old) (W.contents out.new))) }
+    ensures reports { (texts : List (List ℕ)) → map R.remaining inputs.old ≡ map Some texts
+        → IfOk result (λ done. IfSome done (Reports job.now.hex texts job.now.question)) }
+    ensures whole { (texts : List (List ℕ)) → map R.remaining inputs.old ≡ map Some texts
+        → IfOk result (λ done. IfNone done (AskForWhole job.now.hex texts)) }
+    ensures unwritten { IfOk result (λ done. IfNone done (out.new ≡ out.old)) }
+    ensures fine { OnOk result (W.has_failed out.new ≡ false) }
+    ensures cause { (texts : List (List ℕ)) → map R.remaining inputs.old ≡ map Some texts
+        → IfErr result (IsSourcesCause job.now texts (map R.remaining inputs.new)
+        (map R.has_ended inputs.new) (option_copied symbols.entry)) }
+    ensures write { (texts : List (List ℕ)) → map R.remaining inputs.old ≡ map Some texts
+        → result ≡ Err RunFault.Write → PrintsPart job.now texts (option_copied symbols.entry)
+        (W.contents out.old) (W.contents out.new) }
+    ensures failed { result ≡ Err RunFault.Write → W.has_failed out.new ≡ true }
+    ensures untouched { IfErr result (λ fault. fault ≢ RunFault.Write → out.new ≡ out.old) }
+    ensures reading { AreRead R.has_failed R.has_ended R.good_reads R.remaining
+        inputs.old inputs.new result }
+    ensures no_fault { (place : ℕ) → result ≡ Err (RunFault.Read place)
+        → ReadsNoFault (map R.remaining inputs.old) (map R.remaining inputs.new) place }
+    ensures to_fault { AreReadToFault MAX_READ_LEN (map R.remaining inputs.old)
+        (map R.remaining inputs.new) }
+{
+    check_workers(job.workers)?;
+    let picks = pick_all(alloc, interest, inputs)?;
+    print_picks(alloc, job, picks, symbols, out)
+}
+
+/// Prints the answer over the case of what was picked, or does nothing where only whole segments
+/// tell what comes of it.
+fn print_picks<W: Sink>(
+    alloc: Global,
+    job: &Job,
+    picks: Picks,
+    symbols: Option<&[u8]>,
+    out: &mut W,
+) -> Result<Option<Completed>, RunFault>
+    requires out { W.has_failed out.old ≡ false }
+    requires about { is_some (interest_of job.now.question) ≡ true }
+    ensures ok { (segments : List Content) → ArePickedFor job.now.question picks segments
+        → IfOk result (λ done. IfSome done (λ _. PrintsOf segments (option_copied symbols.entry)
+        job.now (Appends (W.contents out.old) (W.contents out.new)))) }
+    ensures reports { (segments : List Content) → ArePickedFor job.now.question picks segments
+        → IfOk result (λ done. IfSome done (ReportsOf segments job.now.question)) }
+    ensures whole { (segments : List Content) → ArePickedFor job.now.question picks segments
+        → IfOk result (λ done. IfNone done (NeedsWhole segments)) }
+    ensures unwritten { IfOk result (λ done. IfNone done (out.new ≡ out.old)) }
+    ensures fine { OnOk result (W.has_failed out.new ≡ false) }
+    ensures cause { (segments : List Content) → ArePickedFor job.now.question picks segments
+        → IfErr result (λ fault. fault ≢ RunFault.Write
+        → IsCauseAfter segments (option_copied symbols.entry) job.now fault) }
+    ensures write { (segments : List Content) → ArePickedFor job.now.question picks segments
+        → result ≡ Err RunFault.Write → PrintsOf segments (option_copied symbols.entry) job.now
+        (AppendsPrefix (W.contents out.old) (W.contents out.new)) }
+    ensures failed { result ≡ Err RunFault.Write → W.has_failed out.new ≡ true }
+    ensures untouched { IfErr result (λ fault. fault ≢ RunFault.Write → out.new ≡ out.old) }
+    ensures after { IfErr result EndsPrinting }
+{
+    let Some(case) = PickedCase::of(picks) else {
+        return Ok(None);
+    };
+    let (lines, completed) = answered_of_picks(alloc, job, &case, symbols)?;
+    write_lines(out, &lines)?;
+    Ok(Some(completed))
+}

@@ -1,0 +1,102 @@
+-- One read more, the end of the source, and that a fault ends the reading.
+use Rattle.std.proofs.Common.{◌≡◌, ◌≤◌, ◌<◌, length, ap, arith, inr, refl, true}
+use Rattle.std.proofs.lemmas.List.{length-append, length-drop}
+use Rattle.std.proofs.lemmas.Grind.{common_steps}
+use Rattle.std.proofs.lemmas.Result.{err_from_is_err_and}
+use Rattle.std.specs.Prelude.{is_err}
+use Rattle.htl_device.specs.declared.source.TheConstants.{MAX_READ_LEN}
+use Rattle.htl_reading.proofs.AloneLaws.{taken_all, taken_and_more, taken_ended, taken_inside, taken_kept, taken_many, taken_memory}
+use Rattle.htl_reading.proofs.AloneLaws.{taken_more, taken_refused, taken_to_fault}
+use Rattle.htl_reading.proofs.alone.read_on.Goals as goal
+
+pub returns-in_err-make_room-clause-err : goal.returns-in_err-make_room-clause-err
+returns-in_err-make_room-clause-err g c =
+    let p = err_from_is_err_and c.from_residual.result c.from_residual.ensures.1 in
+    let inv = c.loop-read.invariant in
+    let some : 0 < c.loop-read._read = grind (arith, common_steps) in
+    λ start given at. rw (p.1, p.2) (taken_memory (inv.taken start given at) _ some inv.not_ended)
+
+pub returns-in_err-make_room-clause-to_fault : goal.returns-in_err-make_room-clause-to_fault
+returns-in_err-make_room-clause-to_fault g c =
+    λ start given at. taken_to_fault (c.loop-read.invariant.taken start given at) MAX_READ_LEN
+
+pub returns-in_default-clause-no_fault : goal.returns-in_default-clause-no_fault
+returns-in_default-clause-no_fault g c =
+    let failed : is_err c.read.result ≡ true = grind (arith, common_steps) in
+    λ start given at is.
+    taken_to_fault (taken_kept (c.loop-read.invariant.taken start given at) c.read.result failed c.read.ensures.err) 0
+
+pub returns-in_default-clause-to_fault : goal.returns-in_default-clause-to_fault
+returns-in_default-clause-to_fault g c =
+    let failed : is_err c.read.result ≡ true = grind (arith, common_steps) in
+    λ start given at.
+    taken_to_fault (taken_kept (c.loop-read.invariant.taken start given at) c.read.result failed c.read.ensures.err) MAX_READ_LEN
+
+pub returns-then-count-eq0-clause-ok : goal.returns-then-count-eq0-clause-ok
+returns-then-count-eq0-clause-ok g c =
+    let zero : c.in-Ok.count ≡ 0 = grind (arith, common_steps) in
+    let behind = rw (c.make_room.ensures.held, zero) at c.in-Ok.ensures.ok in
+    λ start given at. taken_all (taken_ended (c.loop-read.invariant.taken start given at) behind) c.finish.result (behind.end refl)
+    (rw (c.held.ensures) at c.finish.ensures.ok)
+
+pub returns-then-count-eq0-clause-err : goal.returns-then-count-eq0-clause-err
+returns-then-count-eq0-clause-err g c =
+    let zero : c.in-Ok.count ≡ 0 = grind (arith, common_steps) in
+    let behind = rw (c.make_room.ensures.held, zero) at c.in-Ok.ensures.ok in
+    λ start given at. taken_inside (taken_ended (c.loop-read.invariant.taken start given at) behind) _ c.finish.result (behind.end refl)
+    (rw (c.held.ensures) at c.finish.ensures.err)
+
+pub returns-then-count-eq0-clause-to_fault : goal.returns-then-count-eq0-clause-to_fault
+returns-then-count-eq0-clause-to_fault g c =
+    let behind = rw (c.make_room.ensures.held) at c.in-Ok.ensures.ok in
+    λ start given at. taken_and_more (c.loop-read.invariant.taken start given at) MAX_READ_LEN behind c.in-Ok.ensures.bound
+
+pub returns-in_err-len-clause-err : goal.returns-in_err-len-clause-err
+returns-in_err-len-clause-err g c =
+    let p = err_from_is_err_and c.from_residual-in_err-len.result c.from_residual-in_err-len.ensures.1 in
+    let behind = rw (c.make_room.ensures.held) at c.in-Ok.ensures.ok in
+    λ start given at. rw (p.1, p.2) (taken_refused (c.loop-read.invariant.taken start given at) _ _ behind
+    (rw (c.held-in-loop-read.ensures) at c.in_err-len.ensures.err))
+
+pub returns-in_err-len-clause-to_fault : goal.returns-in_err-len-clause-to_fault
+returns-in_err-len-clause-to_fault g c =
+    let behind = rw (c.make_room.ensures.held) at c.in-Ok.ensures.ok in
+    λ start given at. taken_and_more (c.loop-read.invariant.taken start given at) MAX_READ_LEN behind c.in-Ok.ensures.bound
+
+pub loop-read-preserved : goal.loop-read-preserved
+loop-read-preserved g c =
+    let inv = c.loop-read.invariant in
+    let behind = rw (c.make_room.ensures.held) at c.in-Ok.ensures.ok in
+    let some : 0 < c.in-Ok.count = grind (arith, common_steps) in
+    let len = c.in_ok-len.len in
+    let off = rw (c.held-in-loop-read.ensures) at c.in_ok-len.ensures.ok in
+    let inside = rw (c.held-in-loop-read.ensures) at c.in_ok-len.ensures.inside in
+    record {
+      taken = λ start given at. rw (c.consume.ensures) (taken_more (inv.taken start given at) c.in-Ok.count len behind some off inside);
+      fine = grind (arith, common_steps);
+      not_ended = grind (arith, common_steps);
+      short = rw (c.consume.ensures) (omega (
+        arith,
+        inv.short,
+        inside,
+        c.in-Ok.ensures.bound,
+        behind.count_is,
+        ap length behind.held,
+        length-append c.loop-read.block.held behind.more,
+        length-drop len c.read.new.self.held,
+      ));
+      counted = grind (arith, common_steps);
+      bounded = grind (arith, common_steps);
+    }
+
+pub returns-clause-read : goal.returns-clause-read
+returns-clause-read g c =
+    let all : c.args.most ≤ c.loop-read._read = grind (arith, common_steps) in
+    λ start given at is.
+    inr (grind (arith, common_steps), taken_many (c.loop-read.invariant.taken start given at) c.args.most all)
+
+pub returns-clause-no_fault : goal.returns-clause-no_fault
+returns-clause-no_fault g c = λ start given at is. taken_to_fault (c.loop-read.invariant.taken start given at) 0
+
+pub returns-clause-to_fault : goal.returns-clause-to_fault
+returns-clause-to_fault g c = λ start given at. taken_to_fault (c.loop-read.invariant.taken start given at) MAX_READ_LEN

@@ -1,0 +1,101 @@
+//! A block that a source is read into, and in which segments are checked.
+
+use htl_device::{Failed, MAX_READ_LEN, Source};
+use std::alloc::{AllocError, Global};
+use std::marker::Model;
+
+/// A block has at least so many bytes once it has room for a read.
+const LEAST_LEN: usize = 1_048_576;
+
+/// Bytes that were read of a source and not taken yet, and room for more behind them.
+#[derive(Drop)]
+pub struct Block {
+    bytes: Vec<u8>,
+    start: usize,
+    end: usize,
+}
+
+impl Model for Block {
+    ghost use Rattle.std.specs.Prelude.{◌-◌, ◌≤◌, drop, length, take};
+    ghost use Rattle.htl_reading.specs.Alone.{BlockState};
+
+    ghost Value = { BlockState };
+
+    ghost view = { λ b. record {
+      held = take (b.end - b.start) (drop b.start b.bytes.items);
+      room = length b.bytes.items - b.end;
+    } };
+
+    ghost invariant = { λ b. (b.start ≤ b.end) × (b.end ≤ length b.bytes.items) };
+}
+
+impl Block {
+    ghost use Rattle.std.specs.Prelude.{◌≡◌, ◌||◌, ◌+◌, ◌<◌, ◌≤◌, ◌^◌, drop, length};
+    ghost use Rattle.std.specs.Prelude.{IfOk, OnErr, OnOk, is_err};
+    ghost use Rattle.std.specs.Io.KnownBytes.{Keeps};
+    ghost use Rattle.htl_device.specs.Devices.{finds_end, reads_after};
+    ghost use Rattle.htl_reading.specs.Alone.{IsReadBehind};
+
+    /// A block that holds these bytes.
+    pub fn new(alloc: Global, held: &[u8]) -> Result<Block, AllocError>
+        ensures { IfOk result (λ block. block.held ≡ held.now) }
+    {
+        Ok(Block {
+            bytes: Vec::from_slice(alloc, held)?,
+            start: 0,
+            end: held.len(),
+        })
+    }
+
+    /// The bytes held.
+    pub fn held(&self) -> &[u8]
+        ensures { result.now ≡ self.now.held }
+    {
+        &self.bytes[self.start..self.end]
+    }
+
+    /// Takes so many bytes off the front of those held.
+    pub fn consume(&mut self, len: usize)
+        requires { len ≤ length self.old.held }
+        ensures { self.new.held ≡ drop len self.old.held }
+    {
+        self.start += len;
+    }
+
+    /// Makes room for a read behind the bytes held. These are moved to the front where it takes that,
+    /// and the block grows where that isn't enough.
+    pub fn make_room(&mut self) -> Result<(), AllocError>
+        requires { length self.old.held + MAX_READ_LEN < 2 ^ 64 }
+        ensures held { self.new.held ≡ self.old.held }
+        ensures room { OnOk result (MAX_READ_LEN ≤ self.new.room) }
+    {
+        if self.bytes.len() - self.end >= MAX_READ_LEN {
+            return Ok(());
+        }
+        self.bytes.copy_within(self.start..self.end, 0);
+        self.end -= self.start;
+        self.start = 0;
+        let least = self.end + MAX_READ_LEN;
+        if self.bytes.len() < least {
+            self.bytes.resize(least.max(LEAST_LEN), 0)?;
+        }
+        Ok(())
+    }
+
+    /// Reads what comes next behind the bytes held, and says how many bytes that is.
+    pub fn read<R: Source>(&mut self, source: &mut R) -> Result<usize, Failed>
+        requires { MAX_READ_LEN ≤ self.old.room }
+        ensures ok { IfOk result (IsReadBehind (R.remaining source.old) (R.remaining source.new)
+            self.old.held self.new.held) }
+        ensures bound { IfOk result (λ count. count ≤ MAX_READ_LEN) }
+        ensures err { OnErr result (Keeps (R.remaining source.old) (R.remaining source.new)) }
+        ensures kept { OnErr result (self.new.held ≡ self.old.held) }
+        ensures fails { R.has_failed source.new ≡ (R.has_failed source.old || is_err result) }
+        ensures counts { R.good_reads source.new ≡ reads_after (R.good_reads source.old) result }
+        ensures ends { R.has_ended source.new ≡ finds_end result }
+    {
+        let count = source.read(&mut self.bytes[self.end..self.end + MAX_READ_LEN])?;
+        self.end += count;
+        Ok(count)
+    }
+}

@@ -1,0 +1,40 @@
+-- Picks of one segment more.
+use Rattle.std.proofs.Common.{◌≡◌, List, [], ◌∷◌, ◌++◌, map, sym, ap, ◌∙◌}
+use Rattle.std.proofs.lemmas.List.{append-nil, map-append}
+use Rattle.std.proofs.lemmas.List.Elements.{filter-append}
+use Rattle.std.proofs.lemmas.Grind.{flat_map-append}
+use Rattle.htl_event.specs.Events.{Event}
+use Rattle.htl_event.specs.Interests.{wants, wanted}
+use Rattle.htl_event.specs.declared.interest.Interest.{Interest}
+use Rattle.htl_segment.specs.Content.{Content}
+use Rattle.htl_segment.specs.Outlines.{outline_of}
+use Rattle.htl_segment.specs.Repeated.{sequence_of, sequences_of}
+use Rattle.htl_segment.specs.Traces.{all_events}
+use Rattle.htl_segment.specs.declared.outline.Outline.{Outline}
+
+one_more_segment : (segments : List Content) (s : Content) → all_events (segments ++ s ∷ []) ≡ all_events segments ++ s.events
+one_more_segment segments s =
+    flat_map-append (λ (t : Content). t.events) segments (s ∷ []) ∙ ap (λ es. all_events segments ++ es) (append-nil s.events)
+
+wanted_more : (interest : Interest) (segments : List Content) (s : Content)
+    → wanted interest (all_events (segments ++ s ∷ [])) ≡ wanted interest (all_events segments) ++ wanted interest s.events
+wanted_more interest segments s =
+    ap (wanted interest) (one_more_segment segments s) ∙ filter-append (wants interest) (all_events segments) s.events
+
+pub sequences_more : (segments : List Content) (s : Content)
+    → sequences_of (all_events (segments ++ s ∷ [])) ≡ sequences_of (all_events segments) ++ sequences_of s.events
+sequences_more segments s =
+    ap sequences_of (one_more_segment segments s) ∙ map-append sequence_of (all_events segments) s.events
+
+pub outlines_more : (outlines next : List Outline) (o : Outline) (segments : List Content) (s : Content) → outlines ≡ map outline_of segments
+    → o ≡ outline_of s → next ≡ outlines ++ o ∷ [] → next ≡ map outline_of (segments ++ s ∷ [])
+outlines_more outlines next o segments s so_far is pushed =
+    pushed ∙ ap (λ before. before ++ o ∷ []) so_far ∙ ap (λ one. map outline_of segments ++ one ∷ []) is
+    ∙ sym (map-append outline_of segments (s ∷ []))
+
+pub events_more : (interest asked : Interest) (events next : List Event) (segments : List Content) (s : Content) → asked ≡ interest
+    → events ≡ wanted interest (all_events segments) → next ≡ events ++ wanted asked s.events
+    → next ≡ wanted interest (all_events (segments ++ s ∷ []))
+events_more interest asked events next segments s same so_far pushed =
+    pushed ∙ ap (λ of. events ++ wanted of s.events) same ∙ ap (λ es. es ++ wanted interest s.events) so_far
+    ∙ sym (wanted_more interest segments s)

@@ -1,0 +1,59 @@
+//! What a question about a process or an object needs of segments.
+
+use crate::keeper::Keeper;
+use crate::outline::Outline;
+use crate::seen::Seen;
+use crate::segment_bytes::SegmentBytes;
+use crate::stack_cache::StackCache;
+use htl_event::{Interest, NoMemory, SharedEvent};
+use std::alloc::Global;
+
+/// What a question about a process or an object needs of segments: of each an outline, the events
+/// that it asks about, and which sequences there were.
+#[derive(Debug, Drop)]
+pub struct Picks {
+    interest: Interest,
+    cache: StackCache,
+    /// Those of the segments, in the order in which they were read.
+    pub outlines: Vec<Outline>,
+    /// The events that are asked about, in the order in which they were read.
+    pub events: Vec<SharedEvent>,
+    /// The sequences of all events.
+    pub seen: Seen,
+}
+
+impl Picks {
+    ghost use Rattle.std.specs.Prelude.{[]};
+    ghost use Rattle.htl_segment.specs.Picks.{ArePicksOf};
+
+    /// Those of no segments.
+    pub fn new(alloc: Global, interest: Interest) -> Picks
+        ensures { ArePicksOf interest result [] }
+    {
+        Picks {
+            interest,
+            cache: StackCache::new(alloc),
+            outlines: Vec::new(alloc),
+            events: Vec::new(alloc),
+            seen: Seen::new(alloc),
+        }
+    }
+}
+
+impl Keeper for Picks {
+    ghost use Rattle.htl_segment.specs.Picks.{ArePicksOf};
+
+    ghost gathers = { λ start now segments. ArePicksOf start.interest now segments };
+
+    fn take(&mut self, alloc: Global, found: &SegmentBytes<'_>) -> Result<(), NoMemory> {
+        let last = found.pick_with(
+            alloc,
+            &mut self.cache,
+            self.interest,
+            &mut self.seen,
+            &mut self.events,
+        )?;
+        self.outlines.push(found.outline(last))?;
+        Ok(())
+    }
+}

@@ -1,0 +1,137 @@
+//! Which sequences were seen.
+
+ghost use Rattle.std.specs.Prelude.{◌≡◌, ◌<◌, ◌≤◌, ◌++◌, ◌∷◌, ℕ, List, [], IfOk, IsTrue, OnOk, vec_len};
+ghost use Rattle.std.specs.Prelude.{true, false};
+ghost use Rattle.std.specs.List.{list_any};
+ghost use Rattle.std.specs.List.Sorted.{IsNonDecreasing, IsPermutation};
+ghost use Rattle.htl_segment.specs.Repeated.{times};
+ghost use Rattle.htl_segment.specs.Seen.{is_marked};
+
+use crate::repeated::first_repeated;
+use htl_event::NoMemory;
+use std::alloc::Global;
+
+/// How many marks there may be for each sequence that was seen. A mark takes a byte, and a sequence
+/// that stands apart eight.
+const MARKS_PER_SEQUENCE: usize = 8;
+
+/// How many marks there may be at first.
+const FIRST_LEN: usize = 1 << 20;
+
+/// The sequences that were seen. Each has a mark at its place, or where sequences are so sparse that
+/// its place is far off, it stands apart.
+#[derive(Debug, Drop)]
+pub struct Seen {
+    marks: Vec<bool>,
+    apart: Vec<u64>,
+    /// How many were seen.
+    count: usize,
+    /// Whether one is known to have come twice. Then nothing more is noted.
+    comes_twice: bool,
+}
+
+impl Seen {
+    ghost use Rattle.std.specs.Prelude.{◌≡◌, ◌≤◌, ◌++◌, ◌∷◌, ℕ, List, [], OnOk, true, false};
+    ghost use Rattle.htl_segment.specs.Repeated.{times};
+    ghost use Rattle.htl_segment.specs.Seen.{Saw};
+
+    /// None.
+    pub fn new(alloc: Global) -> Seen
+        ensures { Saw result [] }
+    {
+        Seen {
+            marks: Vec::new(alloc),
+            apart: Vec::new(alloc),
+            count: 0,
+            comes_twice: false,
+        }
+    }
+
+    /// Notes one sequence more.
+    pub fn note(&mut self, sequence: u64) -> Result<(), NoMemory>
+        ensures { (numbers : List ℕ) → Saw self.old numbers
+            → OnOk result (Saw self.new (numbers ++ sequence ∷ [])) }
+    {
+        if self.comes_twice {
+            return Ok(());
+        }
+        self.count = self.count.saturating_add(1);
+        let place = sequence as usize;
+        if !make_room(&mut self.marks, place, self.count)? {
+            self.apart.push(sequence)?;
+        } else if self.marks[place] {
+            self.comes_twice = true;
+        } else {
+            self.marks[place] = true;
+        }
+        Ok(())
+    }
+
+    /// Whether one of the sequences came twice.
+    pub fn comes_twice(mut self) -> bool
+        ensures once { (numbers : List ℕ) → Saw self numbers → result ≡ false
+            → (n : ℕ) → times n numbers ≤ 1 }
+        ensures twice { (numbers : List ℕ) → Saw self numbers → result ≡ true
+            → (n : ℕ) × (2 ≤ times n numbers) }
+    {
+        if self.comes_twice {
+            return true;
+        }
+        sort(&mut self.apart);
+        if first_repeated(&self.apart).is_some() {
+            return true;
+        }
+        any_marked(&self.marks, &self.apart)
+    }
+}
+
+fn sort(numbers: &mut Vec<u64>)
+    ensures moved { IsPermutation numbers.old.items numbers.new.items }
+    ensures sorted { IsNonDecreasing numbers.new.items }
+{
+    numbers.sort_unstable();
+}
+
+/// Whether one of the sequences has a mark.
+fn any_marked(marks: &[bool], sequences: &[u64]) -> bool
+    ensures { result ≡ list_any (is_marked marks.now) sequences.now }
+{
+    sequences.iter().any(|sequence| has_mark(marks, *sequence))
+}
+
+fn has_mark(marks: &[bool], sequence: u64) -> bool
+    ensures { result ≡ is_marked marks.now sequence }
+{
+    marks.get(sequence as usize).copied().unwrap_or(false)
+}
+
+/// Makes room for a mark, unless there would be too many for `count` sequences.
+fn make_room(marks: &mut Vec<bool>, place: usize, count: usize) -> Result<bool, NoMemory>
+    ensures kept { (n : ℕ) → is_marked marks.new.items n ≡ is_marked marks.old.items n }
+    ensures room { IfOk result (λ fits. IsTrue fits → place < vec_len marks.new) }
+{
+    if place < marks.len() {
+        return Ok(true);
+    }
+    grow(marks, place, count)
+}
+
+/// Does so where there is none.
+fn grow(marks: &mut Vec<bool>, place: usize, count: usize) -> Result<bool, NoMemory>
+    requires { vec_len marks.old ≤ place }
+    ensures kept { (n : ℕ) → is_marked marks.new.items n ≡ is_marked marks.old.items n }
+    ensures room { IfOk result (λ fits. IsTrue fits → place < vec_len marks.new) }
+{
+    let most = count.saturating_mul(MARKS_PER_SEQUENCE).max(FIRST_LEN);
+    if place >= most {
+        return Ok(false);
+    }
+    let len = marks
+        .len()
+        .saturating_mul(2)
+        .max(FIRST_LEN)
+        .min(most)
+        .max(place + 1);
+    marks.resize(len, false)?;
+    Ok(true)
+}

@@ -17,12 +17,12 @@ pub data Saying : Type 0 where
   wrong : Saying
 
 -- `quit`, or a word that debuggers and shells have for it
-abbrev pub is_parting : List ℕ → Bool
-is_parting word = bytes_eq word (codes "quit") || (bytes_eq word (codes "exit") || bytes_eq word (codes "q"))
+abbrev pub is_farewell : List ℕ → Bool
+is_farewell word = bytes_eq word (codes "quit") || (bytes_eq word (codes "exit") || bytes_eq word (codes "q"))
 
 -- such a word alone
 abbrev pub is_quit : List (List ℕ) → Bool
-is_quit (word ∷ []) = is_parting word
+is_quit (word ∷ []) = is_farewell word
 is_quit arguments = false
 
 -- `?` alone is `help`

@@ -5,8 +5,8 @@ ghost use Rattle.htl_command.specs.Refusals.{RefusesQuestion};
 ghost use Rattle.htl_command.specs.Requests.{asked_in};
 ghost use Rattle.htl_command.specs.declared.fault.ParseFault.TheVariants as faults;
 ghost use Rattle.htl_dialogue.specs.Reading.{IsLine};
-ghost use Rattle.htl_dialogue.specs.Sayings.{is_help_sign, is_parting, is_quit, meant, saying, saying_by, saying_of};
-ghost use Rattle.htl_dialogue.specs.Sayings.{wrong as says_wrong};
+ghost use Rattle.htl_dialogue.specs.Sayings.{is_farewell, is_help_sign, is_quit, meant, saying};
+ghost use Rattle.htl_dialogue.specs.Sayings.{saying_by, saying_of, wrong as says_wrong};
 
 use crate::line::Line;
 use crate::parting::{ArgumentFault, arguments};
@@ -65,14 +65,14 @@ fn is_quit(arguments: &[String]) -> bool
     ensures { result ≡ is_quit (map string_bytes arguments.now) }
 {
     match arguments {
-        [word] => is_parting(word),
+        [word] => is_farewell(word),
         _ => false,
     }
 }
 
 /// Whether the word is `quit`, or what debuggers and shells have for it.
-fn is_parting(word: &str) -> bool
-    ensures { result ≡ is_parting word.now }
+fn is_farewell(word: &str) -> bool
+    ensures { result ≡ is_farewell word.now }
 {
     word == "quit" || word == "exit" || word == "q"
 }

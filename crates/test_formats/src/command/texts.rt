@@ -369,13 +369,37 @@ For more information, try '--help'.
 const PARTED_VALUE: &str = "\
 error: unexpected argument '-a' found
 
-  tip: to pass '-a' as a value, use '-- -a'
+  tip: a value that begins with '-' follows '=', as in '--tag=-abc'
 
 Usage: hleak stacks [OPTIONS] --object <HEX> --tag <TAG> [FILES]...
 
 For more information, try '--help'.
+";
 
-  tip: a value that begins with '-' follows '=', as in '--tag=-abc'
+const PARTED_NUMBER: &str = "\
+error: unexpected argument '-4' found
+
+Usage: hleak leaks [OPTIONS] --process <N> [FILES]...
+
+For more information, try '--help'.
+";
+
+const OTHER_OPTION: &str = "\
+error: unexpected argument '--since' found
+
+Usage: hleak leaks [OPTIONS] --process <N> [FILES]...
+
+For more information, try '--help'.
+";
+
+const PARTED_FILE: &str = "\
+error: unexpected argument '-x' found
+
+  tip: to pass '-x' as a value, use '-- -x'
+
+Usage: hleak leaks [OPTIONS] --process <N> [FILES]...
+
+For more information, try '--help'.
 ";
 
 /// Lines that ask for help, and what they are answered.
@@ -407,6 +431,9 @@ const USAGE: &[(&str, &str)] = &[
     ("bad|--proces|4", MISSPELT_OPTION),
     ("diff", MISSING_OPTION),
     ("stacks|--object|1|--tag|-abc", PARTED_VALUE),
+    ("leaks|--process|-4", PARTED_NUMBER),
+    ("leaks|--process|4|--since|4", OTHER_OPTION),
+    ("leaks|--process|4|-x", PARTED_FILE),
 ];
 
 /// Each line fits into 80 columns.

@@ -1,5 +1,6 @@
 -- The note on what was asked about and has no event, which a person at a terminal reads (this project's own).
-use Rattle.std.specs.Prelude.{false, ◌-◌, ◌%◌, ◌++◌, ◌&&◌, ℕ, List, Option, Some, None, codes, if◌then◌else◌, length, map, nat_le, replicate}
+use Rattle.std.specs.Prelude.{false, ◌-◌, ◌%◌, ◌++◌, ◌&&◌, ℕ, List, Option, Some, None, codes, if◌then◌else◌, length, map, nat_le}
+use Rattle.std.specs.Prelude.{replicate}
 use Rattle.std.specs.Fmt.{decimal, digits}
 use Rattle.htl_command.specs.declared.question.Question.{Question}
 use Rattle.htl_command.specs.declared.question.Question.TheVariants as asked

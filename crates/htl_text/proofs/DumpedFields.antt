@@ -13,7 +13,8 @@ use Rattle.htl_text.specs.Lines.{address_value, frame_value, handle_value, after
 use Rattle.htl_text.specs.Encoded.{Write}
 use Rattle.htl_text.specs.Texts.{is_visible, line_feed}
 use Rattle.htl_text.proofs.DumpedLines.{AllShown, IsShown, continued, continued_end, is_plain, line_first, plain_spaced, words_spaced}
-use Rattle.htl_text.proofs.Numerals.{decimal_writes, hex_short, hex_writes, hexadecimal_read, length_padded, marked_read, number_read, padded_writes, visible_digits}
+use Rattle.htl_text.proofs.Numerals.{decimal_writes, hex_short, hex_writes, hexadecimal_read, length_padded, marked_read}
+use Rattle.htl_text.proofs.Numerals.{number_read, padded_writes, visible_digits}
 use Rattle.htl_text.proofs.Writing.{write_append, write_one}
 
 -- texts and their items, whatever follows them

@@ -415,7 +415,7 @@ error: unexpected argument '-x' found
 
   tip: to pass '-x' as a value, use '-- -x'
 
-Usage: hleak leaks --process <N> [FILES]...
+Usage: hleak leaks [OPTIONS] --process <N> [FILES]...
 
 For more information, try '--help'.
 ";

@@ -1,12 +1,13 @@
 -- The note on what was asked about and has no event, which a person at a terminal reads (this project's own).
-use Rattle.std.specs.Prelude.{false, ◌-◌, ◌++◌, ◌&&◌, ℕ, List, Option, Some, None, codes, if◌then◌else◌, length, map, nat_le, replicate}
+use Rattle.std.specs.Prelude.{false, ◌-◌, ◌%◌, ◌++◌, ◌&&◌, ℕ, List, Option, Some, None, codes, if◌then◌else◌, length, map, nat_le}
+use Rattle.std.specs.Prelude.{replicate}
 use Rattle.std.specs.Fmt.{decimal, digits}
 use Rattle.htl_command.specs.declared.question.Question.{Question}
 use Rattle.htl_command.specs.declared.question.Question.TheVariants as asked
 use Rattle.hleak.specs.declared.absence.Subject.{Subject}
 use Rattle.hleak.specs.declared.absence.Subject.TheVariants.{Process, Object, Tag, Handle}
 
--- what a question is about; a summary is about all events
+-- what a question is about; a summary is about all events, and a trace about a handle without its low two bits
 abbrev pub subject_of_question : Question → Option Subject
 subject_of_question asked.Summary = None
 subject_of_question (asked.Outstanding process) = Some (Process process)
@@ -15,7 +16,7 @@ subject_of_question (asked.Bad process) = Some (Process process)
 subject_of_question (asked.Leaks process) = Some (Process process)
 subject_of_question (asked.Tags object) = Some (Object object)
 subject_of_question (asked.Stacks object tag) = Some (Tag object tag)
-subject_of_question (asked.Trace process handle) = Some (Handle process handle)
+subject_of_question (asked.Trace process handle) = Some (Handle process (handle - handle % 4))
 
 -- lower-case hexadecimal without leading zeros, and in 16 digits
 abbrev pub hex : ℕ → List ℕ

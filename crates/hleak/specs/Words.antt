@@ -61,7 +61,7 @@ one_trace = codes "give the files of one trace"
 
 unfoldable pub advice_of : Code → List ℕ
 advice_of S1 = codes "is it a trace, and copied whole?"
-advice_of S2 = codes "is it a trace, in bytes and not in digits (--hex)?"
+advice_of S2 = codes "is it a trace, in bytes and not in digits (--hex) or text (hleak encode)?"
 advice_of S3 = codes "was it written for a newer hleak?"
 advice_of S4 = damaged
 advice_of S5 = damaged

@@ -29,7 +29,13 @@ impl Subject {
             | Question::Leaks { process } => Some(Subject::Process(process)),
             Question::Tags { object } => Some(Subject::Object(object)),
             Question::Stacks { object, tag } => Some(Subject::Tag { object, tag }),
-            Question::Trace { process, handle } => Some(Subject::Handle { process, handle }),
+            Question::Trace { process, handle } => {
+                let base = handle - handle % 4;
+                Some(Subject::Handle {
+                    process,
+                    handle: base,
+                })
+            }
         }
     }
 }

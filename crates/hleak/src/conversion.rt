@@ -5,6 +5,7 @@ use crate::progress::Progress;
 use htl_command::Conversion;
 use htl_main::{RunFault, Writing, dump_from, encode_from};
 use std::io;
+use std::io::IsTerminal;
 
 /// Which way files are converted.
 #[derive(Clone, Copy)]
@@ -26,14 +27,15 @@ impl Direction {
 }
 
 /// Looks for the files, and writes to standard output what is made of them. Shows how much was read
-/// where a person watches.
+/// where a person watches, unless a terminal gets the text of segments meanwhile.
 pub fn converted(
     rt: &HostRuntime,
     direction: Direction,
     of: &Conversion,
     is_watched: bool,
 ) -> Result<(), RunFault> {
-    let progress = if is_watched {
+    let is_shown = matches!(direction, Direction::Dump) && rt.stdout().is_terminal();
+    let progress = if is_watched && !is_shown {
         Progress::begin(*rt).ok()
     } else {
         None

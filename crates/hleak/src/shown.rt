@@ -4,7 +4,8 @@ use std::fmt;
 use std::fmt::Write;
 
 /// A text whose control characters are shown by their escapes, as `\u{1b}`, so that a name can't
-/// move the cursor or clear what stands there.
+/// move the cursor or clear what stands there. Those that turn the direction of writing are too, so
+/// that it can't look like another name.
 #[derive(Clone, Copy)]
 pub struct Shown<'a> {
     text: &'a str,
@@ -30,8 +31,17 @@ impl<'a> Shown<'a> {
     }
 
     fn is_kept(&self, character: char) -> bool {
-        !character.is_control() || (self.has_lines && character == '\n')
+        !turns(character) && !character.is_control() || (self.has_lines && character == '\n')
     }
+}
+
+/// Whether the character turns the direction of writing, as the controls of Unicode's bidirectional
+/// algorithm do.
+fn turns(character: char) -> bool {
+    matches!(
+        character,
+        '\u{200e}' | '\u{200f}' | '\u{202a}'..='\u{202e}' | '\u{2066}'..='\u{2069}'
+    )
 }
 
 impl fmt::Display for Shown<'_> {

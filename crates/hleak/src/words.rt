@@ -78,7 +78,7 @@ pub fn advice(code: Code) -> &'static str
 {
     match code {
         Code::S1 => "is it a trace, and copied whole?",
-        Code::S2 => "is it a trace, in bytes and not in digits (--hex)?",
+        Code::S2 => "is it a trace, in bytes and not in digits (--hex) or text (hleak encode)?",
         Code::S3 => "was it written for a newer hleak?",
         Code::S4
         | Code::S5

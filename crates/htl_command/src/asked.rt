@@ -137,24 +137,47 @@ pub(crate) fn matches<'a>(
 }
 
 /// What helps where a value that begins with `-` stands apart from its option, since `clap` takes
-/// it for another option.
-fn tip(arguments: &[String]) -> &'static str {
+/// it for another option: nothing where the option has no such value. None where no value stands
+/// so.
+fn tip(arguments: &[String]) -> Option<&'static str> {
+    if has_parted(arguments) {
+        Some("\n\n  tip: a value that begins with '-' follows '=', as in '--tag=-abc'")
+    } else if has_no_number(arguments) {
+        Some("")
+    } else {
+        None
+    }
+}
+
+fn has_parted(arguments: &[String]) -> bool {
     let next = arguments.iter().skip(1);
-    if arguments
+    arguments
         .iter()
         .zip(next)
         .any(|(option, value)| is_parted(option, value))
-    {
-        "\n\n  tip: a value that begins with '-' follows '=', as in '--tag=-abc'"
-    } else {
-        ""
-    }
+}
+
+fn has_no_number(arguments: &[String]) -> bool {
+    let next = arguments.iter().skip(1);
+    arguments
+        .iter()
+        .zip(next)
+        .any(|(option, value)| is_no_number(option, value))
 }
 
 /// Whether a value that begins with `-`, of an option that may have such a value, stands apart from
 /// it.
 fn is_parted(option: &str, value: &str) -> bool {
     matches!(option, "--tag" | "--symbols") && value.starts_with('-')
+}
+
+/// Whether what follows an option whose value is a number begins with `-`, as no such value does.
+fn is_no_number(option: &str, value: &str) -> bool {
+    let takes_number = matches!(
+        option,
+        "--process" | "--since" | "--object" | "--handle" | "--top" | "--workers"
+    );
+    takes_number && value.starts_with('-')
 }
 
 fn read_matches(alloc: Global, matches: &ArgMatches) -> Result<Command, ParseFault>

@@ -91,8 +91,9 @@ impl From<AllocError> for ParseFault {
     }
 }
 
-/// The fault that `clap` reports, in its own words. A tip may follow a mistake.
-pub(crate) fn of_clap(alloc: Global, error: &clap::Error, tip: &str) -> ParseFault
+/// The fault that `clap` reports, in its own words. Where there is a tip, it stands in a mistake in
+/// the place of `clap`'s own tip to pass a word as a file.
+pub(crate) fn of_clap(alloc: Global, error: &clap::Error, tip: Option<&str>) -> ParseFault
     ensures { Reports (kind_of error.now) result }
 {
     if matches!(error.kind(), ErrorKind::OutOfMemory) {
@@ -100,8 +101,32 @@ pub(crate) fn of_clap(alloc: Global, error: &clap::Error, tip: &str) -> ParseFau
     }
     match error.to_string(alloc) {
         Err(_) => ParseFault::Memory,
-        Ok(text) if error.use_stderr() => usage(alloc, why_of(&text), tip),
+        Ok(text) if error.use_stderr() => of_mistake(alloc, why_of(&text), tip),
         Ok(text) => ParseFault::Help(text),
+    }
+}
+
+/// The fault of a mistake, without a tip that would lead to another one.
+fn of_mistake(alloc: Global, why: &str, tip: Option<&str>) -> ParseFault
+    ensures { IsUsageWith ⊤ result }
+{
+    let (before, after) = around_file_tip(why, tip.is_some());
+    let tip = tip.unwrap_or("");
+    match format!(in alloc; "{before}{tip}{after}") {
+        Ok(why) => usage(alloc, &why, ""),
+        Err(_) => ParseFault::Memory,
+    }
+}
+
+/// What stands before and after the tip of `clap`'s to pass a word as a file, where it is wrong: the
+/// word is known to be none, or begins with `--`, as the options of other commands do.
+fn around_file_tip(why: &str, is_known: bool) -> (&str, &str) {
+    match why.split_once("\n\n  tip: to pass '") {
+        Some((before, tip)) if is_known || tip.starts_with("--") => {
+            let end = tip.find("\n\n").unwrap_or(tip.len());
+            (before, tip.get(end..).unwrap_or(""))
+        }
+        _ => (why, ""),
     }
 }
 

@@ -66,8 +66,39 @@ impl fmt::Display for Refused<'_> {
             self.option.as_str(),
             self.option.value_name(),
             self.option.expected()
-        )
+        )?;
+        self.write_tip(f)
     }
+}
+
+impl Refused<'_> {
+    /// What was meant, where a number is written as a debugger shows it.
+    fn write_tip<W: fmt::Write>(&self, f: &mut fmt::Formatter<W>) -> fmt::Result {
+        let given = self.given;
+        match self.option {
+            CommandOption::Process | CommandOption::Since if given.starts_with("0x") => {
+                match values::object(given) {
+                    Some(number) => write!(f, "\n\n  tip: {given} is {number}"),
+                    None => Ok(()),
+                }
+            }
+            CommandOption::Object => match given.split_once('`') {
+                Some((high, low)) if is_address(high, low) => {
+                    write!(f, "\n\n  tip: write {high}{low}")
+                }
+                _ => Ok(()),
+            },
+            _ => Ok(()),
+        }
+    }
+}
+
+/// Whether these are the halves of an address, which a debugger parts by a backquote.
+fn is_address(high: &str, low: &str) -> bool {
+    low.len() == 8
+        && !low.starts_with("0x")
+        && values::object(high).is_some()
+        && values::object(low).is_some()
 }
 
 fn entry<'a>(entries: &ArgMatches<'a>, id: &str) -> Option<&'a str>

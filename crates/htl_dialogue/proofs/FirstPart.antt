@@ -4,7 +4,7 @@ use Rattle.std.specs.Prelude.{◌&&◌, not, filter}
 use Rattle.std.specs.List.{slice_split}
 use Rattle.std.proofs.lemmas.Bool.Decides.{nat_tests}
 use Rattle.htl_dialogue.specs.Lines.{argument_of, arguments_of, is_blank, is_some, marked, parts, turned}
-use Rattle.htl_dialogue.specs.Parts.{kept, part_end}
+use Rattle.htl_dialogue.specs.Parts.{kept, part_end, unquoted}
 
 -- a blank that parts turns nothing
 blank_turns : (quoted : Bool) (x : ℕ) → (is_blank x && not quoted) ≡ true → turned quoted x ≡ false
@@ -15,7 +15,8 @@ blank_turns false x parts = grind (arith, nat_tests)
 record FirstPart (quoted : Bool) (line : List ℕ) : Type 0 where
   more : List (List (ℕ × Bool))
   cut : slice_split parts (marked quoted line) ≡ marked quoted (take (part_end quoted line) line) ∷ more
-  later : filter is_some more ≡ filter is_some (slice_split parts (marked false (drop 1 (drop (part_end quoted line) line))))
+  later : filter is_some (map argument_of more)
+      ≡ filter is_some (map argument_of (slice_split parts (marked false (drop 1 (drop (part_end quoted line) line)))))
 
 first_part : (quoted : Bool) (line : List ℕ) → FirstPart quoted line
 first_part quoted [] = record { more = []; cut = refl; later = refl }
@@ -34,11 +35,15 @@ marks_gone : (quoted : Bool) (xs : List ℕ) → map (λ m. m.0) (marked quoted 
 marks_gone quoted [] = refl
 marks_gone quoted (x ∷ xs) = ap (λ ys. x ∷ ys) (marks_gone (turned quoted x) xs)
 
--- a part is kept as an argument, where something stands there
+-- a part is kept as an argument, where something but quotes stands there
 part_kept : (part : List ℕ) (more : List (List (ℕ × Bool)))
-    → map argument_of (filter is_some (marked false part ∷ more)) ≡ kept part ++ map argument_of (filter is_some more)
-part_kept [] more = refl
-part_kept (b ∷ bs) more = rw (marks_gone (turned false b) bs) refl
+    → filter is_some (map argument_of (marked false part ∷ more)) ≡ kept part ++ filter is_some (map argument_of more)
+part_kept part more = rw (marks_gone false part) (by_case (unquoted part) (map argument_of more))
+  where
+    by_case : (argument : List ℕ) (others : List (List ℕ)) → filter is_some (argument ∷ others)
+        ≡ filter is_some (argument ∷ []) ++ filter is_some others
+    by_case [] others = refl
+    by_case (b ∷ bs) others = refl
 
 pub begins : (line part rest others : List ℕ) → part ≡ take (part_end false line) line → rest ≡ drop (part_end false line) line
     → others ≡ drop 1 rest → arguments_of line ≡ kept part ++ arguments_of others

@@ -42,9 +42,9 @@ is_some (x ∷ more) = true
 abbrev pub argument_of : List (ℕ × Bool) → List ℕ
 argument_of part = filter (λ b. not (is_quote b)) (map (λ m. m.0) part)
 
--- The arguments of a line: what stands between blanks that part, without its quotes.
+-- The arguments of a line: what stands between blanks that part, without its quotes, where something is left.
 unfoldable pub arguments_of : List ℕ → List (List ℕ)
-arguments_of line = map argument_of (filter is_some (slice_split parts (marked false line)))
+arguments_of line = filter is_some (map argument_of (slice_split parts (marked false line)))
 
 -- whether a line ends in quotes, which a quote that is not ended leaves so
 abbrev pub ends_quoted : Bool → List ℕ → Bool

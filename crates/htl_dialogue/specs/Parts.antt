@@ -2,7 +2,7 @@
 use Rattle.std.specs.Prelude.{◌≡◌, ⊤, ℕ, zero, suc, ◌&&◌, Bool, false, not, List, [], ◌∷◌, filter, if◌then◌else◌}
 use Rattle.std.specs.List.{list_all}
 use Rattle.std.specs.Str.{is_utf8}
-use Rattle.htl_dialogue.specs.Lines.{arguments_of, is_blank, is_quote, turned}
+use Rattle.htl_dialogue.specs.Lines.{arguments_of, is_blank, is_quote, is_some, turned}
 use Rattle.htl_dialogue.specs.declared.parting.ArgumentFault.{ArgumentFault}
 use Rattle.htl_dialogue.specs.declared.parting.ArgumentFault.TheVariants.{OpenQuote, NoText, NoMemory}
 
@@ -14,10 +14,9 @@ part_end quoted (b ∷ more) = if is_blank b && not quoted then zero else suc (p
 abbrev pub unquoted : List ℕ → List ℕ
 unquoted bytes = filter (λ b. not (is_quote b)) bytes
 
--- a part as an argument, where something stands there
+-- a part as an argument, where something but quotes stands there
 abbrev pub kept : List ℕ → List (List ℕ)
-kept [] = []
-kept (b ∷ more) = unquoted (b ∷ more) ∷ []
+kept part = filter is_some (unquoted part ∷ [])
 
 -- an argument is no text, which is reported only with P
 abbrev pub IsNoTextWith : Type 0 → ArgumentFault → Type 0

@@ -1,5 +1,5 @@
 -- What a line says (this project's own): a question, or that the dialogue ends, or nothing; or it is wrong.
-use Rattle.std.specs.Prelude.{ℕ, ◌&&◌, Bool, false, not, List, [], ◌∷◌, codes, if◌then◌else◌, length, nat_le}
+use Rattle.std.specs.Prelude.{ℕ, ◌&&◌, ◌||◌, Bool, false, not, List, [], ◌∷◌, codes, if◌then◌else◌, length, nat_le}
 use Rattle.std.specs.List.{list_all}
 use Rattle.std.specs.Option.{option_map_or}
 use Rattle.std.specs.Str.{bytes_eq, is_utf8}
@@ -16,16 +16,28 @@ pub data Saying : Type 0 where
   asks : Job → Saying
   wrong : Saying
 
--- `quit` alone
+-- `quit`, or a word that debuggers and shells have for it
+abbrev pub is_farewell : List ℕ → Bool
+is_farewell word = bytes_eq word (codes "quit") || (bytes_eq word (codes "exit") || bytes_eq word (codes "q"))
+
+-- such a word alone
 abbrev pub is_quit : List (List ℕ) → Bool
-is_quit (word ∷ []) = bytes_eq word (codes "quit")
+is_quit (word ∷ []) = is_farewell word
 is_quit arguments = false
+
+-- `?` alone is `help`
+abbrev pub is_help_sign : List (List ℕ) → Bool
+is_help_sign (word ∷ []) = bytes_eq word (codes "?")
+is_help_sign arguments = false
+
+abbrev pub meant : List (List ℕ) → List (List ℕ)
+meant arguments = if is_help_sign arguments then codes "help" ∷ [] else arguments
 
 -- what arguments say
 abbrev pub saying_by : List (List ℕ) → Saying
 saying_by [] = nothing
 saying_by (first ∷ more) =
-    if is_quit (first ∷ more) then quits else option_map_or (λ job. asks job) (asked_in (first ∷ more)) wrong
+    if is_quit (first ∷ more) then quits else option_map_or (λ job. asks job) (asked_in (meant (first ∷ more))) wrong
 
 -- a line can be read: it isn't too long, each quote is ended, and each argument is a text
 abbrev pub is_readable : List ℕ → Bool

@@ -47,8 +47,8 @@ impl<T: Drop> From<AllocFailed<T>> for ArgumentFault {
 }
 
 /// The arguments of a line, which blanks part. A blank in double quotes is one of the argument's
-/// bytes, and the quotes are none. A quote that is not ended is reported first, and then the first
-/// argument that is no text.
+/// bytes, and the quotes are none; where nothing else stands, there is no argument. A quote that is
+/// not ended is reported first, and then the first argument that is no text.
 pub fn arguments(alloc: Global, line: &[u8]) -> Result<Vec<String>, ArgumentFault>
     ensures ok { IfOk result (λ arguments. (ends_quoted false line.now ≡ false)
         × (map string_bytes arguments.items ≡ arguments_of line.now)
@@ -71,8 +71,9 @@ fn parted(alloc: Global, line: &[u8]) -> Result<Vec<String>, ArgumentFault>
     let mut rest = line;
     while !rest.is_empty() {
         let (part, others) = first_part(rest);
-        if !part.is_empty() {
-            arguments.push(text_of(alloc, part)?)?;
+        let bytes = without_quotes(alloc, part)?;
+        if !bytes.is_empty() {
+            arguments.push(text_of(bytes)?)?;
         }
         rest = others;
     }
@@ -132,18 +133,6 @@ fn is_blank(byte: u8) -> bool
     matches!(byte, b' ' | b'\t' | b'\r')
 }
 
-/// A part without its quotes, where it is a text.
-fn text_of(alloc: Global, part: &[u8]) -> Result<String, ArgumentFault>
-    ensures ok { IfOk result (λ text. (string_bytes text ≡ unquoted part.now)
-        × (is_utf8 (unquoted part.now) ≡ true)) }
-    ensures err { IfErr result (IsNoTextWith (is_utf8 (unquoted part.now) ≡ false)) }
-{
-    match String::from_utf8(without_quotes(alloc, part)?) {
-        Ok(text) => Ok(text),
-        Err(_) => Err(ArgumentFault::NoText),
-    }
-}
-
 /// A part without its quotes.
 fn without_quotes(alloc: Global, part: &[u8]) -> Result<Vec<u8>, AllocError>
     ensures { IfOk result (λ bytes. bytes.items ≡ unquoted part.now) }
@@ -152,4 +141,16 @@ fn without_quotes(alloc: Global, part: &[u8]) -> Result<Vec<u8>, AllocError>
         .copied()
         .filter(|byte| *byte != b'"')
         .collect(alloc)
+}
+
+/// The text of bytes, if they are one.
+fn text_of(bytes: Vec<u8>) -> Result<String, ArgumentFault>
+    ensures ok { IfOk result (λ text. (string_bytes text ≡ bytes.items)
+        × (is_utf8 bytes.items ≡ true)) }
+    ensures err { IfErr result (IsNoTextWith (is_utf8 bytes.items ≡ false)) }
+{
+    match String::from_utf8(bytes) {
+        Ok(text) => Ok(text),
+        Err(_) => Err(ArgumentFault::NoText),
+    }
 }

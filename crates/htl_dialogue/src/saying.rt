@@ -1,10 +1,12 @@
 //! What a line says.
 
-ghost use Rattle.std.specs.Prelude.{◌≡◌, ◌≢◌, ℕ, List, IfOk, map, string_bytes};
+ghost use Rattle.std.specs.Prelude.{◌≡◌, ◌≢◌, ℕ, List, IfErr, IfOk, Some, map, string_bytes};
+ghost use Rattle.htl_command.specs.Refusals.{RefusesQuestion};
+ghost use Rattle.htl_command.specs.Requests.{asked_in};
 ghost use Rattle.htl_command.specs.declared.fault.ParseFault.TheVariants as faults;
 ghost use Rattle.htl_dialogue.specs.Reading.{IsLine};
-ghost use Rattle.htl_dialogue.specs.Sayings.{is_quit, saying, saying_by, saying_of};
-ghost use Rattle.htl_dialogue.specs.Sayings.{wrong as says_wrong};
+ghost use Rattle.htl_dialogue.specs.Sayings.{is_farewell, is_help_sign, is_quit, meant, saying};
+ghost use Rattle.htl_dialogue.specs.Sayings.{saying_by, saying_of, wrong as says_wrong};
 
 use crate::line::Line;
 use crate::parting::{ArgumentFault, arguments};
@@ -52,18 +54,48 @@ fn said_by(alloc: Global, arguments: &[String]) -> Result<Said, NoMemory>
     if is_quit(arguments) {
         return Ok(Said::Quits);
     }
-    match parse_question(alloc, arguments) {
+    match asked(alloc, arguments) {
         Ok(job) => Ok(Said::Asks(job)),
         Err(fault) => wrong(fault),
     }
 }
 
-/// Whether the arguments are `quit` alone.
+/// Whether the arguments are a word alone that ends the dialogue.
 fn is_quit(arguments: &[String]) -> bool
     ensures { result ≡ is_quit (map string_bytes arguments.now) }
 {
     match arguments {
-        [word] => word.as_str() == "quit",
+        [word] => is_farewell(word),
+        _ => false,
+    }
+}
+
+/// Whether the word is `quit`, or what debuggers and shells have for it.
+fn is_farewell(word: &str) -> bool
+    ensures { result ≡ is_farewell word.now }
+{
+    word == "quit" || word == "exit" || word == "q"
+}
+
+/// The job that the arguments ask for.
+fn asked(alloc: Global, arguments: &[String]) -> Result<Job, ParseFault>
+    ensures ok { IfOk result (λ job. asked_in (meant (map string_bytes arguments.now)) ≡ Some job) }
+    ensures err { IfErr result (RefusesQuestion (meant (map string_bytes arguments.now))) }
+{
+    if is_help_sign(arguments) {
+        let help = [String::from_str(alloc, "help")?];
+        parse_question(alloc, &help)
+    } else {
+        parse_question(alloc, arguments)
+    }
+}
+
+/// Whether the arguments are `?` alone, which is `help`.
+fn is_help_sign(arguments: &[String]) -> bool
+    ensures { result ≡ is_help_sign (map string_bytes arguments.now) }
+{
+    match arguments {
+        [word] => word.as_str() == "?",
         _ => false,
     }
 }

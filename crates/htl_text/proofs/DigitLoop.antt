@@ -2,16 +2,14 @@
 use Rattle.std.proofs.Common.{◌≡◌, ◌≤◌, ◌<◌, ◌+◌, ◌*◌, ℕ, zero, suc, Bool, true, false, List}
 use Rattle.std.proofs.Common.{[], ◌∷◌, length, take, drop, get_or, refl, sym, ap, ◌∙◌, arith, leb}
 use Rattle.std.proofs.Common.{◌++◌, take-append-drop, mul-le-mul, le_refl, le_trans}
-use Rattle.std.specs.Prelude.{Some, None, ◌&&◌, if◌then◌else◌, codes, nat_eq}
-use Rattle.std.proofs.lemmas.List.{length-drop}
-use Rattle.std.specs.List.{list_all, starts_with}
+use Rattle.std.specs.Prelude.{Some, None, ◌&&◌, if◌then◌else◌}
+use Rattle.std.specs.List.{list_all}
 use Rattle.std.specs.Char.{digit_value, is_digit}
 use Rattle.std.specs.Str.Parse.{AllDigits, digits_value, digits_value_after}
-use Rattle.std.proofs.lemmas.Bool.{le-leb, le-ltb}
+use Rattle.std.proofs.lemmas.Bool.{le-ltb}
 use Rattle.std.proofs.lemmas.Bool.Decides.{nat_tests}
 use Rattle.std.proofs.lemmas.Int.Digits.{digits_more, digits_value_more}
-use Rattle.htl_numbers.specs.Numbers.{hexadecimal_number, number_of, without_0x}
-use Rattle.htl_text.specs.Lines.{after_key, hexadecimal_value}
+use Rattle.htl_numbers.specs.Numbers.{number_of}
 use Rattle.htl_text.proofs.Numerals.{number_read}
 
 and_false : (a : Bool) → (a && false) ≡ false
@@ -87,33 +85,3 @@ pub no_digits : (radix most : ℕ) (text : List ℕ) → length text ≡ 0 → N
 unfolding number_of
 no_digits radix most [] none = refl
 no_digits radix most (c ∷ cs) none = absurd (omega (arith, none))
-
--- what follows `0x`
-digits_of : (text digits : List ℕ) (b : Bool) → (if b then Some (drop 2 text) else None) ≡ Some digits
-    → (b ≡ true) × (digits ≡ drop 2 text)
-digits_of text digits true is = (refl, let e : drop 2 text ≡ digits = cc is in sym e)
-digits_of text digits false is = absurd (cc is)
-
-none_of : (text : List ℕ) (b : Bool) → (if b then Some (drop 2 text) else None) ≡ None → b ≡ false
-none_of text true is = absurd (cc is)
-none_of text false is = refl
-
-pub no_0x : (most_digits most : ℕ) (text : List ℕ) → after_key (codes "0x") text ≡ None → None ≡ hexadecimal_value most_digits most text
-unfolding after_key hexadecimal_value
-no_0x most_digits most text none = rw (none_of text (starts_with nat_eq text (codes "0x")) none) refl
-
-pub long_after_0x : (most_digits most : ℕ) (text digits : List ℕ) → after_key (codes "0x") text ≡ Some digits → most_digits < length digits
-    → None ≡ hexadecimal_value most_digits most text
-unfolding after_key hexadecimal_value
-long_after_0x most_digits most text digits found long =
-    let is = digits_of text digits (starts_with nat_eq text (codes "0x")) found in
-    rw (is.0, above (length text) (2 + most_digits) (omega (arith, length-drop 2 text, ap length is.1, long))) refl
-
-pub after_0x : (most_digits most : ℕ) (text digits : List ℕ) → after_key (codes "0x") text ≡ Some digits → length digits ≤ most_digits
-    → most_digits ≤ 16 → number_of 16 most digits ≡ hexadecimal_value most_digits most text
-unfolding after_key hexadecimal_value hexadecimal_number without_0x
-after_0x most_digits most text digits found few low =
-    let is = digits_of text digits (starts_with nat_eq text (codes "0x")) found in
-    let short : length (drop 2 text) ≤ most_digits = omega (arith, ap length is.1, few) in
-    let all : length text ≤ 2 + most_digits = omega (arith, length-drop 2 text, short) in
-    rw (is.1, is.0, le-leb (length text) (2 + most_digits) all, le-leb (length (drop 2 text)) 16 (omega (arith, short, low))) refl

@@ -22,22 +22,22 @@ use Rattle.htl_text.specs.declared.item.Head.{Head}
 use Rattle.htl_text.specs.declared.item.Item.{Item}
 use Rattle.htl_text.specs.declared.item.Item.TheVariants as item
 use Rattle.htl_text.specs.Items.{LoneEvent, without_stack, event_items, draft_items, draft_of, head_of, segments_items}
-use Rattle.htl_text.specs.Lines.{address_value, handle_value, tag_value, no_tag, place_in, head_in, event_in, handle_event_in, object_event_in}
-use Rattle.htl_text.specs.Lines.{bad_reference_in, frame_in, item_in, is_passed_over, lines_of, words_of}
+use Rattle.htl_text.specs.Lines.{address_value, handle_value, marked_value, tag_value, no_tag, place_in, head_in, event_in, handle_event_in, object_event_in}
+use Rattle.htl_text.specs.Lines.{bad_reference_in, frame_in, item_in, is_passed_over, lines_of, without_mark, words_of}
 use Rattle.htl_text.specs.Encoded.{Encodes, Write}
 use Rattle.htl_text.specs.Texts.{event_line, event_text, frame_line, handle_part, head_line, is_visible, line_feed, object_part, origin, place_part}
 use Rattle.htl_text.specs.Texts.{segment_text, subject, tag_text, version_part, word_of}
 use Rattle.htl_text.proofs.DumpedLines.{AllShown, IsShown, continued, is_plain, plain_spaced, words_after_blank, words_spaced}
-use Rattle.htl_text.proofs.Numerals.{hex_short, hexadecimal_read, length_padded, padded_writes}
+use Rattle.htl_text.proofs.Numerals.{hex_short, length_padded, marked_read, padded_writes}
 use Rattle.htl_text.proofs.Writing.{write_none}
 use Rattle.htl_text.proofs.DumpedFields.{Says, says_append, says_line, says_words, field_read, decimal_field, shown_decimal, shown_padded, shown_hex}
-use Rattle.htl_text.proofs.DumpedFields.{address_read, handle_read}
+use Rattle.htl_text.proofs.DumpedFields.{address_read, frame_read, handle_read}
 
 -- frames
 
 frame_item : (a : ℕ) → a < 2 ^ 64 → item_in ((codes "0x" ++ padded 16 a) ∷ []) ≡ Some (item.Frame a)
 unfolding item_in frame_in
-frame_item a low = rw (address_read a low) refl
+frame_item a low = rw (frame_read a low) refl
 
 frame_is : (a : ℕ) → frame_line a ≡ 32 ∷ 32 ∷ ((codes "0x" ++ padded 16 a) ++ line_feed)
 unfolding frame_line
@@ -93,8 +93,8 @@ unfolding tag_value
 digits_read n low =
     let eight : length (padded 8 n) ≡ 8 = length_padded 8 n (hex_short 7 n (omega arith)) in
     let ten : length (codes "0x" ++ padded 8 n) ≡ 10 = ap (λ k. suc (suc k)) eight in
-    let value : handle_value (codes "0x" ++ padded 8 n) ≡ Some n =
-    hexadecimal_read 8 (2 ^ 32 - 1) n (padded 8 n) (padded_writes 8 n (omega arith)) (omega (arith, eight)) (omega arith) (omega arith) in
+    let value : marked_value (2 ^ 32 - 1) (codes "0x" ++ padded 8 n) ≡ Some n =
+    marked_read (2 ^ 32 - 1) n (padded 8 n) (padded_writes 8 n (omega arith)) (omega (arith, eight)) (omega arith) in
     rw ten (rw value refl)
 
 tag_read : (tag : List ℕ) → length tag ≡ 4 → AllByRecursion (λ b. b < 256) tag → tag_value (tag_text tag) ≡ Some tag
@@ -481,8 +481,15 @@ nothing_said : Write (lines_of []) []
 unfolding lines_of
 nothing_said = write_none [] empty_passed
 
+-- no text of segments begins with a byte order mark
+no_mark : (ss : List Content) → without_mark (flat_map segment_text ss) ≡ flat_map segment_text ss
+unfolding without_mark head_line version_part
+no_mark [] = refl
+no_mark (s ∷ ss) = refl
+
 pub dumped_encodes : (ss : List Content) → All Fits ss → Encodes (flat_map segment_text ss) ss
 dumped_encodes ss h = record {
-  written = rw (← append-nil (flat_map segment_text ss), ← append-nil (segments_items ss)) (says_segments ss h [] [] nothing_said);
+  written =
+      rw (no_mark ss, ← append-nil (flat_map segment_text ss), ← append-nil (segments_items ss)) (says_segments ss h [] [] nothing_said);
   fits = h;
 }

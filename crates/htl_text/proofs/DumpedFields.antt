@@ -9,11 +9,12 @@ use Rattle.std.proofs.lemmas.List.{append_assoc}
 use Rattle.htl_numbers.specs.Numbers.{decimal_number}
 use Rattle.htl_numbers.specs.Written.{hex, padded}
 use Rattle.htl_text.specs.declared.item.Item.{Item}
-use Rattle.htl_text.specs.Lines.{address_value, handle_value, after_key, keyed, field, item_in, is_passed_over, lines_of, words_of}
+use Rattle.htl_text.specs.Lines.{address_value, frame_value, handle_value, after_key, keyed, field, item_in, is_passed_over, lines_of, words_of}
 use Rattle.htl_text.specs.Encoded.{Write}
 use Rattle.htl_text.specs.Texts.{is_visible, line_feed}
 use Rattle.htl_text.proofs.DumpedLines.{AllShown, IsShown, continued, continued_end, is_plain, line_first, plain_spaced, words_spaced}
-use Rattle.htl_text.proofs.Numerals.{decimal_writes, hex_short, hex_writes, hexadecimal_read, length_padded, number_read, padded_writes, visible_digits}
+use Rattle.htl_text.proofs.Numerals.{decimal_writes, hex_short, hex_writes, hexadecimal_read, length_padded, marked_read}
+use Rattle.htl_text.proofs.Numerals.{number_read, padded_writes, visible_digits}
 use Rattle.htl_text.proofs.Writing.{write_append, write_one}
 
 -- texts and their items, whatever follows them
@@ -80,8 +81,14 @@ shown_hex n low = visible_digits 16 (hex n) (omega arith) (hex_writes n low).num
 pub address_read : (a : ℕ) → a < 2 ^ 64 → address_value (codes "0x" ++ padded 16 a) ≡ Some a
 address_read a low =
     let few = length_padded 16 a (hex_short 15 a (omega arith)) in
-    hexadecimal_read 16 (2 ^ 64 - 1) a (padded 16 a) (padded_writes 16 a low) (omega (arith, few)) (omega arith) (omega arith)
+    hexadecimal_read (2 ^ 64 - 1) a (padded 16 a) (padded_writes 16 a low) (omega (arith, few)) (omega arith)
+
+pub frame_read : (a : ℕ) → a < 2 ^ 64 → frame_value (codes "0x" ++ padded 16 a) ≡ Some a
+frame_read a low =
+    let few = length_padded 16 a (hex_short 15 a (omega arith)) in
+    marked_read (2 ^ 64 - 1) a (padded 16 a) (padded_writes 16 a low) (omega (arith, few)) (omega arith)
 
 pub handle_read : (h : ℕ) → h < 2 ^ 32 → handle_value (codes "0x" ++ hex h) ≡ Some h
 handle_read h low =
-    hexadecimal_read 8 (2 ^ 32 - 1) h (hex h) (hex_writes h (omega arith)) (hex_short 7 h (omega arith)) (omega arith) (omega arith)
+    let few = hex_short 7 h (omega arith) in
+    hexadecimal_read (2 ^ 32 - 1) h (hex h) (hex_writes h (omega arith)) (omega (arith, few)) (omega arith)

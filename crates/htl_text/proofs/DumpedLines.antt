@@ -8,8 +8,8 @@ use Rattle.std.proofs.lemmas.List.{append_assoc, append-nil}
 use Rattle.std.proofs.lemmas.List.Folds.{list_all-append}
 use Rattle.htl_numbers.proofs.Digits.{both}
 use Rattle.htl_text.specs.Texts.{is_visible}
-use Rattle.htl_text.specs.Lines.{is_word, lines_of, words_of}
-use Rattle.htl_text.specs.Words.{is_blank, is_feed}
+use Rattle.htl_text.specs.Lines.{is_blank, is_word, lines_of, words_of}
+use Rattle.htl_text.specs.Words.{is_feed}
 
 abbrev pub IsShown : List ℕ → Type 0
 IsShown w = (is_word w ≡ true) × (list_all is_visible w ≡ true)

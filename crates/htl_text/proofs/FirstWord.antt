@@ -5,8 +5,8 @@ use Rattle.std.specs.List.{position_or_len, slice_split}
 use Rattle.std.proofs.lemmas.Bool.Decides.{nat_tests}
 use Rattle.std.proofs.lemmas.List.Recursion.{is_position_or_len}
 use Rattle.std.proofs.lemmas.List.Sums.{prefix_len-le-length}
-use Rattle.htl_text.specs.Lines.{is_word, words_of}
-use Rattle.htl_text.specs.Words.{is_blank, word_start, word_end}
+use Rattle.htl_text.specs.Lines.{is_blank, is_word, words_of}
+use Rattle.htl_text.specs.Words.{word_start, word_end}
 
 -- the first part between blanks, and the words that follow
 record FirstPart (line : List ℕ) : Type 0 where

@@ -1,5 +1,5 @@
 -- The numbers of an item that a line has fit their fields.
-use Rattle.std.proofs.Common.{◌≡◌, ◌≤◌, ◌<◌, ◌^◌, ◌-◌, ◌+◌, ℕ, Bool, true, false, List, [], ◌∷◌, length, refl, arith}
+use Rattle.std.proofs.Common.{◌≡◌, ◌≤◌, ◌<◌, ◌^◌, ◌-◌, ℕ, Bool, true, false, List, [], ◌∷◌, length, refl, arith}
 use Rattle.std.specs.Prelude.{Option, Some, None, codes, if◌then◌else◌, nat_eq, nat_le, nat_lt, option_map, ◌&&◌, ◌==◌}
 use Rattle.std.specs.List.{AllByRecursion, list_all, starts_with}
 use Rattle.std.specs.Char.{is_digit}
@@ -12,7 +12,7 @@ use Rattle.htl_event.specs.declared.kind.Kind.TheVariants.{Opened, Closed, BadRe
 use Rattle.htl_numbers.specs.Numbers.{number_of, decimal_number, hexadecimal_number, without_0x}
 use Rattle.htl_numbers.proofs.Digits.{both}
 use Rattle.htl_text.specs.Texts.{is_visible}
-use Rattle.htl_text.specs.Lines.{address_value, handle_value, hexadecimal_value, tag_value, keyed, value_first, field, after, ended, no_tag, head_in}
+use Rattle.htl_text.specs.Lines.{address_value, frame_value, handle_value, marked_value, tag_value, keyed, value_first, field, after, ended, no_tag, head_in}
 use Rattle.htl_text.specs.Lines.{place_in, event_in, handle_event_in, object_event_in, bad_reference_in, frame_in, item_in}
 use Rattle.htl_text.specs.declared.item.Item.{Item}
 use Rattle.htl_text.specs.declared.item.Item.TheVariants as item
@@ -85,11 +85,10 @@ unfolding hexadecimal_number
 hexadecimal_on most text =
     if_on (λ n. n ≤ most) (nat_le (length (without_0x text)) 16) (number_of 16 most (without_0x text)) None (number_on 16 most (without_0x text)) tt
 
-value_on : (digits most : ℕ) (text : List ℕ) → OnSome (hexadecimal_value digits most text) (λ n. n ≤ most)
-unfolding hexadecimal_value
-value_on digits most text =
-    if_on (λ n. n ≤ most) (starts_with nat_eq text (codes "0x") && nat_le (length text) (2 + digits)) (hexadecimal_number most text) None
-    (hexadecimal_on most text) tt
+marked_on : (most : ℕ) (text : List ℕ) → OnSome (marked_value most text) (λ n. n ≤ most)
+unfolding marked_value
+marked_on most text =
+    if_on (λ n. n ≤ most) (starts_with nat_eq text (codes "0x")) (hexadecimal_number most text) None (hexadecimal_on most text) tt
 
 visible_low : (b : ℕ) → is_visible b ≡ true → b < 256
 visible_low b h = let last = both (nat_le 0x21 b) (nat_le b 0x7E) h in let low : b ≤ 0x7E = leb-true b 0x7E last.1 in omega arith
@@ -115,9 +114,10 @@ tag_on text = by_length (length text == 4) refl
 
     by_length : (b : Bool) → (length text == 4) ≡ b
         → OnSome (if b then (if list_all is_visible text then Some text else None)
-        else (if length text == 10 then option_map (to_be_bytes w32) (handle_value text) else None)) IsTag
+        else (if length text == 10 then option_map (to_be_bytes w32) (marked_value (2 ^ 32 - 1) text) else None)) IsTag
     by_length true e = by_visible (list_all is_visible text) refl (eqb-true (length text) 4 e)
-    by_length false e = if_on IsTag (length text == 10) (option_map (to_be_bytes w32) (handle_value text)) None (digits (handle_value text)) tt
+    by_length false e = if_on IsTag (length text == 10) (option_map (to_be_bytes w32) (marked_value (2 ^ 32 - 1) text)) None
+        (digits (marked_value (2 ^ 32 - 1) text)) tt
 
 place_on : (version trace_id : ℕ) (ws : List (List ℕ)) → trace_id < 2 ^ 64 → OnSome (place_in version trace_id ws) ItemInRange
 unfolding place_in
@@ -136,7 +136,7 @@ head_on ws =
     after_on (λ f. f.0 ≤ 0xFFFF) ItemInRange (field (codes "version=") (decimal_number 0xFFFF) ws) _
     (field_on (λ n. n ≤ 0xFFFF) (codes "version=") (decimal_number 0xFFFF) ws (number_on 10 0xFFFF))
     (λ f _. after_on (λ f. f.0 ≤ 2 ^ 64 - 1) ItemInRange (field (codes "trace=") address_value f.1) _
-    (field_on (λ n. n ≤ 2 ^ 64 - 1) (codes "trace=") address_value f.1 (value_on 16 (2 ^ 64 - 1)))
+    (field_on (λ n. n ≤ 2 ^ 64 - 1) (codes "trace=") address_value f.1 (hexadecimal_on (2 ^ 64 - 1)))
     (λ g low. place_on f.0 g.0 g.1 (omega arith)))
 
 event_on : (kind : Kind) (handle object : ℕ) (tag : List ℕ) (ws : List (List ℕ)) → handle < 2 ^ 32 → object < 2 ^ 64 → IsTag tag
@@ -165,14 +165,14 @@ handle_on : (kind : Kind) (ws : List (List ℕ)) → OnSome (handle_event_in kin
 unfolding handle_event_in
 handle_on kind ws =
     after_on (λ f. f.0 ≤ 2 ^ 32 - 1) ItemInRange (field (codes "handle=") handle_value ws) _
-    (field_on (λ n. n ≤ 2 ^ 32 - 1) (codes "handle=") handle_value ws (value_on 8 (2 ^ 32 - 1)))
+    (field_on (λ n. n ≤ 2 ^ 32 - 1) (codes "handle=") handle_value ws (hexadecimal_on (2 ^ 32 - 1)))
     (λ f low. event_on kind f.0 0 no_tag f.1 (omega arith) (omega arith) no_tag_is)
 
 object_on : (kind : Kind) (ws : List (List ℕ)) → OnSome (object_event_in kind ws) ItemInRange
 unfolding object_event_in
 object_on kind ws =
     after_on (λ f. f.0 ≤ 2 ^ 64 - 1) ItemInRange (field (codes "object=") address_value ws) _
-    (field_on (λ n. n ≤ 2 ^ 64 - 1) (codes "object=") address_value ws (value_on 16 (2 ^ 64 - 1)))
+    (field_on (λ n. n ≤ 2 ^ 64 - 1) (codes "object=") address_value ws (hexadecimal_on (2 ^ 64 - 1)))
     (λ f low. after_on (λ g. IsTag g.0) ItemInRange (field (codes "tag=") tag_value f.1) _
     (field_on IsTag (codes "tag=") tag_value f.1 tag_on)
     (λ g is. event_on kind 0 f.0 g.0 g.1 (omega arith) (omega arith) is))
@@ -185,7 +185,7 @@ bad_on (w ∷ ws) = if_on ItemInRange (bytes_eq w (codes "REF")) (handle_event_i
 frame_on : (w : List ℕ) (ws : List (List ℕ)) → OnSome (frame_in w ws) ItemInRange
 unfolding frame_in
 frame_on w ws =
-    after_on (λ n. n ≤ 2 ^ 64 - 1) ItemInRange (address_value w) _ (value_on 16 (2 ^ 64 - 1) w)
+    after_on (λ n. n ≤ 2 ^ 64 - 1) ItemInRange (frame_value w) _ (marked_on (2 ^ 64 - 1) w)
     (λ a low. ended_on ItemInRange ws (item.Frame a) (omega arith))
 
 pub item_on : (ws : List (List ℕ)) → OnSome (item_in ws) ItemInRange

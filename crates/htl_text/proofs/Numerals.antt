@@ -13,7 +13,7 @@ use Rattle.std.proofs.lemmas.List.{length-replicate}
 use Rattle.htl_numbers.specs.Numbers.{number_of, hexadecimal_number, without_0x}
 use Rattle.htl_numbers.specs.Written.{hex, padded}
 use Rattle.htl_text.specs.Texts.{is_visible}
-use Rattle.htl_text.specs.Lines.{hexadecimal_value}
+use Rattle.htl_text.specs.Lines.{marked_value}
 
 -- a text of digits that writes a number
 pub record Writes (radix n : ℕ) (ds : List ℕ) : Type 0 where
@@ -85,8 +85,11 @@ length_padded width n few =
     omega (arith, length-append (replicate (width - length (hex n)) 48) (hex n), length-replicate {A = ℕ} (width - length (hex n)) 48)
 
 -- digits after `0x` are their number
-pub hexadecimal_read : (most_digits most n : ℕ) (ds : List ℕ) → Writes 16 n ds → length ds ≤ most_digits → most_digits ≤ 16 → n ≤ most
-    → hexadecimal_value most_digits most (codes "0x" ++ ds) ≡ Some n
-unfolding hexadecimal_value hexadecimal_number without_0x
-hexadecimal_read most_digits most n ds w few low small =
-    rw (le-leb (length (codes "0x" ++ ds)) (2 + most_digits) (omega arith)) (rw (le-leb (length ds) 16 (omega arith)) (number_read 16 most n ds w small))
+pub hexadecimal_read : (most n : ℕ) (ds : List ℕ) → Writes 16 n ds → length ds ≤ 16 → n ≤ most
+    → hexadecimal_number most (codes "0x" ++ ds) ≡ Some n
+unfolding hexadecimal_number without_0x
+hexadecimal_read most n ds w few small = rw (le-leb (length ds) 16 few) (number_read 16 most n ds w small)
+
+pub marked_read : (most n : ℕ) (ds : List ℕ) → Writes 16 n ds → length ds ≤ 16 → n ≤ most → marked_value most (codes "0x" ++ ds) ≡ Some n
+unfolding marked_value
+marked_read most n ds w few small = hexadecimal_read most n ds w few small

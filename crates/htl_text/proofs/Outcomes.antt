@@ -7,7 +7,7 @@ use Rattle.htl_text.specs.declared.fault.LineFault.{LineFault}
 use Rattle.htl_text.specs.declared.fault.TextFault.{TextFault}
 use Rattle.htl_text.specs.declared.fault.TextFault.TheVariants as text
 use Rattle.htl_text.specs.Encoded.{Encodes, FirstFault, IsOrNoMemory, IsRefused}
-use Rattle.htl_text.specs.Lines.{lines_of}
+use Rattle.htl_text.specs.Lines.{text_lines, without_mark}
 use Rattle.htl_text.specs.Steps.{read, nothing_read, NeedsSegment, Reports}
 use Rattle.htl_text.proofs.Complete.{encoded_is_read, fault_is_read}
 use Rattle.htl_text.proofs.Holding.{bytes_in, lines_read, lines_held}
@@ -25,35 +25,35 @@ never_both r a e h k = cc
 
 -- what reading comes to
 abbrev pub outcome : List ℕ → Result (List ℕ) (ℕ × LineFault)
-outcome bytes = read 0 (lines_of bytes) nothing_read
+outcome bytes = read 0 (text_lines bytes) nothing_read
 
-concluded : (bytes : List ℕ) → Concludes (lines_of bytes) (lines_read 0 (lines_of bytes) None)
-concluded bytes = sound (lines_of bytes) [] 0 None (refl, rw kept_nil refl)
+concluded : (bytes : List ℕ) → Concludes (text_lines bytes) (lines_read 0 (text_lines bytes) None)
+concluded bytes = sound (text_lines bytes) [] 0 None (refl, rw kept_nil refl)
 
-outcome_is : (bytes : List ℕ) → outcome bytes ≡ bytes_in (lines_read 0 (lines_of bytes) None)
-outcome_is bytes = lines_held 0 (lines_of bytes) None
+outcome_is : (bytes : List ℕ) → outcome bytes ≡ bytes_in (lines_read 0 (text_lines bytes) None)
+outcome_is bytes = lines_held 0 (text_lines bytes) None
 
 pub outcome_found : (bytes out : List ℕ) → outcome bytes ≡ Ok out → (segments : List Content) × Encodes bytes segments × (out ≡ bundle segments)
-outcome_found bytes out is = by_read (lines_read 0 (lines_of bytes) None) (concluded bytes) (sym (outcome_is bytes) ∙ is)
+outcome_found bytes out is = by_read (lines_read 0 (text_lines bytes) None) (concluded bytes) (sym (outcome_is bytes) ∙ is)
   where
-    by_read : (r : Result (List Content) (ℕ × LineFault)) → Concludes (lines_of bytes) r → bytes_in r ≡ Ok out
+    by_read : (r : Result (List Content) (ℕ × LineFault)) → Concludes (text_lines bytes) r → bytes_in r ≡ Ok out
         → (segments : List Content) × Encodes bytes segments × (out ≡ bundle segments)
     by_read (Ok segments) h e = (segments, h, same_ok (Ok out) out (bundle segments) refl (sym e))
     by_read (Err fault) h e = absurd (never_both (Ok out) out fault refl (sym e))
 
 pub outcome_fault : (bytes : List ℕ) (line : ℕ) (fault : LineFault) → outcome bytes ≡ Err (line, fault) → FirstFault bytes line fault
-outcome_fault bytes line fault is = by_read (lines_read 0 (lines_of bytes) None) (concluded bytes) (sym (outcome_is bytes) ∙ is)
+outcome_fault bytes line fault is = by_read (lines_read 0 (text_lines bytes) None) (concluded bytes) (sym (outcome_is bytes) ∙ is)
   where
-    by_read : (r : Result (List Content) (ℕ × LineFault)) → Concludes (lines_of bytes) r → bytes_in r ≡ Err (line, fault) → FirstFault bytes line fault
+    by_read : (r : Result (List Content) (ℕ × LineFault)) → Concludes (text_lines bytes) r → bytes_in r ≡ Err (line, fault) → FirstFault bytes line fault
     by_read (Ok segments) h e = absurd (never_both (Ok (bundle segments)) (bundle segments) (line, fault) refl e)
     by_read (Err found) h e = let same : found ≡ (line, fault) = same_err (Err found) found (line, fault) refl e in
         subst (λ (x : ℕ × LineFault). FirstFault bytes x.0 x.1) same h
 
 pub encoded_outcome : (bytes : List ℕ) (segments : List Content) → Encodes bytes segments → outcome bytes ≡ Ok (bundle segments)
-encoded_outcome bytes segments h = outcome_is bytes ∙ ap bytes_in (encoded_is_read (lines_of bytes) segments h)
+encoded_outcome bytes segments h = outcome_is bytes ∙ ap bytes_in (encoded_is_read (text_lines bytes) segments h)
 
 pub fault_outcome : (bytes : List ℕ) (line : ℕ) (fault : LineFault) → FirstFault bytes line fault → outcome bytes ≡ Err (line, fault)
-fault_outcome bytes line fault h = outcome_is bytes ∙ ap bytes_in (fault_is_read (lines_of bytes) line fault h)
+fault_outcome bytes line fault h = outcome_is bytes ∙ ap bytes_in (fault_is_read (text_lines bytes) line fault h)
 
 -- an answer that reports the outcome
 abbrev pub Answers : {V : Type 0} → (V → List ℕ) → List ℕ → Result V TextFault → Type 0
@@ -73,7 +73,7 @@ answer_only items bytes (Err (text.Line line fault)) is segments h =
 answer_only items bytes (Err text.NoMemory) is segments h = refl
 
 pub answer_cause : {V : Type 0} (items : V → List ℕ) (bytes : List ℕ) (answer : Result V TextFault) → Answers items bytes answer
-    → IfErr answer (λ refused. NeedsSegment bytes refused) → IfErr answer (λ refused. IsRefused bytes refused)
+    → IfErr answer (λ refused. NeedsSegment (without_mark bytes) refused) → IfErr answer (λ refused. IsRefused bytes refused)
 answer_cause items bytes (Ok out) is needs = tt
 answer_cause items bytes (Err (text.Line line fault)) is needs = outcome_fault bytes line fault is
 answer_cause items bytes (Err text.NoMemory) is needs = needs
@@ -92,21 +92,21 @@ same_pair m n f g e = (ap (λ (x : ℕ × LineFault). x.0) e, ap (λ (x : ℕ ×
 
 pub one_list : (text : List ℕ) (ss ts : List Content) → Encodes text ss → Encodes text ts → ss ≡ ts
 one_list text ss ts h k =
-    same_ok (lines_read 0 (lines_of text) None) ss ts (encoded_is_read (lines_of text) ss h) (encoded_is_read (lines_of text) ts k)
+    same_ok (lines_read 0 (text_lines text) None) ss ts (encoded_is_read (text_lines text) ss h) (encoded_is_read (text_lines text) ts k)
 
 pub one_fault : (text : List ℕ) (m n : ℕ) (f g : LineFault) → FirstFault text m f → FirstFault text n g → (m ≡ n) × (f ≡ g)
 one_fault text m n f g h k =
-    same_pair m n f g (same_err (lines_read 0 (lines_of text) None) (m, f) (n, g) (fault_is_read (lines_of text) m f h)
-    (fault_is_read (lines_of text) n g k))
+    same_pair m n f g (same_err (lines_read 0 (text_lines text) None) (m, f) (n, g) (fault_is_read (text_lines text) m f h)
+    (fault_is_read (text_lines text) n g k))
 
 pub not_both : (text : List ℕ) (ss : List Content) (n : ℕ) (f : LineFault) → Encodes text ss → FirstFault text n f → ⊥
 not_both text ss n f h k =
-    never_both (lines_read 0 (lines_of text) None) ss (n, f) (encoded_is_read (lines_of text) ss h) (fault_is_read (lines_of text) n f k)
+    never_both (lines_read 0 (text_lines text) None) ss (n, f) (encoded_is_read (text_lines text) ss h) (fault_is_read (text_lines text) n f k)
 
 pub one_of_both : (text : List ℕ) → ((ss : List Content) × Encodes text ss) ⊎ ((n : ℕ) × (f : LineFault) × FirstFault text n f)
-one_of_both text = by_read (lines_read 0 (lines_of text) None) (concluded text)
+one_of_both text = by_read (lines_read 0 (text_lines text) None) (concluded text)
   where
-    by_read : (r : Result (List Content) (ℕ × LineFault)) → Concludes (lines_of text) r
+    by_read : (r : Result (List Content) (ℕ × LineFault)) → Concludes (text_lines text) r
         → ((ss : List Content) × Encodes text ss) ⊎ ((n : ℕ) × (f : LineFault) × FirstFault text n f)
     by_read (Ok segments) h = inl (segments, h)
     by_read (Err fault) h = inr (fault.0, fault.1, h)

@@ -10,7 +10,7 @@ use Rattle.htl_segment.specs.declared.version.Version.{Version}
 use Rattle.htl_segment.specs.declared.fault.Fault.{Fault}
 use Rattle.htl_segment.specs.declared.fault.Fault.TheVariants as faults
 use Rattle.htl_text.specs.Items.{Draft, draft_items, segments_items}
-use Rattle.htl_text.specs.Lines.{lines_of, words_of, is_passed_over, item_in}
+use Rattle.htl_text.specs.Lines.{text_lines, words_of, is_passed_over, item_in}
 use Rattle.htl_text.specs.declared.item.Head.{Head}
 use Rattle.htl_text.specs.declared.item.Item.{Item}
 use Rattle.htl_text.specs.declared.item.Item.TheVariants as item
@@ -33,7 +33,7 @@ pub record LinesEncode (lines : List (List ℕ)) (segments : List Content) : Typ
   pub fits : All Fits segments
 
 abbrev pub Encodes : List ℕ → List Content → Type 0
-Encodes text segments = LinesEncode (lines_of text) segments
+Encodes text segments = LinesEncode (text_lines text) segments
 
 -- a draft as a segment of a version
 abbrev pub content_of : Version → Draft → Content
@@ -143,7 +143,7 @@ LinesFault lines line Order = IsLineFault lines line Order
 LinesFault lines line (Segment fault) = IsSegmentFault lines line fault
 
 abbrev pub FirstFault : List ℕ → ℕ → LineFault → Type 0
-FirstFault text line fault = LinesFault (lines_of text) line fault
+FirstFault text line fault = LinesFault (text_lines text) line fault
 
 -- the first of these lines begins a segment
 abbrev pub begins : List (List (List ℕ)) → Bool
@@ -153,7 +153,7 @@ begins (ws ∷ more) = begins_segment (item_in ws)
 -- the refusal has its cause: the first fault, or out of memory, for a segment that the text begins with
 abbrev pub IsRefused : List ℕ → TextFault → Type 0
 IsRefused bytes (text.Line line fault) = FirstFault bytes line fault
-IsRefused bytes text.NoMemory = begins (kept (lines_of bytes)) ≡ true
+IsRefused bytes text.NoMemory = begins (kept (text_lines bytes)) ≡ true
 
 -- the refusal is of this line and this fault, or out of memory
 abbrev pub IsOrNoMemory : ℕ → LineFault → TextFault → Type 0

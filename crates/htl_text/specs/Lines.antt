@@ -1,8 +1,8 @@
 -- Which item a line of a text has (this project's own). A line is what stands between line feeds, without
--- one carriage return at its end, and counts by its words alone: blanks before, between and after them may be
--- any number.
-use Rattle.std.specs.Prelude.{◌+◌, ◌-◌, ◌^◌, ◌&&◌, ◌==◌, ℕ, Bool, true, false, List, [], ◌∷◌, Option, Some, None, codes, drop, filter}
-use Rattle.std.specs.Prelude.{if◌then◌else◌, length, map, nat_eq, nat_le, option_and_then, option_map}
+-- one carriage return at its end, and counts by its words alone: blanks and tabs before, between and after them
+-- may be any number.
+use Rattle.std.specs.Prelude.{◌-◌, ◌^◌, ◌||◌, ◌==◌, ℕ, Bool, true, false, List, [], ◌∷◌, Option, Some, None, codes, drop, filter}
+use Rattle.std.specs.Prelude.{if◌then◌else◌, length, map, nat_eq, option_and_then, option_map}
 use Rattle.std.specs.List.{list_all, slice_split, starts_with}
 use Rattle.std.specs.Int.{to_be_bytes, w32}
 use Rattle.std.specs.Str.{bytes_eq}
@@ -17,36 +17,51 @@ use Rattle.htl_text.specs.declared.item.Item.TheVariants as item
 unfoldable pub lines_of : List ℕ → List (List ℕ)
 lines_of text = map strip_carriage_return (slice_split (λ b. b == 10) text)
 
+-- a byte order mark, with which some editors begin a file in UTF-8, is no part of the text
+unfoldable pub without_mark : List ℕ → List ℕ
+without_mark text = if starts_with nat_eq text (0xEF ∷ 0xBB ∷ 0xBF ∷ []) then drop 3 text else text
+
+-- the lines of a whole text
+abbrev pub text_lines : List ℕ → List (List ℕ)
+text_lines text = lines_of (without_mark text)
+
+-- what parts words
+abbrev pub is_blank : ℕ → Bool
+is_blank b = b == 32 || b == 9
+
 -- what stands between blanks is a word, if anything does
 abbrev pub is_word : List ℕ → Bool
 is_word [] = false
 is_word (b ∷ bs) = true
 
 unfoldable pub words_of : List ℕ → List (List ℕ)
-words_of line = filter is_word (slice_split (λ b. b == 32) line)
+words_of line = filter is_word (slice_split is_blank line)
 
 -- a line says nothing: it has no word, or `#` stands first
 unfoldable pub is_passed_over : List (List ℕ) → Bool
 is_passed_over [] = true
 is_passed_over (w ∷ ws) = starts_with nat_eq w (codes "#")
 
--- `0x` and from 1 to so many hexadecimal digits of either case, and a number that is at most `most`
-unfoldable pub hexadecimal_value : ℕ → ℕ → List ℕ → Option ℕ
-hexadecimal_value most_digits most text =
-    if starts_with nat_eq text (codes "0x") && nat_le (length text) (2 + most_digits) then hexadecimal_number most text else None
-
--- an object, an address or a trace
+-- an object or a trace, as it is written on a command line too: 1 to 16 hexadecimal digits of either case, after an optional `0x`
 abbrev pub address_value : List ℕ → Option ℕ
-address_value = hexadecimal_value 16 (2 ^ 64 - 1)
+address_value = hexadecimal_number (2 ^ 64 - 1)
 
+-- a handle: the same, at most 0xffffffff
 abbrev pub handle_value : List ℕ → Option ℕ
-handle_value = hexadecimal_value 8 (2 ^ 32 - 1)
+handle_value = hexadecimal_number (2 ^ 32 - 1)
+
+-- a number whose `0x` tells it from other words
+unfoldable pub marked_value : ℕ → List ℕ → Option ℕ
+marked_value most text = if starts_with nat_eq text (codes "0x") then hexadecimal_number most text else None
+
+abbrev pub frame_value : List ℕ → Option ℕ
+frame_value = marked_value (2 ^ 64 - 1)
 
 -- a tag: four printable bytes, which are the tag, or `0x` and eight digits, two for each byte
 unfoldable pub tag_value : List ℕ → Option (List ℕ)
 tag_value text =
     if length text == 4 then (if list_all is_visible text then Some text else None)
-    else (if length text == 10 then option_map (to_be_bytes w32) (handle_value text) else None)
+    else (if length text == 10 then option_map (to_be_bytes w32) (marked_value (2 ^ 32 - 1) text) else None)
 
 -- what follows the key in a word that begins with it
 unfoldable pub after_key : List ℕ → List ℕ → Option (List ℕ)
@@ -131,7 +146,7 @@ bad_reference_in (w ∷ ws) = if bytes_eq w (codes "REF") then handle_event_in B
 
 -- a frame is one word
 unfoldable pub frame_in : List ℕ → List (List ℕ) → Option Item
-frame_in w ws = after (address_value w) (λ address. ended ws (item.Frame address))
+frame_in w ws = after (frame_value w) (λ address. ended ws (item.Frame address))
 
 -- the item of a line with these words, if it has one of the forms
 unfoldable pub item_in : List (List ℕ) → Option Item

@@ -1,8 +1,6 @@
 -- Where the first word of a line stands, and where a line ends.
 use Rattle.std.specs.Prelude.{◌==◌, ℕ, zero, suc, Bool, List, [], ◌∷◌, if◌then◌else◌}
-
-abbrev pub is_blank : ℕ → Bool
-is_blank b = b == 32
+use Rattle.htl_text.specs.Lines.{is_blank}
 
 -- how many blanks stand first
 abbrev pub word_start : List ℕ → ℕ

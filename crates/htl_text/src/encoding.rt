@@ -6,7 +6,7 @@ ghost use Rattle.htl_segment.specs.Bundles.{bundle};
 ghost use Rattle.htl_segment.specs.Content.{Content};
 ghost use Rattle.htl_text.specs.declared.fault.LineFault.{LineFault};
 ghost use Rattle.htl_text.specs.Encoded.{Encodes, FirstFault, IsOrNoMemory, IsRefused, kept};
-ghost use Rattle.htl_text.specs.Lines.{lines_of};
+ghost use Rattle.htl_text.specs.Lines.{lines_of, without_mark};
 ghost use Rattle.htl_text.specs.Steps.{read, nothing_read, NeedsSegment, Reports};
 ghost use Rattle.htl_text.specs.Steps.{StartsWithLine};
 ghost use Rattle.htl_text.specs.Words.{is_feed, line_end};
@@ -42,7 +42,15 @@ pub fn encode(alloc: Global, text: &[u8]) -> Result<Vec<u8>, TextFault>
         (λ _. ⊥)
         (λ refused. IsOrNoMemory line fault refused) }
 {
-    read_text(alloc, text)
+    read_text(alloc, without_mark(text))
+}
+
+/// The text without a byte order mark at its beginning.
+#[tactic(auto, unfolding(crate::specs::Lines::without_mark))]
+fn without_mark(text: &[u8]) -> &[u8]
+    ensures { result.now ≡ without_mark text.entry.now }
+{
+    text.strip_prefix(b"\xef\xbb\xbf").unwrap_or(text)
 }
 
 /// What the lines of a text come to, one after the other.

@@ -4,7 +4,7 @@ ghost use Rattle.htl_segment.specs.Bundles.{bundle, Splits};
 ghost use Rattle.htl_segment.specs.Content.{Content};
 ghost use Rattle.htl_text.specs.declared.fault.LineFault.{LineFault};
 ghost use Rattle.htl_text.specs.Encoded.{Encodes, FirstFault, kept};
-ghost use Rattle.htl_text.specs.Lines.{lines_of};
+ghost use Rattle.htl_text.specs.Lines.{text_lines};
 ghost use Rattle.htl_text.specs.Texts.{segment_text};
 
 /// A text encodes one list of segments or has one first fault, and never both.
@@ -34,5 +34,5 @@ pub fn encoded_is_dumped_to_the_same_segments()
     ensures text { (text : List ℕ) (ss : List Content) → Encodes text ss
         → Encodes (flat_map segment_text ss) ss }
     ensures words { (a b : List ℕ) (ss : List Content) → Encodes a ss
-        → kept (lines_of b) ≡ kept (lines_of a) → Encodes b ss }
+        → kept (text_lines b) ≡ kept (text_lines a) → Encodes b ss }
 {}

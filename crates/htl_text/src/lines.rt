@@ -5,7 +5,7 @@ ghost use Rattle.htl_text.specs.Lines.{handle_event_in, head_in, item_in, object
 ghost use Rattle.htl_text.specs.Lines.{place_in, words_of};
 
 use crate::item::{Head, Item};
-use crate::values::{address, address_value, handle, number, tag};
+use crate::values::{address, frame_value, handle, number, tag};
 use crate::words::{first_word, is_word};
 use htl_event::{Event, Kind};
 
@@ -131,7 +131,7 @@ fn event(kind: Kind, handle: u32, object: u64, tag: [u8; 4], words: &[u8]) -> Op
 fn frame(word: &[u8], words: &[u8]) -> Option<Item>
     ensures { result ≡ frame_in word.now (words_of words.now) }
 {
-    let address = address_value(word)?;
+    let address = frame_value(word)?;
     ended(words, Item::Frame(address))
 }
 

@@ -1,12 +1,15 @@
 //! The values of words, and words that are a key and its value.
 ghost use Rattle.std.specs.Prelude.{◌≡◌, ◌≤◌, codes, IfSome, MatchOption, None, Some};
-ghost use Rattle.htl_numbers.specs.Numbers.{decimal_number};
-ghost use Rattle.htl_text.specs.Lines.{field, hexadecimal_value, address_value, handle_value, keyed};
-ghost use Rattle.htl_text.specs.Lines.{tag_value, words_of};
+ghost use Rattle.htl_numbers.specs.Numbers.{decimal_number, hexadecimal_number, without_0x};
+ghost use Rattle.htl_text.specs.Lines.{address_value, field, frame_value, handle_value, keyed};
+ghost use Rattle.htl_text.specs.Lines.{marked_value, tag_value, words_of};
 
 use crate::digits;
 use crate::dumping::all_visible;
 use crate::words::{after_key, first_word};
+
+/// How many digits a hexadecimal number has at most.
+const MAX_HEX_DIGITS: usize = 16;
 
 /// The number that decimal digits write, if it is at most `most`.
 fn decimal_value(text: &[u8], most: u64) -> Option<u64>
@@ -16,33 +19,60 @@ fn decimal_value(text: &[u8], most: u64) -> Option<u64>
     digits::number(text, 10, most)
 }
 
-/// The number that `0x` and up to `most_digits` hexadecimal digits write, if it is at most `most`.
-#[tactic(auto, unfolding(crate::specs::Lines::hexadecimal_value))]
-fn hexadecimal_value(text: &[u8], most_digits: usize, most: u64) -> Option<u64>
-    requires { most_digits ≤ 16 }
-    ensures value { result ≡ hexadecimal_value most_digits most text.now }
+/// The number that 1 to 16 hexadecimal digits write, with or without `0x` before them, if it is at
+/// most `most`.
+#[tactic(auto, unfolding(htl_numbers::specs::Numbers::hexadecimal_number))]
+fn hexadecimal_value(text: &[u8], most: u64) -> Option<u64>
+    ensures value { result ≡ hexadecimal_number most text.now }
     ensures bound { IfSome result (λ n. n ≤ most) }
 {
-    let digits = after_key(text, b"0x")?;
-    if digits.len() <= most_digits {
+    let digits = without_0x(text);
+    if digits.len() <= MAX_HEX_DIGITS {
         digits::number(digits, 16, most)
     } else {
         None
     }
 }
 
-/// An object, an address or a trace.
-pub(crate) fn address_value(text: &[u8]) -> Option<u64>
+#[tactic(auto, unfolding(htl_numbers::specs::Numbers::without_0x))]
+fn without_0x(text: &[u8]) -> &[u8]
+    ensures { result.now ≡ without_0x text.entry.now }
+{
+    text.strip_prefix(b"0x").unwrap_or(text)
+}
+
+/// The same number, of digits that have `0x` before them.
+#[tactic(auto, unfolding(crate::specs::Lines::marked_value))]
+fn marked_value(text: &[u8], most: u64) -> Option<u64>
+    ensures value { result ≡ marked_value most text.now }
+    ensures bound { IfSome result (λ n. n ≤ most) }
+{
+    if text.starts_with(b"0x") {
+        hexadecimal_value(text, most)
+    } else {
+        None
+    }
+}
+
+/// An object or a trace.
+fn address_value(text: &[u8]) -> Option<u64>
     ensures { result ≡ address_value text.now }
 {
-    hexadecimal_value(text, 16, u64::MAX)
+    hexadecimal_value(text, u64::MAX)
 }
 
 fn handle_value(text: &[u8]) -> Option<u32>
     ensures { result ≡ handle_value text.now }
 {
-    let handle = hexadecimal_value(text, 8, u64::from(u32::MAX))?;
+    let handle = hexadecimal_value(text, u64::from(u32::MAX))?;
     Some(handle as u32)
+}
+
+/// The address of a frame.
+pub(crate) fn frame_value(text: &[u8]) -> Option<u64>
+    ensures { result ≡ frame_value text.now }
+{
+    marked_value(text, u64::MAX)
 }
 
 /// A tag's bytes, in the order in which they are shown.
@@ -54,8 +84,8 @@ fn tag_value(text: &[u8]) -> Option<[u8; 4]>
         return if all_visible(text) { Some(tag) } else { None };
     }
     if text.len() == 10 {
-        let in_order = handle_value(text)?;
-        return Some(in_order.to_be_bytes());
+        let in_order = marked_value(text, u64::from(u32::MAX))?;
+        return Some((in_order as u32).to_be_bytes());
     }
     None
 }
@@ -85,7 +115,7 @@ pub(crate) fn number<'a>(words: &'a [u8], key: &[u8], most: u64) -> Option<(u64,
     Some((decimal_value(value, most)?, words))
 }
 
-/// An object, an address or a trace after its key, and the words that follow.
+/// An object or a trace after its key, and the words that follow.
 #[tactic(auto, unfolding(crate::specs::Lines::field))]
 pub(crate) fn address<'a>(words: &'a [u8], key: &[u8]) -> Option<(u64, &'a [u8])>
     ensures { MatchOption result

@@ -2,8 +2,8 @@
 ghost use Rattle.std.specs.Prelude.{◌≡◌, ◌≤◌, ◌∷◌, [], length, not, position, MatchOption};
 ghost use Rattle.std.specs.Prelude.{option_map};
 ghost use Rattle.std.specs.Str.{bytes_eq};
-ghost use Rattle.htl_text.specs.Lines.{after_key, is_passed_over, words_of};
-ghost use Rattle.htl_text.specs.Words.{is_blank, word_end, word_start};
+ghost use Rattle.htl_text.specs.Lines.{after_key, is_blank, is_passed_over, words_of};
+ghost use Rattle.htl_text.specs.Words.{word_end, word_start};
 
 /// The first word of a line and what follows it.
 pub(crate) fn first_word(line: &[u8]) -> Option<(&[u8], &[u8])>
@@ -30,7 +30,7 @@ fn word_start(line: &[u8]) -> usize
 fn first_visible(line: &[u8]) -> Option<usize>
     ensures { result ≡ position (λ b. not (is_blank b)) line.now }
 {
-    line.iter().position(|byte| *byte != b' ')
+    line.iter().position(|byte| !is_blank(*byte))
 }
 
 /// The place of the first blank, or the length.
@@ -45,7 +45,14 @@ fn word_end(line: &[u8]) -> usize
 fn first_blank(line: &[u8]) -> Option<usize>
     ensures { result ≡ position is_blank line.now }
 {
-    line.iter().position(|byte| *byte == b' ')
+    line.iter().position(|byte| is_blank(*byte))
+}
+
+/// Whether the byte parts words.
+fn is_blank(byte: u8) -> bool
+    ensures { result ≡ is_blank byte }
+{
+    matches!(byte, b' ' | b'\t')
 }
 
 /// Whether a line says nothing.

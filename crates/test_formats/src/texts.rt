@@ -27,21 +27,21 @@ EXIT seq=9 process=4294967295 thread=12
 ";
 
 /// The same, as people write it.
-const WRITTEN: &str = "# the first segment
-segment  version=1 trace=0x7 processors=01 processor=0 number=0 \r
+const WRITTEN: &str = "\u{feff}# the first segment
+segment  version=1 trace=7 processors=01 processor=0 number=0 \r
    # an event, and its frames
-OPEN   handle=0x00000044 seq=1  process=4 thread=12\r
+OPEN   handle=0x0000000000000044 seq=1  process=4 thread=12\r
 
 0x1010
 0x0000000000002000
-CLOSE handle=0x47 seq=2 process=4 thread=12
-BAD   REF handle=0x7 seq=3 process=5 thread=12
+CLOSE\thandle=47\t seq=2 process=4 thread=12\t
+\tBAD   REF handle=0x7 seq=3 process=5 thread=12
 SNAPSHOT seq=0004 process=4 thread=12
 REF object=0xFFFFa00000001000 tag=Lky8 seq=5 process=4 thread=12
-DEREF object=0x1000 tag=0x20616220 seq=6 process=4 thread=12
+DEREF object=1000 tag=0x20616220 seq=6 process=4 thread=12
  REF object=0xffffffffffffffff tag=0x017F80fF seq=18446744073709551615 process=4 thread=12
     0x0
-  0xFFFFFFFFFFFFFFFF
+\t0xFFFFFFFFFFFFFFFF
   \r
 segment version=2 trace=0xffffffffffffffff processors=256 processor=255 number=4294967294
 EXIT seq=9 process=4294967295 thread=12";
@@ -155,6 +155,7 @@ const FAULTS: &[(&[&str], &str)] = &[
     (&["\n", SEGMENT, OPEN, "  0x1 0x2"], "line 4: E1"),
     (&[SEGMENT, OPEN, "0x11111111111111111\n"], "line 3: E1"),
     (&[SEGMENT, OPEN, "1010\n"], "line 3: E1"),
+    (&["\n\u{feff}", SEGMENT], "line 2: E1"),
     (
         &[SEGMENT, "open handle=0x44 seq=1 process=4 thread=12\n"],
         "line 2: E1",
@@ -203,6 +204,13 @@ const FAULTS: &[(&[&str], &str)] = &[
         &[
             SEGMENT,
             "REF object=0x1 tag=0x1234567 seq=1 process=4 thread=12\n",
+        ],
+        "line 2: E1",
+    ),
+    (
+        &[
+            SEGMENT,
+            "REF object=0x1 tag=0012345678 seq=1 process=4 thread=12\n",
         ],
         "line 2: E1",
     ),

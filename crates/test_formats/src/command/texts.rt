@@ -337,6 +337,24 @@ error: invalid value '100000000' for '--handle <HEX>'
 For more information, try 'hleak trace --help'.
 ";
 
+const HEXADECIMAL: &str = "\
+error: invalid value '0x4b0' for '--process <N>'
+  [expected: decimal digits, at most 4294967295]
+
+  tip: 0x4b0 is 1200
+
+For more information, try 'hleak leaks --help'.
+";
+
+const BACKQUOTED: &str = "\
+error: invalid value 'ffffa000`00001000' for '--object <HEX>'
+  [expected: 1 to 16 hexadecimal digits, with or without 0x]
+
+  tip: write ffffa00000001000
+
+For more information, try 'hleak tags --help'.
+";
+
 const MISSPELT_COMMAND: &str = "\
 error: unrecognized subcommand 'outstandin'
 
@@ -369,13 +387,37 @@ For more information, try '--help'.
 const PARTED_VALUE: &str = "\
 error: unexpected argument '-a' found
 
-  tip: to pass '-a' as a value, use '-- -a'
+  tip: a value that begins with '-' follows '=', as in '--tag=-abc'
 
 Usage: hleak stacks [OPTIONS] --object <HEX> --tag <TAG> [FILES]...
 
 For more information, try '--help'.
+";
 
-  tip: a value that begins with '-' follows '=', as in '--tag=-abc'
+const PARTED_NUMBER: &str = "\
+error: unexpected argument '-4' found
+
+Usage: hleak leaks [OPTIONS] --process <N> [FILES]...
+
+For more information, try '--help'.
+";
+
+const OTHER_OPTION: &str = "\
+error: unexpected argument '--since' found
+
+Usage: hleak leaks --process <N> [FILES]...
+
+For more information, try '--help'.
+";
+
+const PARTED_FILE: &str = "\
+error: unexpected argument '-x' found
+
+  tip: to pass '-x' as a value, use '-- -x'
+
+Usage: hleak leaks [OPTIONS] --process <N> [FILES]...
+
+For more information, try '--help'.
 ";
 
 /// Lines that ask for help, and what they are answered.
@@ -407,6 +449,11 @@ const USAGE: &[(&str, &str)] = &[
     ("bad|--proces|4", MISSPELT_OPTION),
     ("diff", MISSING_OPTION),
     ("stacks|--object|1|--tag|-abc", PARTED_VALUE),
+    ("leaks|--process|0x4b0", HEXADECIMAL),
+    ("tags|--object|ffffa000`00001000", BACKQUOTED),
+    ("leaks|--process|-4", PARTED_NUMBER),
+    ("leaks|--process|4|--since|4", OTHER_OPTION),
+    ("leaks|--process|4|-x", PARTED_FILE),
 ];
 
 /// Each line fits into 80 columns.

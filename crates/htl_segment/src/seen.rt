@@ -15,8 +15,8 @@ use std::alloc::Global;
 /// that stands apart eight.
 const MARKS_PER_SEQUENCE: usize = 8;
 
-/// How many marks there may be at first.
-const FIRST_LEN: usize = 1 << 20;
+/// How many marks there may be however few sequences were seen.
+const MARKS_AT_FIRST: usize = 1 << 20;
 
 /// The sequences that were seen. Each has a mark at its place, or where sequences are so sparse that
 /// its place is far off, it stands apart.
@@ -122,16 +122,11 @@ fn grow(marks: &mut Vec<bool>, place: usize, count: usize) -> Result<bool, NoMem
     ensures kept { (n : ℕ) → is_marked marks.new.items n ≡ is_marked marks.old.items n }
     ensures room { IfOk result (λ fits. IsTrue fits → place < vec_len marks.new) }
 {
-    let most = count.saturating_mul(MARKS_PER_SEQUENCE).max(FIRST_LEN);
+    let most = count.saturating_mul(MARKS_PER_SEQUENCE).max(MARKS_AT_FIRST);
     if place >= most {
         return Ok(false);
     }
-    let len = marks
-        .len()
-        .saturating_mul(2)
-        .max(FIRST_LEN)
-        .min(most)
-        .max(place + 1);
+    let len = marks.len().saturating_mul(2).min(most).max(place + 1);
     marks.resize(len, false)?;
     Ok(true)
 }

@@ -49,8 +49,9 @@ use ending::Ending;
 use explained::Explained;
 use explanation::Explanation;
 use htl_command::{Asked, Command, Conversion, ParseFault, parse};
-use htl_main::{Between, Completed, Interest, Refused, RunFault, Source, Writing};
-use htl_main::{interest, pick_from, run_from};
+use htl_main::{
+    Between, Completed, Interest, Refused, RunFault, Source, Writing, interest, pick_from, run_from,
+};
 use note::Note;
 use opening::{can_be_read_again, opened, symbols};
 use progress::Progress;
@@ -287,7 +288,14 @@ fn read_and_pick<R: Source>(
     let symbols = symbols(host, asked.symbols.as_ref())?;
     let symbols = symbols.as_deref();
     let mut out = Writing::new(io::writer(host));
-    pick_from(host.alloc(), &asked.job, interest, inputs, symbols, &mut out)
+    pick_from(
+        host.alloc(),
+        &asked.job,
+        interest,
+        inputs,
+        symbols,
+        &mut out,
+    )
 }
 
 /// Reads the table of symbols, and then the inputs.

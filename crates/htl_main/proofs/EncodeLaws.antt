@@ -14,7 +14,7 @@ use Rattle.htl_segment.specs.Encoding.{encoding}
 use Rattle.htl_segment.specs.Bundles.{bundle}
 use Rattle.htl_text.specs.Encoded.{begins, Encodes, kept}
 use Rattle.htl_text.specs.Items.{segments_items}
-use Rattle.htl_text.specs.Lines.{item_in, lines_of}
+use Rattle.htl_text.specs.Lines.{item_in, text_lines}
 use Rattle.htl_main.specs.Encodings.{EncodeAll}
 use Rattle.htl_main.specs.declared.fault.RunFault.{RunFault}
 use Rattle.htl_main.specs.declared.fault.RunFault.TheVariants.{Write}
@@ -98,10 +98,10 @@ begins_of [] s ss is = absurd (cc is)
 begins_of (ws ∷ lines) s ss is = cc is
 
 some_begin_of : (text bytes : List ℕ) (ss : List Content) → Encodes text ss → bytes ≡ bundle ss → 0 < length bytes
-    → begins (kept (lines_of text)) ≡ true
+    → begins (kept (text_lines text)) ≡ true
 some_begin_of text bytes [] encoded is some = absurd (omega (arith, some, ap length is))
-some_begin_of text bytes (s ∷ ss) encoded is some = begins_of (kept (lines_of text)) s ss encoded.written
+some_begin_of text bytes (s ∷ ss) encoded is some = begins_of (kept (text_lines text)) s ss encoded.written
 
 -- a text that gives some bytes begins with a segment
-pub some_begin : (text bytes : List ℕ) → Gives text bytes → 0 < length bytes → begins (kept (lines_of text)) ≡ true
+pub some_begin : (text bytes : List ℕ) → Gives text bytes → 0 < length bytes → begins (kept (text_lines text)) ≡ true
 some_begin text bytes gives some = some_begin_of text bytes gives.0 gives.1 gives.2 some

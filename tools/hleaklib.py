@@ -13,10 +13,10 @@ class Fault(Exception):
 
 
 def name_of(frame, with_offset=True):
-    """A frame of an answer as JSON, as the texts of answers have it."""
+    """A frame of an answer as JSON, as the texts of answers have it. In a module without names the offset is all that tells calls apart."""
     if "name" not in frame:
         return frame["address"]
-    offset = f"+0x{frame['offset']:x}" if with_offset and frame["offset"] else ""
+    offset = f"+0x{frame['offset']:x}" if frame["offset"] and (with_offset or not frame["name"]) else ""
     return f"{frame['module']}!{frame['name']}{offset}"
 
 

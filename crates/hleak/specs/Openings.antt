@@ -1,5 +1,8 @@
 -- Which files are read, and which could not be opened.
-use Rattle.std.specs.Prelude.{◌≡◌, ◌<◌, ⊤, ℕ, Bool, true, List, Result, Ok, Err, IfOk, Some, String, map, slice_get, string_bytes, take}
+use Rattle.std.specs.Prelude.{◌≡◌, ◌<◌, ⊤, ℕ, Bool, true, List, Result, Ok, Err, IfOk, String, map, slice_get, string_bytes, take}
+use Rattle.std.specs.Prelude.{Option, None, Some}
+use Rattle.std.specs.Fs.{IsFile, file_type, metadata_len}
+use Rattle.std.specs.declared.fs.attrs.Metadata.{Metadata}
 use Rattle.hleak.specs.declared.file.InputFile.{InputFile}
 use Rattle.htl_main.specs.declared.fault.RunFault.{RunFault}
 use Rattle.htl_main.specs.declared.fault.RunFault.TheVariants.{Memory, Read, SymbolsRead}
@@ -26,3 +29,10 @@ abbrev pub IsSymbolsFault : Bool → RunFault → Type 0
 IsSymbolsFault there SymbolsRead = there ≡ true
 IsSymbolsFault there Memory = there ≡ true
 IsSymbolsFault there other = ⊥
+
+-- How many bytes it has that the system says this of: a regular file has a known length, and nothing else.
+abbrev pub IsKnownLen : {E : Type 0} → Result Metadata E → Option ℕ → Type 0
+IsKnownLen (Ok of) (Some len) = IsFile (file_type of) × (len ≡ metadata_len of)
+IsKnownLen (Ok of) None = ¬ IsFile (file_type of)
+IsKnownLen (Err refused) (Some len) = ⊥
+IsKnownLen (Err refused) None = ⊤

@@ -1,6 +1,7 @@
 //! A file that is open only while it is read.
 
 ghost use Rattle.std.specs.Prelude.{◌≡◌, ◌≤◌, IfOk, OnErr, OnOk, Ok, length};
+ghost use Rattle.hleak.specs.Openings.{IsKnownLen};
 ghost use Rattle.hleak.specs.Stages.{IsBegun, IsStageAfter, IsUnread};
 
 use std::fs::{File, Metadata};
@@ -97,7 +98,9 @@ impl Read for InputFile<'_> {
 }
 
 /// How many bytes a file has. A pipe, a terminal or the like doesn't say.
-pub fn known_len(metadata: &io::Result<Metadata>) -> Option<u64> {
+pub fn known_len(metadata: &io::Result<Metadata>) -> Option<u64>
+    ensures { IsKnownLen metadata.now result }
+{
     match metadata {
         Ok(metadata) if metadata.is_file() => Some(metadata.len()),
         _ => None,

@@ -50,7 +50,7 @@ impl Meaning {
         )
     }
 
-    /// That of want of memory.
+    /// That of refused memory.
     pub fn no_memory(advice: &'static str) -> Meaning {
         Meaning::new("the system refused memory", advice)
     }

@@ -34,7 +34,9 @@ pub fn opened<'a>(
 
 /// Whether all of the files can be read again: they are named, and each is a regular file. A pipe or a
 /// device gives other bytes then, and so may standard input.
-pub fn can_be_read_again(rt: &HostRuntime, files: &[String]) -> bool {
+pub fn can_be_read_again(rt: &HostRuntime, files: &[String]) -> bool
+    ensures { length files.now ≡ 0 → result ≡ false }
+{
     !files.is_empty() && files.iter().all(|name| is_regular(rt, name))
 }
 

@@ -32,11 +32,11 @@ impl ParseFault {
     ghost use Rattle.htl_command.specs.Refusals.{IsUsageWith};
     ghost use Rattle.htl_command.specs.Statuses.{status_of};
 
-    /// The fault of an argument that is no text in UTF-8.
+    /// The fault of an argument that is not text in UTF-8.
     pub fn no_text(alloc: Global) -> ParseFault
         ensures { IsUsageWith ⊤ result }
     {
-        let why = "an argument is no text in UTF-8\n\nFor more information, try 'hleak --help'.";
+        let why = "an argument is not text in UTF-8\n\nFor more information, try 'hleak --help'.";
         usage(alloc, why, "")
     }
 

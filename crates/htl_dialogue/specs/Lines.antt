@@ -51,7 +51,7 @@ abbrev pub ends_quoted : Bool → List ℕ → Bool
 ends_quoted quoted [] = quoted
 ends_quoted quoted (b ∷ more) = ends_quoted (turned quoted b) more
 
--- why a line can't be read: a quote isn't ended, or else an argument is no text
+-- why a line can't be read: a quote isn't ended, or else an argument is not text
 abbrev pub IsUnreadable : List ℕ → ArgumentFault → Type 0
 IsUnreadable line OpenQuote = ends_quoted false line ≡ true
 IsUnreadable line NoText = (ends_quoted false line ≡ false) × (list_all is_utf8 (arguments_of line) ≡ false)

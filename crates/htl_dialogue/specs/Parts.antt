@@ -18,7 +18,7 @@ unquoted bytes = filter (λ b. not (is_quote b)) bytes
 abbrev pub kept : List ℕ → List (List ℕ)
 kept part = filter is_some (unquoted part ∷ [])
 
--- an argument is no text, which is reported only with P
+-- an argument is not text, which is reported only with P
 abbrev pub IsNoTextWith : Type 0 → ArgumentFault → Type 0
 IsNoTextWith P OpenQuote = ⊥
 IsNoTextWith P NoText = P

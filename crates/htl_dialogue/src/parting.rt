@@ -16,8 +16,8 @@ pub enum ArgumentFault {
     /// A quote is not ended.
     #[error("a quote is not ended")]
     OpenQuote,
-    /// An argument is no text in UTF-8.
-    #[error("an argument is no text in UTF-8")]
+    /// An argument is not text in UTF-8.
+    #[error("an argument is not text in UTF-8")]
     NoText,
     /// An allocation was refused.
     #[error("out of memory")]
@@ -48,7 +48,7 @@ impl<T: Drop> From<AllocFailed<T>> for ArgumentFault {
 
 /// The arguments of a line, which blanks part. A blank in double quotes is one of the argument's
 /// bytes, and the quotes are none; where nothing else stands, there is no argument. A quote that is
-/// not ended is reported first, and then the first argument that is no text.
+/// not ended is reported first, and then the first argument that is not text.
 pub fn arguments(alloc: Global, line: &[u8]) -> Result<Vec<String>, ArgumentFault>
     ensures ok { IfOk result (λ arguments. (ends_quoted false line.now ≡ false)
         × (map string_bytes arguments.items ≡ arguments_of line.now)

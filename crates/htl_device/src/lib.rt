@@ -20,5 +20,5 @@ mod whole;
 pub struct Failed;
 
 pub use sink::{Sink, Writing};
-pub use source::{MAX_READ_LEN, Reading, Source};
+pub use source::{MAX_READ_LEN, MIN_READ_LEN, Reading, Source};
 pub use whole::{MAX_READS, ReadFault, read_whole, write_whole};

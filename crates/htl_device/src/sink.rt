@@ -1,11 +1,12 @@
 //! Sinks of bytes.
 
-ghost use Rattle.std.specs.Prelude.{◌≡◌, ◌≤◌, ◌||◌, ℕ, Bool, List, Option, None, false, length};
+ghost use Rattle.std.specs.Prelude.{◌≡◌, ◌≤◌, ℕ, Bool, List, Option, None, false, length};
 ghost use Rattle.std.specs.Prelude.{IfOk};
 ghost use Rattle.std.specs.Io.KnownBytes.{WriteAppends};
 ghost use Rattle.htl_device.specs.Devices.{write_fails};
 
 use crate::Failed;
+use std::io;
 use std::io::Write;
 
 /// A place that takes bytes one after the other.
@@ -20,12 +21,13 @@ pub trait Sink {
     fn failed(&self) -> bool
         ensures { result ≡ has_failed self.now };
 
-    /// Takes some of the bytes from their front, and says how many.
+    /// Takes some of the bytes from their front, and says how many. It is not written to after a failed
+    /// write.
     fn write(&mut self, bytes: &[u8]) -> Result<usize, Failed>
+        requires { has_failed self.old ≡ false }
         ensures bound { IfOk result (λ n. n ≤ length bytes.now) }
         ensures bytes { WriteAppends (contents self.old) (contents self.new) result bytes.now }
-        ensures fails { has_failed self.new
-            ≡ (has_failed self.old || write_fails result bytes.now) };
+        ensures fails { has_failed self.new ≡ write_fails result bytes.now };
 }
 
 /// A writer of std as a sink.
@@ -33,6 +35,7 @@ pub trait Sink {
 pub struct Writing<W> {
     writer: W,
     failed: bool,
+    is_pipe_broken: bool,
 }
 
 impl<W: Write> Writing<W> {
@@ -44,7 +47,13 @@ impl<W: Write> Writing<W> {
         Writing {
             writer,
             failed: false,
+            is_pipe_broken: false,
         }
+    }
+
+    /// Whether the write that failed did so because nobody reads the pipe any more.
+    pub fn is_pipe_broken(&self) -> bool {
+        self.is_pipe_broken
     }
 }
 
@@ -65,8 +74,9 @@ impl<W: Write> Sink for Writing<W> {
                 }
                 Ok(count)
             }
-            Err(_) => {
+            Err(error) => {
                 self.failed = true;
+                self.is_pipe_broken = error.kind() == io::ErrorKind::BrokenPipe;
                 Err(Failed)
             }
         }

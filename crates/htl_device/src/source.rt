@@ -1,6 +1,6 @@
 //! Sources of bytes.
 
-ghost use Rattle.std.specs.Prelude.{◌≡◌, ◌≤◌, ◌||◌, ℕ, Bool, List, Option, None, false, length};
+ghost use Rattle.std.specs.Prelude.{◌≡◌, ◌≤◌, ℕ, Bool, List, Option, None, false, length};
 ghost use Rattle.std.specs.Prelude.{is_err, IfOk};
 ghost use Rattle.std.specs.Io.KnownBytes.{ReadConsumes};
 ghost use Rattle.htl_device.specs.Devices.{finds_end, reads_after};
@@ -8,8 +8,11 @@ ghost use Rattle.htl_device.specs.Devices.{finds_end, reads_after};
 use crate::Failed;
 use std::io::Read;
 
-/// How many bytes each read asks for.
+/// How many bytes a read asks for at most.
 pub const MAX_READ_LEN: usize = 65_536;
+
+/// How many bytes a read asks for at least.
+pub const MIN_READ_LEN: usize = 4_096;
 
 /// Bytes that are read from the front.
 pub trait Source {
@@ -37,13 +40,16 @@ pub trait Source {
     fn ended(&self) -> bool
         ensures { result ≡ has_ended self.now };
 
-    /// Reads some of the bytes that are left into a buffer of 65,536 bytes, and says how many. None
-    /// means that the source has ended.
+    /// Reads some of the bytes that are left into a buffer of 4,096 to 65,536 bytes, and says how many.
+    /// None means that the source has ended. It is read neither after its end nor after a failed read.
     fn read(&mut self, buffer: &mut [u8]) -> Result<usize, Failed>
-        requires { length buffer.old ≡ MAX_READ_LEN }
+        requires fresh { has_failed self.old ≡ false }
+        requires inside { has_ended self.old ≡ false }
+        requires least { MIN_READ_LEN ≤ length buffer.old }
+        requires most { length buffer.old ≤ MAX_READ_LEN }
         ensures bound { IfOk result (λ n. n ≤ length buffer.new) }
         ensures bytes { ReadConsumes (remaining self.old) (remaining self.new) result buffer.new }
-        ensures fails { has_failed self.new ≡ (has_failed self.old || is_err result) }
+        ensures fails { has_failed self.new ≡ is_err result }
         ensures counts { good_reads self.new ≡ reads_after (good_reads self.old) result }
         ensures ends { has_ended self.new ≡ finds_end result };
 }
@@ -97,7 +103,6 @@ impl<R: Read> Source for Reading<R> {
     }
 
     fn read(&mut self, buffer: &mut [u8]) -> Result<usize, Failed> {
-        self.ended = false;
         match self.reader.read(buffer) {
             Ok(0) => {
                 self.ended = true;

@@ -1,11 +1,11 @@
 //! Whole texts, over as many reads or writes as they take.
-ghost use Rattle.std.specs.Prelude.{◌≡◌, ◌<◌, ◌≤◌, ◌+◌, ◌⊎◌, ℕ, List, [], false, true, length, is_err};
+ghost use Rattle.std.specs.Prelude.{◌≡◌, ◌<◌, ◌≤◌, ◌+◌, ◌⊎◌, ℕ, List, Option, false, true, length, is_err};
 ghost use Rattle.std.specs.Prelude.{IfOk, IfErr, IfSome, OnOk, OnErr};
 ghost use Rattle.std.specs.Io.KnownBytes.{Appends, Consumes};
 ghost use Rattle.htl_device.specs.Devices.{AppendsPrefix};
 ghost use Rattle.htl_device.specs.declared.whole.ReadFault.TheVariants.{NoMemory};
 
-use crate::source::MAX_READ_LEN;
+use crate::source::{MAX_READ_LEN, MIN_READ_LEN};
 use crate::{Failed, Sink, Source};
 use std::alloc::{AllocError, Global};
 
@@ -50,11 +50,12 @@ impl From<AllocError> for ReadFault {
 /// How many reads of one source may give bytes: 2^32.
 pub const MAX_READS: u64 = 4_294_967_296;
 
-/// All bytes of a source, in reads of 65,536 bytes each. The 2^32-nd read may still find the end, and
-/// a source that gives bytes at each of them has failed. Memory is asked for once some bytes came,
-/// and no more once the end was found.
+/// All bytes of a source, in reads of 65,536 bytes each, but for the first, of 4,096. The 2^32-nd read
+/// may still find the end, and a source that gives bytes at each of them has failed. Memory is asked
+/// for once some bytes came, and no more once the end was found.
 pub fn read_whole<R: Source>(alloc: Global, source: &mut R) -> Result<Vec<u8>, ReadFault>
-    requires { R.has_failed source.old ≡ false }
+    requires fresh { R.has_failed source.old ≡ false }
+    requires inside { R.has_ended source.old ≡ false }
     ensures ok { IfOk result (λ v. IfSome (R.remaining source.old) (λ xs. v.items ≡ xs)) }
     ensures fine { OnOk result (R.has_failed source.new ≡ false) }
     ensures ended { OnOk result (R.has_ended source.new ≡ true) }
@@ -67,23 +68,19 @@ pub fn read_whole<R: Source>(alloc: Global, source: &mut R) -> Result<Vec<u8>, R
         × IfSome (R.remaining source.old) (λ xs. MAX_READS ≤ length xs)))) }
     ensures bounded { R.good_reads source.new ≤ R.good_reads source.old + MAX_READS }
 {
-    let mut buffer = [0u8; MAX_READ_LEN];
-    let mut bytes = Vec::new(alloc);
-    read_within(source, &mut buffer, &mut bytes, MAX_READS)?;
-    Ok(bytes)
+    read_within(alloc, source, MAX_READS)
 }
 
-/// All bytes of a source, in reads of the buffer's length, of which at most `most` give bytes.
+/// All bytes of a source, of which at most `most` reads give some.
 fn read_within<R: Source>(
+    alloc: Global,
     source: &mut R,
-    buffer: &mut [u8],
-    bytes: &mut Vec<u8>,
     most: u64,
-) -> Result<(), ReadFault>
+) -> Result<Vec<u8>, ReadFault>
     requires fresh { R.has_failed source.old ≡ false }
-    requires whole { length buffer.old ≡ MAX_READ_LEN }
-    requires empty { bytes.old.items ≡ [] }
-    ensures ok { OnOk result (IfSome (R.remaining source.old) (λ xs. bytes.new.items ≡ xs)) }
+    requires inside { R.has_ended source.old ≡ false }
+    requires some { 0 < most }
+    ensures ok { IfOk result (λ v. IfSome (R.remaining source.old) (λ xs. v.items ≡ xs)) }
     ensures fine { OnOk result (R.has_failed source.new ≡ false) }
     ensures ended { OnOk result (R.has_ended source.new ≡ true) }
     ensures reported { R.has_failed source.new ≡ true → result ≡ Err ReadFault.Failed }
@@ -95,7 +92,55 @@ fn read_within<R: Source>(
         × IfSome (R.remaining source.old) (λ xs. most ≤ length xs)))) }
     ensures bounded { R.good_reads source.new ≤ R.good_reads source.old + most }
 {
-    for _read in 0..most {
+    let mut first = [0u8; MIN_READ_LEN];
+    let Ok(count) = source.read(&mut first) else {
+        return Err(ReadFault::Failed);
+    };
+    if count == 0 {
+        return Ok(Vec::new(alloc));
+    }
+    let mut bytes = Vec::from_slice(alloc, &first[..count])?;
+    let mut buffer = read_buffer(alloc)?;
+    read_on(source, &mut buffer, &mut bytes, most)?;
+    Ok(bytes)
+}
+
+/// A buffer for the longest reads.
+fn read_buffer(alloc: Global) -> Result<Vec<u8>, AllocError>
+    ensures { IfOk result (λ buffer. length buffer.items ≡ MAX_READ_LEN) }
+{
+    vec![in alloc; 0; MAX_READ_LEN]
+}
+
+/// Puts what a source gives after its first read behind what that gave.
+fn read_on<R: Source>(
+    source: &mut R,
+    buffer: &mut [u8],
+    bytes: &mut Vec<u8>,
+    most: u64,
+) -> Result<(), ReadFault>
+    requires fresh { R.has_failed source.old ≡ false }
+    requires inside { R.has_ended source.old ≡ false }
+    requires whole { length buffer.old ≡ MAX_READ_LEN }
+    requires begun { 0 < length bytes.old.items }
+    requires some { 0 < most }
+    requires counted { 1 ≤ R.good_reads source.old }
+    ensures ok { (given : Option (List ℕ)) → Consumes given (R.remaining source.old) bytes.old.items
+        → OnOk result (IfSome given (λ xs. bytes.new.items ≡ xs)) }
+    ensures fine { OnOk result (R.has_failed source.new ≡ false) }
+    ensures ended { OnOk result (R.has_ended source.new ≡ true) }
+    ensures reported { R.has_failed source.new ≡ true → result ≡ Err ReadFault.Failed }
+    ensures memory { (given : Option (List ℕ))
+        → Consumes given (R.remaining source.old) bytes.old.items
+        → result ≡ Err NoMemory → (R.has_ended source.new ≡ false)
+        × (read : List ℕ) × (0 < length read) × Consumes given (R.remaining source.new) read }
+    ensures failed { (given : Option (List ℕ))
+        → Consumes given (R.remaining source.old) bytes.old.items
+        → IfErr result (λ e. (e ≡ NoMemory) ⊎ ((R.has_failed source.new ≡ true)
+        ⊎ ((most ≤ R.good_reads source.new) × IfSome given (λ xs. most ≤ length xs)))) }
+    ensures bounded { R.good_reads source.new + 1 ≤ R.good_reads source.old + most }
+{
+    for _read in 1..most {
         let Ok(count) = source.read(buffer) else {
             return Err(ReadFault::Failed);
         };

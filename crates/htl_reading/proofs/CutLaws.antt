@@ -38,7 +38,7 @@ or_else_none : (a b : Option Fault) → or_else a b ≡ None → a ≡ None
 or_else_none None b none = refl
 or_else_none (Some fault) b none = none
 
-header_fine : (b : List ℕ) → first_fault b ≡ None → header_fault b ≡ None
+pub header_fine : (b : List ℕ) → first_fault b ≡ None → header_fault b ≡ None
 unfolding first_fault
 header_fine b none = or_else_none (header_fault b) _ none
 

@@ -1,5 +1,5 @@
 pub mod CutLaws
 pub mod JoinLaws
-pub mod PieceLaws
+pub mod FaultLaws
+pub mod TakenLaws
 pub mod BlockLaws
-pub mod AloneLaws

@@ -2,5 +2,5 @@
 pub mod Sources
 -- What only private contracts cite.
 pub mod Cuts
+pub mod Keepers
 pub mod Blocks
-pub mod Alone

@@ -1,5 +1,7 @@
 //! A block that a source is read into, and in which segments are checked.
 
+ghost use Rattle.std.specs.Prelude.{◌≡◌, ◌≤◌, OnOk, length, take};
+
 use htl_device::{Failed, MAX_READ_LEN, Source};
 use std::alloc::{AllocError, Global};
 use std::marker::Model;
@@ -17,7 +19,7 @@ pub struct Block {
 
 impl Model for Block {
     ghost use Rattle.std.specs.Prelude.{◌-◌, ◌≤◌, drop, length, take};
-    ghost use Rattle.htl_reading.specs.Alone.{BlockState};
+    ghost use Rattle.htl_reading.specs.Blocks.{BlockState};
 
     ghost Value = { BlockState };
 
@@ -30,11 +32,11 @@ impl Model for Block {
 }
 
 impl Block {
-    ghost use Rattle.std.specs.Prelude.{◌≡◌, ◌||◌, ◌+◌, ◌<◌, ◌≤◌, ◌^◌, drop, length};
+    ghost use Rattle.std.specs.Prelude.{◌≡◌, ◌+◌, ◌<◌, ◌≤◌, ◌^◌, [], drop, false, length};
     ghost use Rattle.std.specs.Prelude.{IfOk, OnErr, OnOk, is_err};
     ghost use Rattle.std.specs.Io.KnownBytes.{Keeps};
     ghost use Rattle.htl_device.specs.Devices.{finds_end, reads_after};
-    ghost use Rattle.htl_reading.specs.Alone.{IsReadBehind};
+    ghost use Rattle.htl_reading.specs.Blocks.{IsReadBehind};
 
     /// A block that holds these bytes.
     pub fn new(alloc: Global, held: &[u8]) -> Result<Block, AllocError>
@@ -45,6 +47,27 @@ impl Block {
             start: 0,
             end: held.len(),
         })
+    }
+
+    /// A block that holds nothing.
+    pub fn empty(alloc: Global) -> Block
+        ensures { result.held ≡ [] }
+    {
+        Block {
+            bytes: Vec::new(alloc),
+            start: 0,
+            end: 0,
+        }
+    }
+
+    /// Holds these bytes in place of those it held.
+    pub fn restart(&mut self, held: &[u8]) -> Result<(), AllocError>
+        ensures { OnOk result (self.new.held ≡ held.now) }
+    {
+        put_in_front(&mut self.bytes, held)?;
+        self.start = 0;
+        self.end = held.len();
+        Ok(())
     }
 
     /// The bytes held.
@@ -84,13 +107,15 @@ impl Block {
 
     /// Reads what comes next behind the bytes held, and says how many bytes that is.
     pub fn read<R: Source>(&mut self, source: &mut R) -> Result<usize, Failed>
-        requires { MAX_READ_LEN ≤ self.old.room }
+        requires fresh { R.has_failed source.old ≡ false }
+        requires inside { R.has_ended source.old ≡ false }
+        requires room { MAX_READ_LEN ≤ self.old.room }
         ensures ok { IfOk result (IsReadBehind (R.remaining source.old) (R.remaining source.new)
             self.old.held self.new.held) }
         ensures bound { IfOk result (λ count. count ≤ MAX_READ_LEN) }
         ensures err { OnErr result (Keeps (R.remaining source.old) (R.remaining source.new)) }
         ensures kept { OnErr result (self.new.held ≡ self.old.held) }
-        ensures fails { R.has_failed source.new ≡ (R.has_failed source.old || is_err result) }
+        ensures fails { R.has_failed source.new ≡ is_err result }
         ensures counts { R.good_reads source.new ≡ reads_after (R.good_reads source.old) result }
         ensures ends { R.has_ended source.new ≡ finds_end result }
     {
@@ -98,4 +123,26 @@ impl Block {
         self.end += count;
         Ok(count)
     }
+}
+
+/// Puts the piece over the first bytes, of which there are as many afterwards.
+fn put_in_front(bytes: &mut Vec<u8>, piece: &[u8]) -> Result<(), AllocError>
+    ensures grown { length bytes.old.items ≤ length bytes.new.items }
+    ensures room { OnOk result (length piece.now ≤ length bytes.new.items) }
+    ensures put { OnOk result (take (length piece.now) bytes.new.items ≡ piece.now) }
+{
+    if bytes.len() < piece.len() {
+        bytes.resize(piece.len(), 0)?;
+    }
+    copy_over(bytes, piece);
+    Ok(())
+}
+
+fn copy_over(bytes: &mut [u8], piece: &[u8])
+    requires { length piece.now ≤ length bytes.old }
+    ensures len { length bytes.new ≡ length bytes.old }
+    ensures front { take (length piece.now) bytes.new ≡ piece.now }
+{
+    let (front, _) = bytes.split_at_mut(piece.len());
+    front.copy_from_slice(piece);
 }

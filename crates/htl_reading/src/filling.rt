@@ -3,12 +3,14 @@
 ghost use Rattle.std.specs.Prelude.{◌≡◌, ◌+◌, ◌-◌, ◌*◌, ◌<◌, ◌≤◌, ◌^◌, false, length, IfOk, IfErr};
 ghost use Rattle.htl_reading.specs.Blocks.{IsFilled, IsStopped, reads_at};
 
+use crate::block::Block;
 use htl_device::{MAX_READ_LEN, Source};
 use std::alloc::AllocError;
 
-/// How far a source is read in blocks.
+/// How a source is read.
 #[derive(Clone, Copy)]
 pub struct Limits {
+    pub workers: u32,
     /// A block is full once so many bytes were read for it.
     pub block_len: usize,
     /// How many reads may give bytes.
@@ -26,41 +28,40 @@ pub enum Stop {
     Failed,
 }
 
-/// Reads on after `before` reads that gave bytes, and puts what comes after the block, until it is
-/// full.
+/// Reads on after `before` reads that gave bytes, and puts what comes behind the bytes of the block,
+/// until it is full.
 pub fn fill<R: Source>(
     limits: Limits,
     before: u64,
     source: &mut R,
-    block: &mut Vec<u8>,
-    buffer: &mut [u8],
+    block: &mut Block,
 ) -> Result<Stop, AllocError>
     requires fresh { R.has_failed source.old ≡ false }
-    requires whole { length buffer.old ≡ MAX_READ_LEN }
+    requires inside { R.has_ended source.old ≡ false }
     requires few { limits.reads * MAX_READ_LEN < 2 ^ 64 }
     requires before { before ≤ limits.reads }
     requires counted { before ≤ R.good_reads source.old }
+    requires short { length block.old.held ≤ before * MAX_READ_LEN }
     ensures filled { IsFilled (limits.block_len + MAX_READ_LEN) (R.remaining source.old)
-        (R.remaining source.new) block.old.items block.new.items result }
+        (R.remaining source.new) block.old.held block.new.held result }
     ensures stop { IfOk result (λ stop. IsStopped stop before limits.reads
-        (length block.new.items - length block.old.items) (R.has_failed source.new)
+        (length block.new.held - length block.old.held) (R.has_failed source.new)
         (R.has_ended source.new) (R.remaining source.new) (R.good_reads source.new)) }
     ensures bounded { IfOk result (λ stop. R.good_reads source.new + before
         ≤ R.good_reads source.old + reads_at limits.reads stop) }
     ensures refused { IfErr result (λ _.
         R.good_reads source.new + before ≤ R.good_reads source.old + limits.reads) }
-    ensures whole { length buffer.new ≡ MAX_READ_LEN }
 {
-    let filled = block.len();
+    let filled = block.held().len();
     for reads in before..limits.reads {
-        let Ok(count) = source.read(buffer) else {
+        block.make_room()?;
+        let Ok(count) = block.read(source) else {
             return Ok(Stop::Failed);
         };
         if count == 0 {
             return Ok(Stop::End);
         }
-        block.extend_from_slice(&buffer[..count])?;
-        if block.len() - filled >= limits.block_len {
+        if block.held().len() - filled >= limits.block_len {
             return Ok(Stop::Full(reads + 1));
         }
     }

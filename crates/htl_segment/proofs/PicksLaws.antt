@@ -38,3 +38,26 @@ pub events_more : (interest asked : Interest) (events next : List Event) (segmen
 events_more interest asked events next segments s same so_far pushed =
     pushed ∙ ap (λ of. events ++ wanted of s.events) same ∙ ap (λ es. es ++ wanted interest s.events) so_far
     ∙ sym (wanted_more interest segments s)
+
+-- ---- and of some segments more
+
+two_lists : (segments more : List Content) → all_events (segments ++ more) ≡ all_events segments ++ all_events more
+two_lists segments more = flat_map-append (λ (t : Content). t.events) segments more
+
+pub both_outlines : (outlines others next : List Outline) (segments more : List Content) → outlines ≡ map outline_of segments
+    → others ≡ map outline_of more → next ≡ outlines ++ others → next ≡ map outline_of (segments ++ more)
+both_outlines outlines others next segments more so_far also appended =
+    appended ∙ ap (λ before. before ++ others) so_far ∙ ap (λ after. map outline_of segments ++ after) also
+    ∙ sym (map-append outline_of segments more)
+
+pub both_events : (interest : Interest) (events others next : List Event) (segments more : List Content)
+    → events ≡ wanted interest (all_events segments) → others ≡ wanted interest (all_events more) → next ≡ events ++ others
+    → next ≡ wanted interest (all_events (segments ++ more))
+both_events interest events others next segments more so_far also appended =
+    appended ∙ ap (λ before. before ++ others) so_far ∙ ap (λ after. wanted interest (all_events segments) ++ after) also
+    ∙ sym (ap (wanted interest) (two_lists segments more) ∙ filter-append (wants interest) (all_events segments) (all_events more))
+
+pub both_sequences : (segments more : List Content)
+    → sequences_of (all_events (segments ++ more)) ≡ sequences_of (all_events segments) ++ sequences_of (all_events more)
+both_sequences segments more =
+    ap sequences_of (two_lists segments more) ∙ map-append sequence_of (all_events segments) (all_events more)

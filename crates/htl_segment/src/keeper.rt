@@ -8,16 +8,28 @@ use std::alloc::Global;
 
 /// What is made of the segments that are read, one after the other.
 pub trait Keeper {
-    ghost use Rattle.std.specs.Prelude.{List, ◌++◌, ◌∷◌, [], OnOk};
+    ghost use Rattle.std.specs.Prelude.{◌++◌, ◌∷◌, List, [], OnOk};
     ghost use Rattle.htl_segment.specs.Content.{Content};
 
-    // What it came to from a start, after it took some segments.
+    // Which segments a keeper took, where it is one of the same kind as the first.
     ghost gathers: { Self → Self → List Content → Type 0 };
 
     /// Takes the next segment.
     fn take(&mut self, alloc: Global, found: &SegmentBytes<'_>) -> Result<(), NoMemory>
-        ensures { (start : Self) (segments : List Content) → gathers start self.old segments
-            → OnOk result (gathers start self.new (segments ++ found.now ∷ [])) };
+        ensures { (kind : Self) (segments : List Content) → gathers kind self.old segments
+            → OnOk result (gathers kind self.new (segments ++ found.now ∷ [])) };
+
+    /// One more keeper of this kind, which took nothing yet.
+    fn another(&self, alloc: Global) -> Self
+        ensures { (kind : Self) (segments : List Content) → gathers kind self.now segments
+            → gathers kind result [] };
+
+    /// Takes over what another keeper took, after what this one did. The other then has nothing.
+    fn append(&mut self, other: &mut Self) -> Result<(), NoMemory>
+        ensures taken { (kind : Self) (segments more : List Content) → gathers kind self.old segments
+            → gathers kind other.old more → OnOk result (gathers kind self.new (segments ++ more)) }
+        ensures emptied { (kind : Self) (more : List Content) → gathers kind other.old more
+            → OnOk result (gathers kind other.new []) };
 }
 
 /// Whole segments, in the order in which they were read.
@@ -42,13 +54,22 @@ impl Segments {
 }
 
 impl Keeper for Segments {
-    ghost use Rattle.std.specs.Prelude.{◌≡◌, ◌++◌};
+    ghost use Rattle.std.specs.Prelude.{◌≡◌};
 
-    ghost gathers = { λ start now segments. now.list.items ≡ start.list.items ++ segments };
+    ghost gathers = { λ _ now segments. now.list.items ≡ segments };
 
     fn take(&mut self, alloc: Global, found: &SegmentBytes<'_>) -> Result<(), NoMemory> {
         let segment = found.to_segment_with(alloc, &mut self.cache)?;
         self.list.push(segment)?;
+        Ok(())
+    }
+
+    fn another(&self, alloc: Global) -> Segments {
+        Segments::new(alloc)
+    }
+
+    fn append(&mut self, other: &mut Segments) -> Result<(), NoMemory> {
+        self.list.append(&mut other.list)?;
         Ok(())
     }
 }

@@ -43,7 +43,7 @@ impl Picks {
 impl Keeper for Picks {
     ghost use Rattle.htl_segment.specs.Picks.{ArePicksOf};
 
-    ghost gathers = { λ start now segments. ArePicksOf start.interest now segments };
+    ghost gathers = { λ kind now segments. ArePicksOf kind.interest now segments };
 
     fn take(&mut self, alloc: Global, found: &SegmentBytes<'_>) -> Result<(), NoMemory> {
         let last = found.pick_with(
@@ -54,6 +54,20 @@ impl Keeper for Picks {
             &mut self.events,
         )?;
         self.outlines.push(found.outline(last))?;
+        Ok(())
+    }
+
+    fn another(&self, alloc: Global) -> Picks {
+        Picks {
+            seen: Seen::list(alloc),
+            ..Picks::new(alloc, self.interest)
+        }
+    }
+
+    fn append(&mut self, other: &mut Picks) -> Result<(), NoMemory> {
+        self.outlines.append(&mut other.outlines)?;
+        self.events.append(&mut other.events)?;
+        self.seen.append(&mut other.seen)?;
         Ok(())
     }
 }

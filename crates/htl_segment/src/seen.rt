@@ -24,6 +24,8 @@ const MARKS_AT_FIRST: usize = 1 << 20;
 pub struct Seen {
     marks: Vec<bool>,
     apart: Vec<u64>,
+    /// Whether each stands apart.
+    is_list: bool,
     /// How many were seen.
     count: usize,
     /// Whether one is known to have come twice. Then nothing more is noted.
@@ -33,7 +35,7 @@ pub struct Seen {
 impl Seen {
     ghost use Rattle.std.specs.Prelude.{◌≡◌, ◌≤◌, ◌++◌, ◌∷◌, ℕ, List, [], OnOk, true, false};
     ghost use Rattle.htl_segment.specs.Repeated.{times};
-    ghost use Rattle.htl_segment.specs.Seen.{Saw};
+    ghost use Rattle.htl_segment.specs.Seen.{Saw, SawMarked};
 
     /// None.
     pub fn new(alloc: Global) -> Seen
@@ -42,6 +44,20 @@ impl Seen {
         Seen {
             marks: Vec::new(alloc),
             apart: Vec::new(alloc),
+            is_list: false,
+            count: 0,
+            comes_twice: false,
+        }
+    }
+
+    /// None, for a few that are appended to others soon. Each stands apart.
+    pub fn list(alloc: Global) -> Seen
+        ensures { Saw result [] }
+    {
+        Seen {
+            marks: Vec::new(alloc),
+            apart: Vec::new(alloc),
+            is_list: true,
             count: 0,
             comes_twice: false,
         }
@@ -55,6 +71,10 @@ impl Seen {
         if self.comes_twice {
             return Ok(());
         }
+        if self.is_list {
+            self.apart.push(sequence)?;
+            return Ok(());
+        }
         self.count = self.count.saturating_add(1);
         let place = sequence as usize;
         if !make_room(&mut self.marks, place, self.count)? {
@@ -65,6 +85,54 @@ impl Seen {
             self.marks[place] = true;
         }
         Ok(())
+    }
+
+    /// Takes over the sequences that another saw, which then has none.
+    pub fn append(&mut self, other: &mut Seen) -> Result<(), NoMemory>
+        ensures seen { (numbers more : List ℕ) → Saw self.old numbers → Saw other.old more
+            → OnOk result (Saw self.new (numbers ++ more)) }
+        ensures emptied { OnOk result (Saw other.new []) }
+    {
+        if other.comes_twice {
+            self.comes_twice = true;
+        } else {
+            self.note_all(&other.apart)?;
+            self.note_marked(&other.marks)?;
+        }
+        other.clear();
+        Ok(())
+    }
+
+    fn note_all(&mut self, sequences: &[u64]) -> Result<(), NoMemory>
+        ensures { (numbers : List ℕ) → Saw self.old numbers
+            → OnOk result (Saw self.new (numbers ++ sequences.now)) }
+    {
+        for sequence in sequences {
+            self.note(*sequence)?;
+        }
+        Ok(())
+    }
+
+    /// Notes each sequence that has a mark among these.
+    fn note_marked(&mut self, marks: &[bool]) -> Result<(), NoMemory>
+        ensures { (numbers : List ℕ) → Saw self.old numbers
+            → OnOk result (SawMarked self.new numbers marks.now) }
+    {
+        for place in 0..marks.len() {
+            if marks[place] {
+                self.note(place as u64)?;
+            }
+        }
+        Ok(())
+    }
+
+    fn clear(&mut self)
+        ensures { Saw self.new [] }
+    {
+        self.marks.clear();
+        self.apart.clear();
+        self.count = 0;
+        self.comes_twice = false;
     }
 
     /// Whether one of the sequences came twice.

@@ -1,8 +1,8 @@
 -- The bytes held begin later.
 use Rattle.std.proofs.Common.{◌≡◌, ◌-◌, drop, length, take, ap, sym, ◌∙◌, arith}
 use Rattle.std.proofs.lemmas.List.{length-take-le, length-drop}
-use Rattle.htl_reading.specs.Alone.{BlockState}
-use Rattle.htl_reading.proofs.AloneLaws.{held_after}
+use Rattle.htl_reading.specs.Blocks.{BlockState}
+use Rattle.htl_reading.proofs.TakenLaws.{held_after}
 use Rattle.htl_reading.proofs.block.Block.consume.Goals as goal
 
 pub returns : goal.returns

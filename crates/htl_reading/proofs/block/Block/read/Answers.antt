@@ -4,8 +4,8 @@ use Rattle.std.proofs.lemmas.List.{length-take-le, with_items_is, places, take-a
 use Rattle.std.proofs.lemmas.Result.{err_from_is_err_and}
 use Rattle.std.proofs.lemmas.Slice.{overwrites}
 use borrow.Rule.Slice.PartMut.{put_mid, post_of}
-use Rattle.htl_reading.specs.Alone.{BlockState}
-use Rattle.htl_reading.proofs.AloneLaws.{held_more, held_same, take_past}
+use Rattle.htl_reading.specs.Blocks.{BlockState}
+use Rattle.htl_reading.proofs.TakenLaws.{held_more, held_same, take_past}
 use Rattle.htl_reading.proofs.block.Block.read.Goals as goal
 
 pub returns-clause-ok : goal.returns-clause-ok

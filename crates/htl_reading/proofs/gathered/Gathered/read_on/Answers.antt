@@ -1,0 +1,147 @@
+-- One read more, the end of the source, and that a fault ends the reading.
+use Rattle.std.proofs.Common.{◌≡◌, ◌≤◌, ◌<◌, length, ap, arith, inl, inr, refl, true}
+use Rattle.std.proofs.lemmas.List.{length-append, length-drop}
+use Rattle.std.proofs.lemmas.Grind.{common_steps}
+use Rattle.std.proofs.lemmas.Result.{err_from_is_err_and}
+use Rattle.std.specs.Prelude.{is_err}
+use Rattle.htl_device.specs.declared.source.TheConstants.{MAX_READ_LEN}
+use Rattle.htl_reading.proofs.TakenLaws.{taken_all, taken_and_more, taken_ended, taken_inside, taken_kept, taken_many, taken_memory}
+use Rattle.htl_reading.proofs.TakenLaws.{read_in_blocks, read_no_further, taken_more, taken_refused, taken_to_fault}
+use Rattle.htl_reading.proofs.gathered.Gathered.read_on.Goals as goal
+
+-- ---- several workers go on in blocks
+
+pub returns-then-self-gt0-clause-ok : goal.returns-then-self-gt0-clause-ok
+returns-then-self-gt0-clause-ok g c = λ start given at. c.read_blocks.ensures.ok start given (c.loop-reads.invariant.taken start given at)
+
+pub returns-then-self-gt0-clause-err : goal.returns-then-self-gt0-clause-err
+returns-then-self-gt0-clause-err g c = λ start given at. c.read_blocks.ensures.err start given (c.loop-reads.invariant.taken start given at)
+
+pub returns-then-self-gt0-clause-reported : goal.returns-then-self-gt0-clause-reported
+returns-then-self-gt0-clause-reported g c =
+    let several : 1 < c.args.limits.workers = grind (arith, common_steps) in
+    λ start given at failed.
+    elim (c.read_blocks.ensures.reported start given (c.loop-reads.invariant.taken start given at) failed) [
+      | inl read ↦ inl read
+      | inr before ↦ inr (several, before)
+    ]
+
+pub returns-then-self-gt0-clause-read : goal.returns-then-self-gt0-clause-read
+returns-then-self-gt0-clause-read g c = λ start given at. c.read_blocks.ensures.read start given (c.loop-reads.invariant.taken start given at)
+
+pub returns-then-self-gt0-clause-no_fault : goal.returns-then-self-gt0-clause-no_fault
+returns-then-self-gt0-clause-no_fault g c =
+    λ start given at. c.read_blocks.ensures.no_fault start given (c.loop-reads.invariant.taken start given at)
+
+pub returns-then-self-gt0-clause-to_fault : goal.returns-then-self-gt0-clause-to_fault
+returns-then-self-gt0-clause-to_fault g c =
+    let several : 1 < c.args.limits.workers = grind (arith, common_steps) in
+    λ start given at. read_in_blocks c.args.limits.workers c.args.limits.block_len several
+    (c.read_blocks.ensures.to_fault start given (c.loop-reads.invariant.taken start given at))
+
+-- ---- one worker's next read
+
+pub returns-in_err-make_room-clause-err : goal.returns-in_err-make_room-clause-err
+returns-in_err-make_room-clause-err g c =
+    let p = err_from_is_err_and c.from_residual.result c.from_residual.ensures.1 in
+    let inv = c.loop-reads.invariant in
+    let some : 0 < c.loop-reads.reads = grind (arith, common_steps) in
+    λ start given at. rw (p.1, p.2) (taken_memory (inv.taken start given at) _ some inv.inside)
+
+pub returns-in_err-make_room-clause-to_fault : goal.returns-in_err-make_room-clause-to_fault
+returns-in_err-make_room-clause-to_fault g c = λ start given at. taken_to_fault (c.loop-reads.invariant.taken start given at) _
+
+pub returns-in_default-clause-no_fault : goal.returns-in_default-clause-no_fault
+returns-in_default-clause-no_fault g c =
+    let failed : is_err c.read.result ≡ true = grind (arith, common_steps) in
+    λ start given at is.
+    taken_to_fault (taken_kept (c.loop-reads.invariant.taken start given at) c.read.result failed c.read.ensures.err) 0
+
+pub returns-in_default-clause-to_fault : goal.returns-in_default-clause-to_fault
+returns-in_default-clause-to_fault g c =
+    let failed : is_err c.read.result ≡ true = grind (arith, common_steps) in
+    λ start given at.
+    taken_to_fault (taken_kept (c.loop-reads.invariant.taken start given at) c.read.result failed c.read.ensures.err) _
+
+pub returns-then-count-eq0-clause-ok : goal.returns-then-count-eq0-clause-ok
+returns-then-count-eq0-clause-ok g c =
+    let zero : c.in-Ok.count ≡ 0 = grind (arith, common_steps) in
+    let behind = rw (c.make_room.ensures.held, zero) at c.in-Ok.ensures.ok in
+    λ start given at. taken_all (taken_ended (c.loop-reads.invariant.taken start given at) behind) c.finish.result (behind.end refl)
+    c.finish.ensures.ok
+
+pub returns-then-count-eq0-clause-err : goal.returns-then-count-eq0-clause-err
+returns-then-count-eq0-clause-err g c =
+    let zero : c.in-Ok.count ≡ 0 = grind (arith, common_steps) in
+    let behind = rw (c.make_room.ensures.held, zero) at c.in-Ok.ensures.ok in
+    λ start given at. taken_inside (taken_ended (c.loop-reads.invariant.taken start given at) behind) _ c.finish.result (behind.end refl)
+    c.finish.ensures.err
+
+pub returns-then-count-eq0-clause-to_fault : goal.returns-then-count-eq0-clause-to_fault
+returns-then-count-eq0-clause-to_fault g c =
+    let behind = rw (c.make_room.ensures.held) at c.in-Ok.ensures.ok in
+    λ start given at. read_no_further c.args.limits.workers c.args.limits.block_len
+    (taken_and_more (c.loop-reads.invariant.taken start given at) MAX_READ_LEN behind c.in-Ok.ensures.bound)
+
+pub returns-in_err-take-clause-err : goal.returns-in_err-take-clause-err
+returns-in_err-take-clause-err g c =
+    let p = err_from_is_err_and c.from_residual-in_err-take.result c.from_residual-in_err-take.ensures.1 in
+    let behind = rw (c.make_room.ensures.held) at c.in-Ok.ensures.ok in
+    λ start given at. rw (p.1, p.2) (taken_refused (c.loop-reads.invariant.taken start given at) _ _ behind c.in_err-take.ensures.err)
+
+pub returns-in_err-take-clause-to_fault : goal.returns-in_err-take-clause-to_fault
+returns-in_err-take-clause-to_fault g c =
+    let behind = rw (c.make_room.ensures.held) at c.in-Ok.ensures.ok in
+    λ start given at. read_no_further c.args.limits.workers c.args.limits.block_len
+    (taken_and_more (c.loop-reads.invariant.taken start given at) MAX_READ_LEN behind c.in-Ok.ensures.bound)
+
+pub loop-reads-preserved : goal.loop-reads-preserved
+loop-reads-preserved g c =
+    let inv = c.loop-reads.invariant in
+    let behind = rw (c.make_room.ensures.held) at c.in-Ok.ensures.ok in
+    let some : 0 < c.in-Ok.count = grind (arith, common_steps) in
+    let found = c.in_ok-take.ensures.ok in
+    record {
+      taken = λ start given at. rw (found.rest_is, found.later_is)
+          (taken_more (inv.taken start given at) c.in-Ok.count found.len behind some found.off found.inside);
+      fine = grind (arith, common_steps);
+      inside = grind (arith, common_steps);
+      short = omega (
+        arith,
+        inv.short,
+        found.inside,
+        found.later_is,
+        c.in-Ok.ensures.bound,
+        behind.count_is,
+        ap length found.rest_is,
+        ap length behind.held,
+        length-append c.loop-reads.self.block.held behind.more,
+        length-drop found.len c.read.new.self.held,
+      );
+      each = omega (
+        arith,
+        inv.each,
+        some,
+        found.inside,
+        found.later_is,
+        behind.count_is,
+        ap length found.rest_is,
+        ap length behind.held,
+        length-append c.loop-reads.self.block.held behind.more,
+        length-drop found.len c.read.new.self.held,
+      );
+      counted = grind (arith, common_steps);
+      bounded = grind (arith, common_steps);
+    }
+
+pub returns-clause-read : goal.returns-clause-read
+returns-clause-read g c =
+    let all : c.args.limits.reads ≤ c.loop-reads.reads = grind (arith, common_steps) in
+    λ start given at is.
+    inr (grind (arith, common_steps), taken_many (c.loop-reads.invariant.taken start given at) c.args.limits.reads all)
+
+pub returns-clause-no_fault : goal.returns-clause-no_fault
+returns-clause-no_fault g c = λ start given at is. taken_to_fault (c.loop-reads.invariant.taken start given at) 0
+
+pub returns-clause-to_fault : goal.returns-clause-to_fault
+returns-clause-to_fault g c = λ start given at. taken_to_fault (c.loop-reads.invariant.taken start given at) _

@@ -1,0 +1,77 @@
+-- The first read, and what is read on after it.
+use Rattle.std.proofs.Common.{◌≡◌, ◌≤◌, ◌<◌, length, take, arith, true}
+use Rattle.std.proofs.lemmas.Grind.{common_steps}
+use Rattle.std.proofs.lemmas.List.{length-take-le, take_rest}
+use Rattle.std.proofs.lemmas.Result.{err_from_is_err_and}
+use Rattle.std.specs.Prelude.{is_err}
+use Rattle.htl_device.specs.declared.source.TheConstants.{MAX_READ_LEN}
+use Rattle.htl_reading.specs.Keepers.{AreKept, IsTakenTo}
+use Rattle.htl_reading.proofs.TakenLaws.{first_failed, first_refused, first_to_fault, read_no_further, taken_first, taken_memory}
+use Rattle.htl_reading.proofs.reading.read_source.Goals as goal
+
+pub returns-in_default-clause-no_fault : goal.returns-in_default-clause-no_fault
+returns-in_default-clause-no_fault g c =
+    let failed : is_err c.read.result ≡ true = grind (arith, common_steps) in
+    λ is. first_failed 0 _ _ _ c.read.result failed c.read.ensures.bytes
+
+pub returns-in_default-clause-to_fault : goal.returns-in_default-clause-to_fault
+returns-in_default-clause-to_fault g c =
+    let failed : is_err c.read.result ≡ true = grind (arith, common_steps) in
+    first_failed _ _ _ _ c.read.result failed c.read.ensures.bytes
+
+pub returns-then-count-eq0-clause-to_fault : goal.returns-then-count-eq0-clause-to_fault
+returns-then-count-eq0-clause-to_fault g c =
+    let few : length (take c.in-Ok.count c.read.new.buffer) ≤ MAX_READ_LEN = grind (arith, common_steps) in
+    read_no_further c.args.limits.workers c.args.limits.block_len (first_to_fault MAX_READ_LEN _ _ _ c.in-Ok.ensures.bytes.0 few)
+
+pub returns-in_err-len-clause-err : goal.returns-in_err-len-clause-err
+returns-in_err-len-clause-err g c =
+    let p = err_from_is_err_and c.from_residual.result c.from_residual.ensures.1 in
+    rw (p.1, p.2) (first_refused _ _ _ _ _ c.in-Ok.ensures.bytes.0 c.in_err-len.ensures.err)
+
+pub returns-in_err-len-clause-to_fault : goal.returns-in_err-len-clause-to_fault
+returns-in_err-len-clause-to_fault g c =
+    let few : length (take c.in-Ok.count c.read.new.buffer) ≤ MAX_READ_LEN = grind (arith, common_steps) in
+    read_no_further c.args.limits.workers c.args.limits.block_len (first_to_fault MAX_READ_LEN _ _ _ c.in-Ok.ensures.bytes.0 few)
+
+pub returns-in_err-new-clause-err : goal.returns-in_err-new-clause-err
+returns-in_err-new-clause-err g c =
+    let p = err_from_is_err_and c.from_residual-in_err-new.result c.from_residual-in_err-new.ensures.1 in
+    let piece = take c.in-Ok.count c.read.new.buffer in
+    let size : length piece ≡ c.in-Ok.count = length-take-le c.in-Ok.count c.read.new.buffer c.in-Ok.ensures.bound in
+    let some : 0 < length piece = grind (arith, common_steps, size) in
+    let at = taken_first piece c.in_ok-len.len c.in-Ok.ensures.bytes.0 some c.in_ok-len.ensures.ok c.in_ok-len.ensures.inside in
+    rw (p.1, p.2) (taken_memory at _ (omega arith) (grind (arith, common_steps)))
+
+pub returns-in_err-new-clause-to_fault : goal.returns-in_err-new-clause-to_fault
+returns-in_err-new-clause-to_fault g c =
+    let few : length (take c.in-Ok.count c.read.new.buffer) ≤ MAX_READ_LEN = grind (arith, common_steps) in
+    read_no_further c.args.limits.workers c.args.limits.block_len (first_to_fault MAX_READ_LEN _ _ _ c.in-Ok.ensures.bytes.0 few)
+
+began : (g : _) (c : goal.After-read_on g)
+    → IsTakenTo (AreKept g.K.Keeper.gathers) c.args.keepers c.take.new.self (g.R.Source.remaining c.args.source.now)
+    (g.R.Source.remaining c.read.new.self) c.in_ok-new.field-0.held c.in_ok-len.len 1
+began g c =
+    let piece = take c.in-Ok.count c.read.new.buffer in
+    let size : length piece ≡ c.in-Ok.count = length-take-le c.in-Ok.count c.read.new.buffer c.in-Ok.ensures.bound in
+    let some : 0 < length piece = grind (arith, common_steps, size) in
+    rw (c.in_ok-new.ensures, take_rest piece c.in_ok-len.len)
+    (taken_first piece c.in_ok-len.len c.in-Ok.ensures.bytes.0 some c.in_ok-len.ensures.ok c.in_ok-len.ensures.inside)
+
+pub returns-clause-ok : goal.returns-clause-ok
+returns-clause-ok g c = c.read_on.ensures.ok c.args.keepers (g.R.Source.remaining c.args.source.now) (began g c)
+
+pub returns-clause-err : goal.returns-clause-err
+returns-clause-err g c = c.read_on.ensures.err c.args.keepers (g.R.Source.remaining c.args.source.now) (began g c)
+
+pub returns-clause-reported : goal.returns-clause-reported
+returns-clause-reported g c = c.read_on.ensures.reported c.args.keepers (g.R.Source.remaining c.args.source.now) (began g c)
+
+pub returns-clause-read : goal.returns-clause-read
+returns-clause-read g c = c.read_on.ensures.read c.args.keepers (g.R.Source.remaining c.args.source.now) (began g c)
+
+pub returns-clause-no_fault : goal.returns-clause-no_fault
+returns-clause-no_fault g c = c.read_on.ensures.no_fault c.args.keepers (g.R.Source.remaining c.args.source.now) (began g c)
+
+pub returns-clause-to_fault : goal.returns-clause-to_fault
+returns-clause-to_fault g c = c.read_on.ensures.to_fault c.args.keepers (g.R.Source.remaining c.args.source.now) (began g c)

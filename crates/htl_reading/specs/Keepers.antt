@@ -1,0 +1,52 @@
+-- For the clauses of private functions: what keepers took.
+use Rattle.std.specs.Prelude.{◌≡◌, ◌≤◌, ℕ, List, ◌++◌, [], length, drop, All, Option}
+use Rattle.std.specs.Io.KnownBytes.{Consumes}
+use Rattle.htl_segment.specs.Content.{Content, Fits}
+use Rattle.htl_segment.specs.Bundles.{IsRest, Splits, bundle}
+use Rattle.htl_reading.specs.declared.keepers.Keepers.{Keepers}
+
+-- the bytes that were taken in: those of the segments, and others after them
+abbrev pub taken : List Content → List ℕ → List ℕ
+taken segments bytes = bundle segments ++ bytes
+
+-- it took these segments, after whichever it took before
+abbrev pub Took : {S K : Type 0} → (S → K → List Content → Type 0) → K → K → List Content → Type 0
+Took {S} gathers old new segments =
+    (kind : S) (before : List Content) → gathers kind old before → gathers kind new (before ++ segments)
+
+-- it took the segments that stand before this rest
+abbrev pub TookFront : {S K : Type 0} → (S → K → List Content → Type 0) → K → K → List ℕ → List ℕ → Type 0
+TookFront gathers old new bytes rest = (segments : List Content) × Splits bytes segments rest × Took gathers old new segments
+
+-- it took the segments that these bytes are
+abbrev pub TookAll : {S K : Type 0} → (S → K → List Content → Type 0) → K → K → List ℕ → Type 0
+TookAll gathers old new bytes = TookFront gathers old new bytes []
+
+-- it took the segments that so many bytes in front are, and the others begin no whole one
+pub record IsTakenOff {S K : Type 0} (gathers : S → K → List Content → Type 0) (old new : K) (bytes : List ℕ) (len : ℕ) : Type 0 where
+  pub segments : List Content
+  pub splits : Splits bytes segments (drop len bytes)
+  pub is_rest : IsRest (drop len bytes)
+  pub took : Took gathers old new segments
+
+-- it took the segments that a source gave by so many reads, up to an offset, and the bytes after them begin no whole one
+pub record IsTakenTo {S K : Type 0} (gathers : S → K → List Content → Type 0) (old new : K) (given left : Option (List ℕ)) (rest : List ℕ)
+    (offset reads : ℕ) : Type 0 where
+  pub segments : List Content
+  pub fits : All Fits segments
+  pub offset_is : offset ≡ length (bundle segments)
+  pub is_rest : IsRest rest
+  pub read : Consumes given left (taken segments rest)
+  pub each : reads ≤ length (taken segments rest)
+  pub took : Took gathers old new segments
+
+-- ---- several keepers
+
+-- the first of some keepers has these segments, and the others have none
+pub record AreShared {K : Type 0} (gathers : K → K → List Content → Type 0) (kind : K) (keepers : K × List K) (segments : List Content)
+    : Type 0 where
+  pub first : gathers kind (keepers.0) segments
+  pub others : All (λ keeper. gathers kind keeper []) (keepers.1)
+
+abbrev pub AreKept : {K : Type 0} → (K → K → List Content → Type 0) → K → Keepers K → List Content → Type 0
+AreKept gathers kind keepers segments = AreShared gathers kind (keepers.first, keepers.others.items) segments

@@ -70,7 +70,8 @@ fn read_and_asked<R: Source>(
     inputs: &mut [R],
     listener: &mut Listener,
 ) -> Result<bool, AskFault>
-    requires { All (λ input. R.has_failed input ≡ false) inputs.old }
+    requires fresh { All (λ input. R.has_failed input ≡ false) inputs.old }
+    requires inside { All (λ input. R.has_ended input ≡ false) inputs.old }
 {
     let symbols = match symbols(host, of.symbols.as_ref()) {
         Ok(symbols) => symbols,

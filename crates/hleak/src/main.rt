@@ -60,7 +60,6 @@ use std::alloc::AllocError;
 use std::fmt::Display;
 use std::io::IsTerminal;
 use std::process::ExitCode;
-use std::sync::Wait;
 use std::thread::Threads;
 use std::{env, io};
 use task::Task;
@@ -77,7 +76,7 @@ fn main(rt: HostRuntime) -> ExitCode {
 }
 
 /// Answers what is asked, with workers in threads of the runtime, and ends the program.
-fn answer(host: &HostRuntime, rt: &(impl Threads + Wait + Sync), asked: &Asked) -> ExitCode {
+fn answer(host: &HostRuntime, rt: &(impl Threads + Sync), asked: &Asked) -> ExitCode {
     let is_watched = host.stderr().is_terminal();
     if is_watched && asked.files.is_empty() {
         await_typing(host, "segments are");
@@ -239,7 +238,7 @@ fn explain(rt: &HostRuntime, asked: &Asked, ended: Result<Completed, Refused>) {
 /// Runs what is asked for, with workers in threads of the runtime, and shows how much was read.
 fn answered(
     host: &HostRuntime,
-    rt: &(impl Threads + Wait + Sync),
+    rt: &(impl Threads + Sync),
     asked: &Asked,
     is_watched: bool,
 ) -> Result<Completed, Refused> {
@@ -259,14 +258,14 @@ fn answered(
 /// question asks about alone, where that tells what comes of them.
 fn opened_and_run(
     host: &HostRuntime,
-    rt: &(impl Threads + Wait + Sync),
+    rt: &(impl Threads + Sync),
     asked: &Asked,
     progress: Option<&Progress>,
 ) -> Result<Completed, Refused> {
     let mut inputs = opened(host, &asked.files, progress)?;
     if can_be_read_again(host, &asked.files) {
         if let Some(interest) = interest(&asked.job) {
-            if let Some(completed) = read_and_pick(host, asked, interest, &mut inputs)? {
+            if let Some(completed) = read_and_pick(host, rt, asked, interest, &mut inputs)? {
                 return Ok(completed);
             }
             inputs = opened(host, &asked.files, progress)?;
@@ -278,17 +277,20 @@ fn opened_and_run(
 /// Reads the table of symbols, and then what the question asks about of the inputs.
 fn read_and_pick<R: Source>(
     host: &HostRuntime,
+    rt: &(impl Threads + Sync),
     asked: &Asked,
     interest: Interest,
     inputs: &mut [R],
 ) -> Result<Option<Completed>, RunFault>
     requires fresh { All (λ input. R.has_failed input ≡ false) inputs.old }
+    requires inside { All (λ input. R.has_ended input ≡ false) inputs.old }
     requires about { asks_about asked.now.job.hex asked.now.job.question ≡ Some interest }
 {
     let symbols = symbols(host, asked.symbols.as_ref())?;
     let symbols = symbols.as_deref();
     let mut out = Writing::new(io::writer(host));
     pick_from(
+        rt,
         host.alloc(),
         &asked.job,
         interest,
@@ -301,11 +303,12 @@ fn read_and_pick<R: Source>(
 /// Reads the table of symbols, and then the inputs.
 fn read_and_run<R: Source>(
     host: &HostRuntime,
-    rt: &(impl Threads + Wait + Sync),
+    rt: &(impl Threads + Sync),
     asked: &Asked,
     inputs: &mut [R],
 ) -> Result<Completed, Refused>
-    requires { All (λ input. R.has_failed input ≡ false) inputs.old }
+    requires fresh { All (λ input. R.has_failed input ≡ false) inputs.old }
+    requires inside { All (λ input. R.has_ended input ≡ false) inputs.old }
 {
     let symbols = symbols(host, asked.symbols.as_ref())?;
     let symbols = symbols.as_deref();

@@ -21,6 +21,9 @@ pub fn opened<'a>(
     ensures fresh { IfOk result (λ inputs. All
         (λ input. ⟦<Reading<Input<'a, Device<'a>>> as Source>⟧.has_failed input ≡ false)
         inputs.items) }
+    ensures inside { IfOk result (λ inputs. All
+        (λ input. ⟦<Reading<Input<'a, Device<'a>>> as Source>⟧.has_ended input ≡ false)
+        inputs.items) }
     ensures count { IfOk result (λ inputs. length inputs.items ≡ max 1 (length files.now)) }
     ensures place { IfErr result (IsOpenFault (length files.now)) }
 {
@@ -52,6 +55,9 @@ fn file_inputs<'a>(
 ) -> Result<Vec<Reading<Input<'a, Device<'a>>>>, AllocError>
     ensures fresh { IfOk result (λ inputs. All
         (λ input. ⟦<Reading<Input<'a, Device<'a>>> as Source>⟧.has_failed input ≡ false)
+        inputs.items) }
+    ensures inside { IfOk result (λ inputs. All
+        (λ input. ⟦<Reading<Input<'a, Device<'a>>> as Source>⟧.has_ended input ≡ false)
         inputs.items) }
     ensures count { IfOk result (λ inputs. length inputs.items ≡ length files.entry.items) }
 {

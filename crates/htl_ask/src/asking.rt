@@ -50,7 +50,9 @@ pub fn ask_from<Rt: Threads + Wait + Sync, R: Source, Q: Source, W: Sink, H: Aud
     audience: &mut H,
 ) -> Result<bool, AskFault>
     requires inputs { All (λ source. R.has_failed source ≡ false) inputs.old }
+    requires unread { All (λ source. R.has_ended source ≡ false) inputs.old }
     requires questions { Q.has_failed questions.old ≡ false }
+    requires open { Q.has_ended questions.old ≡ false }
     requires out { W.has_failed out.old ≡ false }
     // Each line gets what a run of its own prints, as its reply.
     ensures ok { (texts : List (List ℕ)) (lines : List ℕ)

@@ -117,6 +117,7 @@ pub fn converse<A: Answerer, Q: Source, W: Sink, H: Host>(
     host: &mut H,
 ) -> Result<bool, DialogueFault>
     requires questions { Q.has_failed questions.old ≡ false }
+    requires inside { Q.has_ended questions.old ≡ false }
     requires out { W.has_failed out.old ≡ false }
     // Each line gets its reply.
     ensures ok { (text : List ℕ) → Q.remaining questions.old ≡ Some text → IfOk result

@@ -33,7 +33,7 @@ impl Model for Held {
 }
 
 impl Held {
-    ghost use Rattle.std.specs.Prelude.{◌≡◌, ◌||◌, [], IfOk, OnErr, is_err, length};
+    ghost use Rattle.std.specs.Prelude.{◌≡◌, ◌<◌, [], false, IfOk, OnErr, is_err, length};
     ghost use Rattle.std.specs.Io.KnownBytes.{Consumes, IsAtEnd, Keeps};
     ghost use Rattle.htl_device.specs.Devices.{reads_after};
     ghost use Rattle.htl_dialogue.specs.Reading.{Moves};
@@ -72,13 +72,16 @@ impl Held {
 
     /// Reads on, where no bytes are held, and says how many came.
     fn refill<R: Source>(&mut self, source: &mut R) -> Result<usize, Failed>
-        requires { self.old ≡ [] }
+        requires empty { self.old ≡ [] }
+        requires fresh { R.has_failed source.old ≡ false }
+        requires inside { R.has_ended source.old ≡ false }
         ensures ok { IfOk result (λ count. (count ≡ length self.new)
             × Consumes (R.remaining source.old) (R.remaining source.new) self.new
             × (count ≡ 0 → IsAtEnd (R.remaining source.new))) }
         ensures err { OnErr result ((self.new ≡ [])
             × Keeps (R.remaining source.old) (R.remaining source.new)) }
-        ensures fails { R.has_failed source.new ≡ (R.has_failed source.old || is_err result) }
+        ensures fails { R.has_failed source.new ≡ is_err result }
+        ensures inside { IfOk result (λ count. 0 < count → R.has_ended source.new ≡ false) }
     {
         self.taken = 0;
         self.read = 0;
@@ -110,10 +113,13 @@ pub fn next_line<R: Source>(
     source: &mut R,
     held: &mut Held,
 ) -> Result<NextLine, ReadFault>
-    requires { R.has_failed source.old ≡ false }
+    requires fresh { R.has_failed source.old ≡ false }
+    requires inside { R.has_ended source.old ≡ false }
     ensures ok { IfOk result (IsNext (prepend_known held.old (R.remaining source.old))
         (prepend_known held.new (R.remaining source.new))) }
     ensures fine { OnOk result (R.has_failed source.new ≡ false) }
+    ensures inside { IfOk result (λ next.
+        next.is_last ≡ false → R.has_ended source.new ≡ false) }
     ensures reported { R.has_failed source.new ≡ true → result ≡ Err ReadFault.Failed }
     ensures begun { IfErr result (λ _. IsBegun (prepend_known held.old (R.remaining source.old))
         (prepend_known held.new (R.remaining source.new))) }

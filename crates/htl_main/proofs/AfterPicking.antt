@@ -24,10 +24,10 @@ use Rattle.htl_main.proofs.ReadingLaws.{ill}
 use Rattle.htl_main.proofs.SourceLaws.{none_read_within, true_nowhere}
 
 -- nothing was read
-pub unread : {R B : Type 0} (has_failed has_ended : R → Bool) (good_reads : R → ℕ) (remaining : R → Option (List ℕ)) (first : List R)
+pub unread : {R B : Type 0} (hex : Bool) (workers : ℕ) (has_failed has_ended : R → Bool) (good_reads : R → ℕ) (remaining : R → Option (List ℕ)) (first : List R)
     → All (λ source. has_failed source ≡ false) first
-    → AreRead has_failed has_ended good_reads remaining first first (ill {S = B} Workers)
-unread has_failed has_ended good_reads remaining first fine = record {
+    → AreRead hex workers has_failed has_ended good_reads remaining first first (ill {S = B} Workers)
+unread hex workers has_failed has_ended good_reads remaining first fine = record {
   ended = tt;
   in_order = λ earlier later below. inr refl;
   reported = λ place failed. absurd (true_nowhere has_failed first place fine failed);

@@ -27,9 +27,9 @@ use Rattle.htl_main.specs.Dumping.{DumpedSoFar, EndsAt, FrontDumped, FrontStops,
 use Rattle.htl_main.specs.declared.fault.RunFault.{RunFault}
 use Rattle.htl_main.specs.declared.fault.RunFault.TheVariants.{Segment, Read, Memory, Write}
 use Rattle.htl_main.proofs.InputLaws.{decode_next}
-use Rattle.htl_reading.specs.Blocks.{taken}
+use Rattle.htl_reading.specs.Keepers.{taken}
 use Rattle.htl_reading.specs.Sources.{IsReadToFault}
-use Rattle.htl_reading.proofs.PieceLaws.{ended_whole, read_more, read_without_fault, taken_splits}
+use Rattle.htl_reading.proofs.FaultLaws.{ended_whole, read_more, read_without_fault, taken_splits}
 
 -- ---- what was written
 

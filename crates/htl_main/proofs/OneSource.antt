@@ -105,6 +105,18 @@ failed_or_before hex workers place given left known lefts fault here there repor
           )
     ]
 
+-- the same of a result of another type
+pub failed_again : {S T : Type 0} (hex : Bool) (workers place : ℕ) (known lefts : List (Option (List ℕ))) (fault : RunFault)
+    → (ill {S = S} fault ≡ Err (Read place)) ⊎ ((given left : Option (List ℕ)) × (slice_get known place ≡ Some given)
+    × (slice_get lefts place ≡ Some left) × StandsBefore hex workers place given left (ill {S = S} fault))
+    → (ill {S = T} fault ≡ Err (Read place)) ⊎ ((given left : Option (List ℕ)) × (slice_get known place ≡ Some given)
+    × (slice_get lefts place ≡ Some left) × StandsBefore hex workers place given left (ill {S = T} fault))
+failed_again hex workers place known lefts fault reports =
+    elim reports [
+      | inl read ↦ let same : fault ≡ Read place = cc read in inl (rw same refl)
+      | inr found ↦ failed_or_before hex workers place (found.0) (found.1) known lefts fault (found.2) (found.3) (inr (found.4))
+    ]
+
 -- where a source was read to its end, no read failed
 pub never_failed : {S : Type 0} (hex : Bool) (workers place : ℕ) (given left : Option (List ℕ)) (value : S)
     → (well value ≡ Err (Read place)) ⊎ StandsBefore hex workers place given left (well value) → ⊥

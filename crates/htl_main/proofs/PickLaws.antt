@@ -5,7 +5,7 @@ use Rattle.htl_event.specs.declared.interest.Interest.{Interest}
 use Rattle.htl_segment.specs.Content.{Content}
 use Rattle.htl_segment.specs.Picks.{ArePicksOf}
 use Rattle.htl_segment.specs.declared.picks.Picks.{Picks}
-use Rattle.htl_reading.specs.Alone.{TookAll}
+use Rattle.htl_reading.specs.Keepers.{TookAll}
 use Rattle.htl_main.specs.Picking.{ArePicksMore, ArePicksOfAll}
 use Rattle.htl_main.proofs.InputLaws.{decode_next}
 

@@ -11,7 +11,7 @@ use Rattle.htl_device.specs.declared.whole.TheConstants.{MAX_READS}
 use Rattle.htl_segment.specs.Content.{Fits}
 use Rattle.htl_main.specs.Sources.{AreReadInOrder, AreReadToFault, AreReadWithin, IsEndless, IsTrueAt, ReadsNoFault}
 use Rattle.htl_reading.specs.Sources.{IsReadToFault}
-use Rattle.htl_reading.proofs.PieceLaws.{read_without_fault}
+use Rattle.htl_reading.proofs.FaultLaws.{read_without_fault}
 
 pub slice_get-set_other : {X : Type 0} (xs : List X) (i k : ℕ) (y : X) → (k ≡ i → ⊥) → slice_get (set xs i y) k ≡ slice_get xs k
 slice_get-set_other [] i k y other = refl

@@ -20,7 +20,7 @@ ghost use Rattle.htl_reading.specs.Sources.{IsReadToFault};
 
 use crate::fault::RunFault;
 use crate::printing::write_lines;
-use htl_device::{MAX_READ_LEN, MAX_READS, Sink, Source, read_whole};
+use htl_device::{MAX_READ_LEN, MAX_READS, MIN_READ_LEN, Sink, Source, read_whole};
 use htl_segment::{Fault, SegmentBytes, from_hex};
 use htl_text::dump;
 use std::alloc::Global;
@@ -39,6 +39,7 @@ pub fn dump_from<R: Source, W: Sink>(
     out: &mut W,
 ) -> Result<(), RunFault>
     requires inputs { All (λ source. R.has_failed source ≡ false) inputs.old }
+    requires inside { All (λ source. R.has_ended source ≡ false) inputs.old }
     requires out { W.has_failed out.old ≡ false }
     // The texts of all segments are written; or of those before what is reported.
     ensures ok { (texts : List (List ℕ)) → map R.remaining inputs.old ≡ map Some texts
@@ -47,7 +48,7 @@ pub fn dump_from<R: Source, W: Sink>(
         → IfErr result (λ fault. DumpStops hex texts (map R.remaining inputs.new)
         (map R.has_ended inputs.new) (W.contents out.old) (W.contents out.new) fault) }
     ensures failed { W.has_failed out.new ≡ is_failed_write result }
-    ensures reading { AreRead R.has_failed R.has_ended R.good_reads R.remaining
+    ensures reading { AreRead false 1 R.has_failed R.has_ended R.good_reads R.remaining
         inputs.old inputs.new result }
     ensures to_fault { hex ≡ false
         → AreReadToFault MAX_READ_LEN (map R.remaining inputs.old) (map R.remaining inputs.new) }
@@ -67,6 +68,7 @@ fn dump_input<R: Source, W: Sink>(
     out: &mut W,
 ) -> Result<(), RunFault>
     requires fresh { R.has_failed source.old ≡ false }
+    requires inside { R.has_ended source.old ≡ false }
     requires out { W.has_failed out.old ≡ false }
     ensures ok { OnOk result (IfSome (R.remaining source.old)
         (λ bytes. DumpsInput hex bytes (W.contents out.old) (W.contents out.new))) }
@@ -98,6 +100,7 @@ fn dump_digits<R: Source, W: Sink>(
     out: &mut W,
 ) -> Result<(), RunFault>
     requires fresh { R.has_failed source.old ≡ false }
+    requires inside { R.has_ended source.old ≡ false }
     requires out { W.has_failed out.old ≡ false }
     ensures ok { OnOk result (IfSome (R.remaining source.old)
         (λ text. DumpsInput true text (W.contents out.old) (W.contents out.new))) }
@@ -156,6 +159,7 @@ fn dump_bundle<R: Source, W: Sink>(
     out: &mut W,
 ) -> Result<(), RunFault>
     requires fresh { R.has_failed source.old ≡ false }
+    requires inside { R.has_ended source.old ≡ false }
     requires out { W.has_failed out.old ≡ false }
     ensures ok { OnOk result (IfSome (R.remaining source.old)
         (λ bytes. DumpsInput false bytes (W.contents out.old) (W.contents out.new))) }
@@ -171,7 +175,7 @@ fn dump_bundle<R: Source, W: Sink>(
     ensures named { NamesOnly place result }
     ensures to_fault { IsReadToFault MAX_READ_LEN (R.remaining source.old) (R.remaining source.new) }
 {
-    let mut buffer = [0u8; MAX_READ_LEN];
+    let mut buffer = [0u8; MIN_READ_LEN];
     dump_within(alloc, place, source, &mut buffer, MAX_READS, out)
 }
 
@@ -185,8 +189,9 @@ fn dump_within<R: Source, W: Sink>(
     out: &mut W,
 ) -> Result<(), RunFault>
     requires fresh { R.has_failed source.old ≡ false }
+    requires inside { R.has_ended source.old ≡ false }
     requires out { W.has_failed out.old ≡ false }
-    requires whole { length buffer.old ≡ MAX_READ_LEN }
+    requires whole { length buffer.old ≡ MIN_READ_LEN }
     requires few { most * MAX_READ_LEN < 2 ^ 64 }
     ensures ok { OnOk result (IfSome (R.remaining source.old)
         (λ bytes. DumpsInput false bytes (W.contents out.old) (W.contents out.new))) }

@@ -35,6 +35,7 @@ pub fn encode_from<R: Source, W: Sink>(
     out: &mut W,
 ) -> Result<(), RunFault>
     requires inputs { All (λ source. R.has_failed source ≡ false) inputs.old }
+    requires inside { All (λ source. R.has_ended source ≡ false) inputs.old }
     requires out { W.has_failed out.old ≡ false }
     ensures ok { (texts : List (List ℕ)) → map R.remaining inputs.old ≡ map Some texts
         → OnOk result (EncodesInto hex texts (W.contents out.old) (W.contents out.new)) }
@@ -45,7 +46,7 @@ pub fn encode_from<R: Source, W: Sink>(
         → result ≡ Err RunFault.Write
         → EncodesPart hex texts (W.contents out.old) (W.contents out.new) }
     ensures failed { W.has_failed out.new ≡ is_failed_write result }
-    ensures reading { AreRead R.has_failed R.has_ended R.good_reads R.remaining
+    ensures reading { AreRead false 1 R.has_failed R.has_ended R.good_reads R.remaining
         inputs.old inputs.new result }
     ensures untouched { IfErr result (λ fault. fault ≢ RunFault.Write → out.new ≡ out.old) }
 {
@@ -55,14 +56,15 @@ pub fn encode_from<R: Source, W: Sink>(
 
 /// The bytes of the segments that the texts of all sources encode.
 fn encode_all<R: Source>(alloc: Global, sources: &mut [R]) -> Result<Vec<u8>, RunFault>
-    requires { All (λ source. R.has_failed source ≡ false) sources.old }
+    requires fresh { All (λ source. R.has_failed source ≡ false) sources.old }
+    requires inside { All (λ source. R.has_ended source ≡ false) sources.old }
     ensures ok { (texts : List (List ℕ)) → map R.remaining sources.old ≡ map Some texts
         → IfOk result (λ bytes. (segments : List Content) × EncodeAll texts segments
         × (bytes.items ≡ bundle segments)) }
     ensures stops { (texts : List (List ℕ)) → map R.remaining sources.old ≡ map Some texts
         → IfErr result (λ fault. EncodingStops texts (map R.remaining sources.new)
         (map R.has_ended sources.new) fault) }
-    ensures reading { AreRead R.has_failed R.has_ended R.good_reads R.remaining
+    ensures reading { AreRead false 1 R.has_failed R.has_ended R.good_reads R.remaining
         sources.old sources.new result }
     ensures no_write { NeverWrite result }
 {
@@ -76,7 +78,8 @@ fn encode_all<R: Source>(alloc: Global, sources: &mut [R]) -> Result<Vec<u8>, Ru
 
 /// The bytes of the segments that the text of the source at a place encodes.
 fn encode_input<R: Source>(alloc: Global, place: u64, source: &mut R) -> Result<Vec<u8>, RunFault>
-    requires { R.has_failed source.old ≡ false }
+    requires fresh { R.has_failed source.old ≡ false }
+    requires inside { R.has_ended source.old ≡ false }
     ensures ok { IfOk result (λ bytes. IfSome (R.remaining source.old) (λ text.
         (segments : List Content) × Encodes text segments × (bytes.items ≡ bundle segments))) }
     ensures stops { IfErr result (λ fault. IfSome (R.remaining source.old) (λ text.

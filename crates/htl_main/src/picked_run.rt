@@ -6,7 +6,8 @@ ghost use Rattle.std.specs.Prelude.{IfErr, IfNone, IfOk, IfSome, OnOk, Err, is_s
 ghost use Rattle.std.specs.Option.{option_copied};
 ghost use Rattle.std.specs.Io.KnownBytes.{Appends};
 ghost use Rattle.htl_device.specs.Devices.{AppendsPrefix};
-ghost use Rattle.htl_device.specs.declared.source.TheConstants.{MAX_READ_LEN};
+ghost use Rattle.htl_reading.specs.Sources.{read_ahead};
+ghost use Rattle.htl_reading.specs.declared.reading.TheConstants.{BLOCK_LEN};
 ghost use Rattle.htl_segment.specs.Content.{Content};
 ghost use Rattle.htl_case.specs.Picked.{NeedsWhole};
 ghost use Rattle.htl_main.specs.Causes.{IsCauseAfter, Prints, PrintsPart};
@@ -22,10 +23,12 @@ use crate::picking::pick_all;
 use crate::printing::{check_workers, write_lines};
 use htl_case::PickedCase;
 use htl_command::{Job, Question};
-use htl_device::{MAX_READ_LEN, Sink, Source};
+use htl_device::{Sink, Source};
+use htl_reading::BLOCK_LEN;
 use htl_event::Interest;
 use htl_segment::Picks;
 use std::alloc::Global;
+use std::thread::Threads;
 
 /// The process or the object that the job asks about, where its inputs are bytes.
 pub fn interest(job: &Job) -> Option<Interest>
@@ -48,12 +51,13 @@ pub fn interest(job: &Job) -> Option<Interest>
 }
 
 /// The same as `run_from` for a question about a process or an object. It makes only the events that
-/// the question asks about, and reads each source by one worker.
+/// the question asks about.
 ///
 /// It ends without an answer where only whole segments tell what comes of the inputs: where a key
 /// comes twice, of which the contents have to be compared, or where the segments are no case. Then
 /// nothing was written, and `run_from` answers over the same inputs, read again, or says why not.
-pub fn pick_from<R: Source, W: Sink>(
+pub fn pick_from<Rt: Threads + Sync, R: Source, W: Sink>(
+    rt: &Rt,
     alloc: Global,
     job: &Job,
     interest: Interest,
@@ -62,6 +66,7 @@ pub fn pick_from<R: Source, W: Sink>(
     out: &mut W,
 ) -> Result<Option<Completed>, RunFault>
     requires inputs { All (λ source. R.has_failed source ≡ false) inputs.old }
+    requires inside { All (λ source. R.has_ended source ≡ false) inputs.old }
     requires out { W.has_failed out.old ≡ false }
     requires about { asks_about job.now.hex job.now.question ≡ Some interest }
     // What the sources' bytes come to is printed, or reported.
@@ -82,15 +87,15 @@ pub fn pick_from<R: Source, W: Sink>(
         (W.contents out.old) (W.contents out.new) }
     ensures failed { result ≡ Err RunFault.Write → W.has_failed out.new ≡ true }
     ensures untouched { IfErr result (λ fault. fault ≢ RunFault.Write → out.new ≡ out.old) }
-    ensures reading { AreRead R.has_failed R.has_ended R.good_reads R.remaining
+    ensures reading { AreRead false job.now.workers R.has_failed R.has_ended R.good_reads R.remaining
         inputs.old inputs.new result }
     ensures no_fault { (place : ℕ) → result ≡ Err (RunFault.Read place)
         → ReadsNoFault (map R.remaining inputs.old) (map R.remaining inputs.new) place }
-    ensures to_fault { AreReadToFault MAX_READ_LEN (map R.remaining inputs.old)
-        (map R.remaining inputs.new) }
+    ensures to_fault { AreReadToFault (read_ahead job.now.workers BLOCK_LEN)
+        (map R.remaining inputs.old) (map R.remaining inputs.new) }
 {
     check_workers(job.workers)?;
-    let picks = pick_all(alloc, interest, inputs)?;
+    let picks = pick_all(rt, alloc, interest, job.workers, inputs)?;
     print_picks(alloc, job, picks, symbols, out)
 }
 

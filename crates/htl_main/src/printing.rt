@@ -34,7 +34,6 @@ use htl_report::{Answer, folded, text};
 use htl_segment::Outline;
 use htl_symbols::{SymbolFault, Symbols};
 use std::alloc::Global;
-use std::sync::Wait;
 use std::thread::Threads;
 
 /// Prints the answer to the job's question over the segments of all inputs, in the job's form and
@@ -47,7 +46,7 @@ use std::thread::Threads;
 /// same for every number of workers. A run that ends well reports how much of its trace the case of
 /// all segments has, whether it has an event of what was asked about, and whether the answer finds
 /// something.
-pub fn run<Rt: Threads + Wait + Sync, W: Sink>(
+pub fn run<Rt: Threads + Sync, W: Sink>(
     _rt: &Rt,
     alloc: Global,
     job: &Job,

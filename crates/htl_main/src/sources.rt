@@ -18,7 +18,7 @@ ghost use Rattle.htl_main.specs.Sources.{IsReportedAt, IsReportedOfSource, IsTru
 use crate::decoded::Decoded;
 use crate::fault::RunFault;
 use htl_device::{MAX_READS, Source, read_whole};
-use htl_reading::{decode_bundle_by, read_bundle};
+use htl_reading::{BLOCK_LEN, decode_bundle_by, read_bundle};
 use htl_segment::{Segment, from_hex};
 use std::alloc::Global;
 use std::thread::Threads;
@@ -32,7 +32,8 @@ pub(crate) fn read_all<Rt: Threads + Sync, R: Source>(
     workers: u32,
     sources: &mut [R],
 ) -> Result<Decoded, RunFault>
-    requires { All (λ source. R.has_failed source ≡ false) sources.old }
+    requires fresh { All (λ source. R.has_failed source ≡ false) sources.old }
+    requires inside { All (λ source. R.has_ended source ≡ false) sources.old }
     ensures ok { (inputs : List (List ℕ)) → map R.remaining sources.old ≡ map Some inputs
         → IfOk result (λ decoded. DecodeAll hex inputs decoded.segments.items) }
     ensures parts { (inputs : List (List ℕ)) → map R.remaining sources.old ≡ map Some inputs
@@ -75,7 +76,8 @@ fn read_input<Rt: Threads + Sync, R: Source>(
     place: u64,
     source: &mut R,
 ) -> Result<Vec<Segment>, RunFault>
-    requires { R.has_failed source.old ≡ false }
+    requires fresh { R.has_failed source.old ≡ false }
+    requires inside { R.has_ended source.old ≡ false }
     ensures ok { IfOk result (λ segments. IfSome (R.remaining source.old)
         (λ bytes. Decodes hex bytes segments.items)) }
     ensures err { IfErr result (λ fault. IfSome (R.remaining source.old) (λ bytes.
@@ -110,7 +112,8 @@ fn read_digits<Rt: Threads + Sync, R: Source>(
     place: u64,
     source: &mut R,
 ) -> Result<Vec<Segment>, RunFault>
-    requires { R.has_failed source.old ≡ false }
+    requires fresh { R.has_failed source.old ≡ false }
+    requires inside { R.has_ended source.old ≡ false }
     ensures ok { IfOk result (λ segments. IfSome (R.remaining source.old)
         (λ text. Decodes true text segments.items)) }
     ensures err { IfErr result (λ fault. IfSome (R.remaining source.old) (λ text.
@@ -172,7 +175,8 @@ fn read_bundle_at<Rt: Threads + Sync, R: Source>(
     place: u64,
     source: &mut R,
 ) -> Result<Vec<Segment>, RunFault>
-    requires { R.has_failed source.old ≡ false }
+    requires fresh { R.has_failed source.old ≡ false }
+    requires inside { R.has_ended source.old ≡ false }
     ensures ok { IfOk result (λ segments. IfSome (R.remaining source.old)
         (λ bytes. Splits bytes segments.items [])) }
     ensures err { IfErr result (λ fault. IfSome (R.remaining source.old) (λ bytes.
@@ -190,7 +194,7 @@ fn read_bundle_at<Rt: Threads + Sync, R: Source>(
         (R.remaining source.new) }
     ensures no_write { NeverWrite result }
 {
-    match read_bundle(rt, alloc, workers, source) {
+    match read_bundle(rt, alloc, workers, BLOCK_LEN, source) {
         Ok(segments) => Ok(segments),
         Err(fault) => Err(RunFault::of_source(place, fault)),
     }

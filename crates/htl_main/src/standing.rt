@@ -47,7 +47,8 @@ pub fn read_standing<Rt: Threads + Sync, R: Source>(
     inputs: &mut [R],
     symbols: Option<&[u8]>,
 ) -> Result<Standing, Refused>
-    requires { All (λ source. R.has_failed source ≡ false) inputs.old }
+    requires fresh { All (λ source. R.has_failed source ≡ false) inputs.old }
+    requires inside { All (λ source. R.has_ended source ≡ false) inputs.old }
     // What the sources' bytes come to stands, or is reported, as of a run for whichever question.
     ensures ok { (texts : List (List ℕ)) → map R.remaining inputs.old ≡ map Some texts
         → IfOk result (λ standing. AreStandingOf texts (option_copied symbols.entry) setting

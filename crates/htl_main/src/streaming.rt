@@ -23,7 +23,6 @@ use crate::sources::read_all;
 use htl_command::Job;
 use htl_device::{Sink, Source};
 use std::alloc::Global;
-use std::sync::Wait;
 use std::thread::Threads;
 
 /// The same as `run` for the bytes that sources give, each of which is read to its end in reads of
@@ -34,7 +33,7 @@ use std::thread::Threads;
 /// several workers decode together and the next one, which is read meanwhile. They report the same
 /// fault as one worker, and a read that failed where none stands before it. A text in hexadecimal is
 /// gathered whole first.
-pub fn run_from<Rt: Threads + Wait + Sync, R: Source, W: Sink>(
+pub fn run_from<Rt: Threads + Sync, R: Source, W: Sink>(
     rt: &Rt,
     alloc: Global,
     job: &Job,
@@ -43,6 +42,7 @@ pub fn run_from<Rt: Threads + Wait + Sync, R: Source, W: Sink>(
     out: &mut W,
 ) -> Result<Completed, Refused>
     requires inputs { All (λ source. R.has_failed source ≡ false) inputs.old }
+    requires inside { All (λ source. R.has_ended source ≡ false) inputs.old }
     requires out { W.has_failed out.old ≡ false }
     // What the sources' bytes come to is printed, or reported.
     ensures ok { (texts : List (List ℕ)) → map R.remaining inputs.old ≡ map Some texts

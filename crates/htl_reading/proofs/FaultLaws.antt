@@ -84,6 +84,14 @@ refusal_reported None last ended read fault given refusal = tt
 refusal_reported (Some xs) None ended read fault given refusal = absurd given
 refusal_reported (Some xs) (Some ys) ended read fault given refusal = rw given (more_reported read ys ended fault refusal)
 
+-- a source ends after whole segments
+pub ended_whole : (first last : Option (List ℕ)) (segments : List Content) (rest : List ℕ) → All Fits segments
+    → Consumes first last (taken segments rest) → IsAtEnd last → rest ≡ []
+    → IfSome first (λ bytes. Splits bytes segments [])
+ended_whole first last segments rest fits given end empty =
+    Consumes-whole first last (taken segments rest) (λ bytes. Splits bytes segments []) given end
+    (rw empty record { parts = refl; fits = fits })
+
 -- or inside one
 pub ended_inside : (first last : Option (List ℕ)) (ended : Bool) (bytes : List ℕ) (offset : ℕ) (fault : Fault)
     → Consumes first last bytes → IsAtEnd last → BundleFault bytes offset fault

@@ -13,7 +13,6 @@ use std::alloc::Global;
 use std::io;
 use std::io::Write;
 use std::process::Abort;
-use std::sync::Wait;
 use std::thread::Threads;
 
 /// A writer that takes a few bytes a write into memory, and fails when it holds `most`. The next
@@ -48,7 +47,7 @@ fn stored(rt: &impl Abort, alloc: Global) -> Vec<u8> {
 
 /// What a run over sources writes, and how it ends.
 pub fn printed_from<'a>(
-    rt: &(impl Threads + Wait + Sync),
+    rt: &(impl Threads + Sync),
     alloc: Global,
     job: &Job,
     sources: &mut [Reading<Pieces<'a>>],
@@ -71,7 +70,7 @@ pub fn printed_from<'a>(
 
 /// What is printed of one source with these bytes, so many a read, and how that ends.
 fn printed_in_pieces(
-    rt: &(impl Threads + Wait + Sync),
+    rt: &(impl Threads + Sync),
     alloc: Global,
     row: &Printed,
     bytes: &[u8],
@@ -84,7 +83,7 @@ fn printed_in_pieces(
 
 /// A row's text is printed of its segments in one source.
 fn is_printed(
-    rt: &(impl Threads + Wait + Sync + Abort),
+    rt: &(impl Threads + Sync + Abort),
     alloc: Global,
     row: &Printed,
     bytes: &[u8],
@@ -129,7 +128,7 @@ fn gathers_hexadecimal(rt: HostRuntime) {
 
 /// A run over these two sources writes nothing, and ends with the fault.
 fn is_refused(
-    rt: &(impl Threads + Wait + Sync + Abort),
+    rt: &(impl Threads + Sync + Abort),
     alloc: Global,
     job: &Job,
     (first, second): (Pieces, Pieces),
@@ -216,7 +215,7 @@ fn reports_an_end_inside_a_segment(rt: HostRuntime) {
 /// What went into a narrow writer in the stored run, whose bytes come 7 a read, and how the run
 /// ended.
 fn printed_into(
-    rt: &(impl Threads + Wait + Sync),
+    rt: &(impl Threads + Sync),
     alloc: Global,
     bytes: &[u8],
     mut narrow: Narrow,
@@ -236,7 +235,7 @@ fn printed_into(
 /// A writer of so many bytes a write, which fails when it holds `most`, takes this in the stored
 /// run, which ends so.
 fn takes(
-    rt: &(impl Threads + Wait + Sync + Abort),
+    rt: &(impl Threads + Sync + Abort),
     alloc: Global,
     (piece, most): (usize, usize),
     went: &str,

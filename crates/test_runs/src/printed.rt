@@ -9,7 +9,6 @@ use htl_samples::TRACE;
 use std::alloc::Global;
 use std::fmt;
 use std::process::Abort;
-use std::sync::Wait;
 use std::thread::Threads;
 
 /// The question of the stored run.
@@ -49,7 +48,7 @@ pub fn bundles(rt: &impl Abort, alloc: Global, inputs: &[&str]) -> Vec<Vec<u8>> 
 
 /// What was written, and how the run ended.
 pub fn printed(
-    rt: &(impl Threads + Wait + Sync),
+    rt: &(impl Threads + Sync),
     alloc: Global,
     job: &Job,
     inputs: &[Vec<u8>],
@@ -91,7 +90,7 @@ pub fn has_line(rt: &impl Abort, alloc: Global, fault: &impl fmt::Display, line:
 
 /// A row's text is printed by so many workers.
 fn is_printed(
-    rt: &(impl Threads + Wait + Sync + Abort),
+    rt: &(impl Threads + Sync + Abort),
     alloc: Global,
     row: &Printed,
     workers: u32,
@@ -117,7 +116,7 @@ fn prints_the_same_for_every_number_of_workers(rt: HostRuntime) {
 
 /// What is printed of inputs in hexadecimal by so many workers, and how that ends.
 fn printed_of_digits(
-    rt: &(impl Threads + Wait + Sync + Abort),
+    rt: &(impl Threads + Sync + Abort),
     alloc: Global,
     workers: u32,
     inputs: &[&str],
@@ -195,7 +194,7 @@ fn says_whether_the_answer_finds_something(rt: HostRuntime) {
 
 /// Whether the answer to a question about segments that are given by lines finds something.
 fn has_finding_of(
-    rt: &(impl Threads + Wait + Sync + Abort),
+    rt: &(impl Threads + Sync + Abort),
     alloc: Global,
     lines: &str,
     question: Question,
@@ -213,7 +212,7 @@ fn refuses_with_a_line_and_a_status(rt: HostRuntime) {
 }
 
 /// A row is refused with its line and its status.
-fn is_refused(rt: &(impl Threads + Wait + Sync + Abort), alloc: Global, row: &Refused) {
+fn is_refused(rt: &(impl Threads + Sync + Abort), alloc: Global, row: &Refused) {
     let (written, ended) = printed_of_digits(rt, alloc, row.workers, row.inputs, row.symbols);
     let fault = fault_of(rt, &written, ended);
     has_line(rt, alloc, &fault, row.line);
@@ -254,7 +253,7 @@ fn refuses_what_is_no_case(rt: HostRuntime) {
 
 /// The refusal of a run over inputs that are given by lines. Its symbols have a fault too.
 fn refused_lines(
-    rt: &(impl Threads + Wait + Sync + Abort),
+    rt: &(impl Threads + Sync + Abort),
     alloc: Global,
     inputs: &[&str],
 ) -> Refusal {

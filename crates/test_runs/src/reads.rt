@@ -9,7 +9,6 @@ use htl_command::Job;
 use htl_main::{Completed, Reading, Refused, RunFault};
 use std::alloc::Global;
 use std::process::Abort;
-use std::sync::Wait;
 use std::thread::Threads;
 
 /// Two inputs that give so many bytes a read.
@@ -33,7 +32,7 @@ impl<'a> Sources<'a> {
     /// What a run writes whose reads after the first so many fail, and how it ends.
     fn run(
         self,
-        rt: &(impl Threads + Wait + Sync),
+        rt: &(impl Threads + Sync),
         alloc: Global,
         job: &Job,
         reads: usize,
@@ -50,7 +49,7 @@ impl<'a> Sources<'a> {
 /// Fails each read of the inputs in turn, and says how many. A run with a failed read reports
 /// its input and writes nothing; with none it writes the text.
 fn fail_reads(
-    rt: &(impl Threads + Wait + Sync + Abort),
+    rt: &(impl Threads + Sync + Abort),
     alloc: Global,
     job: &Job,
     sources: Sources,
@@ -77,7 +76,7 @@ fn fail_reads(
 
 /// Fails the reads of one command, which give 1, 7 and 65,536 bytes.
 fn fail_reads_of(
-    rt: &(impl Threads + Wait + Sync + Abort),
+    rt: &(impl Threads + Sync + Abort),
     alloc: Global,
     command: &Command,
     hex: bool,
@@ -101,7 +100,7 @@ fn fail_reads_of(
 
 /// Fails the reads of all commands over these two inputs.
 fn fail_all_reads(
-    rt: &(impl Threads + Wait + Sync + Abort),
+    rt: &(impl Threads + Sync + Abort),
     alloc: Global,
     hex: bool,
     inputs: (&[u8], &[u8]),

@@ -8,7 +8,6 @@ use htl_samples::Trace;
 use htl_segment::{Segment, encode};
 use std::alloc::Global;
 use std::process::Abort;
-use std::sync::Wait;
 use std::thread::Threads;
 
 #[derive(Clone, Copy)]
@@ -148,7 +147,7 @@ fn prints_summaries(rt: HostRuntime) {
 
 /// A trace's summary is printed by so many workers.
 fn is_summarized(
-    rt: &(impl Threads + Wait + Sync + Abort),
+    rt: &(impl Threads + Sync + Abort),
     alloc: Global,
     row: &Summary,
     workers: u32,
@@ -166,7 +165,7 @@ fn is_summarized(
 
 /// A run that asks for a complete case.
 fn printed_if_complete(
-    rt: &(impl Threads + Wait + Sync + Abort),
+    rt: &(impl Threads + Sync + Abort),
     alloc: Global,
     row: &Summary,
     symbols: Option<&str>,
@@ -190,7 +189,7 @@ fn refuses_gaps_before_faulty_symbols(rt: HostRuntime) {
 
 /// A trace is refused with this line.
 fn is_incomplete(
-    rt: &(impl Threads + Wait + Sync + Abort),
+    rt: &(impl Threads + Sync + Abort),
     alloc: Global,
     row: &Summary,
     line: &str,
@@ -202,7 +201,7 @@ fn is_incomplete(
 }
 
 /// A trace's summary is printed.
-fn is_complete(rt: &(impl Threads + Wait + Sync + Abort), alloc: Global, row: &Summary) {
+fn is_complete(rt: &(impl Threads + Sync + Abort), alloc: Global, row: &Summary) {
     let (written, ended) = printed_if_complete(rt, alloc, row, None);
     assert!(rt; ended.is_ok() && written.as_slice() == row.text.as_bytes());
 }
@@ -223,7 +222,7 @@ fn each_command_reports_the_coverage(rt: HostRuntime) {
 
 /// How much of a trace the answer to a question reports to be there.
 fn coverage_of(
-    rt: &(impl Threads + Wait + Sync + Abort),
+    rt: &(impl Threads + Sync + Abort),
     alloc: Global,
     row: &Summary,
     question: Question,

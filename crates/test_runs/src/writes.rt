@@ -8,7 +8,6 @@ use std::alloc::Global;
 use std::io;
 use std::io::Write;
 use std::process::Abort;
-use std::sync::Wait;
 use std::thread::Threads;
 
 /// How a write fails.
@@ -50,7 +49,7 @@ impl Write for Narrow {
 
 /// What of a command's text goes out, and how its run ends.
 fn run_into(
-    rt: &(impl Threads + Wait + Sync),
+    rt: &(impl Threads + Sync),
     alloc: Global,
     command: &Command,
     inputs: &[Vec<u8>],
@@ -94,7 +93,7 @@ impl Failing {
 /// Fails each write in turn, and says how many. A run with a failed write reports it, and what was
 /// written before went out; with none the whole text does.
 fn fail_writes(
-    rt: &(impl Threads + Wait + Sync + Abort),
+    rt: &(impl Threads + Sync + Abort),
     alloc: Global,
     command: &Command,
     inputs: &[Vec<u8>],
@@ -120,7 +119,7 @@ fn fail_writes(
 
 /// Fails the writes of one command of 1, 10 and 65,536 bytes, in both ways.
 fn fail_writes_of(
-    rt: &(impl Threads + Wait + Sync + Abort),
+    rt: &(impl Threads + Sync + Abort),
     alloc: Global,
     command: &Command,
     inputs: &[Vec<u8>],

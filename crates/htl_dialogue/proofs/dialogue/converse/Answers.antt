@@ -11,6 +11,7 @@ use Rattle.htl_dialogue.proofs.dialogue.converse.Goals as goal
 pub loop-line-init : goal.loop-line-init
 loop-line-init g c = record {
   readable = c.requires.questions;
+  inside = c.requires.inside;
   writable = c.requires.out;
   so_far = λ text known. begins (g.A.Answerer.has_text c.args.answerer.now) text _ (g.W.Sink.contents c.args.out.now)
       (rw (c.in_ok-held.ensures, prepend_known-nil (g.Q.Source.remaining c.args.questions.now)) known);
@@ -23,6 +24,7 @@ loop-line-preserved g c =
     let goes_on : is_end said ≡ false = sym (c.ends.ensures) ∙ c.if-ends.false in
     record {
       readable = search rules;
+      inside = c.in_ok-next.ensures.inside c.if-next.false;
       writable = search rules;
       so_far = λ text known. replied (g.A.Answerer.has_text c.args.answerer.now) text _ _ (g.W.Sink.contents c.args.out.now)
           (g.W.Sink.contents c.loop-line.out) (g.W.Sink.contents c.reply.new.out) c.loop-line.has_wrong c.in_ok-is_wrong.is_wrong

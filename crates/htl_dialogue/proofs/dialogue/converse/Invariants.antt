@@ -7,6 +7,7 @@ use Rattle.htl_dialogue.proofs.dialogue.converse.Given as goal
 abbrev pub invariant-loop-line : goal.invariant-loop-line
 invariant-loop-line g l = record {
   readable : g.Q.Source.has_failed l.questions ≡ false;
+  inside : g.Q.Source.has_ended l.questions ≡ false;
   writable : g.W.Sink.has_failed l.out ≡ false;
   so_far : (text : List ℕ) → g.Q.Source.remaining l.initial.questions ≡ Some text
       → Progress (g.A.Answerer.has_text l.answerer) text (prepend_known l.held (g.Q.Source.remaining l.questions))

@@ -7,7 +7,8 @@ use Rattle.htl_dialogue.proofs.reading.next_line.Goals as goal
 
 pub loop-read-init : goal.loop-read-init
 loop-read-init g c = record {
-  fine = c.requires;
+  fine = c.requires.fresh;
+  inside = c.requires.inside;
   so_far = nothing_taken (prepend_known c.args.held.now (g.R.Source.remaining c.args.source.now)) _ (length c.args.held.now)
       (c.new.ensures.items, omega arith);
 }
@@ -47,6 +48,7 @@ loop-read-preserved g c =
     let some : 0 < c.in-Ok.count = omega (arith, c.if-count-eq0.false) in
     record {
       fine = search rules;
+      inside = c.in-Ok.ensures.inside some;
       so_far = goes_on first rest (g.R.Source.remaining c.refill.new.source) c.refill.new.self c.move_to.new.line c.loop-read._read
           c.in-Ok.count moved read.0 read.1 some;
     }

@@ -1,6 +1,6 @@
 -- One source more, and the one at which the dump ends.
 use Rattle.htl_device.specs.declared.source.TheConstants.{MAX_READ_LEN}
-use Rattle.std.proofs.Common.{◌<◌, [], length, map, get_or, arith, refl}
+use Rattle.std.proofs.Common.{◌<◌, [], length, map, get_or, arith, refl, false, inl}
 use Rattle.std.proofs.KnownBytes.{Appends-nil}
 use Rattle.std.proofs.lemmas.Option.{slice_get-get_or}
 use Rattle.std.proofs.lemmas.Result.{err_from_is_err_and}
@@ -27,9 +27,9 @@ loop-place-preserved g c =
     let source = get_or c.loop-place.inputs place c.index-inputs-place.result in
     let here = slice_get-get_or c.loop-place.inputs place c.index-inputs-place.result within in
     record {
-      before = one_before g.R.Source.has_failed g.R.Source.has_ended g.R.Source.good_reads g.R.Source.remaining c.args.inputs.now
+      before = one_before false 1 g.R.Source.has_failed g.R.Source.has_ended g.R.Source.good_reads g.R.Source.remaining c.args.inputs.now
           c.loop-place.inputs place source c.dump_input.new.source _ inv.before within here
-          (record { reported = is.reported; read = is.read; bounded = is.bounded; named = is.named }) is.ended;
+          (record { reported = λ failed. inl (is.reported failed); read = is.read; bounded = is.bounded; named = is.named }) is.ended;
       sound = is.failed;
       dumped = λ texts all.
           let knows = knows_now g.R.Source.remaining c.args.inputs.now c.loop-place.inputs texts place source
@@ -85,9 +85,9 @@ returns-in_err-dump_input-clause-reading g c =
     let within : place < length c.loop-place.inputs = omega arith in
     let source = get_or c.loop-place.inputs place c.index-inputs-place.result in
     let here = slice_get-get_or c.loop-place.inputs place c.index-inputs-place.result within in
-    rw (p.1, p.2) (read_to g.R.Source.has_failed g.R.Source.has_ended g.R.Source.good_reads g.R.Source.remaining c.args.inputs.now
+    rw (p.1, p.2) (read_to false 1 g.R.Source.has_failed g.R.Source.has_ended g.R.Source.good_reads g.R.Source.remaining c.args.inputs.now
     c.loop-place.inputs place source c.dump_input.new.source c.in_err-dump_input.field-0.0 inv.before within here
-    (record { reported = is.reported; read = is.read; bounded = is.bounded; named = is.named }))
+    (record { reported = λ failed. inl (is.reported failed); read = is.read; bounded = is.bounded; named = is.named }))
 
 pub returns-in_err-dump_input-clause-to_fault : goal.returns-in_err-dump_input-clause-to_fault
 returns-in_err-dump_input-clause-to_fault g c =
@@ -103,5 +103,5 @@ returns-in_err-dump_input-clause-to_fault g c =
 
 pub returns-clause-reading : goal.returns-clause-reading
 returns-clause-reading g c =
-    all_read g.R.Source.has_failed g.R.Source.has_ended g.R.Source.good_reads g.R.Source.remaining c.args.inputs.now c.loop-place.inputs
+    all_read false 1 g.R.Source.has_failed g.R.Source.has_ended g.R.Source.good_reads g.R.Source.remaining c.args.inputs.now c.loop-place.inputs
     c.loop-place.place _ c.loop-place.invariant.before (omega arith)

@@ -5,12 +5,11 @@ use Rattle.std.specs.Io.KnownBytes.{Consumes, IsAtEnd}
 use Rattle.std.proofs.lemmas.Grind.{common_steps}
 use Rattle.std.proofs.lemmas.List.{length-append}
 use Rattle.std.proofs.lemmas.Result.{err_from_is_err_and}
-use Rattle.htl_device.specs.declared.source.TheConstants.{MAX_READ_LEN}
+use Rattle.htl_device.specs.declared.source.TheConstants.{MAX_READ_LEN, MIN_READ_LEN}
 use Rattle.htl_segment.specs.Bundles.{IsRest}
 use Rattle.htl_main.specs.Dumping.{FrontDumped}
 use Rattle.htl_main.proofs.DumpLaws.{finished_cut, finished_whole, front_named, front_no_read, kept_last, rest_inside, so_far_failed}
 use Rattle.htl_main.proofs.DumpLaws.{so_far_memory, so_far_next, so_far_once_more, so_far_read, so_far_stops, so_far_unread}
-use Rattle.htl_reading.proofs.PieceLaws.{read_bounded}
 use Rattle.htl_main.proofs.dumping.dump_within.Goals as goal
 
 pub returns-in_default-clause-stops : goal.returns-in_default-clause-stops
@@ -106,7 +105,7 @@ loop-read-preserved g c =
     let some : 0 < c.in-Ok.count = grind (arith, common_steps) in
     let few : c.in-Ok.count ≤ length c.read.new.buffer = c.in-Ok.ensures.bound in
     let size : length piece ≡ c.in-Ok.count = grind (arith, common_steps) in
-    let whole : length c.read.new.buffer ≡ MAX_READ_LEN = grind (arith, common_steps) in
+    let whole : length c.read.new.buffer ≡ MIN_READ_LEN = grind (arith, common_steps) in
     let all : c.extend_from_slice.new.self.items ≡ c.loop-read.held.items ++ piece = grind (arith, common_steps) in
     let held = c.loop-read.held.items in
     let dumped : FrontDumped (held ++ piece) rest (g.W.Sink.contents c.loop-read.out) (g.W.Sink.contents c.dump_front.new.out) × IsRest rest =
@@ -126,10 +125,7 @@ loop-read-preserved g c =
       each = rw (kept, len) (omega (arith, inv.each, joined, inside, size, some));
       counted = grind (arith, common_steps);
       reads = grind (arith, common_steps);
-      bounded = rw (kept, len) (
-          let more = read_bounded c.loop-read._read MAX_READ_LEN (c.loop-read.start + length held) c.in-Ok.count inv.bounded
-          (omega (arith, few, whole)) in
-          omega (arith, more, joined, inside, size)
-          );
+      bounded = rw (kept, len) (omega (arith, inv.bounded, few, whole, joined, inside, size));
+      inside = grind (arith, common_steps);
       whole = whole;
     }

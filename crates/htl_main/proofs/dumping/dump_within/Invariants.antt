@@ -1,6 +1,6 @@
 -- What the source gave so far was dumped, but for what is held; each read gave some.
 use Rattle.std.proofs.Common.{◌≡◌, ◌≤◌, ◌+◌, ◌*◌, length, false}
-use Rattle.htl_device.specs.declared.source.TheConstants.{MAX_READ_LEN}
+use Rattle.htl_device.specs.declared.source.TheConstants.{MAX_READ_LEN, MIN_READ_LEN}
 use Rattle.htl_main.specs.Dumping.{DumpedSoFar}
 use Rattle.htl_main.proofs.dumping.dump_within.Given as goal
 
@@ -14,5 +14,6 @@ invariant-loop-read g l = record {
   counted : l._read ≤ g.R.Source.good_reads l.source;
   reads : g.R.Source.good_reads l.source ≤ g.R.Source.good_reads l.initial.source + l._read;
   bounded : l.start + length l.held.items ≤ l._read * MAX_READ_LEN;
-  whole : length l.buffer ≡ MAX_READ_LEN;
+  inside : g.R.Source.has_ended l.source ≡ false;
+  whole : length l.buffer ≡ MIN_READ_LEN;
 }

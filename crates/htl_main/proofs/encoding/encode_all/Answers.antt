@@ -1,5 +1,5 @@
 -- One source more, and what is reported of the first whose text is refused or can't be read.
-use Rattle.std.proofs.Common.{◌<◌, [], length, get_or, arith, refl, inl}
+use Rattle.std.proofs.Common.{◌<◌, [], length, get_or, arith, refl, inl, false}
 use Rattle.std.proofs.lemmas.Option.{slice_get-get_or}
 use Rattle.std.proofs.lemmas.Result.{err_from_is_err_and}
 use Rattle.htl_main.specs.Encodings.{IsReportedOfText}
@@ -10,7 +10,7 @@ use Rattle.htl_main.proofs.encoding.encode_all.Goals as goal
 
 pub loop-place-init : goal.loop-place-init
 loop-place-init g c = record {
-  before = none_before g.R.Source.has_failed g.R.Source.has_ended g.R.Source.good_reads c.args.sources.now c.requires;
+  before = none_before g.R.Source.has_failed g.R.Source.has_ended g.R.Source.good_reads c.args.sources.now c.requires.fresh;
   encoded = λ texts all. ([], refl, c.new-bundle.ensures.items);
 }
 
@@ -23,9 +23,9 @@ loop-place-preserved g c =
     let source = get_or c.loop-place.sources place c.index-sources-place.result in
     let here = slice_get-get_or c.loop-place.sources place c.index-sources-place.result within in
     record {
-      before = one_before g.R.Source.has_failed g.R.Source.has_ended g.R.Source.good_reads g.R.Source.remaining c.args.sources.now
+      before = one_before false 1 g.R.Source.has_failed g.R.Source.has_ended g.R.Source.good_reads g.R.Source.remaining c.args.sources.now
           c.loop-place.sources place source c.encode_input.new.source _ inv.before within here
-          (record { reported = is.reported; read = is.read; bounded = is.bounded; named = is.named }) is.ended;
+          (record { reported = λ failed. inl (is.reported failed); read = is.read; bounded = is.bounded; named = is.named }) is.ended;
       encoded = λ texts all.
           let knows = knows_now g.R.Source.remaining c.args.sources.now c.loop-place.sources texts place source
           (inv.before.left place (omega arith)) here all in
@@ -99,9 +99,9 @@ returns-in_err-more-clause-reading g c =
     let within : place < length c.loop-place.sources = omega arith in
     let source = get_or c.loop-place.sources place c.index-sources-place.result in
     let here = slice_get-get_or c.loop-place.sources place c.index-sources-place.result within in
-    rw (p.1, p.2) (read_to g.R.Source.has_failed g.R.Source.has_ended g.R.Source.good_reads g.R.Source.remaining c.args.sources.now
+    rw (p.1, p.2) (read_to false 1 g.R.Source.has_failed g.R.Source.has_ended g.R.Source.good_reads g.R.Source.remaining c.args.sources.now
     c.loop-place.sources place source c.encode_input.new.source c.in_err-more.field-0.0 inv.before within here
-    (record { reported = is.reported; read = is.read; bounded = is.bounded; named = is.named }))
+    (record { reported = λ failed. inl (is.reported failed); read = is.read; bounded = is.bounded; named = is.named }))
 
 pub returns-in_err-append-clause-reading : goal.returns-in_err-append-clause-reading
 returns-in_err-append-clause-reading g c =
@@ -112,11 +112,11 @@ returns-in_err-append-clause-reading g c =
     let within : place < length c.loop-place.sources = omega arith in
     let source = get_or c.loop-place.sources place c.index-sources-place.result in
     let here = slice_get-get_or c.loop-place.sources place c.index-sources-place.result within in
-    rw (p.1, p.2) (refused_after g.R.Source.has_failed g.R.Source.has_ended g.R.Source.good_reads g.R.Source.remaining c.args.sources.now
+    rw (p.1, p.2) (refused_after false 1 g.R.Source.has_failed g.R.Source.has_ended g.R.Source.good_reads g.R.Source.remaining c.args.sources.now
     c.loop-place.sources place source c.encode_input.new.source _ inv.before within here
-    (record { reported = is.reported; read = is.read; bounded = is.bounded; named = is.named }))
+    (record { reported = λ failed. inl (is.reported failed); read = is.read; bounded = is.bounded; named = is.named }))
 
 pub returns-clause-reading : goal.returns-clause-reading
 returns-clause-reading g c =
-    all_read g.R.Source.has_failed g.R.Source.has_ended g.R.Source.good_reads g.R.Source.remaining c.args.sources.now c.loop-place.sources
+    all_read false 1 g.R.Source.has_failed g.R.Source.has_ended g.R.Source.good_reads g.R.Source.remaining c.args.sources.now c.loop-place.sources
     c.loop-place.place _ c.loop-place.invariant.before (omega arith)

@@ -1,10 +1,11 @@
 -- What comes of the picks comes of the segments of all inputs.
-use Rattle.std.proofs.Common.{map}
+use Rattle.std.proofs.Common.{map, false}
 use Rattle.std.specs.Option.{option_copied}
 use Rattle.std.specs.Io.KnownBytes.{Appends}
 use Rattle.std.proofs.lemmas.Result.{err_from_is_err_and}
 use Rattle.htl_device.specs.Devices.{AppendsPrefix}
-use Rattle.htl_device.specs.declared.source.TheConstants.{MAX_READ_LEN}
+use Rattle.htl_reading.specs.Sources.{read_ahead}
+use Rattle.htl_reading.specs.declared.reading.TheConstants.{BLOCK_LEN}
 use Rattle.htl_main.specs.Causes.{Prints}
 use Rattle.htl_main.specs.Picked.{AskForWhole, Reports}
 use Rattle.htl_main.specs.Picking.{PrintsOf, ReportsOf}
@@ -17,11 +18,11 @@ pub returns-in_err-check_workers-clause-reading : goal.returns-in_err-check_work
 returns-in_err-check_workers-clause-reading g c =
     let p = err_from_is_err_and c.from_residual.result c.from_residual.ensures.1 in
     let fault = c.in_err-check_workers.ensures.err in
-    rw (p.1, p.2, fault.0) (unread g.R.Source.has_failed g.R.Source.has_ended g.R.Source.good_reads g.R.Source.remaining c.args.inputs.now
+    rw (p.1, p.2, fault.0) (unread false c.args.job.now.workers g.R.Source.has_failed g.R.Source.has_ended g.R.Source.good_reads g.R.Source.remaining c.args.inputs.now
     c.requires.inputs)
 
 pub returns-in_err-check_workers-clause-to_fault : goal.returns-in_err-check_workers-clause-to_fault
-returns-in_err-check_workers-clause-to_fault g c = none_read MAX_READ_LEN (map g.R.Source.remaining c.args.inputs.now)
+returns-in_err-check_workers-clause-to_fault g c = none_read (read_ahead c.args.job.now.workers BLOCK_LEN) (map g.R.Source.remaining c.args.inputs.now)
 
 pub returns-clause-ok : goal.returns-clause-ok
 returns-clause-ok g c = λ texts all.

@@ -1,16 +1,15 @@
 -- What is reported of the source's bytes, as a fault of the run.
-use Rattle.std.proofs.Common.{◌≡◌, subst, refl}
-use Rattle.htl_reading.specs.declared.fault.SourceFault.TheVariants as sources
+use Rattle.std.proofs.Common.{◌≡◌, subst}
 use Rattle.htl_main.specs.Faults.{of_source}
 use Rattle.htl_main.specs.Sources.{EndsBefore}
 use Rattle.htl_main.specs.declared.fault.RunFault.{RunFault}
 use Rattle.htl_main.specs.declared.fault.RunFault.TheVariants.{Read}
-use Rattle.htl_main.proofs.OneSource.{names_place, never_write, read_of, reported_bytes_of}
+use Rattle.htl_main.proofs.OneSource.{failure_of, names_place, never_write, read_of, reported_bytes_of}
 use Rattle.htl_main.proofs.PickLaws.{known_more}
 use Rattle.htl_main.proofs.picking.pick_source.Goals as goal
 
 pub returns-in-Ok-clause-ok : goal.returns-in-Ok-clause-ok
-returns-in-Ok-clause-ok g c = known_more (g.R.Source.remaining c.args.source.now) c.args.picks.now _ c.in-Ok.ensures.ok
+returns-in-Ok-clause-ok g c = known_more (g.R.Source.remaining c.args.source.now) c.args.picks _ c.in-Ok.ensures.ok
 
 pub returns-in-Err-clause-err : goal.returns-in-Err-clause-err
 returns-in-Err-clause-err g c =
@@ -18,10 +17,8 @@ returns-in-Err-clause-err g c =
 
 pub returns-in-Err-clause-reported : goal.returns-in-Err-clause-reported
 returns-in-Err-clause-reported g c =
-    λ failed.
-    let read = c.in-Err.ensures.reported failed in
-    let same : c.in-Err.fault ≡ sources.Read = cc read in
-    rw (c.of_source.ensures, same) refl
+    λ failed. rw (c.of_source.ensures) (failure_of c.args.workers c.args.place (g.R.Source.remaining c.args.source.now) _ c.in-Err.fault _
+    c.in-Err.ensures.reported failed)
 
 pub returns-in-Err-clause-read : goal.returns-in-Err-clause-read
 returns-in-Err-clause-read g c =

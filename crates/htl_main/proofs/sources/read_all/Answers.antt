@@ -211,7 +211,7 @@ pub loop-place-init : goal.loop-place-init
 loop-place-init g c = record {
   left = λ k above. refl;
   ended = λ k below. absurd (omega (arith, below));
-  fine = c.requires;
+  fine = c.requires.fresh;
   decoded = λ inputs all. c.new-decoded.ensures.segments;
   parts = λ inputs all. c.new-decoded.ensures.parts c.args.hex inputs;
   bounded = none_read_within (map g.R.Source.good_reads c.args.sources.now);

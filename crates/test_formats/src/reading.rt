@@ -3,7 +3,7 @@
 use crate::rows::assert_row;
 use crate::sharing::{bundle, told};
 use htl_device::Reading;
-use htl_reading::{SourceFault, read_in_blocks};
+use htl_reading::{SourceFault, read_bundle};
 use htl_segment::{Fault, Segment, decode_bundle};
 use std::alloc::Global;
 use std::io;
@@ -60,7 +60,7 @@ fn by_all(rt: &(impl Abort + Threads + Sync), alloc: Global, source: Pieces) {
     let expected = expected(alloc, source);
     for workers in [1, 2, 3, 8] {
         for block_len in [0, 100, 100_000] {
-            let read = read_in_blocks(rt, alloc, workers, &mut Reading::new(source), block_len);
+            let read = read_bundle(rt, alloc, workers, block_len, &mut Reading::new(source));
             assert_row(rt, (workers, block_len), told_or_fault(read), expected);
         }
     }

@@ -1,6 +1,6 @@
 -- What a text encodes, or else its first fault (this project's own). A fault of a line is found there, and one of
 -- a segment where the segment ends.
-use Rattle.std.specs.Prelude.{◌≡◌, ◌⊎◌, ◌&&◌, ℕ, ◌+◌, Bool, true, false, not, List, [], ◌∷◌, ◌++◌, Option, Some, None, All, filter}
+use Rattle.std.specs.Prelude.{◌≡◌, ◌⊎◌, ◌&&◌, ℕ, ◌+◌, Bool, true, false, not, List, [], ◌∷◌, ◌++◌, Option, Some, None, Result, Ok, Err, All, filter}
 use Rattle.std.specs.Prelude.{length, map}
 use Rattle.htl_event.specs.Events.{Event}
 use Rattle.htl_segment.specs.Content.{Content, Fits}
@@ -14,6 +14,7 @@ use Rattle.htl_text.specs.Lines.{text_lines, words_of, is_passed_over, item_in}
 use Rattle.htl_text.specs.declared.item.Head.{Head}
 use Rattle.htl_text.specs.declared.item.Item.{Item}
 use Rattle.htl_text.specs.declared.item.Item.TheVariants as item
+use Rattle.htl_text.specs.declared.fault.FormFault.{FormFault}
 use Rattle.htl_text.specs.declared.fault.LineFault.{LineFault}
 use Rattle.htl_text.specs.declared.fault.LineFault.TheVariants.{Form, Order, Segment}
 use Rattle.htl_text.specs.declared.fault.TextFault.{TextFault}
@@ -25,7 +26,7 @@ kept lines = filter (λ ws. not (is_passed_over ws)) (map words_of lines)
 
 -- the lines that aren't passed over have these items
 abbrev pub Write : List (List ℕ) → List Item → Type 0
-Write lines items = map item_in (kept lines) ≡ map Some items
+Write lines items = map item_in (kept lines) ≡ map Ok items
 
 -- the lines encode segments: they have their items, and the format can encode them
 pub record LinesEncode (lines : List (List ℕ)) (segments : List Content) : Type 0 where
@@ -93,8 +94,8 @@ is_misplaced (Some so_far) i = is_frame i && is_none_yet so_far.1.events
 
 -- a line with these words has this fault, after what was written
 abbrev pub IsBad : Written → List (List ℕ) → LineFault → Type 0
-IsBad written ws Form = item_in ws ≡ None
-IsBad written ws Order = (i : Item) × (item_in ws ≡ Some i) × (is_misplaced written i ≡ true)
+IsBad written ws (Form fault) = item_in ws ≡ Err fault
+IsBad written ws Order = (i : Item) × (item_in ws ≡ Ok i) × (is_misplaced written i ≡ true)
 IsBad written ws (Segment fault) = ⊥
 
 -- Lines without a fault, and then one that has a fault.
@@ -110,9 +111,9 @@ pub record IsLineFault (lines : List (List ℕ)) (line : ℕ) (fault : LineFault
   pub read : is_passed_over (words_of bad) ≡ false
   pub is_bad : IsBad so_far (words_of bad) fault
 
-abbrev pub begins_segment : Option Item → Bool
-begins_segment (Some i) = is_header i
-begins_segment None = false
+abbrev pub begins_segment : Result Item FormFault → Bool
+begins_segment (Ok i) = is_header i
+begins_segment (Err fault) = false
 
 -- a segment ends before these lines: no line is left that isn't passed over, or the first of them begins another
 abbrev pub ends_before : List (List (List ℕ)) → Bool
@@ -138,7 +139,7 @@ pub record IsSegmentFault (lines : List (List ℕ)) (line : ℕ) (fault : Fault)
 
 -- the first fault of lines, and the line at which it is reported, from 1
 abbrev pub LinesFault : List (List ℕ) → ℕ → LineFault → Type 0
-LinesFault lines line Form = IsLineFault lines line Form
+LinesFault lines line (Form fault) = IsLineFault lines line (Form fault)
 LinesFault lines line Order = IsLineFault lines line Order
 LinesFault lines line (Segment fault) = IsSegmentFault lines line fault
 

@@ -152,8 +152,8 @@ impl Reader {
             return Ok(());
         }
         match item(line) {
-            Some(item) => self.take(number, item),
-            None => Err(TextFault::Line(number, LineFault::Form)),
+            Ok(item) => self.take(number, item),
+            Err(fault) => Err(TextFault::Line(number, LineFault::Form(fault))),
         }
     }
 

@@ -1,7 +1,7 @@
 -- What a text encodes, or else its first fault (this project's own). A fault of a line is found there, and one of
 -- a segment where the segment ends.
 use Rattle.std.specs.Prelude.{◌≡◌, ◌⊎◌, ◌&&◌, ℕ, ◌+◌, Bool, true, false, not, List, [], ◌∷◌, ◌++◌, Option, Some, None, Result, Ok, Err, All, filter}
-use Rattle.std.specs.Prelude.{length, map}
+use Rattle.std.specs.Prelude.{if◌then◌else◌, length, map, nat_lt, option_and_then, slice_get}
 use Rattle.htl_event.specs.Events.{Event}
 use Rattle.htl_segment.specs.Content.{Content, Fits}
 use Rattle.htl_segment.specs.Building.{build_fault}
@@ -145,6 +145,35 @@ LinesFault lines line (Segment fault) = IsSegmentFault lines line fault
 
 abbrev pub FirstFault : List ℕ → ℕ → LineFault → Type 0
 FirstFault text line fault = LinesFault (text_lines text) line fault
+
+-- the record that a fault of a segment is about
+abbrev pub record_of : Fault → Option ℕ
+record_of (faults.RecordShort place) = Some place
+record_of (faults.Sequence place) = Some place
+record_of (faults.Kind place) = Some place
+record_of (faults.Frames place) = Some place
+record_of (faults.Field place) = Some place
+record_of fault = None
+
+abbrev pub event_lines_from : ℕ → Result Item FormFault → List ℕ → List ℕ
+event_lines_from line (Ok (item.Segment head)) later = []
+event_lines_from line (Ok (item.Event e)) later = line ∷ later
+event_lines_from line (Ok (item.Frame address)) later = later
+event_lines_from line (Err fault) later = later
+
+-- The numbers of the lines, from 1, that have the events of the segment that begins at a line: those behind it, up to
+-- the next that begins a segment. The lines given follow n others.
+unfoldable pub event_lines : ℕ → ℕ → List (List ℕ) → List ℕ
+event_lines segment n [] = []
+event_lines segment n (l ∷ ls) =
+    if nat_lt segment (n + 1) then event_lines_from (n + 1) (item_in (words_of l)) (event_lines segment (n + 1) ls)
+    else event_lines segment (n + 1) ls
+
+-- the line of the event that a fault is about, which is reported at a line, where it is about one
+abbrev pub event_line : List ℕ → ℕ → LineFault → Option ℕ
+event_line text line (Form fault) = None
+event_line text line Order = None
+event_line text line (Segment fault) = option_and_then (slice_get (event_lines line 0 (text_lines text))) (record_of fault)
 
 -- the first of these lines begins a segment
 abbrev pub begins : List (List (List ℕ)) → Bool

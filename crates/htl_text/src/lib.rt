@@ -11,7 +11,8 @@
 //! Files, in reading order: `item.rt` (what a line says), `dumping.rt` (segments to text),
 //! `field.rt`, `digits.rt`, `words.rt`, `values.rt` and `lines.rt` (from a line to its item),
 //! `fault.rt`,
-//! `draft.rt` (a segment whose lines are being read), `encoding.rt` (a text to bytes), `laws.rt` (a
+//! `draft.rt` (a segment whose lines are being read), `encoding.rt` (a text to bytes), `places.rt` (the
+//! lines of events), `laws.rt` (a
 //! text is read in one way, and dumped text as the segments that it was made of).
 #![tactic(auto)]
 
@@ -24,6 +25,7 @@ mod field;
 mod item;
 pub mod laws;
 mod lines;
+mod places;
 mod values;
 mod words;
 
@@ -31,3 +33,4 @@ pub use dumping::dump;
 pub use encoding::encode;
 pub use fault::{FormFault, LineFault, TextFault};
 pub use field::Field;
+pub use places::event_line;

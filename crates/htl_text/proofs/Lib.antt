@@ -15,3 +15,4 @@ pub mod DumpedLines
 pub mod DumpedFields
 pub mod Dumped
 pub mod Beginnings
+pub mod EventLines

@@ -50,7 +50,8 @@ fn find_event(text: &[u8], segment: u64, place: u64) -> Option<u64>
                 Ok(Item::Event(_)) if left == 0 => return Some(number),
                 Ok(Item::Event(_)) => left -= 1,
                 Ok(Item::Segment(_)) => return None,
-                Ok(Item::Frame(_)) | Err(_) => {}
+                Ok(Item::Frame(_)) => {}
+                Err(_) => {}
             }
         }
         rest = others;

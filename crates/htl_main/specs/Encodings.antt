@@ -32,8 +32,8 @@ EncodesPart hex texts old new =
     (segments : List Content) × EncodeAll texts segments × AppendsPrefix old new (written_as hex (bundle segments))
 
 -- What is reported of the source at a place that gave some of a text, has others left, and whose end was found or
--- not: the text's first fault, with the line of the event that it is about. Memory is asked for to keep what was read while its end isn't found, and for a text
--- that begins with a segment.
+-- not: the text's first fault, with the line of the event that it is about. Memory is asked for to keep what was read
+-- while its end isn't found, and for a text that begins with a segment.
 abbrev pub IsReportedOfText : Option (List ℕ) → Bool → ℕ → List ℕ → RunFault → Type 0
 IsReportedOfText left ended place text (Text at line fault event) =
     (at ≡ place) × FirstFault text line fault × (event ≡ event_line text line fault)

@@ -407,9 +407,12 @@ record HeadLow (h : Head) : Type 0 where
   processor : h.processor ≤ 0xFFFF
   number : h.number ≤ 0xFFFFFFFF
 
-head_read : (h : Head) → HeadLow h → item_by (Some (segment_form, (codes "version=" ++ decimal h.version)
-    ∷ (codes "trace=" ++ (codes "0x" ++ padded 16 h.trace_id)) ∷ (codes "processors=" ++ decimal h.processors)
-    ∷ (codes "processor=" ++ decimal h.processor) ∷ (codes "number=" ++ decimal h.number) ∷ [])) ≡ Ok (item.Segment h)
+head_read : (h : Head) → HeadLow h → item_by (Some (
+  segment_form,
+  (codes "version=" ++ decimal h.version)
+      ∷ (codes "trace=" ++ (codes "0x" ++ padded 16 h.trace_id)) ∷ (codes "processors=" ++ decimal h.processors)
+      ∷ (codes "processor=" ++ decimal h.processor) ∷ (codes "number=" ++ decimal h.number) ∷ [],
+)) ≡ Ok (item.Segment h)
 unfolding values_in
 head_read h low =
     rw (decimal_field version_field 0xFFFF h.version _ low.version (omega arith))

@@ -1,6 +1,7 @@
 -- What a text encodes, or else its first fault (this project's own). A fault of a line is found there, and one of
 -- a segment where the segment ends.
-use Rattle.std.specs.Prelude.{◌≡◌, ◌⊎◌, ◌&&◌, ℕ, ◌+◌, Bool, true, false, not, List, [], ◌∷◌, ◌++◌, Option, Some, None, Result, Ok, Err, All, filter}
+use Rattle.std.specs.Prelude.{◌≡◌, ◌⊎◌, ◌&&◌, ℕ, ◌+◌, Bool, true, false, not, List, [], ◌∷◌, ◌++◌, Option, Some, None}
+use Rattle.std.specs.Prelude.{Result, Ok, Err, All, filter}
 use Rattle.std.specs.Prelude.{if◌then◌else◌, length, map, nat_lt, option_and_then, slice_get}
 use Rattle.htl_event.specs.Events.{Event}
 use Rattle.htl_segment.specs.Content.{Content, Fits}

@@ -320,7 +320,9 @@ const EVENTS: &[(&[&str], Option<u64>)] = &[
         Some(6),
     ),
     (
-        &["\n", SEGMENT, OPEN, SEGMENT, "\n", OPEN, OPEN, SEGMENT, OPEN],
+        &[
+            "\n", SEGMENT, OPEN, SEGMENT, "\n", OPEN, OPEN, SEGMENT, OPEN,
+        ],
         Some(7),
     ),
     (

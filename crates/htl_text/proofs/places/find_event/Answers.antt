@@ -27,7 +27,8 @@ loop-rest-preserved-in-Ok-Event-2 c =
     (c.split_line.ensures.events c.args.segment c.loop-rest.number) in
     let is : item_in (words_of c.split_line.result.0.now) ≡ Ok (item.Event c.in-Ok-Event-2.field-0-0) = cc in
     record {
-      same = so_far ∙ past_event c.args.segment c.loop-rest.number c.loop-rest.left (c.loop-rest.left - 1) c.split_line.result.0.now _ _ (omega arith) is (omega arith);
+      same = so_far ∙ past_event c.args.segment c.loop-rest.number c.loop-rest.left (c.loop-rest.left - 1) c.split_line.result.0.now _ _
+          (omega arith) is (omega arith);
       few = search (rules, arith);
     }
 

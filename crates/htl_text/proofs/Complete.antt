@@ -48,19 +48,19 @@ taken n l o i e found = rw (e, found) refl
 
 -- a line that isn't passed over has the first of the items
 pub record First (l : List ℕ) (ls : List (List ℕ)) (i : Item) (is : List Item) : Type 0 where
-  found : item_in (words_of l) ≡ Ok i
-  rest : Write ls is
+  pub found : item_in (words_of l) ≡ Ok i
+  pub rest : Write ls is
 
-first_of : (l : List ℕ) (ls : List (List ℕ)) (i : Item) (is : List Item) → is_passed_over (words_of l) ≡ false → Write (l ∷ ls) (i ∷ is)
+pub first_of : (l : List ℕ) (ls : List (List ℕ)) (i : Item) (is : List Item) → is_passed_over (words_of l) ≡ false → Write (l ∷ ls) (i ∷ is)
     → First l ls i is
 first_of l ls i is e h =
     let both : item_in (words_of l) ∷ map item_in (kept ls) ≡ Ok i ∷ map Ok is = rw (kept_one l ls e) at h in
     record { found = cc; rest = cc }
 
-none_of : (l : List ℕ) (ls : List (List ℕ)) → is_passed_over (words_of l) ≡ false → Write (l ∷ ls) [] → ⊥
+pub none_of : (l : List ℕ) (ls : List (List ℕ)) → is_passed_over (words_of l) ≡ false → Write (l ∷ ls) [] → ⊥
 none_of l ls e h = let both : item_in (words_of l) ∷ map item_in (kept ls) ≡ [] = rw (kept_one l ls e) at h in cc
 
-rest_of : (l : List ℕ) (ls : List (List ℕ)) (is : List Item) → is_passed_over (words_of l) ≡ true → Write (l ∷ ls) is → Write ls is
+pub rest_of : (l : List ℕ) (ls : List (List ℕ)) (is : List Item) → is_passed_over (words_of l) ≡ true → Write (l ∷ ls) is → Write ls is
 rest_of l ls is e h = rw (kept_passed l ls e) at h
 
 -- lines that say nothing

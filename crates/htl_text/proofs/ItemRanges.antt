@@ -13,7 +13,7 @@ use Rattle.htl_event.specs.declared.kind.Kind.TheVariants.{Opened, Closed, BadRe
 use Rattle.htl_numbers.specs.Numbers.{number_of, decimal_number, hexadecimal_number, without_0x}
 use Rattle.htl_numbers.proofs.Digits.{both}
 use Rattle.htl_text.specs.Texts.{is_visible}
-use Rattle.htl_text.specs.Fields.{Values, address_value, bare_value, first_text, first_value, frame_value, handle_value, marked_value, no_tag, no_values}
+use Rattle.htl_text.specs.Fields.{Values, bare_value, first_text, first_value, frame_value, marked_value, no_tag, no_values}
 use Rattle.htl_text.specs.Fields.{read_field, tag_value, value_of, with_value}
 use Rattle.htl_text.specs.Lines.{Form, after, bad_form, ended, event_form, form_of, frame_form, item_by, item_in, said_by, segment_form, values_in}
 use Rattle.htl_text.specs.declared.fault.FormFault.{FormFault}

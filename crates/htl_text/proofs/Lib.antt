@@ -16,3 +16,4 @@ pub mod DumpedFields
 pub mod Dumped
 pub mod Beginnings
 pub mod EventLines
+pub mod EventPlaces

@@ -10,7 +10,7 @@ use Rattle.htl_segment.specs.Reading.{version_of}
 use Rattle.htl_segment.specs.declared.version.Version.{Version}
 use Rattle.htl_segment.specs.declared.fault.Fault.{Fault}
 use Rattle.htl_segment.specs.declared.fault.Fault.TheVariants as faults
-use Rattle.htl_text.specs.Items.{Draft, draft_items, segments_items}
+use Rattle.htl_text.specs.Items.{Draft, draft_items, segments_items, without_stack}
 use Rattle.htl_text.specs.Lines.{text_lines, words_of, is_passed_over, item_in}
 use Rattle.htl_text.specs.declared.item.Head.{Head}
 use Rattle.htl_text.specs.declared.item.Item.{Item}
@@ -175,6 +175,12 @@ abbrev pub event_line : List ℕ → ℕ → LineFault → Option ℕ
 event_line text line (Form fault) = None
 event_line text line Order = None
 event_line text line (Segment fault) = option_and_then (slice_get (event_lines line 0 (text_lines text))) (record_of fault)
+
+-- the line of this number is there, and has this event
+abbrev pub HasEvent : List (List ℕ) → Option Event → Option ℕ → Type 0
+HasEvent lines (Some e) (Some line) =
+    (place : ℕ) × (l : List ℕ) × (line ≡ 0 + place + 1) × (slice_get lines place ≡ Some l) × (item_in (words_of l) ≡ Ok (item.Event (without_stack e)))
+HasEvent lines e line = ⊥
 
 -- the first of these lines begins a segment
 abbrev pub begins : List (List (List ℕ)) → Bool

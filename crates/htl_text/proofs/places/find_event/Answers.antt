@@ -1,10 +1,9 @@
 -- Each line but an event's and a header's leaves the same events, and an event's leaves those behind it.
-use Rattle.std.proofs.Common.{rules, arith, ◌≡◌, ◌<◌, ◌≤◌, ◌+◌, ◌-◌, ◌∷◌, ℕ, List, ap, sym, ◌∙◌, length}
+use Rattle.std.proofs.Common.{rules, arith, ◌≡◌, ◌-◌, sym, ◌∙◌, length}
 use Rattle.std.proofs.Common.{Ok, Err}
-use Rattle.std.specs.Prelude.{slice_get}
-use Rattle.htl_text.specs.Lines.{item_in, lines_of, words_of}
+use Rattle.htl_text.specs.Lines.{item_in, words_of}
 use Rattle.htl_text.specs.declared.item.Item.TheVariants as item
-use Rattle.htl_text.proofs.EventLines.{at_event, at_frame, at_header, at_none, before_segment, ended, next_line, past_event, place_in}
+use Rattle.htl_text.proofs.EventLines.{at_event, at_frame, at_header, at_none, before_segment, ended, next_line, past_event}
 use Rattle.htl_text.proofs.places.find_event.Goals as goal
 
 pub returns-in-Ok-Event : goal.returns-in-Ok-Event

@@ -189,4 +189,4 @@ pub its_event : (text : List ℕ) (line place : ℕ) (fault : Fault) (h : IsSegm
     → HasEvent (text_lines text) (slice_get h.draft.events place) (event_line text line (Segment fault))
 its_event text line place fault h about =
     let f = segment_finds (text_lines text) line place fault h about in
-    rw (about, f.found, f.is_event) (f.others, f.line, refl, f.there, f.says)
+    rw (about, f.found, f.is_event) (f.others, f.line, omega arith, f.there, f.says)

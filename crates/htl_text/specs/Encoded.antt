@@ -179,7 +179,8 @@ event_line text line (Segment fault) = option_and_then (slice_get (event_lines l
 -- the line of this number is there, and has this event
 abbrev pub HasEvent : List (List ℕ) → Option Event → Option ℕ → Type 0
 HasEvent lines (Some e) (Some line) =
-    (place : ℕ) × (l : List ℕ) × (line ≡ 0 + place + 1) × (slice_get lines place ≡ Some l) × (item_in (words_of l) ≡ Ok (item.Event (without_stack e)))
+    (before : ℕ) × (l : List ℕ) × (line ≡ before + 1) × (slice_get lines before ≡ Some l)
+    × (item_in (words_of l) ≡ Ok (item.Event (without_stack e)))
 HasEvent lines e line = ⊥
 
 -- the first of these lines begins a segment

@@ -10,10 +10,9 @@
 //!
 //! Files, in reading order: `item.rt` (what a line says), `dumping.rt` (segments to text),
 //! `field.rt`, `digits.rt`, `words.rt`, `values.rt` and `lines.rt` (from a line to its item),
-//! `fault.rt`,
-//! `draft.rt` (a segment whose lines are being read), `encoding.rt` (a text to bytes), `places.rt` (the
-//! lines of events), `laws.rt` (a
-//! text is read in one way, and dumped text as the segments that it was made of).
+//! `fault.rt`, `draft.rt` (a segment whose lines are being read), `encoding.rt` (a text to bytes),
+//! `places.rt` (the lines of events), `laws.rt` (a text is read in one way, dumped text as the
+//! segments that it was made of, and the line of an event has it).
 #![tactic(auto)]
 
 mod digits;

@@ -1,5 +1,5 @@
 -- What a fault is about, as a person calls it (this project's own).
-use Rattle.std.specs.Prelude.{ℕ, List, codes, slice_get, string_bytes}
+use Rattle.std.specs.Prelude.{ℕ, List, Option, None, codes, slice_get, string_bytes}
 use Rattle.std.specs.Option.{option_map_or}
 use Rattle.htl_main.specs.declared.fault.RunFault.{RunFault}
 use Rattle.htl_main.specs.declared.fault.RunFault.TheVariants.{Segment, Hex, Text, Symbols, Read}
@@ -19,10 +19,15 @@ symbols_name (Answer asked) = option_map_or string_bytes asked.now.symbols (code
 symbols_name (Converse of) = option_map_or string_bytes of.now.symbols (codes "the table of symbols")
 symbols_name (Convert of) = codes "the table of symbols"
 
+-- the line of the event that a fault of a text is about
+abbrev pub event_line_of : RunFault → Option ℕ
+event_line_of (Text input line fault event) = event
+event_line_of fault = None
+
 abbrev pub subject_of : Task → RunFault → List ℕ
 subject_of task (Segment input offset fault) = input_name task input
 subject_of task (Hex input fault) = input_name task input
-subject_of task (Text input line fault) = input_name task input
+subject_of task (Text input line fault event) = input_name task input
 subject_of task (Read input) = input_name task input
 subject_of task (Symbols fault) = symbols_name task
 subject_of task SymbolsRead = symbols_name task

@@ -1,4 +1,5 @@
--- What each code means, and what to do (this project's own). A word in angle brackets stands for a number of the fault.
+-- What each code means, and what to do (this project's own). A word in angle brackets stands for a number or a field
+-- of the fault.
 use Rattle.std.specs.Prelude.{◌++◌, ◌∷◌, [], ℕ, List, codes}
 use Rattle.htl_command.specs.Codes.{code_name}
 use Rattle.htl_command.specs.declared.code.Code.{Code}
@@ -7,6 +8,19 @@ use Rattle.htl_command.specs.declared.code.Code.TheVariants.{H1, H2, H3}
 use Rattle.htl_command.specs.declared.code.Code.TheVariants.{C1, C2, C3, C4, C5, C6, C7, C8}
 use Rattle.htl_command.specs.declared.code.Code.TheVariants.{Y1, Y2, Y3, Y4, Y5, Y6, Y7}
 use Rattle.htl_command.specs.declared.code.Code.TheVariants.{E1, E2}
+use Rattle.htl_text.specs.declared.fault.FormFault.{FormFault}
+use Rattle.htl_text.specs.declared.fault.FormFault.TheVariants as forms
+
+-- a line with none of the forms, and one that has a form but for a field
+abbrev pub no_form : List ℕ
+no_form = codes "the line has none of the forms of the text"
+
+abbrev pub bad_field : List ℕ
+bad_field = codes "the line's <field> isn't there, or has no value that fits"
+
+abbrev pub form_meaning_of : FormFault → List ℕ
+form_meaning_of forms.Words = no_form
+form_meaning_of (forms.Field field) = bad_field
 
 unfoldable pub meaning_of : Code → List ℕ
 meaning_of S1 = codes "a segment has at least 32 bytes and begins with HLS1, and fewer are left"
@@ -44,7 +58,7 @@ meaning_of Y4 = codes "row <row> ends at or below its start"
 meaning_of Y5 = codes "row <row> has an address of an earlier row"
 meaning_of Y6 = codes "row <row> can't be read"
 meaning_of Y7 = codes "the system refused memory"
-meaning_of E1 = codes "the line has none of the forms of the text, or a number that doesn't fit its field"
+meaning_of E1 = no_form ++ (codes ", or " ++ bad_field)
 meaning_of E2 = codes "the line is an event or a frame before any segment, or a frame before any event"
 
 abbrev pub damaged : List ℕ

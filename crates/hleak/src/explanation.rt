@@ -1,7 +1,7 @@
 //! What a person at a terminal reads after a fault's line.
 
 ghost use Rattle.std.specs.Prelude.{◌≡◌};
-ghost use Rattle.hleak.specs.Subjects.{subject_of};
+ghost use Rattle.hleak.specs.Subjects.{event_line_of, subject_of};
 
 use crate::meaning::Meaning;
 use crate::shown::Shown;
@@ -11,8 +11,8 @@ use crate::words::FREE_MEMORY;
 use htl_main::{Between, Question, RunFault};
 use std::fmt;
 
-/// A fault in words: the file or the two segments that it is about, what its code means, and what to
-/// do.
+/// A fault in words: the file or the two segments that it is about, the line of the event in a text
+/// if it is about one, what its code means, and what to do.
 #[derive(Clone, Copy)]
 pub struct Explanation<'a> {
     pub task: Task<'a>,
@@ -32,6 +32,9 @@ impl fmt::Display for Explanation<'_> {
                 write!(f, "{first} and {second}")?;
             }
             _ => write!(f, "{}", Shown::name(self.subject()))?,
+        }
+        if let Some(line) = self.event_line() {
+            write!(f, ": line {line}")?;
         }
         write!(f, ": {}", self.meaning())
     }
@@ -93,6 +96,16 @@ impl<'a> Explanation<'a> {
                 "the system started no thread",
                 thread_advice(self.task),
             ),
+        }
+    }
+
+    /// The line of the event that the fault of a text is about, where it is about one.
+    fn event_line(&self) -> Option<u64>
+        ensures { result ≡ event_line_of self.now.fault }
+    {
+        match self.fault {
+            RunFault::Text { event, .. } => event,
+            _ => None,
         }
     }
 

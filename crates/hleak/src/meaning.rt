@@ -1,27 +1,28 @@
-//! What a fault means, in words: those of its code, with its numbers.
+//! What a fault means, in words: those of its code, with its numbers or its field.
 
-use crate::words::{advice, meaning};
+use crate::words::{advice, form_meaning, meaning};
 use htl_case::CaseFault;
 use htl_command::Code;
 use htl_segment::{Fault, HexFault};
 use htl_symbols::SymbolFault;
-use htl_text::LineFault;
+use htl_text::{Field, FormFault, LineFault};
 use std::fmt;
 
 /// A fault's meaning: what is wrong with what, and what to do.
 #[derive(Clone, Copy)]
 pub struct Meaning {
     what: &'static str,
-    numbers: Numbers,
+    parts: Parts,
     advice: &'static str,
 }
 
-/// The numbers of a fault, in the order in which the words of its code name them.
+/// What a fault has of its own, in the order in which the words of its code name it.
 #[derive(Clone, Copy)]
-enum Numbers {
+enum Parts {
     None,
-    One(u64),
-    Two(u64, u64),
+    Number(u64),
+    Numbers(u64, u64),
+    Field(Field),
 }
 
 impl Meaning {
@@ -29,7 +30,7 @@ impl Meaning {
     pub fn new(what: &'static str, advice: &'static str) -> Meaning {
         Meaning {
             what,
-            numbers: Numbers::None,
+            parts: Parts::None,
             advice,
         }
     }
@@ -55,124 +56,138 @@ impl Meaning {
         Meaning::new("the system refused memory", advice)
     }
 
-    fn of_code(code: Code, numbers: Numbers) -> Meaning {
+    fn of_code(code: Code, parts: Parts) -> Meaning {
         Meaning {
             what: meaning(code),
-            numbers,
+            parts,
             advice: advice(code),
         }
     }
 
     /// That of a fault of a segment.
     pub fn of_segment(fault: Fault) -> Meaning {
-        let (code, numbers) = match fault {
-            Fault::Short => (Code::S1, Numbers::None),
-            Fault::Magic => (Code::S2, Numbers::None),
-            Fault::Version => (Code::S3, Numbers::None),
-            Fault::Processors => (Code::S4, Numbers::None),
-            Fault::Processor => (Code::S5, Numbers::None),
-            Fault::Reserved => (Code::S6, Numbers::None),
-            Fault::Number => (Code::S7, Numbers::None),
-            Fault::Count => (Code::S8, Numbers::None),
-            Fault::Length => (Code::S9, Numbers::None),
-            Fault::Cut => (Code::S10, Numbers::None),
-            Fault::RecordShort(record) => (Code::S11, Numbers::One(record)),
-            Fault::Sequence(record) => (Code::S12, Numbers::One(record)),
-            Fault::Kind(record) => (Code::S13, Numbers::One(record)),
-            Fault::Frames(record) => (Code::S14, Numbers::One(record)),
-            Fault::Field(record) => (Code::S15, Numbers::One(record)),
-            Fault::Excess => (Code::S16, Numbers::None),
-            Fault::NoMemory => (Code::S17, Numbers::None),
+        let (code, parts) = match fault {
+            Fault::Short => (Code::S1, Parts::None),
+            Fault::Magic => (Code::S2, Parts::None),
+            Fault::Version => (Code::S3, Parts::None),
+            Fault::Processors => (Code::S4, Parts::None),
+            Fault::Processor => (Code::S5, Parts::None),
+            Fault::Reserved => (Code::S6, Parts::None),
+            Fault::Number => (Code::S7, Parts::None),
+            Fault::Count => (Code::S8, Parts::None),
+            Fault::Length => (Code::S9, Parts::None),
+            Fault::Cut => (Code::S10, Parts::None),
+            Fault::RecordShort(record) => (Code::S11, Parts::Number(record)),
+            Fault::Sequence(record) => (Code::S12, Parts::Number(record)),
+            Fault::Kind(record) => (Code::S13, Parts::Number(record)),
+            Fault::Frames(record) => (Code::S14, Parts::Number(record)),
+            Fault::Field(record) => (Code::S15, Parts::Number(record)),
+            Fault::Excess => (Code::S16, Parts::None),
+            Fault::NoMemory => (Code::S17, Parts::None),
         };
-        Meaning::of_code(code, numbers)
+        Meaning::of_code(code, parts)
     }
 
     /// That of a fault of a text in hexadecimal.
     pub fn of_hex(fault: HexFault) -> Meaning {
-        let (code, numbers) = match fault {
-            HexFault::BadDigit(place) => (Code::H1, Numbers::One(place)),
-            HexFault::Odd => (Code::H2, Numbers::None),
-            HexFault::NoMemory => (Code::H3, Numbers::None),
+        let (code, parts) = match fault {
+            HexFault::BadDigit(place) => (Code::H1, Parts::Number(place)),
+            HexFault::Odd => (Code::H2, Parts::None),
+            HexFault::NoMemory => (Code::H3, Parts::None),
         };
-        Meaning::of_code(code, numbers)
+        Meaning::of_code(code, parts)
     }
 
     /// That of a fault of a line of text.
     pub fn of_line(fault: LineFault) -> Meaning {
         match fault {
-            LineFault::Form => Meaning::of_code(Code::E1, Numbers::None),
-            LineFault::Order => Meaning::of_code(Code::E2, Numbers::None),
+            LineFault::Form(fault) => Meaning::of_form(fault),
+            LineFault::Order => Meaning::of_code(Code::E2, Parts::None),
             LineFault::Segment(fault) => Meaning::of_segment(fault),
+        }
+    }
+
+    /// That of a line that has none of the forms.
+    fn of_form(fault: FormFault) -> Meaning {
+        let parts = match fault {
+            FormFault::Words => Parts::None,
+            FormFault::Field(field) => Parts::Field(field),
+        };
+        Meaning {
+            what: form_meaning(fault),
+            parts,
+            advice: advice(Code::E1),
         }
     }
 
     /// That of a fault of all segments.
     pub fn of_case(fault: CaseFault) -> Meaning {
-        let (code, numbers) = match fault {
-            CaseFault::Empty => (Code::C1, Numbers::None),
-            CaseFault::OtherTrace(place) => (Code::C2, Numbers::One(place)),
-            CaseFault::OtherProcessors(place) => (Code::C3, Numbers::One(place)),
+        let (code, parts) = match fault {
+            CaseFault::Empty => (Code::C1, Parts::None),
+            CaseFault::OtherTrace(place) => (Code::C2, Parts::Number(place)),
+            CaseFault::OtherProcessors(place) => (Code::C3, Parts::Number(place)),
             CaseFault::TwoContents(processor, number) => {
-                (Code::C4, Numbers::of_key(processor, number))
+                (Code::C4, Parts::of_key(processor, number))
             }
-            CaseFault::SequenceTwice(sequence) => (Code::C5, Numbers::One(sequence)),
-            CaseFault::NoMemory => (Code::C6, Numbers::None),
+            CaseFault::SequenceTwice(sequence) => (Code::C5, Parts::Number(sequence)),
+            CaseFault::NoMemory => (Code::C6, Parts::None),
             CaseFault::Falling(processor, number) => {
-                (Code::C7, Numbers::of_key(processor, number))
+                (Code::C7, Parts::of_key(processor, number))
             }
         };
-        Meaning::of_code(code, numbers)
+        Meaning::of_code(code, parts)
     }
 
     /// That of a case that misses a segment, where a complete one is asked for.
     pub fn of_missing(processor: u16, number: u32) -> Meaning {
-        Meaning::of_code(Code::C8, Numbers::of_key(processor, number))
+        Meaning::of_code(Code::C8, Parts::of_key(processor, number))
     }
 
     /// That of a fault of a symbol table.
     pub fn of_symbols(fault: SymbolFault) -> Meaning {
-        let (code, numbers) = match fault {
-            SymbolFault::Header => (Code::Y1, Numbers::None),
-            SymbolFault::Fields(row) => (Code::Y2, Numbers::One(row)),
-            SymbolFault::Number(row) => (Code::Y3, Numbers::One(row)),
-            SymbolFault::EmptyRange(row) => (Code::Y4, Numbers::One(row)),
-            SymbolFault::Overlap(row) => (Code::Y5, Numbers::One(row)),
-            SymbolFault::Csv(row) => (Code::Y6, Numbers::One(row)),
-            SymbolFault::NoMemory => (Code::Y7, Numbers::None),
+        let (code, parts) = match fault {
+            SymbolFault::Header => (Code::Y1, Parts::None),
+            SymbolFault::Fields(row) => (Code::Y2, Parts::Number(row)),
+            SymbolFault::Number(row) => (Code::Y3, Parts::Number(row)),
+            SymbolFault::EmptyRange(row) => (Code::Y4, Parts::Number(row)),
+            SymbolFault::Overlap(row) => (Code::Y5, Parts::Number(row)),
+            SymbolFault::Csv(row) => (Code::Y6, Parts::Number(row)),
+            SymbolFault::NoMemory => (Code::Y7, Parts::None),
         };
-        Meaning::of_code(code, numbers)
+        Meaning::of_code(code, parts)
     }
 }
 
-impl Numbers {
+impl Parts {
     /// Those of a segment: its number and its processor.
-    fn of_key(processor: u16, number: u32) -> Numbers {
-        Numbers::Two(u64::from(number), u64::from(processor))
+    fn of_key(processor: u16, number: u32) -> Parts {
+        Parts::Numbers(u64::from(number), u64::from(processor))
     }
 }
 
 impl fmt::Display for Meaning {
     fn fmt<W: fmt::Write>(&self, f: &mut fmt::Formatter<W>) -> fmt::Result {
-        match self.numbers {
-            Numbers::None => f.write_str(self.what)?,
-            Numbers::One(number) => write_with(f, self.what, &[number])?,
-            Numbers::Two(first, second) => write_with(f, self.what, &[first, second])?,
+        match self.parts {
+            Parts::None => f.write_str(self.what)?,
+            Parts::Number(number) => write_with(f, self.what, &[number])?,
+            Parts::Numbers(first, second) => write_with(f, self.what, &[first, second])?,
+            Parts::Field(field) => write_with(f, self.what, &[field])?,
         }
         write!(f, ": {}", self.advice)
     }
 }
 
-/// Writes words with numbers in the place of what stands in angle brackets.
-fn write_with<W: fmt::Write>(
+/// Writes words with these parts in the places of what stands in angle brackets.
+fn write_with<W: fmt::Write, P: fmt::Display>(
     f: &mut fmt::Formatter<W>,
     words: &str,
-    numbers: &[u64],
+    parts: &[P],
 ) -> fmt::Result {
     let mut rest = words;
-    for number in numbers {
+    for part in parts {
         let (before, named) = rest.split_once('<').unwrap_or((rest, ""));
         let (_name, after) = named.split_once('>').unwrap_or((named, ""));
-        write!(f, "{before}{number}")?;
+        write!(f, "{before}{part}")?;
         rest = after;
     }
     f.write_str(rest)

@@ -4,8 +4,9 @@
 //! how much was read, and of how much where each input is a file. It is written over from time to
 //! time and goes away when the last input has ended. A line that can't be written is left out.
 //!
-//! The system's answer to how wide a terminal is can't be had here, so the line is short: it has
-//! `WIDTH` characters, whatever it says, and as many blanks are written over it.
+//! The system's answer to how wide a terminal is can't be had here, so the line is short and fits
+//! into narrow ones: it has `WIDTH` characters, whatever it says, and as many blanks are written over
+//! it.
 
 ghost use Rattle.std.specs.Prelude.{◌≡◌, ◌+◌, ◌-◌, ◌*◌, ◌^◌, ◌<◌, ◌≤◌, ◌↔◌, ℕ, None, Some};
 ghost use Rattle.std.specs.Prelude.{IsTrue, IfSome, IfNone, min};
@@ -22,7 +23,7 @@ const PATIENCE: u64 = 1;
 const PERIOD: u64 = 200;
 
 /// How many characters the line has.
-const WIDTH: usize = 24;
+const WIDTH: usize = 17;
 
 /// How much of the inputs was read.
 #[derive(Clone, Copy)]
@@ -104,8 +105,8 @@ impl fmt::Display for Meter {
         let unit = Unit::for_bytes(self.total.unwrap_or(0).max(self.read));
         let read = unit.amount(self.read);
         match self.total {
-            Some(total) => write!(f, "hleak: {read} of {} {unit}", unit.amount(total)),
-            None => write!(f, "hleak: reading, {read} {unit}"),
+            Some(total) => write!(f, "{read} of {} {unit}", unit.amount(total)),
+            None => write!(f, "reading, {read} {unit}"),
         }
     }
 }

@@ -1,12 +1,13 @@
 //! What each code means, and what to do about it. docs/FORMAT.md has the same words.
 //!
 //! "The segment" is the one at the offset in the fault's line. Records, rows and segments count
-//! from 0. A word in angle brackets stands for a number of the fault.
+//! from 0. A word in angle brackets stands for a number or a field of the fault.
 
 ghost use Rattle.std.specs.Prelude.{◌≡◌};
-ghost use Rattle.hleak.specs.Words.{advice_of, meaning_of};
+ghost use Rattle.hleak.specs.Words.{advice_of, form_meaning_of, meaning_of};
 
 use htl_command::Code;
+use htl_text::FormFault;
 
 /// What to do where bytes of a segment break a rule that each writer keeps.
 const DAMAGED: &str = "was the file changed, or is its writer at fault?";
@@ -64,10 +65,23 @@ processor's segments before"
         Code::Y4 => "row <row> ends at or below its start",
         Code::Y5 => "row <row> has an address of an earlier row",
         Code::Y6 => "row <row> can't be read",
-        Code::E1 =>
-            "the line has none of the forms of the text, or a number that doesn't fit its field",
+        Code::E1 => {
+            "\
+the line has none of the forms of the text, or the line's <field> isn't there, or has no value \
+that fits"
+        }
         Code::E2 =>
             "the line is an event or a frame before any segment, or a frame before any event",
+    }
+}
+
+/// What is wrong with a line of text: the part of what E1 means that is about this fault.
+pub fn form_meaning(fault: FormFault) -> &'static str
+    ensures { result.now ≡ form_meaning_of fault }
+{
+    match fault {
+        FormFault::Words => "the line has none of the forms of the text",
+        FormFault::Field(_) => "the line's <field> isn't there, or has no value that fits",
     }
 }
 

@@ -93,7 +93,7 @@ give_next texts place text before after here all next = (
 )
 
 begins_of : (lines : List (List (List ℕ))) (s : Content) (ss : List Content)
-    → map item_in lines ≡ map (λ i. Some i) (segments_items (s ∷ ss)) → begins lines ≡ true
+    → map item_in lines ≡ map (λ i. Ok i) (segments_items (s ∷ ss)) → begins lines ≡ true
 begins_of [] s ss is = absurd (cc is)
 begins_of (ws ∷ lines) s ss is = cc is
 

@@ -5,7 +5,7 @@ use Rattle.hex.specs.Hex.{encode_lower}
 use Rattle.htl_device.specs.Devices.{AppendsPrefix}
 use Rattle.htl_segment.specs.Content.{Content}
 use Rattle.htl_segment.specs.Bundles.{bundle}
-use Rattle.htl_text.specs.Encoded.{Encodes, FirstFault, IsRefused}
+use Rattle.htl_text.specs.Encoded.{Encodes, event_line, FirstFault, IsRefused}
 use Rattle.htl_text.specs.declared.fault.TextFault.TheVariants as texts
 use Rattle.htl_main.specs.declared.fault.RunFault.{RunFault}
 use Rattle.htl_main.specs.declared.fault.RunFault.TheVariants.{Text, Read, Memory}
@@ -32,10 +32,11 @@ EncodesPart hex texts old new =
     (segments : List Content) × EncodeAll texts segments × AppendsPrefix old new (written_as hex (bundle segments))
 
 -- What is reported of the source at a place that gave some of a text, has others left, and whose end was found or
--- not: the text's first fault. Memory is asked for to keep what was read while its end isn't found, and for a text
--- that begins with a segment.
+-- not: the text's first fault, with the line of the event that it is about. Memory is asked for to keep what was read
+-- while its end isn't found, and for a text that begins with a segment.
 abbrev pub IsReportedOfText : Option (List ℕ) → Bool → ℕ → List ℕ → RunFault → Type 0
-IsReportedOfText left ended place text (Text at line fault) = (at ≡ place) × FirstFault text line fault
+IsReportedOfText left ended place text (Text at line fault event) =
+    (at ≡ place) × FirstFault text line fault × (event ≡ event_line text line fault)
 IsReportedOfText left ended place text (Read at) = at ≡ place
 IsReportedOfText left ended place text Memory =
     IsRefused text texts.NoMemory ⊎ ((ended ≡ false) × (read : List ℕ) × (0 < length read) × Consumes (Some text) left read)

@@ -1,6 +1,6 @@
 -- How the faults of the crates below are reported as faults of a run (this project's own): out of memory is one
 -- fault wherever it comes, and every other one says of which input it is, or of what.
-use Rattle.std.specs.Prelude.{◌≡◌, ℕ}
+use Rattle.std.specs.Prelude.{◌≡◌, ℕ, List}
 use Rattle.htl_device.specs.declared.whole.ReadFault.{ReadFault}
 use Rattle.htl_device.specs.declared.whole.ReadFault.TheVariants as reads
 use Rattle.htl_reading.specs.declared.fault.SourceFault.{SourceFault}
@@ -13,6 +13,7 @@ use Rattle.htl_case.specs.declared.fault.CaseFault.{CaseFault}
 use Rattle.htl_case.specs.declared.fault.CaseFault.TheVariants as cases
 use Rattle.htl_symbols.specs.declared.fault.SymbolFault.{SymbolFault}
 use Rattle.htl_symbols.specs.declared.fault.SymbolFault.TheVariants as tables
+use Rattle.htl_text.specs.Encoded.{event_line}
 use Rattle.htl_text.specs.declared.fault.TextFault.{TextFault}
 use Rattle.htl_text.specs.declared.fault.TextFault.TheVariants as texts
 use Rattle.htl_main.specs.declared.fault.RunFault.{RunFault}
@@ -50,9 +51,9 @@ of_symbols tables.NoMemory = Memory
 of_symbols fault = Symbols fault
 
 -- of the text of an input
-abbrev pub of_text : ℕ → TextFault → RunFault
-of_text input texts.NoMemory = Memory
-of_text input (texts.Line line fault) = Text input line fault
+abbrev pub of_text : ℕ → List ℕ → TextFault → RunFault
+of_text input text texts.NoMemory = Memory
+of_text input text (texts.Line line fault) = Text input line fault (event_line text line fault)
 
 -- out of memory, whatever reports it
 abbrev pub IsMemory : RunFault → Type 0

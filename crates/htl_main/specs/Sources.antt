@@ -59,7 +59,7 @@ abbrev pub EndsBefore : RunFault → ℕ → Type 0
 EndsBefore Workers place = ⊤
 EndsBefore (Segment input offset fault) place = input < place
 EndsBefore (Hex input fault) place = input < place
-EndsBefore (Text input line fault) place = input < place
+EndsBefore (Text input line fault event) place = input < place
 EndsBefore (Read input) place = input < place
 EndsBefore fault place = ⊥
 

@@ -8,7 +8,7 @@ abbrev pub status_of : RunFault → ℕ
 status_of Workers = 2
 status_of (Segment input offset fault) = 3
 status_of (Hex input fault) = 3
-status_of (Text input line fault) = 3
+status_of (Text input line fault event) = 3
 status_of (Case fault) = 4
 status_of (Incomplete processor number) = 4
 status_of (Read input) = 5

@@ -110,7 +110,7 @@ fn encode_text(alloc: Global, place: u64, text: &[u8]) -> Result<Vec<u8>, RunFau
 {
     match encode(alloc, text) {
         Ok(bytes) => Ok(bytes),
-        Err(fault) => Err(RunFault::of_text(place, fault)),
+        Err(fault) => Err(RunFault::of_text(place, text, fault)),
     }
 }
 

@@ -6,7 +6,7 @@ use htl_event::NoMemory;
 use htl_reading::SourceFault;
 use htl_segment::{Fault, HexFault};
 use htl_symbols::SymbolFault;
-use htl_text::{LineFault, TextFault};
+use htl_text::{LineFault, TextFault, event_line};
 use std::alloc::{AllocError, AllocFailed};
 use thiserror::Error;
 
@@ -32,12 +32,14 @@ pub enum RunFault {
         input: u64,
         fault: HexFault,
     },
-    /// This line of an input, counted from 1, has this fault, as a text that is to be encoded.
+    /// This line of an input, counted from 1, has this fault, as a text that is to be encoded. Where
+    /// the fault is about an event of the segment that begins there, `event` is the event's line.
     #[error("hleak: input {input}, line {line}: {fault}")]
     Text {
         input: u64,
         line: u64,
         fault: LineFault,
+        event: Option<u64>,
     },
     /// The segments of all inputs are no case.
     #[error("hleak: case: {0}")]
@@ -142,12 +144,17 @@ impl RunFault {
     }
 
     /// The fault of the text of an input.
-    pub(crate) fn of_text(input: u64, fault: TextFault) -> RunFault
-        ensures { result ≡ of_text input fault }
+    pub(crate) fn of_text(input: u64, text: &[u8], fault: TextFault) -> RunFault
+        ensures { result ≡ of_text input text.now fault }
     {
         match fault {
             TextFault::NoMemory => RunFault::Memory,
-            TextFault::Line(line, fault) => RunFault::Text { input, line, fault },
+            TextFault::Line(line, fault) => RunFault::Text {
+                input,
+                line,
+                fault,
+                event: event_line(text, line, fault),
+            },
         }
     }
 }

@@ -4,6 +4,7 @@ use Rattle.std.specs.Prelude.{◌||◌, Option, Some, None, Result, Ok, Err, IfE
 use Rattle.std.specs.Option.{is_some}
 use Rattle.std.proofs.Math.Bool.{or-true}
 use Rattle.htl_event.specs.Events.{Event}
+use Rattle.htl_text.specs.declared.fault.FormFault.{FormFault}
 use Rattle.htl_text.specs.declared.fault.LineFault.{LineFault}
 use Rattle.htl_text.specs.declared.fault.LineFault.TheVariants.{Form, Order}
 use Rattle.htl_text.specs.declared.fault.TextFault.{TextFault}
@@ -57,10 +58,10 @@ started line (item.Event e) bytes (Some d) q h =
 started line (item.Frame address) bytes None q h = absurd (no_progress (after_frame line address bytes None) (line, Order) q refl h)
 started line (item.Frame address) bytes (Some d) q h = (started_frame line address bytes d d.event q h, refl)
 
-by_item : (line : ℕ) (i : Option Item) (p q : Progress) → after_form line i p ≡ Ok q
-    → ((is_some p.draft || begins_segment i) ≡ true) × (is_some q.draft ≡ true)
-by_item line None p q h = absurd (no_progress (after_form line None p) (line, Form) q refl h)
-by_item line (Some i) p q h = let is = started line i p.bytes p.draft q h in (is.1, is.0)
+by_item : (line : ℕ) (r : Result Item FormFault) (p q : Progress) → after_form line r p ≡ Ok q
+    → ((is_some p.draft || begins_segment r) ≡ true) × (is_some q.draft ≡ true)
+by_item line (Err fault) p q h = absurd (no_progress (after_form line (Err fault) p) (line, Form fault) q refl h)
+by_item line (Ok i) p q h = let is = started line i p.bytes p.draft q h in (is.1, is.0)
 
 -- so a line changes nothing of that
 pub starts_step : (line : ℕ) (l : List ℕ) (ls : List (List ℕ)) (p q : Progress) → after_words line (words_of l) p ≡ Ok q

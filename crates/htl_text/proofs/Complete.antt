@@ -1,6 +1,6 @@
 -- What lines encode, or else their first fault, is what reading comes to.
 use Rattle.std.proofs.Common.{◌≡◌, ◌+◌, ℕ, suc, Bool, true, false, List, [], ◌∷◌, ◌++◌, length, refl, arith, ap, sym, ◌∙◌, length-append, add-zero}
-use Rattle.std.specs.Prelude.{Option, Some, None, Ok, Err, All, map}
+use Rattle.std.specs.Prelude.{Option, Some, None, Result, Ok, Err, All, map}
 use Rattle.std.specs.List.{flat_map}
 use Rattle.std.proofs.lemmas.Bool.{false≢true}
 use Rattle.std.proofs.lemmas.List.{append_assoc, append-nil}
@@ -16,6 +16,7 @@ use Rattle.htl_segment.specs.declared.version.Version.TheVariants.{V1, V2}
 use Rattle.htl_text.specs.declared.item.Head.{Head}
 use Rattle.htl_text.specs.declared.item.Item.{Item}
 use Rattle.htl_text.specs.declared.item.Item.TheVariants as item
+use Rattle.htl_text.specs.declared.fault.FormFault.{FormFault}
 use Rattle.htl_text.specs.declared.fault.LineFault.{LineFault}
 use Rattle.htl_text.specs.declared.fault.LineFault.TheVariants.{Form, Order, Segment}
 use Rattle.htl_text.specs.Items.{Draft, with_stack, without_stack, event_items, draft_items, draft_of, segments_items}
@@ -41,25 +42,25 @@ leads_on a b n m k o q p first next more = rw (append_assoc a b more) (first (b 
 passed : (n : ℕ) (l : List ℕ) (o : Option Open) → is_passed_over (words_of l) ≡ true → words_read n (words_of l) o ≡ Ok o
 passed n l o e = rw e refl
 
-taken : (n : ℕ) (l : List ℕ) (o : Option Open) (i : Item) → is_passed_over (words_of l) ≡ false → item_in (words_of l) ≡ Some i
+taken : (n : ℕ) (l : List ℕ) (o : Option Open) (i : Item) → is_passed_over (words_of l) ≡ false → item_in (words_of l) ≡ Ok i
     → words_read n (words_of l) o ≡ item_read n i o
 taken n l o i e found = rw (e, found) refl
 
 -- a line that isn't passed over has the first of the items
 pub record First (l : List ℕ) (ls : List (List ℕ)) (i : Item) (is : List Item) : Type 0 where
-  found : item_in (words_of l) ≡ Some i
-  rest : Write ls is
+  pub found : item_in (words_of l) ≡ Ok i
+  pub rest : Write ls is
 
-first_of : (l : List ℕ) (ls : List (List ℕ)) (i : Item) (is : List Item) → is_passed_over (words_of l) ≡ false → Write (l ∷ ls) (i ∷ is)
+pub first_of : (l : List ℕ) (ls : List (List ℕ)) (i : Item) (is : List Item) → is_passed_over (words_of l) ≡ false → Write (l ∷ ls) (i ∷ is)
     → First l ls i is
 first_of l ls i is e h =
-    let both : item_in (words_of l) ∷ map item_in (kept ls) ≡ Some i ∷ map Some is = rw (kept_one l ls e) at h in
+    let both : item_in (words_of l) ∷ map item_in (kept ls) ≡ Ok i ∷ map Ok is = rw (kept_one l ls e) at h in
     record { found = cc; rest = cc }
 
-none_of : (l : List ℕ) (ls : List (List ℕ)) → is_passed_over (words_of l) ≡ false → Write (l ∷ ls) [] → ⊥
+pub none_of : (l : List ℕ) (ls : List (List ℕ)) → is_passed_over (words_of l) ≡ false → Write (l ∷ ls) [] → ⊥
 none_of l ls e h = let both : item_in (words_of l) ∷ map item_in (kept ls) ≡ [] = rw (kept_one l ls e) at h in cc
 
-rest_of : (l : List ℕ) (ls : List (List ℕ)) (is : List Item) → is_passed_over (words_of l) ≡ true → Write (l ∷ ls) is → Write ls is
+pub rest_of : (l : List ℕ) (ls : List (List ℕ)) (is : List Item) → is_passed_over (words_of l) ≡ true → Write (l ∷ ls) is → Write ls is
 rest_of l ls is e h = rw (kept_passed l ls e) at h
 
 -- lines that say nothing
@@ -202,7 +203,7 @@ parted (l ∷ ls) (x ∷ xs) ys h = by_case (parted ls) (is_passed_over (words_o
           front = l ∷ p.front;
           back = p.back;
           cut = ap (λ k. l ∷ k) p.cut;
-          first = rw (kept_one l p.front e, found) (ap (λ k. Some x ∷ k) rest);
+          first = rw (kept_one l p.front e, found) (ap (λ k. Ok x ∷ k) rest);
           next = p.next;
         }
 
@@ -263,12 +264,12 @@ unfolding lines_read
 breaks [] m o f end is = rw is refl
 breaks (l ∷ ls) m o f end is = by_case (breaks ls (m + 1) o f) (is_passed_over (words_of l)) refl
   where
-    by_item : (i : Option Item) → begins_segment i ≡ true → item_in (words_of l) ≡ i → is_passed_over (words_of l) ≡ false
+    by_item : (r : Result Item FormFault) → begins_segment r ≡ true → item_in (words_of l) ≡ r → is_passed_over (words_of l) ≡ false
         → lines_read m (l ∷ ls) (Some o) ≡ Err (o.line, Segment f)
-    by_item None begins found e = absurd (false≢true begins)
-    by_item (Some (item.Event event)) begins found e = absurd (false≢true begins)
-    by_item (Some (item.Frame address)) begins found e = absurd (false≢true begins)
-    by_item (Some (item.Segment head)) begins found e = rw (e, found, is) refl
+    by_item (Err fault) begins found e = absurd (false≢true begins)
+    by_item (Ok (item.Event event)) begins found e = absurd (false≢true begins)
+    by_item (Ok (item.Frame address)) begins found e = absurd (false≢true begins)
+    by_item (Ok (item.Segment head)) begins found e = rw (e, found, is) refl
 
     by_case : (ends_before (kept ls) ≡ true → draft_fault (draft_in o) ≡ Some f → lines_read (m + 1) ls (Some o) ≡ Err (o.line, Segment f))
         → (b : Bool) → is_passed_over (words_of l) ≡ b → lines_read m (l ∷ ls) (Some o) ≡ Err (o.line, Segment f)
@@ -337,7 +338,7 @@ misplaced_fails n (item.Frame address) (Some so_far) (Some o) is bad = by_events
 
 fails_there : (n : ℕ) (l : List ℕ) (written : Written) (o : Option Open) (fault : LineFault) → IsOf written o → is_passed_over (words_of l) ≡ false
     → IsBad written (words_of l) fault → words_read n (words_of l) o ≡ Err (n, fault)
-fails_there n l written o Form is e bad = rw (e, bad) refl
+fails_there n l written o (Form fault) is e bad = rw (e, bad) refl
 fails_there n l written o Order is e (i, found, misplaced) = rw (e, found) (misplaced_fails n i written o is misplaced)
 fails_there n l written o (Segment fault) is e bad = absurd bad
 
@@ -353,6 +354,6 @@ line_fault_is_read lines line fault h =
 
 -- the first fault is what the lines come to
 pub fault_is_read : (lines : List (List ℕ)) (line : ℕ) (fault : LineFault) → LinesFault lines line fault → lines_read 0 lines None ≡ Err (line, fault)
-fault_is_read lines line Form h = line_fault_is_read lines line Form h
+fault_is_read lines line (Form fault) h = line_fault_is_read lines line (Form fault) h
 fault_is_read lines line Order h = line_fault_is_read lines line Order h
 fault_is_read lines line (Segment fault) h = segment_fault_is_read lines line fault h

@@ -1,6 +1,6 @@
 -- The text of segments that the format can encode has the items of these segments: each line is read as its item.
 use Rattle.std.proofs.Common.{◌≡◌, ◌≤◌, ◌<◌, ◌-◌, ◌^◌, ℕ, zero, suc, Bool, true, false, List, [], ◌∷◌, ◌++◌, length, get_or, refl, arith, ap, sym, ◌∙◌}
-use Rattle.std.specs.Prelude.{◌==◌, ◌&&◌, All, Some, codes, nat_eq, not, map}
+use Rattle.std.specs.Prelude.{◌==◌, ◌&&◌, All, Ok, Some, codes, nat_eq, not, map}
 use Rattle.std.specs.List.{AllByRecursion, flat_map, list_all}
 use Rattle.std.specs.Cmp.Lexicographic.{pointwise}
 use Rattle.std.specs.Fmt.{decimal}
@@ -22,8 +22,10 @@ use Rattle.htl_text.specs.declared.item.Head.{Head}
 use Rattle.htl_text.specs.declared.item.Item.{Item}
 use Rattle.htl_text.specs.declared.item.Item.TheVariants as item
 use Rattle.htl_text.specs.Items.{LoneEvent, without_stack, event_items, draft_items, draft_of, head_of, segments_items}
-use Rattle.htl_text.specs.Lines.{address_value, handle_value, marked_value, tag_value, no_tag, place_in, head_in, event_in, handle_event_in, object_event_in}
-use Rattle.htl_text.specs.Lines.{bad_reference_in, frame_in, item_in, is_passed_over, lines_of, without_mark, words_of}
+use Rattle.htl_text.specs.Fields.{address_value, bare_value, handle_value, marked_value, no_tag, no_values, tag_value}
+use Rattle.htl_text.specs.Lines.{event_form, form_of, item_by, item_in, is_passed_over, lines_of, said_by, segment_form, values_in, without_mark, words_of}
+use Rattle.htl_text.specs.declared.field.Field.TheVariants.{Version as version_field, Trace, Processors, Processor, Number}
+use Rattle.htl_text.specs.declared.field.Field.TheVariants.{Handle, Object, Tag, Sequence, Process, Thread}
 use Rattle.htl_text.specs.Encoded.{Encodes, Write}
 use Rattle.htl_text.specs.Texts.{event_line, event_text, frame_line, handle_part, head_line, is_visible, line_feed, object_part, origin, place_part}
 use Rattle.htl_text.specs.Texts.{segment_text, subject, tag_text, version_part, word_of}
@@ -35,8 +37,8 @@ use Rattle.htl_text.proofs.DumpedFields.{address_read, frame_read, handle_read}
 
 -- frames
 
-frame_item : (a : ℕ) → a < 2 ^ 64 → item_in ((codes "0x" ++ padded 16 a) ∷ []) ≡ Some (item.Frame a)
-unfolding item_in frame_in
+frame_item : (a : ℕ) → a < 2 ^ 64 → item_in ((codes "0x" ++ padded 16 a) ∷ []) ≡ Ok (item.Frame a)
+unfolding item_in form_of values_in bare_value
 frame_item a low = rw (frame_read a low) refl
 
 frame_is : (a : ℕ) → frame_line a ≡ 32 ∷ 32 ∷ ((codes "0x" ++ padded 16 a) ++ line_feed)
@@ -144,28 +146,32 @@ module _ (sequence process thread : ℕ) (low_s : sequence < 2 ^ 64) (low_p : pr
   shown_origin = ((refl, shown_decimal sequence low_s), ((refl, shown_decimal process (omega arith)), ((refl, shown_decimal thread (omega arith)), tt)))
 
   origin_read : (kind : Kind) (handle object : ℕ) (tag : List ℕ)
-      → event_in kind handle object tag (origin_words sequence process thread) ≡ Some (item.Event (lone kind handle object tag sequence process thread))
-  unfolding event_in
+      → said_by (event_form kind).says (values_in (Sequence ∷ Process ∷ Thread ∷ []) (origin_words sequence process thread)
+      (record no_values { handle = handle; object = object; tag = tag }))
+      ≡ Ok (item.Event (lone kind handle object tag sequence process thread))
+  unfolding values_in
   origin_read kind handle object tag =
-      rw (decimal_field (codes "seq=") (2 ^ 64 - 1) sequence _ (omega arith) (omega arith))
-      (rw (decimal_field (codes "process=") (2 ^ 32 - 1) process _ (omega arith) (omega arith))
-      (rw (decimal_field (codes "thread=") (2 ^ 32 - 1) thread [] (omega arith) (omega arith))
+      rw (decimal_field Sequence (2 ^ 64 - 1) sequence _ (omega arith) (omega arith))
+      (rw (decimal_field Process (2 ^ 32 - 1) process _ (omega arith) (omega arith))
+      (rw (decimal_field Thread (2 ^ 32 - 1) thread [] (omega arith) (omega arith))
       refl))
 
-  handle_event_read : (kind : Kind) (handle : ℕ) → handle < 2 ^ 32 → handle_event_in kind (handle_words handle (origin_words sequence process thread))
-      ≡ Some (item.Event (lone kind handle 0 no_tag sequence process thread))
-  unfolding handle_event_in
+  handle_event_read : (kind : Kind) (handle : ℕ) → handle < 2 ^ 32
+      → said_by (event_form kind).says (values_in (Handle ∷ Sequence ∷ Process ∷ Thread ∷ []) (handle_words handle (origin_words sequence process thread))
+      no_values) ≡ Ok (item.Event (lone kind handle 0 no_tag sequence process thread))
+  unfolding values_in
   handle_event_read kind handle low =
-      rw (field_read (codes "handle=") handle_value (codes "0x" ++ hex handle) (origin_words sequence process thread) handle (handle_read handle low))
+      rw (field_read Handle handle_value (codes "0x" ++ hex handle) (origin_words sequence process thread) handle (handle_read handle low))
       (origin_read kind handle 0 no_tag)
 
   object_event_read : (kind : Kind) (object : ℕ) (tag : List ℕ) → object < 2 ^ 64 → length tag ≡ 4 → AllByRecursion (λ b. b < 256) tag
-      → object_event_in kind (object_words object tag (origin_words sequence process thread))
-      ≡ Some (item.Event (lone kind 0 object tag sequence process thread))
-  unfolding object_event_in
+      → said_by (event_form kind).says (values_in (Object ∷ Tag ∷ Sequence ∷ Process ∷ Thread ∷ [])
+      (object_words object tag (origin_words sequence process thread)) no_values)
+      ≡ Ok (item.Event (lone kind 0 object tag sequence process thread))
+  unfolding values_in
   object_event_read kind object tag low four bytes =
-      rw (field_read (codes "object=") address_value (codes "0x" ++ padded 16 object) _ object (address_read object low))
-      (rw (field_read (codes "tag=") tag_value (tag_text tag) (origin_words sequence process thread) tag (tag_read tag four bytes))
+      rw (field_read Object address_value (codes "0x" ++ padded 16 object) _ object (address_read object low))
+      (rw (field_read Tag tag_value (tag_text tag) (origin_words sequence process thread) tag (tag_read tag four bytes))
       (origin_read kind 0 object tag))
 
   -- the texts of these words
@@ -193,7 +199,7 @@ record IsLineOf (line : List ℕ) (i : Item) : Type 0 where
   first_shown : IsShown first
   others_shown : AllShown others
   here : is_passed_over (first ∷ others) ≡ false
-  says : item_in (first ∷ others) ≡ Some i
+  says : item_in (first ∷ others) ≡ Ok i
 
 says_line_of : (line : List ℕ) (i : Item) → IsLineOf line i → Says line (i ∷ [])
 says_line_of line i h = rw h.text (says_words h.first h.others i h.first_shown h.others_shown h.here h.says)
@@ -245,17 +251,20 @@ module _ (handle object : ℕ) (tag : List ℕ) (s p t : ℕ) (low : InFields ha
   shown_object : AllShown (object_words object tag (origin_words s p t))
   shown_object = ((refl, shown_padded 16 object low.object_low), ((refl, shown_tag tag low.four low.bytes), shown_words))
 
-  about_handle : (kind : Kind) → handle_event_in kind (handle_words handle (origin_words s p t)) ≡ Some (item.Event (lone kind handle 0 no_tag s p t))
+  about_handle : (kind : Kind) → said_by (event_form kind).says (values_in (Handle ∷ Sequence ∷ Process ∷ Thread ∷ [])
+      (handle_words handle (origin_words s p t)) no_values) ≡ Ok (item.Event (lone kind handle 0 no_tag s p t))
   about_handle kind = handle_event_read s p t low.sequence_low low.process_low low.thread_low kind handle low.handle_low
 
-  about_object : (kind : Kind) → object_event_in kind (object_words object tag (origin_words s p t)) ≡ Some (item.Event (lone kind 0 object tag s p t))
+  about_object : (kind : Kind) → said_by (event_form kind).says (values_in (Object ∷ Tag ∷ Sequence ∷ Process ∷ Thread ∷ [])
+      (object_words object tag (origin_words s p t)) no_values) ≡ Ok (item.Event (lone kind 0 object tag s p t))
   about_object kind = object_event_read s p t low.sequence_low low.process_low low.thread_low kind object tag low.object_low low.four low.bytes
 
-  about_process : (kind : Kind) → event_in kind 0 0 no_tag (origin_words s p t) ≡ Some (item.Event (lone kind 0 0 no_tag s p t))
+  about_process : (kind : Kind) → said_by (event_form kind).says (values_in (Sequence ∷ Process ∷ Thread ∷ []) (origin_words s p t) no_values)
+      ≡ Ok (item.Event (lone kind 0 0 no_tag s p t))
   about_process kind = origin_read s p t low.sequence_low low.process_low low.thread_low kind 0 0 no_tag
 
   opened_line : (object ≡ 0) × (tag ≡ no_tag) → EventLine Opened handle object tag s p t
-  unfolding is_passed_over item_in
+  unfolding is_passed_over item_in form_of
   opened_line none = record {
     first = codes "OPEN";
     others = handle_words handle (origin_words s p t);
@@ -267,7 +276,7 @@ module _ (handle object : ℕ) (tag : List ℕ) (s p t : ℕ) (low : InFields ha
   }
 
   closed_line : (object ≡ 0) × (tag ≡ no_tag) → EventLine Closed handle object tag s p t
-  unfolding is_passed_over item_in
+  unfolding is_passed_over item_in form_of
   closed_line none = record {
     first = codes "CLOSE";
     others = handle_words handle (origin_words s p t);
@@ -279,7 +288,7 @@ module _ (handle object : ℕ) (tag : List ℕ) (s p t : ℕ) (low : InFields ha
   }
 
   bad_line : (object ≡ 0) × (tag ≡ no_tag) → EventLine BadRef handle object tag s p t
-  unfolding is_passed_over item_in bad_reference_in
+  unfolding is_passed_over item_in form_of
   bad_line none = record {
     first = codes "BAD";
     others = codes "REF" ∷ handle_words handle (origin_words s p t);
@@ -291,7 +300,7 @@ module _ (handle object : ℕ) (tag : List ℕ) (s p t : ℕ) (low : InFields ha
   }
 
   snapshot_line : (handle ≡ 0) × (object ≡ 0) × (tag ≡ no_tag) → EventLine Snapshot handle object tag s p t
-  unfolding is_passed_over item_in
+  unfolding is_passed_over item_in form_of
   snapshot_line none = record {
     first = codes "SNAPSHOT";
     others = origin_words s p t;
@@ -303,7 +312,7 @@ module _ (handle object : ℕ) (tag : List ℕ) (s p t : ℕ) (low : InFields ha
   }
 
   exited_line : (handle ≡ 0) × (object ≡ 0) × (tag ≡ no_tag) → EventLine Exited handle object tag s p t
-  unfolding is_passed_over item_in
+  unfolding is_passed_over item_in form_of
   exited_line none = record {
     first = codes "EXIT";
     others = origin_words s p t;
@@ -315,7 +324,7 @@ module _ (handle object : ℕ) (tag : List ℕ) (s p t : ℕ) (low : InFields ha
   }
 
   ref_line : handle ≡ 0 → EventLine Ref handle object tag s p t
-  unfolding is_passed_over item_in
+  unfolding is_passed_over item_in form_of
   ref_line none = record {
     first = codes "REF";
     others = object_words object tag (origin_words s p t);
@@ -327,7 +336,7 @@ module _ (handle object : ℕ) (tag : List ℕ) (s p t : ℕ) (low : InFields ha
   }
 
   deref_line : handle ≡ 0 → EventLine Deref handle object tag s p t
-  unfolding is_passed_over item_in
+  unfolding is_passed_over item_in form_of
   deref_line none = record {
     first = codes "DEREF";
     others = object_words object tag (origin_words s p t);
@@ -398,26 +407,23 @@ record HeadLow (h : Head) : Type 0 where
   processor : h.processor ≤ 0xFFFF
   number : h.number ≤ 0xFFFFFFFF
 
-place_read : (h : Head) → HeadLow h → place_in h.version h.trace_id ((codes "processors=" ++ decimal h.processors)
-    ∷ (codes "processor=" ++ decimal h.processor) ∷ (codes "number=" ++ decimal h.number) ∷ []) ≡ Some (item.Segment h)
-unfolding place_in
-place_read h low =
-    rw (decimal_field (codes "processors=") 0xFFFF h.processors _ low.processors (omega arith))
-    (rw (decimal_field (codes "processor=") 0xFFFF h.processor _ low.processor (omega arith))
-    (rw (decimal_field (codes "number=") 0xFFFFFFFF h.number [] low.number (omega arith))
-    refl))
-
-head_read : (h : Head) → HeadLow h → head_in ((codes "version=" ++ decimal h.version) ∷ (codes "trace=" ++ (codes "0x" ++ padded 16 h.trace_id))
-    ∷ (codes "processors=" ++ decimal h.processors) ∷ (codes "processor=" ++ decimal h.processor) ∷ (codes "number=" ++ decimal h.number) ∷ [])
-    ≡ Some (item.Segment h)
-unfolding head_in
+head_read : (h : Head) → HeadLow h → item_by (Some (
+  segment_form,
+  (codes "version=" ++ decimal h.version)
+      ∷ (codes "trace=" ++ (codes "0x" ++ padded 16 h.trace_id)) ∷ (codes "processors=" ++ decimal h.processors)
+      ∷ (codes "processor=" ++ decimal h.processor) ∷ (codes "number=" ++ decimal h.number) ∷ [],
+)) ≡ Ok (item.Segment h)
+unfolding values_in
 head_read h low =
-    rw (decimal_field (codes "version=") 0xFFFF h.version _ low.version (omega arith))
-    (rw (field_read (codes "trace=") address_value (codes "0x" ++ padded 16 h.trace_id) _ h.trace_id (address_read h.trace_id low.trace_id))
-    (place_read h low))
+    rw (decimal_field version_field 0xFFFF h.version _ low.version (omega arith))
+    (rw (field_read Trace address_value (codes "0x" ++ padded 16 h.trace_id) _ h.trace_id (address_read h.trace_id low.trace_id))
+    (rw (decimal_field Processors 0xFFFF h.processors _ low.processors (omega arith))
+    (rw (decimal_field Processor 0xFFFF h.processor _ low.processor (omega arith))
+    (rw (decimal_field Number 0xFFFFFFFF h.number [] low.number (omega arith))
+    refl))))
 
 head_line_is : (h : Head) → HeadLow h → IsLineOf (head_line h) (item.Segment h)
-unfolding is_passed_over item_in
+unfolding is_passed_over item_in form_of
 head_line_is h low = record {
   first = codes "segment";
   others = (codes "version=" ++ decimal h.version) ∷ (codes "trace=" ++ (codes "0x" ++ padded 16 h.trace_id))

@@ -1,6 +1,6 @@
 -- Texts and the items of their lines, whatever follows them; and the words that have a key and its value.
 use Rattle.std.proofs.Common.{◌≡◌, ◌≤◌, ◌<◌, ◌-◌, ◌^◌, ℕ, true, false, List, [], ◌∷◌, ◌++◌, length, take, drop, refl, arith, ap, sym, ◌∙◌}
-use Rattle.std.specs.Prelude.{Option, Some, codes, nat_eq}
+use Rattle.std.specs.Prelude.{Ok, Option, Some, codes, nat_eq}
 use Rattle.std.specs.List.{list_all}
 use Rattle.std.specs.Cmp.Lexicographic.{pointwise}
 use Rattle.std.specs.Fmt.{decimal}
@@ -9,7 +9,9 @@ use Rattle.std.proofs.lemmas.List.{append_assoc}
 use Rattle.htl_numbers.specs.Numbers.{decimal_number}
 use Rattle.htl_numbers.specs.Written.{hex, padded}
 use Rattle.htl_text.specs.declared.item.Item.{Item}
-use Rattle.htl_text.specs.Lines.{address_value, frame_value, handle_value, after_key, keyed, field, item_in, is_passed_over, lines_of, words_of}
+use Rattle.htl_text.specs.Fields.{address_value, after_bytes, field_name, first_text, first_value, frame_value, handle_value}
+use Rattle.htl_text.specs.Lines.{item_in, is_passed_over, lines_of, words_of}
+use Rattle.htl_text.specs.declared.field.Field.{Field}
 use Rattle.htl_text.specs.Encoded.{Write}
 use Rattle.htl_text.specs.Texts.{is_visible, line_feed}
 use Rattle.htl_text.proofs.DumpedLines.{AllShown, IsShown, continued, continued_end, is_plain, line_first, plain_spaced, words_spaced}
@@ -26,7 +28,7 @@ pub says_append : (a b : List ℕ) (is js : List Item) → Says a is → Says b 
 says_append a b is js ha hb rest more h =
     rw (append_assoc a b rest, append_assoc is js more) (ha (b ++ rest) (js ++ more) (hb rest more h))
 
-pub says_line : (t : List ℕ) (i : Item) → list_all is_plain t ≡ true → is_passed_over (words_of t) ≡ false → item_in (words_of t) ≡ Some i
+pub says_line : (t : List ℕ) (i : Item) → list_all is_plain t ≡ true → is_passed_over (words_of t) ≡ false → item_in (words_of t) ≡ Ok i
     → Says (t ++ line_feed) (i ∷ [])
 says_line t i plain here is rest more h =
     rw (append_assoc t line_feed rest, line_first t rest plain)
@@ -34,7 +36,7 @@ says_line t i plain here is rest more h =
 
 -- a line of words that have an item
 pub says_words : (w : List ℕ) (ws : List (List ℕ)) (i : Item) → IsShown w → AllShown ws → is_passed_over (w ∷ ws) ≡ false
-    → item_in (w ∷ ws) ≡ Some i → Says (w ++ continued ws line_feed) (i ∷ [])
+    → item_in (w ∷ ws) ≡ Ok i → Says (w ++ continued ws line_feed) (i ∷ [])
 says_words w ws i shown more here is =
     let words = words_spaced w ws shown more in
     let line : w ++ continued ws line_feed ≡ (w ++ continued ws []) ++ line_feed =
@@ -55,19 +57,27 @@ key_dropped : (key text : List ℕ) → drop (length key) (key ++ text) ≡ text
 key_dropped [] text = refl
 key_dropped (k ∷ ks) text = key_dropped ks text
 
-after_key_read : (key text : List ℕ) → after_key key (key ++ text) ≡ Some text
-unfolding after_key
-after_key_read key text = rw (key_taken key text, same_bytes key, key_dropped key text) refl
+key_read : (key text : List ℕ) → after_bytes key (key ++ text) ≡ Some text
+unfolding after_bytes
+key_read key text = rw (key_taken key text, same_bytes key, key_dropped key text) refl
 
-pub field_read : {A : Type 0} (key : List ℕ) (value : List ℕ → Option A) (text : List ℕ) (ws : List (List ℕ)) (a : A) → value text ≡ Some a
-    → field key value ((key ++ text) ∷ ws) ≡ Some (a, ws)
-unfolding field keyed
-field_read key value text ws a is = rw (after_key_read key text, is) refl
+-- a field and its value, as a word
+abbrev pub spelled : Field → List ℕ → List ℕ
+spelled f text = field_name f ++ (codes "=" ++ text)
 
-pub decimal_field : (key : List ℕ) (most n : ℕ) (ws : List (List ℕ)) → n ≤ most → most < 2 ^ 64
-    → field key (decimal_number most) ((key ++ decimal n) ∷ ws) ≡ Some (n, ws)
-decimal_field key most n ws low small =
-    field_read key (decimal_number most) (decimal n) ws n (number_read 10 most n (decimal n) (decimal_writes n (omega arith)) low)
+text_read : (f : Field) (text : List ℕ) (ws : List (List ℕ)) → first_text f (spelled f text ∷ ws) ≡ Some (text, ws)
+unfolding first_text
+text_read f text ws = rw (key_read (field_name f) (codes "=" ++ text), key_read (codes "=") text) refl
+
+pub field_read : {A : Type 0} (f : Field) (value : List ℕ → Option A) (text : List ℕ) (ws : List (List ℕ)) (a : A) → value text ≡ Some a
+    → first_value f value (spelled f text ∷ ws) ≡ Some (a, ws)
+unfolding first_value
+field_read f value text ws a is = rw (text_read f text ws, is) refl
+
+pub decimal_field : (f : Field) (most n : ℕ) (ws : List (List ℕ)) → n ≤ most → most < 2 ^ 64
+    → first_value f (decimal_number most) (spelled f (decimal n) ∷ ws) ≡ Some (n, ws)
+decimal_field f most n ws low small =
+    field_read f (decimal_number most) (decimal n) ws n (number_read 10 most n (decimal n) (decimal_writes n (omega arith)) low)
 
 pub shown_decimal : (n : ℕ) → n < 2 ^ 64 → list_all is_visible (decimal n) ≡ true
 shown_decimal n low = visible_digits 10 (decimal n) (omega arith) (decimal_writes n low).numeral.1

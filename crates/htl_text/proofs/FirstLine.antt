@@ -1,12 +1,14 @@
 -- A text's lines are its first one, up to the first line feed, and those that follow it; an empty rest changes nothing.
 use Rattle.std.proofs.Common.{◌≡◌, ◌+◌, ◌⊎◌, inl, inr, ℕ, Bool, true, false, List, [], ◌∷◌, length, take, drop, refl, sym, ◌∙◌, ap}
-use Rattle.std.specs.Prelude.{Result, Ok, Err, position, unwrap_or}
+use Rattle.std.specs.Prelude.{Result, Ok, Err, if◌then◌else◌, nat_lt, position, unwrap_or}
 use Rattle.std.specs.List.{slice_split}
 use Rattle.std.specs.Str.Lines.{strip_carriage_return}
 use Rattle.std.proofs.lemmas.List.Recursion.{is_position_or_len}
+use Rattle.htl_text.specs.declared.fault.FormFault.{FormFault}
 use Rattle.htl_text.specs.declared.fault.LineFault.{LineFault}
-use Rattle.htl_text.specs.Encoded.{kept}
-use Rattle.htl_text.specs.Lines.{lines_of, words_of, is_passed_over}
+use Rattle.htl_text.specs.declared.item.Item.{Item}
+use Rattle.htl_text.specs.Encoded.{event_lines, event_lines_from, kept}
+use Rattle.htl_text.specs.Lines.{form_of, item_in, lines_of, words_of, is_passed_over}
 use Rattle.htl_text.specs.Steps.{Progress, closed, read, go_on, after_words, StartsWithLine}
 use Rattle.htl_text.specs.Words.{is_feed, line_end}
 use Rattle.htl_text.proofs.FirstWord.{one_more, position_or_length}
@@ -93,6 +95,62 @@ pub kept_last_line : (text front back : List ℕ) (len : ℕ) (line : List ℕ) 
 kept_last_line text front back len line e f b none l =
     let empty = length_nil back none in
     rw (l, f, e, empty) (kept_no_rest text (is_cut text) (ap (λ k. drop k text) (sym e) ∙ (sym b ∙ empty)))
+
+-- the lines of events, where a rest follows the first line feed, and where none follows
+
+-- an empty line has no event
+pub no_event_left : (segment n : ℕ) → event_lines segment n (lines_of []) ≡ []
+unfolding event_lines lines_of words_of item_in form_of
+no_event_left segment n = by_case (nat_lt segment (n + 1))
+  where
+    by_case : (b : Bool) → (if b then event_lines segment (n + 1) [] else event_lines segment (n + 1) []) ≡ []
+    by_case true = refl
+    by_case false = refl
+
+events_then_rest : (text : List ℕ) (y : ℕ) (ys : List ℕ) → IsCut text → drop (line_end text) text ≡ y ∷ ys → (segment n : ℕ)
+    → event_lines segment n (lines_of text) ≡ event_lines segment n (strip_carriage_return (take (line_end text) text) ∷ lines_of ys)
+unfolding lines_of
+events_then_rest text y ys (inl (none, parts)) is segment n = cc
+events_then_rest text y ys (inr (z, zs, rest, parts)) is segment n = let e : zs ≡ ys = cc in rw (parts, e) refl
+
+events_by : (line : ℕ) (b : Bool) (i : Result Item FormFault) (xs ys zs ws : List ℕ) → xs ≡ zs → ys ≡ ws
+    → (if b then event_lines_from line i xs else ys) ≡ (if b then event_lines_from line i zs else ws)
+events_by line b i xs ys zs ws e f = rw (e, f) refl
+
+no_line : (segment n : ℕ) → event_lines segment n [] ≡ []
+unfolding event_lines
+no_line segment n = refl
+
+events_one : (segment n : ℕ) (l : List ℕ) → event_lines segment n (l ∷ []) ≡ event_lines segment n (l ∷ lines_of [])
+unfolding event_lines
+events_one segment n l =
+    let same : event_lines segment (n + 1) [] ≡ event_lines segment (n + 1) (lines_of []) =
+    no_line segment (n + 1) ∙ sym (no_event_left segment (n + 1)) in
+    events_by (n + 1) (nat_lt segment (n + 1)) (item_in (words_of l)) _ _ _ _ same same
+
+alone : (text : List ℕ) → slice_split is_feed text ≡ take (line_end text) text ∷ []
+    → lines_of text ≡ strip_carriage_return (take (line_end text) text) ∷ []
+unfolding lines_of
+alone text parts = rw parts refl
+
+events_no_rest : (text : List ℕ) → IsCut text → drop (line_end text) text ≡ [] → (segment n : ℕ)
+    → event_lines segment n (lines_of text) ≡ event_lines segment n (strip_carriage_return (take (line_end text) text) ∷ lines_of [])
+events_no_rest text (inr (z, zs, rest, parts)) is segment n = cc
+events_no_rest text (inl (none, parts)) is segment n =
+    ap (event_lines segment n) (alone text parts) ∙ events_one segment n (strip_carriage_return (take (line_end text) text))
+
+pub events_line_then_rest : (text front back : List ℕ) (len y : ℕ) (ys line : List ℕ) → len ≡ line_end text → front ≡ take len text
+    → back ≡ drop len text → back ≡ y ∷ ys → line ≡ strip_carriage_return front → (segment n : ℕ)
+    → event_lines segment n (lines_of text) ≡ event_lines segment n (line ∷ lines_of ys)
+events_line_then_rest text front back len y ys line e f b is l =
+    rw (l, f, e) (events_then_rest text y ys (is_cut text) (ap (λ k. drop k text) (sym e) ∙ (sym b ∙ is)))
+
+pub events_last_line : (text front back : List ℕ) (len : ℕ) (line : List ℕ) → len ≡ line_end text → front ≡ take len text
+    → back ≡ drop len text → length back ≡ 0 → line ≡ strip_carriage_return front → (segment n : ℕ)
+    → event_lines segment n (lines_of text) ≡ event_lines segment n (line ∷ lines_of back)
+events_last_line text front back len line e f b none l =
+    let empty = length_nil back none in
+    rw (l, f, e, empty) (events_no_rest text (is_cut text) (ap (λ k. drop k text) (sym e) ∙ (sym b ∙ empty)))
 
 -- a text with no byte left is read
 pub read_ended : (n : ℕ) (text : List ℕ) (p : Progress) → length text ≡ 0 → read n (lines_of text) p ≡ closed p

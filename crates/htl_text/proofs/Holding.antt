@@ -16,6 +16,7 @@ use Rattle.htl_segment.specs.declared.version.Version.{Version}
 use Rattle.htl_text.specs.declared.item.Head.{Head}
 use Rattle.htl_text.specs.declared.item.Item.{Item}
 use Rattle.htl_text.specs.declared.item.Item.TheVariants as item
+use Rattle.htl_text.specs.declared.fault.FormFault.{FormFault}
 use Rattle.htl_text.specs.declared.fault.LineFault.{LineFault}
 use Rattle.htl_text.specs.declared.fault.LineFault.TheVariants.{Form, Order, Segment}
 use Rattle.htl_text.specs.Items.{Draft, LoneEvent, with_stack}
@@ -75,9 +76,9 @@ item_read line (item.Event e) (Some o) = Ok (Some (opened o.done o.line o.head (
 item_read line (item.Frame address) None = Err (line, Order)
 item_read line (item.Frame address) (Some o) = with_frame_in line address o o.events
 
-abbrev pub form_read : ℕ → Option Item → Option Open → Result (Option Open) (ℕ × LineFault)
-form_read line None o = Err (line, Form)
-form_read line (Some i) o = item_read line i o
+abbrev pub form_read : ℕ → Result Item FormFault → Option Open → Result (Option Open) (ℕ × LineFault)
+form_read line (Err fault) o = Err (line, Form fault)
+form_read line (Ok i) o = item_read line i o
 
 abbrev pub words_read : ℕ → List (List ℕ) → Option Open → Result (Option Open) (ℕ × LineFault)
 words_read line ws o = if is_passed_over ws then Ok o else form_read line (item_in ws) o
@@ -230,9 +231,9 @@ words_held : (line : ℕ) (ws : List (List ℕ)) (o : Option Open) → after_wor
 unfolding after_words
 words_held line ws o = by_case (is_passed_over ws)
   where
-    by_form : (i : Option Item) → after_form line i (holding o) ≡ held_in (form_read line i o)
-    by_form None = refl
-    by_form (Some i) = item_held line i o
+    by_form : (r : Result Item FormFault) → after_form line r (holding o) ≡ held_in (form_read line r o)
+    by_form (Err fault) = refl
+    by_form (Ok i) = item_held line i o
 
     by_case : (b : Bool) → (if b then Ok (holding o) else after_form line (item_in ws) (holding o))
         ≡ held_in (if b then Ok o else form_read line (item_in ws) o)

@@ -1,9 +1,10 @@
 -- The numbers of an item that a line has fit their fields.
 use Rattle.std.proofs.Common.{◌≡◌, ◌≤◌, ◌<◌, ◌^◌, ◌-◌, ℕ, Bool, true, false, List, [], ◌∷◌, length, refl, arith}
-use Rattle.std.specs.Prelude.{Option, Some, None, codes, if◌then◌else◌, nat_eq, nat_le, nat_lt, option_map, ◌&&◌, ◌==◌}
+use Rattle.std.specs.Prelude.{Option, Some, None, Result, Ok, Err, IfOk, codes, if◌then◌else◌, nat_eq, nat_le, nat_lt, option_map, ◌&&◌, ◌==◌}
 use Rattle.std.specs.List.{AllByRecursion, list_all, starts_with}
 use Rattle.std.specs.Char.{is_digit}
 use Rattle.std.specs.Int.{to_be_bytes, w32}
+use Rattle.std.specs.Str.{bytes_eq}
 use Rattle.std.specs.Str.Parse.{digits_value}
 use Rattle.std.proofs.lemmas.Bool.{eqb-true, leb-true}
 use Rattle.htl_event.specs.declared.event.Event.{Event as EventWith}
@@ -12,13 +13,17 @@ use Rattle.htl_event.specs.declared.kind.Kind.TheVariants.{Opened, Closed, BadRe
 use Rattle.htl_numbers.specs.Numbers.{number_of, decimal_number, hexadecimal_number, without_0x}
 use Rattle.htl_numbers.proofs.Digits.{both}
 use Rattle.htl_text.specs.Texts.{is_visible}
-use Rattle.htl_text.specs.Lines.{address_value, frame_value, handle_value, marked_value, tag_value, keyed, value_first, field, after, ended, no_tag, head_in}
-use Rattle.htl_text.specs.Lines.{place_in, event_in, handle_event_in, object_event_in, bad_reference_in, frame_in, item_in}
+use Rattle.htl_text.specs.Fields.{Values, bare_value, first_text, first_value, frame_value, marked_value, no_tag, no_values}
+use Rattle.htl_text.specs.Fields.{read_field, tag_value, value_of, with_value}
+use Rattle.htl_text.specs.Lines.{Form, after, bad_form, ended, event_form, form_of, frame_form, item_by, item_in, said_by, segment_form, values_in}
+use Rattle.htl_text.specs.declared.fault.FormFault.{FormFault}
+use Rattle.htl_text.specs.declared.field.Field.{Field}
+use Rattle.htl_text.specs.declared.field.Field.TheVariants.{Version, Trace, Processors, Processor, Number}
+use Rattle.htl_text.specs.declared.field.Field.TheVariants.{Handle, Object, Tag, Sequence, Process, Thread, Frame}
 use Rattle.htl_text.specs.declared.item.Item.{Item}
 use Rattle.htl_text.specs.declared.item.Item.TheVariants as item
-use Rattle.std.specs.Str.{bytes_eq}
 
-abbrev pub OnSome : {A : Type 0} → Option A → (A → Type 0) → Type 0
+abbrev OnSome : {A : Type 0} → Option A → (A → Type 0) → Type 0
 OnSome None P = Unit {0}
 OnSome (Some a) P = P a
 
@@ -40,33 +45,11 @@ ItemInRange (item.Segment head) = head.trace_id < 2 ^ 64
 ItemInRange (item.Event e) = PartsInRange e
 ItemInRange (item.Frame address) = address < 2 ^ 64
 
-after_on : {A B : Type 0} (Q : A → Type 0) (P : B → Type 0) (read : Option A) (next : A → Option B) → OnSome read Q
-    → ((a : A) → Q a → OnSome (next a) P) → OnSome (after read next) P
-after_on Q P None next h so = tt
-after_on Q P (Some a) next h so = so a h
-
 if_on : {A : Type 0} (P : A → Type 0) (b : Bool) (x y : Option A) → OnSome x P → OnSome y P → OnSome (if b then x else y) P
 if_on P true x y hx hy = hx
 if_on P false x y hx hy = hy
 
-ended_on : (P : Item → Type 0) (ws : List (List ℕ)) (i : Item) → P i → OnSome (ended ws i) P
-ended_on P [] i h = h
-ended_on P (w ∷ ws) i h = tt
-
-first_on : {A : Type 0} (Q : A → Type 0) (rest : List (List ℕ)) (v : Option A) → OnSome v Q
-    → OnSome {A = A × List (List ℕ)} (option_map (λ a. (a, rest)) v) (λ found. Q found.0)
-first_on Q rest None h = tt
-first_on Q rest (Some a) h = h
-
-keyed_on : {A : Type 0} (Q : A → Type 0) (value : List ℕ → Option A) (k : Option (List ℕ × List (List ℕ)))
-    → ((text : List ℕ) → OnSome (value text) Q) → OnSome {A = A × List (List ℕ)} (value_first value k) (λ found. Q found.0)
-keyed_on Q value None so = tt
-keyed_on Q value (Some found) so = first_on Q found.1 (value found.0) (so found.0)
-
-field_on : {A : Type 0} (Q : A → Type 0) (key : List ℕ) (value : List ℕ → Option A) (ws : List (List ℕ))
-    → ((text : List ℕ) → OnSome (value text) Q) → OnSome {A = A × List (List ℕ)} (field key value ws) (λ found. Q found.0)
-unfolding field
-field_on Q key value ws so = keyed_on Q value (keyed key ws) so
+-- the values that fit a field
 
 guarded_on : (most v : ℕ) (a b c : Bool) → nat_le v most ≡ c → OnSome (if a && (b && c) then Some v else None) (λ n. n ≤ most)
 guarded_on most v true true true e = leb-true v most e
@@ -119,84 +102,135 @@ tag_on text = by_length (length text == 4) refl
     by_length false e = if_on IsTag (length text == 10) (option_map (to_be_bytes w32) (marked_value (2 ^ 32 - 1) text)) None
         (digits (marked_value (2 ^ 32 - 1) text)) tt
 
-place_on : (version trace_id : ℕ) (ws : List (List ℕ)) → trace_id < 2 ^ 64 → OnSome (place_in version trace_id ws) ItemInRange
-unfolding place_in
-place_on version trace_id ws low =
-    after_on (λ f. f.0 ≤ 0xFFFF) ItemInRange (field (codes "processors=") (decimal_number 0xFFFF) ws) _
-    (field_on (λ n. n ≤ 0xFFFF) (codes "processors=") (decimal_number 0xFFFF) ws (number_on 10 0xFFFF))
-    (λ f _. after_on (λ f. f.0 ≤ 0xFFFF) ItemInRange (field (codes "processor=") (decimal_number 0xFFFF) f.1) _
-    (field_on (λ n. n ≤ 0xFFFF) (codes "processor=") (decimal_number 0xFFFF) f.1 (number_on 10 0xFFFF))
-    (λ g _. after_on (λ f. f.0 ≤ 0xFFFFFFFF) ItemInRange (field (codes "number=") (decimal_number 0xFFFFFFFF) g.1) _
-    (field_on (λ n. n ≤ 0xFFFFFFFF) (codes "number=") (decimal_number 0xFFFFFFFF) g.1 (number_on 10 0xFFFFFFFF))
-    (λ h _. ended_on ItemInRange h.1 _ low)))
+-- the values of fields: trace, handle, object, tag, sequence, process, thread and frame
 
-head_on : (ws : List (List ℕ)) → OnSome (head_in ws) ItemInRange
-unfolding head_in
-head_on ws =
-    after_on (λ f. f.0 ≤ 0xFFFF) ItemInRange (field (codes "version=") (decimal_number 0xFFFF) ws) _
-    (field_on (λ n. n ≤ 0xFFFF) (codes "version=") (decimal_number 0xFFFF) ws (number_on 10 0xFFFF))
-    (λ f _. after_on (λ f. f.0 ≤ 2 ^ 64 - 1) ItemInRange (field (codes "trace=") address_value f.1) _
-    (field_on (λ n. n ≤ 2 ^ 64 - 1) (codes "trace=") address_value f.1 (hexadecimal_on (2 ^ 64 - 1)))
-    (λ g low. place_on f.0 g.0 g.1 (omega arith)))
-
-event_on : (kind : Kind) (handle object : ℕ) (tag : List ℕ) (ws : List (List ℕ)) → handle < 2 ^ 32 → object < 2 ^ 64 → IsTag tag
-    → OnSome (event_in kind handle object tag ws) ItemInRange
-unfolding event_in
-event_on kind handle object tag ws h o t =
-    after_on (λ f. f.0 ≤ 2 ^ 64 - 1) ItemInRange (field (codes "seq=") (decimal_number (2 ^ 64 - 1)) ws) _
-    (field_on (λ n. n ≤ 2 ^ 64 - 1) (codes "seq=") (decimal_number (2 ^ 64 - 1)) ws (number_on 10 (2 ^ 64 - 1)))
-    (λ f low_f. after_on (λ f. f.0 ≤ 2 ^ 32 - 1) ItemInRange (field (codes "process=") (decimal_number (2 ^ 32 - 1)) f.1) _
-    (field_on (λ n. n ≤ 2 ^ 32 - 1) (codes "process=") (decimal_number (2 ^ 32 - 1)) f.1 (number_on 10 (2 ^ 32 - 1)))
-    (λ g low_g. after_on (λ f. f.0 ≤ 2 ^ 32 - 1) ItemInRange (field (codes "thread=") (decimal_number (2 ^ 32 - 1)) g.1) _
-    (field_on (λ n. n ≤ 2 ^ 32 - 1) (codes "thread=") (decimal_number (2 ^ 32 - 1)) g.1 (number_on 10 (2 ^ 32 - 1)))
-    (λ k low_k. ended_on ItemInRange k.1 _ (record {
-      sequence = omega arith;
-      process = omega arith;
-      thread = omega arith;
-      handle = h;
-      object = o;
-      tag = t;
-    }))))
+abbrev InRange : Values → Type 0
+InRange v = (v.trace < 2 ^ 64) × (v.handle < 2 ^ 32) × (v.object < 2 ^ 64) × IsTag v.tag
+    × (v.sequence < 2 ^ 64) × (v.process < 2 ^ 32) × (v.thread < 2 ^ 32) × (v.frame < 2 ^ 64)
 
 no_tag_is : IsTag no_tag
 no_tag_is = (refl, (omega arith, (omega arith, (omega arith, (omega arith, tt)))))
 
-handle_on : (kind : Kind) (ws : List (List ℕ)) → OnSome (handle_event_in kind ws) ItemInRange
-unfolding handle_event_in
-handle_on kind ws =
-    after_on (λ f. f.0 ≤ 2 ^ 32 - 1) ItemInRange (field (codes "handle=") handle_value ws) _
-    (field_on (λ n. n ≤ 2 ^ 32 - 1) (codes "handle=") handle_value ws (hexadecimal_on (2 ^ 32 - 1)))
-    (λ f low. event_on kind f.0 0 no_tag f.1 (omega arith) (omega arith) no_tag_is)
+none_in_range : InRange no_values
+none_in_range = (omega arith, omega arith, omega arith, no_tag_is, omega arith, omega arith, omega arith, omega arith)
 
-object_on : (kind : Kind) (ws : List (List ℕ)) → OnSome (object_event_in kind ws) ItemInRange
-unfolding object_event_in
-object_on kind ws =
-    after_on (λ f. f.0 ≤ 2 ^ 64 - 1) ItemInRange (field (codes "object=") address_value ws) _
-    (field_on (λ n. n ≤ 2 ^ 64 - 1) (codes "object=") address_value ws (hexadecimal_on (2 ^ 64 - 1)))
-    (λ f low. after_on (λ g. IsTag g.0) ItemInRange (field (codes "tag=") tag_value f.1) _
-    (field_on IsTag (codes "tag=") tag_value f.1 tag_on)
-    (λ g is. event_on kind 0 f.0 g.0 g.1 (omega arith) (omega arith) is))
+-- what was read of a field, as a fact of its value
+abbrev Found : {A : Type 0} → (A → Type 0) → Option (A × List (List ℕ)) → Type 0
+Found Q found = OnSome found (λ it. Q it.0)
 
-bad_on : (ws : List (List ℕ)) → OnSome (bad_reference_in ws) ItemInRange
-unfolding bad_reference_in
+first_on : {A : Type 0} (Q : A → Type 0) (ws : List (List ℕ)) (a : Option A) → OnSome a Q → Found Q (option_map (λ a. (a, ws)) a)
+first_on Q ws None h = tt
+first_on Q ws (Some a) h = h
+
+text_on : {A : Type 0} (Q : A → Type 0) (value : List ℕ → Option A) (text : Option (List ℕ × List (List ℕ)))
+    → ((t : List ℕ) → OnSome (value t) Q) → Found Q (value_of value text)
+text_on Q value None so = tt
+text_on Q value (Some found) so = first_on Q found.1 (value found.0) (so found.0)
+
+value_on : {A : Type 0} (Q : A → Type 0) (f : Field) (value : List ℕ → Option A) (ws : List (List ℕ))
+    → ((t : List ℕ) → OnSome (value t) Q) → Found Q (first_value f value ws)
+unfolding first_value
+value_on Q f value ws so = text_on Q value (first_text f ws) so
+
+bare_on : {A : Type 0} (Q : A → Type 0) (value : List ℕ → Option A) (ws : List (List ℕ))
+    → ((t : List ℕ) → OnSome (value t) Q) → Found Q (bare_value value ws)
+unfolding bare_value
+bare_on Q value [] so = tt
+bare_on Q value (w ∷ ws) so = first_on Q ws (value w) (so w)
+
+with_on : {A : Type 0} (Q : A → Type 0) (put : A → Values) (found : Option (A × List (List ℕ))) → Found Q found
+    → ((a : A) → Q a → InRange (put a)) → Found InRange (with_value put found)
+with_on Q put None h so = tt
+with_on Q put (Some found) h so = so found.0 h
+
+decimal_on : (f : Field) (most : ℕ) (put : ℕ → Values) (ws : List (List ℕ)) → ((n : ℕ) → n ≤ most → InRange (put n))
+    → Found InRange (with_value put (first_value f (decimal_number most) ws))
+decimal_on f most put ws so =
+    with_on (λ n. n ≤ most) put (first_value f (decimal_number most) ws)
+    (value_on (λ n. n ≤ most) f (decimal_number most) ws (number_on 10 most)) so
+
+digits_on : (f : Field) (most : ℕ) (put : ℕ → Values) (ws : List (List ℕ)) → ((n : ℕ) → n ≤ most → InRange (put n))
+    → Found InRange (with_value put (first_value f (hexadecimal_number most) ws))
+digits_on f most put ws so =
+    with_on (λ n. n ≤ most) put (first_value f (hexadecimal_number most) ws)
+    (value_on (λ n. n ≤ most) f (hexadecimal_number most) ws (hexadecimal_on most)) so
+
+read_on : (f : Field) (ws : List (List ℕ)) (v : Values) → InRange v → Found InRange (read_field f ws v)
+read_on Version ws v h = decimal_on Version 0xFFFF _ ws (λ n low. h)
+read_on Trace ws v h = digits_on Trace (2 ^ 64 - 1) _ ws (λ n low. (omega arith, h.1, h.2, h.3, h.4, h.5, h.6, h.7))
+read_on Processors ws v h = decimal_on Processors 0xFFFF _ ws (λ n low. h)
+read_on Processor ws v h = decimal_on Processor 0xFFFF _ ws (λ n low. h)
+read_on Number ws v h = decimal_on Number 0xFFFFFFFF _ ws (λ n low. h)
+read_on Handle ws v h = digits_on Handle (2 ^ 32 - 1) _ ws (λ n low. (h.0, omega arith, h.2, h.3, h.4, h.5, h.6, h.7))
+read_on Object ws v h = digits_on Object (2 ^ 64 - 1) _ ws (λ n low. (h.0, h.1, omega arith, h.3, h.4, h.5, h.6, h.7))
+read_on Tag ws v h =
+    with_on IsTag _ (first_value Tag tag_value ws) (value_on IsTag Tag tag_value ws tag_on) (λ tag is. (h.0, h.1, h.2, is, h.4, h.5, h.6, h.7))
+read_on Sequence ws v h = decimal_on Sequence (2 ^ 64 - 1) _ ws (λ n low. (h.0, h.1, h.2, h.3, omega arith, h.5, h.6, h.7))
+read_on Process ws v h = decimal_on Process (2 ^ 32 - 1) _ ws (λ n low. (h.0, h.1, h.2, h.3, h.4, omega arith, h.6, h.7))
+read_on Thread ws v h = decimal_on Thread (2 ^ 32 - 1) _ ws (λ n low. (h.0, h.1, h.2, h.3, h.4, h.5, omega arith, h.7))
+read_on Frame ws v h =
+    with_on (λ n. n ≤ 2 ^ 64 - 1) _ (bare_value frame_value ws) (bare_on (λ n. n ≤ 2 ^ 64 - 1) frame_value ws (marked_on (2 ^ 64 - 1)))
+    (λ n low. (h.0, h.1, h.2, h.3, h.4, h.5, h.6, omega arith))
+
+-- the fields of a form, one after the other
+
+ended_on : (ws : List (List ℕ)) (v : Values) → InRange v → IfOk (ended ws v) InRange
+ended_on [] v h = h
+ended_on (w ∷ ws) v h = tt
+
+after_on : (f : Field) (read : Option (Values × List (List ℕ))) (next : List (List ℕ) → Values → Result Values FormFault) → Found InRange read
+    → ((ws : List (List ℕ)) (v : Values) → InRange v → IfOk (next ws v) InRange) → IfOk (after f read next) InRange
+after_on f None next h more = tt
+after_on f (Some read) next h more = more read.1 read.0 h
+
+values_on : (fs : List Field) (ws : List (List ℕ)) (v : Values) → InRange v → IfOk (values_in fs ws v) InRange
+unfolding values_in
+values_on [] ws v h = ended_on ws v h
+values_on (f ∷ fs) ws v h = after_on f (read_field f ws v) (values_in fs) (read_on f ws v h) (values_on fs)
+
+-- the forms
+
+abbrev SaysInRange : Form → Type 0
+SaysInRange form = (v : Values) → InRange v → ItemInRange (form.says v)
+
+segment_on : SaysInRange segment_form
+segment_on v h = h.0
+
+event_on : (kind : Kind) → SaysInRange (event_form kind)
+event_on kind v h = record { sequence = h.4; process = h.5; thread = h.6; handle = h.1; object = h.2; tag = h.3 }
+
+frame_on : SaysInRange frame_form
+frame_on v h = h.7
+
+abbrev FormInRange : Option (Form × List (List ℕ)) → Type 0
+FormInRange found = OnSome found (λ it. SaysInRange it.0)
+
+bad_on : (ws : List (List ℕ)) → FormInRange (bad_form ws)
 bad_on [] = tt
-bad_on (w ∷ ws) = if_on ItemInRange (bytes_eq w (codes "REF")) (handle_event_in BadRef ws) None (handle_on BadRef ws) tt
+bad_on (w ∷ ws) = if_on (λ it. SaysInRange it.0) (bytes_eq w (codes "REF")) _ _ (event_on BadRef) tt
 
-frame_on : (w : List ℕ) (ws : List (List ℕ)) → OnSome (frame_in w ws) ItemInRange
-unfolding frame_in
-frame_on w ws =
-    after_on (λ n. n ≤ 2 ^ 64 - 1) ItemInRange (frame_value w) _ (marked_on (2 ^ 64 - 1) w)
-    (λ a low. ended_on ItemInRange ws (item.Frame a) (omega arith))
+form_on : (ws : List (List ℕ)) → FormInRange (form_of ws)
+unfolding form_of
+form_on [] = tt
+form_on (w ∷ ws) =
+    if_on (λ it. SaysInRange it.0) (bytes_eq w (codes "segment")) _ _ segment_on
+    (if_on (λ it. SaysInRange it.0) (bytes_eq w (codes "OPEN")) _ _ (event_on Opened)
+    (if_on (λ it. SaysInRange it.0) (bytes_eq w (codes "CLOSE")) _ _ (event_on Closed)
+    (if_on (λ it. SaysInRange it.0) (bytes_eq w (codes "BAD")) _ _ (bad_on ws)
+    (if_on (λ it. SaysInRange it.0) (bytes_eq w (codes "SNAPSHOT")) _ _ (event_on Snapshot)
+    (if_on (λ it. SaysInRange it.0) (bytes_eq w (codes "EXIT")) _ _ (event_on Exited)
+    (if_on (λ it. SaysInRange it.0) (bytes_eq w (codes "REF")) _ _ (event_on Ref)
+    (if_on (λ it. SaysInRange it.0) (bytes_eq w (codes "DEREF")) _ _ (event_on Deref)
+    (if_on (λ it. SaysInRange it.0) (starts_with nat_eq w (codes "0x")) _ _ frame_on tt))))))))
 
-pub item_on : (ws : List (List ℕ)) → OnSome (item_in ws) ItemInRange
+said_on : (form : Form) (values : Result Values FormFault) → SaysInRange form → IfOk values InRange → IfOk (said_by form.says values) ItemInRange
+said_on form (Ok v) says h = says v h
+said_on form (Err fault) says h = tt
+
+by_on : (found : Option (Form × List (List ℕ))) → FormInRange found → IfOk (item_by found) ItemInRange
+by_on None h = tt
+by_on (Some found) h = said_on found.0 (values_in found.0.fields found.1 no_values) h (values_on found.0.fields found.1 no_values none_in_range)
+
+pub item_on : (ws : List (List ℕ)) → IfOk (item_in ws) ItemInRange
 unfolding item_in
-item_on [] = tt
-item_on (w ∷ ws) =
-    if_on ItemInRange (bytes_eq w (codes "segment")) _ _ (head_on ws)
-    (if_on ItemInRange (bytes_eq w (codes "OPEN")) _ _ (handle_on Opened ws)
-    (if_on ItemInRange (bytes_eq w (codes "CLOSE")) _ _ (handle_on Closed ws)
-    (if_on ItemInRange (bytes_eq w (codes "BAD")) _ _ (bad_on ws)
-    (if_on ItemInRange (bytes_eq w (codes "SNAPSHOT")) _ _ (event_on Snapshot 0 0 no_tag ws (omega arith) (omega arith) no_tag_is)
-    (if_on ItemInRange (bytes_eq w (codes "EXIT")) _ _ (event_on Exited 0 0 no_tag ws (omega arith) (omega arith) no_tag_is)
-    (if_on ItemInRange (bytes_eq w (codes "REF")) _ _ (object_on Ref ws)
-    (if_on ItemInRange (bytes_eq w (codes "DEREF")) _ _ (object_on Deref ws) (frame_on w ws))))))))
+item_on ws = by_on (form_of ws) (form_on ws)

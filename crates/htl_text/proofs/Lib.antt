@@ -15,3 +15,5 @@ pub mod DumpedLines
 pub mod DumpedFields
 pub mod Dumped
 pub mod Beginnings
+pub mod EventLines
+pub mod EventPlaces

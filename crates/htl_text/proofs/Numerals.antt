@@ -13,7 +13,7 @@ use Rattle.std.proofs.lemmas.List.{length-replicate}
 use Rattle.htl_numbers.specs.Numbers.{number_of, hexadecimal_number, without_0x}
 use Rattle.htl_numbers.specs.Written.{hex, padded}
 use Rattle.htl_text.specs.Texts.{is_visible}
-use Rattle.htl_text.specs.Lines.{marked_value}
+use Rattle.htl_text.specs.Fields.{marked_value}
 
 -- a text of digits that writes a number
 pub record Writes (radix n : ℕ) (ds : List ℕ) : Type 0 where

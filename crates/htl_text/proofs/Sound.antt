@@ -1,6 +1,6 @@
 -- What reading comes to is what the lines encode, or else their first fault.
 use Rattle.std.proofs.Common.{◌≡◌, ◌≤◌, ◌<◌, ◌+◌, ◌^◌, ℕ, zero, suc, Bool, true, false, List, [], ◌∷◌, ◌++◌, length, refl, arith, ap, sym, ◌∙◌, length-append}
-use Rattle.std.specs.Prelude.{Option, Some, None, Result, Ok, Err, All, map, if◌then◌else◌}
+use Rattle.std.specs.Prelude.{Option, Some, None, Result, Ok, Err, All, IfOk, map, if◌then◌else◌}
 use Rattle.std.specs.List.{AllByRecursion}
 use Rattle.std.proofs.lemmas.List.{append_assoc, append-nil}
 use Rattle.std.proofs.lemmas.List.Elements.{All-cons, All-push}
@@ -17,6 +17,7 @@ use Rattle.htl_segment.specs.declared.version.Version.TheVariants.{V1, V2}
 use Rattle.htl_text.specs.declared.item.Head.{Head}
 use Rattle.htl_text.specs.declared.item.Item.{Item}
 use Rattle.htl_text.specs.declared.item.Item.TheVariants as item
+use Rattle.htl_text.specs.declared.fault.FormFault.{FormFault}
 use Rattle.htl_text.specs.declared.fault.LineFault.{LineFault}
 use Rattle.htl_text.specs.declared.fault.LineFault.TheVariants.{Form, Order}
 use Rattle.htl_text.specs.Items.{Draft, LoneEvent, with_stack, draft_items, draft_of, segments_items}
@@ -25,7 +26,7 @@ use Rattle.htl_text.specs.Encoded.{draft, draft_fault, content_of, Write, kept, 
 use Rattle.htl_text.specs.Encoded.{IsLineFault, IsSegmentFault, ends_before}
 use Rattle.htl_text.proofs.Holding.{Open, opened, all_of, draft_in, contents, checked, ended, renewed, framed, with_frame_in, item_read, form_read}
 use Rattle.htl_text.proofs.Holding.{words_read, goes_on, lines_read}
-use Rattle.htl_text.proofs.ItemRanges.{PartsInRange, ItemInRange, item_on, OnSome}
+use Rattle.htl_text.proofs.ItemRanges.{PartsInRange, ItemInRange, item_on}
 use Rattle.htl_text.proofs.Overfull.{shallow_draft}
 use Rattle.htl_text.proofs.Writing.{write_append, write_passed, write_more, write_one, kept_one, kept_nil, draft_event, draft_frame, segments_more}
 
@@ -172,7 +173,7 @@ passes before l n (Some o) h e = record {
 
 -- a header begins a draft
 begins : (before : List (List ℕ)) (l : List ℕ) (n : ℕ) (head : Head) (done : List Content) → length before ≡ n → Write before (segments_items done)
-    → All Fits done → is_passed_over (words_of l) ≡ false → item_in (words_of l) ≡ Some (item.Segment head) → head.trace_id < 2 ^ 64
+    → All Fits done → is_passed_over (words_of l) ≡ false → item_in (words_of l) ≡ Ok (item.Segment head) → head.trace_id < 2 ^ 64
     → StandsIn (before ++ l ∷ []) (n + 1) (opened done (n + 1) head None)
 begins before l n head done size written fits e found low = record {
   earlier = before;
@@ -191,7 +192,7 @@ begins before l n head done size written fits e found low = record {
 
 -- an event or a frame goes to the draft
 grows : (before : List (List ℕ)) (l : List ℕ) (n : ℕ) (o : Open) (events : Option (List Event × Event)) (i : Item) → StandsIn before n o
-    → is_passed_over (words_of l) ≡ false → item_in (words_of l) ≡ Some i
+    → is_passed_over (words_of l) ≡ false → item_in (words_of l) ≡ Ok i
     → draft_items (draft o.head (all_of events)) ≡ draft_items (draft_in o) ++ i ∷ [] → EventsAre events
     → StandsIn (before ++ l ∷ []) (n + 1) (opened o.done o.line o.head events)
 grows before l n o events i h e found items ranges = record {
@@ -204,7 +205,7 @@ grows before l n o events i h e found items ranges = record {
   fits = h.fits;
   written = h.written;
   begun = h.begun;
-  drafted = write_more (h.first ∷ h.body) l (draft_items (draft_in o)) i h.drafted e found ∙ ap (map Some) (sym items);
+  drafted = write_more (h.first ∷ h.body) l (draft_items (draft_in o)) i h.drafted e found ∙ ap (map Ok) (sym items);
   trace_id = h.trace_id;
   events = ranges;
 }
@@ -246,11 +247,11 @@ line_fails before l ls n o fault h e bad = record {
 }
 
 next_begins : (l : List ℕ) (ls : List (List ℕ)) (head : Head) → is_passed_over (words_of l) ≡ false
-    → item_in (words_of l) ≡ Some (item.Segment head) → ends_before (kept (l ∷ ls)) ≡ true
+    → item_in (words_of l) ≡ Ok (item.Segment head) → ends_before (kept (l ∷ ls)) ≡ true
 next_begins l ls head e found = rw (kept_one l ls e, found) refl
 
 header_advances : (before : List (List ℕ)) (l : List ℕ) (ls : List (List ℕ)) (n : ℕ) (o : Option Open) (head : Head) → StandsAt before n o
-    → is_passed_over (words_of l) ≡ false → item_in (words_of l) ≡ Some (item.Segment head) → head.trace_id < 2 ^ 64
+    → is_passed_over (words_of l) ≡ false → item_in (words_of l) ≡ Ok (item.Segment head) → head.trace_id < 2 ^ 64
     → Advances before l ls n (renewed (n + 1) head (ended o))
 header_advances before l ls n None head h e found low = begins before l n head [] h.0 h.1 (λ k d l. absurd (omega arith)) e found low
 header_advances before l ls n (Some o) head h e found low = by_fault (draft_fault (draft_in o)) refl
@@ -263,7 +264,7 @@ header_advances before l ls n (Some o) head h e found low = by_fault (draft_faul
         begins before l n head (o.done ++ contents (version_of o.head.version) (draft_in o)) h.size closed.written closed.fits e found low
 
 event_advances : (before : List (List ℕ)) (l : List ℕ) (ls : List (List ℕ)) (n : ℕ) (o : Option Open) (e : LoneEvent) → StandsAt before n o
-    → is_passed_over (words_of l) ≡ false → item_in (words_of l) ≡ Some (item.Event e) → PartsInRange e
+    → is_passed_over (words_of l) ≡ false → item_in (words_of l) ≡ Ok (item.Event e) → PartsInRange e
     → Advances before l ls n (item_read (n + 1) (item.Event e) o)
 event_advances before l ls n None e h seen found low = line_fails before l ls n None Order h seen (item.Event e, found, refl)
 event_advances before l ls n (Some o) e h seen found low =
@@ -283,7 +284,7 @@ event_advances before l ls n (Some o) e h seen found low =
     )
 
 frame_advances : (before : List (List ℕ)) (l : List ℕ) (ls : List (List ℕ)) (n : ℕ) (o : Option Open) (address : ℕ) → StandsAt before n o
-    → is_passed_over (words_of l) ≡ false → item_in (words_of l) ≡ Some (item.Frame address) → address < 2 ^ 64
+    → is_passed_over (words_of l) ≡ false → item_in (words_of l) ≡ Ok (item.Frame address) → address < 2 ^ 64
     → Advances before l ls n (item_read (n + 1) (item.Frame address) o)
 frame_advances before l ls n None address h seen found low = line_fails before l ls n None Order h seen (item.Frame address, found, refl)
 frame_advances before l ls n (Some o) address h seen found low = by_events o.events refl
@@ -313,16 +314,16 @@ advances : (before : List (List ℕ)) (l : List ℕ) (ls : List (List ℕ)) (n :
     → Advances before l ls n (words_read (n + 1) (words_of l) o)
 advances before l ls n o h = by_case (is_passed_over (words_of l)) refl
   where
-    by_item : (i : Item) → is_passed_over (words_of l) ≡ false → item_in (words_of l) ≡ Some i → ItemInRange i
+    by_item : (i : Item) → is_passed_over (words_of l) ≡ false → item_in (words_of l) ≡ Ok i → ItemInRange i
         → Advances before l ls n (item_read (n + 1) i o)
     by_item (item.Segment head) e found low = header_advances before l ls n o head h e found low
     by_item (item.Event event) e found low = event_advances before l ls n o event h e found low
     by_item (item.Frame address) e found low = frame_advances before l ls n o address h e found low
 
-    by_form : (i : Option Item) → is_passed_over (words_of l) ≡ false → item_in (words_of l) ≡ i → OnSome i ItemInRange
-        → Advances before l ls n (form_read (n + 1) i o)
-    by_form None e found low = line_fails before l ls n o Form h e found
-    by_form (Some i) e found low = by_item i e found low
+    by_form : (r : Result Item FormFault) → is_passed_over (words_of l) ≡ false → item_in (words_of l) ≡ r → IfOk r ItemInRange
+        → Advances before l ls n (form_read (n + 1) r o)
+    by_form (Err fault) e found low = line_fails before l ls n o (Form fault) h e found
+    by_form (Ok i) e found low = by_item i e found low
 
     by_case : (b : Bool) → is_passed_over (words_of l) ≡ b
         → Advances before l ls n (if b then Ok o else form_read (n + 1) (item_in (words_of l)) o)

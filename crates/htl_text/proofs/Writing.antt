@@ -1,6 +1,6 @@
 -- Which items lines have that stand one after the other.
 use Rattle.std.proofs.Common.{◌≡◌, ℕ, true, false, List, [], ◌∷◌, ◌++◌, refl, ap, sym, ◌∙◌}
-use Rattle.std.specs.Prelude.{Some, filter, map, not}
+use Rattle.std.specs.Prelude.{Ok, filter, map, not}
 use Rattle.std.specs.List.{flat_map}
 use Rattle.std.proofs.lemmas.Grind.{flat_map-append}
 use Rattle.std.proofs.lemmas.List.{map-append, append_assoc, append-nil}
@@ -23,7 +23,7 @@ kept-append a b =
 
 pub write_append : (a b : List (List ℕ)) (is js : List Item) → Write a is → Write b js → Write (a ++ b) (is ++ js)
 write_append a b is js ha hb =
-    ap (map item_in) (kept-append a b) ∙ (map-append item_in (kept a) (kept b) ∙ (rw (ha, hb) (sym (map-append Some is js))))
+    ap (map item_in) (kept-append a b) ∙ (map-append item_in (kept a) (kept b) ∙ (rw (ha, hb) (sym (map-append Ok is js))))
 
 pub kept_passed : (l : List ℕ) (ls : List (List ℕ)) → is_passed_over (words_of l) ≡ true → kept (l ∷ ls) ≡ kept ls
 unfolding kept
@@ -40,7 +40,7 @@ kept_nil = refl
 pub write_none : (l : List ℕ) → is_passed_over (words_of l) ≡ true → Write (l ∷ []) []
 write_none l e = rw (kept_passed l [] e, kept_nil) refl
 
-pub write_one : (l : List ℕ) (i : Item) → is_passed_over (words_of l) ≡ false → item_in (words_of l) ≡ Some i → Write (l ∷ []) (i ∷ [])
+pub write_one : (l : List ℕ) (i : Item) → is_passed_over (words_of l) ≡ false → item_in (words_of l) ≡ Ok i → Write (l ∷ []) (i ∷ [])
 write_one l i e is = rw (kept_one l [] e, kept_nil) (ap (λ o. o ∷ []) is)
 
 -- a line that says nothing more
@@ -49,7 +49,7 @@ write_passed a l is h e = rw (← append-nil is) (write_append a (l ∷ []) is [
 
 -- a line more with its item
 pub write_more : (a : List (List ℕ)) (l : List ℕ) (is : List Item) (i : Item) → Write a is → is_passed_over (words_of l) ≡ false
-    → item_in (words_of l) ≡ Some i → Write (a ++ l ∷ []) (is ++ i ∷ [])
+    → item_in (words_of l) ≡ Ok i → Write (a ++ l ∷ []) (is ++ i ∷ [])
 write_more a l is i h e found = write_append a (l ∷ []) is (i ∷ []) h (write_one l i e found)
 
 -- the items of a draft with an event more, and of one with a frame more

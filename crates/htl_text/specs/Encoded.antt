@@ -1,7 +1,8 @@
 -- What a text encodes, or else its first fault (this project's own). A fault of a line is found there, and one of
 -- a segment where the segment ends.
-use Rattle.std.specs.Prelude.{◌≡◌, ◌⊎◌, ◌&&◌, ℕ, ◌+◌, Bool, true, false, not, List, [], ◌∷◌, ◌++◌, Option, Some, None, All, filter}
-use Rattle.std.specs.Prelude.{length, map}
+use Rattle.std.specs.Prelude.{◌≡◌, ◌⊎◌, ◌&&◌, ℕ, ◌+◌, Bool, true, false, not, List, [], ◌∷◌, ◌++◌, Option, Some, None}
+use Rattle.std.specs.Prelude.{Result, Ok, Err, All, filter}
+use Rattle.std.specs.Prelude.{if◌then◌else◌, length, map, nat_lt, option_and_then, slice_get}
 use Rattle.htl_event.specs.Events.{Event}
 use Rattle.htl_segment.specs.Content.{Content, Fits}
 use Rattle.htl_segment.specs.Building.{build_fault}
@@ -9,11 +10,12 @@ use Rattle.htl_segment.specs.Reading.{version_of}
 use Rattle.htl_segment.specs.declared.version.Version.{Version}
 use Rattle.htl_segment.specs.declared.fault.Fault.{Fault}
 use Rattle.htl_segment.specs.declared.fault.Fault.TheVariants as faults
-use Rattle.htl_text.specs.Items.{Draft, draft_items, segments_items}
+use Rattle.htl_text.specs.Items.{Draft, draft_items, segments_items, without_stack}
 use Rattle.htl_text.specs.Lines.{text_lines, words_of, is_passed_over, item_in}
 use Rattle.htl_text.specs.declared.item.Head.{Head}
 use Rattle.htl_text.specs.declared.item.Item.{Item}
 use Rattle.htl_text.specs.declared.item.Item.TheVariants as item
+use Rattle.htl_text.specs.declared.fault.FormFault.{FormFault}
 use Rattle.htl_text.specs.declared.fault.LineFault.{LineFault}
 use Rattle.htl_text.specs.declared.fault.LineFault.TheVariants.{Form, Order, Segment}
 use Rattle.htl_text.specs.declared.fault.TextFault.{TextFault}
@@ -25,7 +27,7 @@ kept lines = filter (λ ws. not (is_passed_over ws)) (map words_of lines)
 
 -- the lines that aren't passed over have these items
 abbrev pub Write : List (List ℕ) → List Item → Type 0
-Write lines items = map item_in (kept lines) ≡ map Some items
+Write lines items = map item_in (kept lines) ≡ map Ok items
 
 -- the lines encode segments: they have their items, and the format can encode them
 pub record LinesEncode (lines : List (List ℕ)) (segments : List Content) : Type 0 where
@@ -93,8 +95,8 @@ is_misplaced (Some so_far) i = is_frame i && is_none_yet so_far.1.events
 
 -- a line with these words has this fault, after what was written
 abbrev pub IsBad : Written → List (List ℕ) → LineFault → Type 0
-IsBad written ws Form = item_in ws ≡ None
-IsBad written ws Order = (i : Item) × (item_in ws ≡ Some i) × (is_misplaced written i ≡ true)
+IsBad written ws (Form fault) = item_in ws ≡ Err fault
+IsBad written ws Order = (i : Item) × (item_in ws ≡ Ok i) × (is_misplaced written i ≡ true)
 IsBad written ws (Segment fault) = ⊥
 
 -- Lines without a fault, and then one that has a fault.
@@ -110,9 +112,9 @@ pub record IsLineFault (lines : List (List ℕ)) (line : ℕ) (fault : LineFault
   pub read : is_passed_over (words_of bad) ≡ false
   pub is_bad : IsBad so_far (words_of bad) fault
 
-abbrev pub begins_segment : Option Item → Bool
-begins_segment (Some i) = is_header i
-begins_segment None = false
+abbrev pub begins_segment : Result Item FormFault → Bool
+begins_segment (Ok i) = is_header i
+begins_segment (Err fault) = false
 
 -- a segment ends before these lines: no line is left that isn't passed over, or the first of them begins another
 abbrev pub ends_before : List (List (List ℕ)) → Bool
@@ -138,12 +140,48 @@ pub record IsSegmentFault (lines : List (List ℕ)) (line : ℕ) (fault : Fault)
 
 -- the first fault of lines, and the line at which it is reported, from 1
 abbrev pub LinesFault : List (List ℕ) → ℕ → LineFault → Type 0
-LinesFault lines line Form = IsLineFault lines line Form
+LinesFault lines line (Form fault) = IsLineFault lines line (Form fault)
 LinesFault lines line Order = IsLineFault lines line Order
 LinesFault lines line (Segment fault) = IsSegmentFault lines line fault
 
 abbrev pub FirstFault : List ℕ → ℕ → LineFault → Type 0
 FirstFault text line fault = LinesFault (text_lines text) line fault
+
+-- the record that a fault of a segment is about
+abbrev pub record_of : Fault → Option ℕ
+record_of (faults.RecordShort place) = Some place
+record_of (faults.Sequence place) = Some place
+record_of (faults.Kind place) = Some place
+record_of (faults.Frames place) = Some place
+record_of (faults.Field place) = Some place
+record_of fault = None
+
+abbrev pub event_lines_from : ℕ → Result Item FormFault → List ℕ → List ℕ
+event_lines_from line (Ok (item.Segment head)) later = []
+event_lines_from line (Ok (item.Event e)) later = line ∷ later
+event_lines_from line (Ok (item.Frame address)) later = later
+event_lines_from line (Err fault) later = later
+
+-- The numbers of the lines, from 1, that have the events of the segment that begins at a line: those behind it, up to
+-- the next that begins a segment. The lines given follow n others.
+unfoldable pub event_lines : ℕ → ℕ → List (List ℕ) → List ℕ
+event_lines segment n [] = []
+event_lines segment n (l ∷ ls) =
+    if nat_lt segment (n + 1) then event_lines_from (n + 1) (item_in (words_of l)) (event_lines segment (n + 1) ls)
+    else event_lines segment (n + 1) ls
+
+-- the line of the event that a fault is about, which is reported at a line, where it is about one
+abbrev pub event_line : List ℕ → ℕ → LineFault → Option ℕ
+event_line text line (Form fault) = None
+event_line text line Order = None
+event_line text line (Segment fault) = option_and_then (slice_get (event_lines line 0 (text_lines text))) (record_of fault)
+
+-- the line of this number is there, and has this event
+abbrev pub HasEvent : List (List ℕ) → Option Event → Option ℕ → Type 0
+HasEvent lines (Some e) (Some line) =
+    (before : ℕ) × (l : List ℕ) × (line ≡ before + 1) × (slice_get lines before ≡ Some l)
+    × (item_in (words_of l) ≡ Ok (item.Event (without_stack e)))
+HasEvent lines e line = ⊥
 
 -- the first of these lines begins a segment
 abbrev pub begins : List (List (List ℕ)) → Bool

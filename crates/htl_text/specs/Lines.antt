@@ -1,16 +1,19 @@
--- Which item a line of a text has (this project's own). A line is what stands between line feeds, without
+-- Which item a line of a text has (this project's own), or else why it has none. A line is what stands between line feeds, without
 -- one carriage return at its end, and counts by its words alone: blanks and tabs before, between and after them
 -- may be any number.
-use Rattle.std.specs.Prelude.{◌-◌, ◌^◌, ◌||◌, ◌==◌, ℕ, Bool, true, false, List, [], ◌∷◌, Option, Some, None, codes, drop, filter}
-use Rattle.std.specs.Prelude.{if◌then◌else◌, length, map, nat_eq, option_and_then, option_map}
-use Rattle.std.specs.List.{list_all, slice_split, starts_with}
-use Rattle.std.specs.Int.{to_be_bytes, w32}
+use Rattle.std.specs.Prelude.{◌||◌, ◌==◌, ℕ, Bool, true, false, List, [], ◌∷◌, Option, Some, None, Result, Ok, Err, codes, drop, filter}
+use Rattle.std.specs.Prelude.{if◌then◌else◌, map, nat_eq}
+use Rattle.std.specs.List.{slice_split, starts_with}
 use Rattle.std.specs.Str.{bytes_eq}
 use Rattle.std.specs.Str.Lines.{strip_carriage_return}
 use Rattle.htl_event.specs.declared.kind.Kind.{Kind}
 use Rattle.htl_event.specs.declared.kind.Kind.TheVariants.{Opened, Closed, BadRef, Snapshot, Ref, Deref, Exited}
-use Rattle.htl_numbers.specs.Numbers.{decimal_number, hexadecimal_number}
-use Rattle.htl_text.specs.Texts.{is_visible}
+use Rattle.htl_text.specs.Fields.{Values, no_values, read_field}
+use Rattle.htl_text.specs.declared.fault.FormFault.{FormFault}
+use Rattle.htl_text.specs.declared.fault.FormFault.TheVariants.{Words as no_form, Field as bad_field}
+use Rattle.htl_text.specs.declared.field.Field.{Field}
+use Rattle.htl_text.specs.declared.field.Field.TheVariants.{Version, Trace, Processors, Processor, Number}
+use Rattle.htl_text.specs.declared.field.Field.TheVariants.{Handle, Object, Tag, Sequence, Process, Thread, Frame}
 use Rattle.htl_text.specs.declared.item.Item.{Item}
 use Rattle.htl_text.specs.declared.item.Item.TheVariants as item
 
@@ -42,122 +45,93 @@ unfoldable pub is_passed_over : List (List ℕ) → Bool
 is_passed_over [] = true
 is_passed_over (w ∷ ws) = starts_with nat_eq w (codes "#")
 
--- an object or a trace, as it is written on a command line too: 1 to 16 hexadecimal digits of either case, after an optional `0x`
-abbrev pub address_value : List ℕ → Option ℕ
-address_value = hexadecimal_number (2 ^ 64 - 1)
+-- a form of lines: its fields, in their order, and the item that their values say
+pub record Form : Type 0 where
+  pub fields : List Field
+  pub says : Values → Item
 
--- a handle: the same, at most 0xffffffff
-abbrev pub handle_value : List ℕ → Option ℕ
-handle_value = hexadecimal_number (2 ^ 32 - 1)
+abbrev pub segment_form : Form
+segment_form = record {
+  fields = Version ∷ Trace ∷ Processors ∷ Processor ∷ Number ∷ [];
+  says = λ v. item.Segment (record {
+    version = v.version;
+    trace_id = v.trace;
+    processors = v.processors;
+    processor = v.processor;
+    number = v.number;
+  });
+}
 
--- a number whose `0x` tells it from other words
-unfoldable pub marked_value : ℕ → List ℕ → Option ℕ
-marked_value most text = if starts_with nat_eq text (codes "0x") then hexadecimal_number most text else None
+-- what an event of each kind is about, and then when it was and whose it is
+abbrev pub event_fields : Kind → List Field
+event_fields Opened = Handle ∷ Sequence ∷ Process ∷ Thread ∷ []
+event_fields Closed = Handle ∷ Sequence ∷ Process ∷ Thread ∷ []
+event_fields BadRef = Handle ∷ Sequence ∷ Process ∷ Thread ∷ []
+event_fields Snapshot = Sequence ∷ Process ∷ Thread ∷ []
+event_fields Exited = Sequence ∷ Process ∷ Thread ∷ []
+event_fields Ref = Object ∷ Tag ∷ Sequence ∷ Process ∷ Thread ∷ []
+event_fields Deref = Object ∷ Tag ∷ Sequence ∷ Process ∷ Thread ∷ []
 
-abbrev pub frame_value : List ℕ → Option ℕ
-frame_value = marked_value (2 ^ 64 - 1)
+abbrev pub event_form : Kind → Form
+event_form kind = record {
+  fields = event_fields kind;
+  says = λ v. item.Event (record {
+    sequence = v.sequence;
+    kind = kind;
+    process = v.process;
+    thread = v.thread;
+    handle = v.handle;
+    object = v.object;
+    tag = v.tag;
+    stack = tt;
+  });
+}
 
--- a tag: four printable bytes, which are the tag, or `0x` and eight digits, two for each byte
-unfoldable pub tag_value : List ℕ → Option (List ℕ)
-tag_value text =
-    if length text == 4 then (if list_all is_visible text then Some text else None)
-    else (if length text == 10 then option_map (to_be_bytes w32) (marked_value (2 ^ 32 - 1) text) else None)
-
--- what follows the key in a word that begins with it
-unfoldable pub after_key : List ℕ → List ℕ → Option (List ℕ)
-after_key key word = if starts_with nat_eq word key then Some (drop (length key) word) else None
-
--- what stands after the key in the first word, and the words that follow it
-unfoldable pub keyed : List ℕ → List (List ℕ) → Option (List ℕ × List (List ℕ))
-keyed key [] = None
-keyed key (w ∷ ws) = option_map (λ text. (text, ws)) (after_key key w)
-
--- the value that stands there, and the words that follow it
-abbrev pub value_first : {A : Type 0} → (List ℕ → Option A) → Option (List ℕ × List (List ℕ)) → Option (A × List (List ℕ))
-value_first value None = None
-value_first value (Some found) = option_map (λ a. (a, found.1)) (value found.0)
-
-unfoldable pub field : {A : Type 0} → List ℕ → (List ℕ → Option A) → List (List ℕ) → Option (A × List (List ℕ))
-field key value ws = value_first value (keyed key ws)
-
--- goes on with what was read, if it was
-abbrev pub after : {A B : Type 0} → Option A → (A → Option B) → Option B
-after read next = option_and_then next read
-
--- no word follows
-abbrev pub ended : List (List ℕ) → Item → Option Item
-ended [] i = Some i
-ended (w ∷ ws) i = None
-
-abbrev pub no_tag : List ℕ
-no_tag = 0 ∷ 0 ∷ 0 ∷ 0 ∷ []
-
--- the last words of a segment's line
-unfoldable pub place_in : ℕ → ℕ → List (List ℕ) → Option Item
-place_in version trace_id ws =
-    after (field (codes "processors=") (decimal_number 0xFFFF) ws) (λ (processors, ws).
-    after (field (codes "processor=") (decimal_number 0xFFFF) ws) (λ (processor, ws).
-    after (field (codes "number=") (decimal_number 0xFFFFFFFF) ws) (λ (number, ws).
-    ended ws (item.Segment (record {
-      version = version;
-      trace_id = trace_id;
-      processors = processors;
-      processor = processor;
-      number = number;
-    })))))
-
--- the words after `segment`
-unfoldable pub head_in : List (List ℕ) → Option Item
-head_in ws =
-    after (field (codes "version=") (decimal_number 0xFFFF) ws) (λ (version, ws).
-    after (field (codes "trace=") address_value ws) (λ (trace_id, ws). place_in version trace_id ws))
-
--- the last words of an event
-unfoldable pub event_in : Kind → ℕ → ℕ → List ℕ → List (List ℕ) → Option Item
-event_in kind handle object tag ws =
-    after (field (codes "seq=") (decimal_number (2 ^ 64 - 1)) ws) (λ (sequence, ws).
-    after (field (codes "process=") (decimal_number (2 ^ 32 - 1)) ws) (λ (process, ws).
-    after (field (codes "thread=") (decimal_number (2 ^ 32 - 1)) ws) (λ (thread, ws).
-    ended ws (item.Event (record {
-      sequence = sequence;
-      kind = kind;
-      process = process;
-      thread = thread;
-      handle = handle;
-      object = object;
-      tag = tag;
-      stack = tt;
-    })))))
-
--- the words after that of an event about a handle
-unfoldable pub handle_event_in : Kind → List (List ℕ) → Option Item
-handle_event_in kind ws = after (field (codes "handle=") handle_value ws) (λ (handle, ws). event_in kind handle 0 no_tag ws)
-
--- the words after that of an event about an object
-unfoldable pub object_event_in : Kind → List (List ℕ) → Option Item
-object_event_in kind ws =
-    after (field (codes "object=") address_value ws) (λ (object, ws).
-    after (field (codes "tag=") tag_value ws) (λ (tag, ws). event_in kind 0 object tag ws))
+abbrev pub frame_form : Form
+frame_form = record { fields = Frame ∷ []; says = λ v. item.Frame v.frame }
 
 -- the words after `BAD`
-unfoldable pub bad_reference_in : List (List ℕ) → Option Item
-bad_reference_in [] = None
-bad_reference_in (w ∷ ws) = if bytes_eq w (codes "REF") then handle_event_in BadRef ws else None
+abbrev pub bad_form : List (List ℕ) → Option (Form × List (List ℕ))
+bad_form [] = None
+bad_form (w ∷ ws) = if bytes_eq w (codes "REF") then Some (event_form BadRef, ws) else None
 
--- a frame is one word
-unfoldable pub frame_in : List ℕ → List (List ℕ) → Option Item
-frame_in w ws = after (frame_value w) (λ address. ended ws (item.Frame address))
+-- the form whose words stand first, and the words of its fields; a frame has no word of its own, but begins with `0x`
+unfoldable pub form_of : List (List ℕ) → Option (Form × List (List ℕ))
+form_of [] = None
+form_of (w ∷ ws) =
+    if bytes_eq w (codes "segment") then Some (segment_form, ws)
+    else if bytes_eq w (codes "OPEN") then Some (event_form Opened, ws)
+    else if bytes_eq w (codes "CLOSE") then Some (event_form Closed, ws)
+    else if bytes_eq w (codes "BAD") then bad_form ws
+    else if bytes_eq w (codes "SNAPSHOT") then Some (event_form Snapshot, ws)
+    else if bytes_eq w (codes "EXIT") then Some (event_form Exited, ws)
+    else if bytes_eq w (codes "REF") then Some (event_form Ref, ws)
+    else if bytes_eq w (codes "DEREF") then Some (event_form Deref, ws)
+    else if starts_with nat_eq w (codes "0x") then Some (frame_form, w ∷ ws)
+    else None
+
+abbrev pub ended : List (List ℕ) → Values → Result Values FormFault
+ended [] v = Ok v
+ended (w ∷ ws) v = Err no_form
+
+-- goes on with what was read of a field, or names it
+abbrev pub after : Field → Option (Values × List (List ℕ)) → (List (List ℕ) → Values → Result Values FormFault) → Result Values FormFault
+after f None next = Err (bad_field f)
+after f (Some read) next = next read.1 read.0
+
+-- what words say that have these fields in this order, and no word more; or else which field is the first that they don't have
+unfoldable pub values_in : List Field → List (List ℕ) → Values → Result Values FormFault
+values_in [] ws v = ended ws v
+values_in (f ∷ fs) ws v = after f (read_field f ws v) (values_in fs)
+
+abbrev pub said_by : (Values → Item) → Result Values FormFault → Result Item FormFault
+said_by says (Ok v) = Ok (says v)
+said_by says (Err fault) = Err fault
+
+abbrev pub item_by : Option (Form × List (List ℕ)) → Result Item FormFault
+item_by None = Err no_form
+item_by (Some found) = said_by found.0.says (values_in found.0.fields found.1 no_values)
 
 -- the item of a line with these words, if it has one of the forms
-unfoldable pub item_in : List (List ℕ) → Option Item
-item_in [] = None
-item_in (w ∷ ws) =
-    if bytes_eq w (codes "segment") then head_in ws
-    else if bytes_eq w (codes "OPEN") then handle_event_in Opened ws
-    else if bytes_eq w (codes "CLOSE") then handle_event_in Closed ws
-    else if bytes_eq w (codes "BAD") then bad_reference_in ws
-    else if bytes_eq w (codes "SNAPSHOT") then event_in Snapshot 0 0 no_tag ws
-    else if bytes_eq w (codes "EXIT") then event_in Exited 0 0 no_tag ws
-    else if bytes_eq w (codes "REF") then object_event_in Ref ws
-    else if bytes_eq w (codes "DEREF") then object_event_in Deref ws
-    else frame_in w ws
+unfoldable pub item_in : List (List ℕ) → Result Item FormFault
+item_in ws = item_by (form_of ws)

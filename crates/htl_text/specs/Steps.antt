@@ -15,6 +15,7 @@ use Rattle.htl_text.specs.Encoded.{begins, content_of, draft_fault, IsSegmentOf,
 use Rattle.htl_text.specs.declared.item.Head.{Head}
 use Rattle.htl_text.specs.declared.item.Item.{Item}
 use Rattle.htl_text.specs.declared.item.Item.TheVariants as item
+use Rattle.htl_text.specs.declared.fault.FormFault.{FormFault}
 use Rattle.htl_text.specs.declared.fault.LineFault.{LineFault}
 use Rattle.htl_text.specs.declared.fault.LineFault.TheVariants.{Form, Order, Segment}
 use Rattle.htl_text.specs.declared.fault.TextFault.{TextFault}
@@ -135,9 +136,9 @@ after_item line (item.Segment head) p = reopened line head (closed p)
 after_item line (item.Event e) p = after_event line e p.bytes p.draft
 after_item line (item.Frame address) p = after_frame line address p.bytes p.draft
 
-abbrev pub after_form : ℕ → Option Item → Progress → Result Progress (ℕ × LineFault)
-after_form line None p = Err (line, Form)
-after_form line (Some i) p = after_item line i p
+abbrev pub after_form : ℕ → Result Item FormFault → Progress → Result Progress (ℕ × LineFault)
+after_form line (Err fault) p = Err (line, Form fault)
+after_form line (Ok i) p = after_item line i p
 
 -- what a line with these words does
 unfoldable pub after_words : ℕ → List (List ℕ) → Progress → Result Progress (ℕ × LineFault)

@@ -5,7 +5,8 @@ ghost use Rattle.std.specs.Str.Lines.{strip_carriage_return};
 ghost use Rattle.htl_segment.specs.Bundles.{bundle};
 ghost use Rattle.htl_segment.specs.Content.{Content};
 ghost use Rattle.htl_text.specs.declared.fault.LineFault.{LineFault};
-ghost use Rattle.htl_text.specs.Encoded.{Encodes, FirstFault, IsOrNoMemory, IsRefused, kept};
+ghost use Rattle.htl_text.specs.Encoded.{Encodes, event_lines, FirstFault, IsOrNoMemory};
+ghost use Rattle.htl_text.specs.Encoded.{IsRefused, kept};
 ghost use Rattle.htl_text.specs.Lines.{lines_of, without_mark};
 ghost use Rattle.htl_text.specs.Steps.{read, nothing_read, NeedsSegment, Reports};
 ghost use Rattle.htl_text.specs.Steps.{StartsWithLine};
@@ -47,7 +48,7 @@ pub fn encode(alloc: Global, text: &[u8]) -> Result<Vec<u8>, TextFault>
 
 /// The text without a byte order mark at its beginning.
 #[tactic(auto, unfolding(crate::specs::Lines::without_mark))]
-fn without_mark(text: &[u8]) -> &[u8]
+pub(crate) fn without_mark(text: &[u8]) -> &[u8]
     ensures { result.now ≡ without_mark text.entry.now }
 {
     text.strip_prefix(b"\xef\xbb\xbf").unwrap_or(text)
@@ -73,10 +74,12 @@ fn read_text(alloc: Global, text: &[u8]) -> Result<Vec<u8>, TextFault>
 }
 
 /// The first line of a text, and what follows it.
-fn split_line(text: &[u8]) -> (&[u8], &[u8])
+pub(crate) fn split_line(text: &[u8]) -> (&[u8], &[u8])
     requires { 0 < length text.now }
     ensures line { StartsWithLine text.now result.0.now result.1.now }
     ensures kept { kept (lines_of text.now) ≡ kept (result.0.now ∷ lines_of result.1.now) }
+    ensures events { (segment n : ℕ) → event_lines segment n (lines_of text.now)
+        ≡ event_lines segment n (result.0.now ∷ lines_of result.1.now) }
     ensures shorter { length result.1.now < length text.now }
 {
     let (line, rest) = text.split_at(line_end(text));
@@ -152,8 +155,8 @@ impl Reader {
             return Ok(());
         }
         match item(line) {
-            Some(item) => self.take(number, item),
-            None => Err(TextFault::Line(number, LineFault::Form)),
+            Ok(item) => self.take(number, item),
+            Err(fault) => Err(TextFault::Line(number, LineFault::Form(fault))),
         }
     }
 

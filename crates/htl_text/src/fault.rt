@@ -2,17 +2,30 @@
 ghost use Rattle.std.specs.Prelude.{◌≡◌};
 ghost use Rattle.htl_text.specs.declared.fault.TextFault.TheVariants.{NoMemory as no_memory};
 
+use crate::field::Field;
 use htl_event::NoMemory;
 use htl_segment::Fault;
 use std::alloc::{AllocError, AllocFailed};
 use thiserror::Error;
 
+/// Why a line has none of the forms. The text is the fault's code.
+#[derive(Clone, Copy, Debug, PartialEq, Eq, Error)]
+pub enum FormFault {
+    /// No form begins with the line's first words, or words follow its last field.
+    #[error("E1")]
+    Words,
+    /// A form begins with the line's first words, and this is the first of its fields that isn't
+    /// there, or whose value isn't one that fits.
+    #[error("E1({0})")]
+    Field(Field),
+}
+
 /// What is wrong with a line. The text is the fault's code.
 #[derive(Clone, Copy, Debug, PartialEq, Eq, Error)]
 pub enum LineFault {
-    /// The line has none of the forms, or a number that doesn't fit its field.
-    #[error("E1")]
-    Form,
+    /// The line has none of the forms.
+    #[error("{0}")]
+    Form(FormFault),
     /// An event or a frame before any segment, or a frame before any event of its segment.
     #[error("E2")]
     Order,

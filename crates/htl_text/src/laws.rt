@@ -1,9 +1,11 @@
 //! The laws of the text form. Each function's contract is the law; none does anything when it runs.
-ghost use Rattle.std.specs.Prelude.{◌≡◌, ◌⊎◌, ℕ, List, [], flat_map};
+ghost use Rattle.std.specs.Prelude.{◌≡◌, ◌⊎◌, ℕ, List, [], Some, flat_map, slice_get};
 ghost use Rattle.htl_segment.specs.Bundles.{bundle, Splits};
 ghost use Rattle.htl_segment.specs.Content.{Content};
+ghost use Rattle.htl_segment.specs.declared.fault.Fault.{Fault};
 ghost use Rattle.htl_text.specs.declared.fault.LineFault.{LineFault};
-ghost use Rattle.htl_text.specs.Encoded.{Encodes, FirstFault, kept};
+ghost use Rattle.htl_text.specs.Encoded.{Encodes, event_line, FirstFault, HasEvent};
+ghost use Rattle.htl_text.specs.Encoded.{IsSegmentFault, kept, record_of};
 ghost use Rattle.htl_text.specs.Lines.{text_lines};
 ghost use Rattle.htl_text.specs.Texts.{segment_text};
 
@@ -17,6 +19,15 @@ pub fn a_text_is_read_in_one_way()
         → Encodes text ss → FirstFault text n f → ⊥ }
     ensures some { (text : List ℕ) → ((ss : List Content) × Encodes text ss)
         ⊎ ((n : ℕ) × (f : LineFault) × FirstFault text n f) }
+{}
+
+/// Where the fault of a segment is about an event, the line that is said of it is there, and has the
+/// event of that place of the segment.
+pub fn a_fault_of_an_event_has_its_line()
+    ensures { (text : List ℕ) (line place : ℕ) (fault : Fault)
+        → (found : IsSegmentFault (text_lines text) line fault) → record_of fault ≡ Some place
+        → HasEvent (text_lines text) (slice_get found.draft.events place)
+        (event_line text line (LineFault.Segment fault)) }
 {}
 
 /// What was dumped is encoded to the same bytes: the texts of a bundle's segments, one after

@@ -1,12 +1,17 @@
-//! The values of words, and words that are a key and its value.
-ghost use Rattle.std.specs.Prelude.{◌≡◌, ◌≤◌, codes, IfSome, MatchOption, None, Some};
+//! The values of words, and words that are a field and its value.
+ghost use Rattle.std.specs.Prelude.{◌≡◌, ◌≤◌, IfOk, IfSome, MatchOption, MatchResult, None, Some};
 ghost use Rattle.htl_numbers.specs.Numbers.{decimal_number, hexadecimal_number, without_0x};
-ghost use Rattle.htl_text.specs.Lines.{address_value, field, frame_value, handle_value, keyed};
-ghost use Rattle.htl_text.specs.Lines.{marked_value, tag_value, words_of};
+ghost use Rattle.htl_text.specs.declared.fault.FormFault.{FormFault};
+ghost use Rattle.htl_text.specs.declared.field.Field.TheVariants.{Handle, Tag};
+ghost use Rattle.htl_text.specs.Fields.{address_value, first_text, first_value, frame_value};
+ghost use Rattle.htl_text.specs.Fields.{handle_value, marked_value, tag_value};
+ghost use Rattle.htl_text.specs.Lines.{words_of};
 
 use crate::digits;
 use crate::dumping::all_visible;
-use crate::words::{after_key, first_word};
+use crate::fault::FormFault;
+use crate::field::Field;
+use crate::words::{after_bytes, first_word};
 
 /// How many digits a hexadecimal number has at most.
 const MAX_HEX_DIGITS: usize = 16;
@@ -42,7 +47,7 @@ fn without_0x(text: &[u8]) -> &[u8]
 }
 
 /// The same number, of digits that have `0x` before them.
-#[tactic(auto, unfolding(crate::specs::Lines::marked_value))]
+#[tactic(auto, unfolding(crate::specs::Fields::marked_value))]
 fn marked_value(text: &[u8], most: u64) -> Option<u64>
     ensures value { result ≡ marked_value most text.now }
     ensures bound { IfSome result (λ n. n ≤ most) }
@@ -76,7 +81,7 @@ pub(crate) fn frame_value(text: &[u8]) -> Option<u64>
 }
 
 /// A tag's bytes, in the order in which they are shown.
-#[tactic(auto, unfolding(crate::specs::Lines::tag_value))]
+#[tactic(auto, unfolding(crate::specs::Fields::tag_value))]
 fn tag_value(text: &[u8]) -> Option<[u8; 4]>
     ensures { result ≡ tag_value text.now }
 {
@@ -90,63 +95,77 @@ fn tag_value(text: &[u8]) -> Option<[u8; 4]>
     None
 }
 
-/// What stands after the key in the first word, and the words that follow it.
-#[tactic(auto, unfolding(crate::specs::Lines::keyed))]
-fn keyed<'a>(words: &'a [u8], key: &[u8]) -> Option<(&'a [u8], &'a [u8])>
+/// What the first word has of a field, after its name and `=`, and the words that follow it.
+#[tactic(auto, unfolding(crate::specs::Fields::first_text))]
+fn first_text<'a>(words: &'a [u8], field: Field) -> Option<(&'a [u8], &'a [u8])>
     ensures { MatchOption result
-        (keyed key.now (words_of words.entry.now) ≡ None)
-        (λ found. keyed key.now (words_of words.entry.now)
+        (first_text field (words_of words.entry.now) ≡ None)
+        (λ found. first_text field (words_of words.entry.now)
         ≡ Some (found.0.now, words_of found.1.now)) }
 {
     let (word, words) = first_word(words)?;
-    Some((after_key(word, key)?, words))
+    let value = after_bytes(word, field.name().as_bytes())?;
+    Some((after_bytes(value, b"=")?, words))
 }
 
-/// A decimal number after its key, at most `most`, and the words that follow.
-#[tactic(auto, unfolding(crate::specs::Lines::field))]
-pub(crate) fn number<'a>(words: &'a [u8], key: &[u8], most: u64) -> Option<(u64, &'a [u8])>
-    ensures value { MatchOption result
-        (field key.now (decimal_number most) (words_of words.entry.now) ≡ None)
-        (λ found. field key.now (decimal_number most) (words_of words.entry.now)
-        ≡ Some (found.0, words_of found.1.now)) }
-    ensures bound { IfSome result (λ found. found.0 ≤ most) }
+/// The decimal number that the first word has of a field, at most `most`, and the words that
+/// follow; or the field that it doesn't have.
+#[tactic(auto, unfolding(crate::specs::Fields::first_value))]
+pub(crate) fn number<'a>(
+    words: &'a [u8],
+    field: Field,
+    most: u64,
+) -> Result<(u64, &'a [u8]), FormFault>
+    ensures value { MatchResult result
+        (λ found. first_value field (decimal_number most) (words_of words.entry.now)
+        ≡ Some (found.0, words_of found.1.now))
+        (λ fault. (first_value field (decimal_number most) (words_of words.entry.now) ≡ None)
+        × (fault ≡ FormFault.Field field)) }
+    ensures bound { IfOk result (λ found. found.0 ≤ most) }
 {
-    let (value, words) = keyed(words, key)?;
-    Some((decimal_value(value, most)?, words))
+    let missing = FormFault::Field(field);
+    let (text, words) = first_text(words, field).ok_or(missing)?;
+    Ok((decimal_value(text, most).ok_or(missing)?, words))
 }
 
-/// An object or a trace after its key, and the words that follow.
-#[tactic(auto, unfolding(crate::specs::Lines::field))]
-pub(crate) fn address<'a>(words: &'a [u8], key: &[u8]) -> Option<(u64, &'a [u8])>
-    ensures { MatchOption result
-        (field key.now address_value (words_of words.entry.now) ≡ None)
-        (λ found. field key.now address_value (words_of words.entry.now)
-        ≡ Some (found.0, words_of found.1.now)) }
+/// The same of a field that is an object or a trace.
+#[tactic(auto, unfolding(crate::specs::Fields::first_value))]
+pub(crate) fn address<'a>(words: &'a [u8], field: Field) -> Result<(u64, &'a [u8]), FormFault>
+    ensures { MatchResult result
+        (λ found. first_value field address_value (words_of words.entry.now)
+        ≡ Some (found.0, words_of found.1.now))
+        (λ fault. (first_value field address_value (words_of words.entry.now) ≡ None)
+        × (fault ≡ FormFault.Field field)) }
 {
-    let (value, words) = keyed(words, key)?;
-    Some((address_value(value)?, words))
+    let missing = FormFault::Field(field);
+    let (text, words) = first_text(words, field).ok_or(missing)?;
+    Ok((address_value(text).ok_or(missing)?, words))
 }
 
-/// A handle after its key, and the words that follow.
-#[tactic(auto, unfolding(crate::specs::Lines::field))]
-pub(crate) fn handle(words: &[u8]) -> Option<(u32, &[u8])>
-    ensures { MatchOption result
-        (field (codes "handle=") handle_value (words_of words.entry.now) ≡ None)
-        (λ found. field (codes "handle=") handle_value (words_of words.entry.now)
-        ≡ Some (found.0, words_of found.1.now)) }
+/// The handle that the first word has, and the words that follow.
+#[tactic(auto, unfolding(crate::specs::Fields::first_value))]
+pub(crate) fn handle(words: &[u8]) -> Result<(u32, &[u8]), FormFault>
+    ensures { MatchResult result
+        (λ found. first_value Handle handle_value (words_of words.entry.now)
+        ≡ Some (found.0, words_of found.1.now))
+        (λ fault. (first_value Handle handle_value (words_of words.entry.now) ≡ None)
+        × (fault ≡ FormFault.Field Handle)) }
 {
-    let (value, words) = keyed(words, b"handle=")?;
-    Some((handle_value(value)?, words))
+    let missing = FormFault::Field(Field::Handle);
+    let (text, words) = first_text(words, Field::Handle).ok_or(missing)?;
+    Ok((handle_value(text).ok_or(missing)?, words))
 }
 
-/// A tag after its key, and the words that follow.
-#[tactic(auto, unfolding(crate::specs::Lines::field))]
-pub(crate) fn tag(words: &[u8]) -> Option<([u8; 4], &[u8])>
-    ensures { MatchOption result
-        (field (codes "tag=") tag_value (words_of words.entry.now) ≡ None)
-        (λ found. field (codes "tag=") tag_value (words_of words.entry.now)
-        ≡ Some (found.0, words_of found.1.now)) }
+/// The tag that the first word has, and the words that follow.
+#[tactic(auto, unfolding(crate::specs::Fields::first_value))]
+pub(crate) fn tag(words: &[u8]) -> Result<([u8; 4], &[u8]), FormFault>
+    ensures { MatchResult result
+        (λ found. first_value Tag tag_value (words_of words.entry.now)
+        ≡ Some (found.0, words_of found.1.now))
+        (λ fault. (first_value Tag tag_value (words_of words.entry.now) ≡ None)
+        × (fault ≡ FormFault.Field Tag)) }
 {
-    let (value, words) = keyed(words, b"tag=")?;
-    Some((tag_value(value)?, words))
+    let missing = FormFault::Field(Field::Tag);
+    let (text, words) = first_text(words, Field::Tag).ok_or(missing)?;
+    Ok((tag_value(text).ok_or(missing)?, words))
 }

@@ -2,7 +2,8 @@
 ghost use Rattle.std.specs.Prelude.{◌≡◌, ◌≤◌, ◌∷◌, [], length, not, position, MatchOption};
 ghost use Rattle.std.specs.Prelude.{option_map};
 ghost use Rattle.std.specs.Str.{bytes_eq};
-ghost use Rattle.htl_text.specs.Lines.{after_key, is_blank, is_passed_over, words_of};
+ghost use Rattle.htl_text.specs.Fields.{after_bytes};
+ghost use Rattle.htl_text.specs.Lines.{is_blank, is_passed_over, words_of};
 ghost use Rattle.htl_text.specs.Words.{word_end, word_start};
 
 /// The first word of a line and what follows it.
@@ -73,10 +74,10 @@ pub(crate) fn is_word(word: &[u8], other: &[u8]) -> bool
     word == other
 }
 
-/// What follows the key in a word that begins with it.
-#[tactic(auto, unfolding(crate::specs::Lines::after_key))]
-pub(crate) fn after_key<'a>(word: &'a [u8], key: &[u8]) -> Option<&'a [u8]>
-    ensures { option_map (λ value. value.now) result ≡ after_key key.now word.entry.now }
+/// What follows these bytes where a word begins with them.
+#[tactic(auto, unfolding(crate::specs::Fields::after_bytes))]
+pub(crate) fn after_bytes<'a>(word: &'a [u8], bytes: &[u8]) -> Option<&'a [u8]>
+    ensures { option_map (λ rest. rest.now) result ≡ after_bytes bytes.now word.entry.now }
 {
-    word.strip_prefix(key)
+    word.strip_prefix(bytes)
 }

@@ -3,7 +3,7 @@
 use crate::rows::assert_row;
 use htl_samples::RandomTrace;
 use htl_segment::{Fault, decode_bundle, from_hex};
-use htl_text::{LineFault, TextFault, dump, encode};
+use htl_text::{LineFault, TextFault, dump, encode, event_line};
 use std::alloc::Global;
 use std::process::Abort;
 
@@ -151,9 +151,13 @@ fn stacks_that_are_too_deep(rt: HostRuntime) {
 
 /// The parts of texts, and the first fault of each with its line.
 const FAULTS: &[(&[&str], &str)] = &[
-    (&["segment\n"], "line 1: E1"),
+    (&["segment\n"], "line 1: E1(version)"),
     (&["\n", SEGMENT, OPEN, "  0x1 0x2"], "line 4: E1"),
-    (&[SEGMENT, OPEN, "0x11111111111111111\n"], "line 3: E1"),
+    (
+        &[SEGMENT, OPEN, "0x11111111111111111\n"],
+        "line 3: E1(frame)",
+    ),
+    (&[SEGMENT, OPEN, "0x\n"], "line 3: E1(frame)"),
     (&[SEGMENT, OPEN, "1010\n"], "line 3: E1"),
     (&["\n\u{feff}", SEGMENT], "line 2: E1"),
     (
@@ -162,7 +166,7 @@ const FAULTS: &[(&[&str], &str)] = &[
     ),
     (
         &[SEGMENT, "OPEN seq=1 handle=0x44 process=4 thread=12\n"],
-        "line 2: E1",
+        "line 2: E1(handle)",
     ),
     (
         &[SEGMENT, "OPEN handle=0x44 seq=1 process=4 thread=12 #\n"],
@@ -173,51 +177,74 @@ const FAULTS: &[(&[&str], &str)] = &[
             SEGMENT,
             "OPEN handle=0x123456789 seq=1 process=4 thread=12\n",
         ],
-        "line 2: E1",
+        "line 2: E1(handle)",
     ),
     (
         &[SEGMENT, "OPEN handle=0x44 seq=0x1 process=4 thread=12\n"],
-        "line 2: E1",
+        "line 2: E1(seq)",
     ),
     (
         &[
             SEGMENT,
             "OPEN handle=0x44 seq=1 process=4294967296 thread=12\n",
         ],
-        "line 2: E1",
+        "line 2: E1(process)",
     ),
     (
         &[
             SEGMENT,
             "SNAPSHOT seq=18446744073709551616 process=4 thread=12\n",
         ],
-        "line 2: E1",
+        "line 2: E1(seq)",
     ),
     (
         &[
             SEGMENT,
             "REF object=0x1 tag=abc seq=1 process=4 thread=12\n",
         ],
-        "line 2: E1",
+        "line 2: E1(tag)",
     ),
     (
         &[
             SEGMENT,
             "REF object=0x1 tag=0x1234567 seq=1 process=4 thread=12\n",
         ],
-        "line 2: E1",
+        "line 2: E1(tag)",
     ),
     (
         &[
             SEGMENT,
             "REF object=0x1 tag=0012345678 seq=1 process=4 thread=12\n",
         ],
-        "line 2: E1",
+        "line 2: E1(tag)",
     ),
     (
         &["segment version=65537 trace=0x7 processors=1 processor=0 number=0\n"],
-        "line 1: E1",
+        "line 1: E1(version)",
     ),
+    (
+        &["segment version=1 trace= processors=70000 processor=0 number=0\n"],
+        "line 1: E1(trace)",
+    ),
+    (
+        &["segment version=1 trace=7 processors=70000 processor=x number=0\n"],
+        "line 1: E1(processors)",
+    ),
+    (
+        &["segment version=1 trace=7 processors=1 processors=0 number=0\n"],
+        "line 1: E1(processor)",
+    ),
+    (
+        &["segment version=1 trace=7 processors=1 processor=0 number=4294967296\n"],
+        "line 1: E1(number)",
+    ),
+    (&[SEGMENT, "BAD\n"], "line 2: E1"),
+    (&[SEGMENT, "BAD REF\n"], "line 2: E1(handle)"),
+    (
+        &[SEGMENT, "DEREF object=g tag=abc seq=x\n"],
+        "line 2: E1(object)",
+    ),
+    (&[SEGMENT, "EXIT seq=1 process=4\n"], "line 2: E1(thread)"),
     (&[OPEN], "line 1: E2"),
     (&["# a story\n", "\r\n", "  0x10"], "line 3: E2"),
     (&[SEGMENT, "  0x10\n"], "line 2: E2"),
@@ -273,11 +300,61 @@ fn fault_line(rt: &impl Abort, alloc: Global, parts: &[&str]) -> String {
 
 /// The fault of a text of these parts, if it has one.
 fn fault_of(rt: &impl Abort, alloc: Global, parts: &[&str]) -> Option<TextFault> {
+    encode(alloc, &joined(rt, alloc, parts)).err()
+}
+
+/// The text of these parts.
+fn joined(rt: &impl Abort, alloc: Global, parts: &[&str]) -> Vec<u8> {
     let mut text = Vec::new(alloc);
     for part in parts {
         add(rt, &mut text, part, 1);
     }
-    encode(alloc, &text).err()
+    text
+}
+
+/// The parts of texts, and the line of the event that the first fault of each is about.
+const EVENTS: &[(&[&str], Option<u64>)] = &[
+    (&[SEGMENT, OPEN, OPEN], Some(3)),
+    (
+        &[SEGMENT, OPEN, "  0x1\n", "\r\n", "# OPEN\n", OPEN, OPEN],
+        Some(6),
+    ),
+    (
+        &[
+            "\n", SEGMENT, OPEN, SEGMENT, "\n", OPEN, OPEN, SEGMENT, OPEN,
+        ],
+        Some(7),
+    ),
+    (
+        &[
+            "\u{feff}",
+            SEGMENT,
+            "OPEN handle=0x3 seq=1 process=4 thread=12",
+        ],
+        Some(2),
+    ),
+    (
+        &[
+            "# a story\n",
+            "segment version=1 trace=0x7 processors=65 processor=0 number=0\n",
+            OPEN,
+        ],
+        None,
+    ),
+    (&[SEGMENT, OPEN, "x"], None),
+    (&[OPEN], None),
+];
+
+#[test]
+fn the_line_of_an_event(rt: HostRuntime) {
+    for (parts, wanted) in EVENTS {
+        let text = joined(&rt, rt.alloc(), parts);
+        let found = match encode(rt.alloc(), &text) {
+            Err(TextFault::Line(line, fault)) => event_line(&text, line, fault),
+            _ => panic!(rt; "no fault"),
+        };
+        assert_row(&rt, *parts, found, *wanted);
+    }
 }
 
 #[test]

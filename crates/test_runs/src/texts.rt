@@ -341,7 +341,7 @@ const HEAD: &str = "segment version=1 trace=0x7 processors=1 processor=0 number=
 const FAULTS: &[(&str, &str)] = &[
     (
         "# a story\n\nOPEN handle=0x44\n",
-        "hleak: input 1, line 3: E1",
+        "hleak: input 1, line 3: E1(seq)",
     ),
     ("  0x10", "hleak: input 1, line 1: E2"),
     (

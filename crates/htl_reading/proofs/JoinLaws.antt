@@ -1,5 +1,6 @@
 -- What two workers took of two parts, put together.
-use Rattle.std.proofs.Common.{◌≡◌, ℕ, ◌+◌, ◌<◌, ◌≤◌, List, [], ◌∷◌, ◌++◌, length, None, refl, ap, ◌∙◌, append_assoc, arith, inl, inr, Result, Ok, Err, IfOk, OnOk, is_ok, Bor, Some, true}
+use Rattle.std.proofs.Common.{◌≡◌, ℕ, ◌+◌, ◌<◌, ◌≤◌, List, [], ◌∷◌, ◌++◌, length, None, refl, ap, ◌∙◌, append_assoc}
+use Rattle.std.proofs.Common.{arith, inl, inr, Result, Ok, Err, IfOk, OnOk, is_ok, Bor, Some, true}
 use Rattle.std.proofs.lemmas.List.{length-append}
 use Rattle.std.proofs.lemmas.List.Elements.{All-cons, All-nil, All-head, All-pop, All-push, All-tail}
 use Rattle.htl_segment.specs.declared.fault.Fault.{Fault}

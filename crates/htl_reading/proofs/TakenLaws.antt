@@ -3,7 +3,7 @@ use Rattle.std.proofs.Common.{◌≡◌, ◌+◌, ◌-◌, ◌*◌, ◌<◌, ◌
 use Rattle.std.proofs.Common.{append-nil, append_assoc, arith, inl, inr, subst, Option, Some, None, IfSome, Result, Ok, Err, true}
 use Rattle.std.specs.Prelude.{is_err, IfErr, IfOk, OnErr}
 use Rattle.std.proofs.KnownBytes.{Consumes-kept, Consumes-nil, Consumes-trans, Consumes-whole}
-use Rattle.std.proofs.lemmas.List.{drop-append-le, drop-drop, drop-take, length-append, length-drop, length-take-le, nil_from_length, take-take, take_at}
+use Rattle.std.proofs.lemmas.List.{drop-append-le, drop-drop, drop-take, length-append, length-drop, length-take-le, nil_from_length}
 use Rattle.std.proofs.lemmas.List.Elements.{All-nil}
 use Rattle.std.proofs.lemmas.Slice.{between_is}
 use Rattle.std.proofs.Math.Seq.{take-append-add}
@@ -47,11 +47,6 @@ held_more old new piece start end stop ordered inside grown =
 -- the first bytes of two lists
 pub take_past : (xs ys : List ℕ) (n all : ℕ) → all ≡ length xs + n → take all (xs ++ ys) ≡ xs ++ take n ys
 take_past xs ys n all is = rw is (take-append-add xs ys n)
-
--- a piece that was put over the first ones
-pub put_over : (put piece rest : List ℕ) (n : ℕ) → put ≡ piece → length piece ≤ n → take (length piece) (take n (put ++ rest)) ≡ piece
-put_over put piece rest n same room =
-    rw same (take-take (length piece) n (piece ++ rest) room ∙ take_at piece rest (length piece) refl)
 
 -- ---- memory
 

@@ -38,7 +38,8 @@ pub record IsReadBehind (first last : Option (List ℕ)) (old new : List ℕ) (c
   pub end : count ≡ 0 → IsAtEnd last
 
 -- the segments that the bytes held at an offset begin with were taken, and the rest is held at a later offset
-pub record IsTakenIn {S K : Type 0} (gathers : S → K → List Content → Type 0) (old new : K) (held rest : List ℕ) (offset later : ℕ) : Type 0 where
+pub record IsTakenIn {S K : Type 0} (gathers : S → K → List Content → Type 0) (old new : K) (held rest : List ℕ) (offset later : ℕ)
+    : Type 0 where
   pub len : ℕ
   pub inside : len ≤ length held
   pub rest_is : rest ≡ drop len held

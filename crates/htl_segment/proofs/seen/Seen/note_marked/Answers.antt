@@ -1,5 +1,5 @@
 -- One place more: it has a mark, and its sequence is noted, or it has none.
-use Rattle.std.proofs.Common.{arith}
+use Rattle.std.proofs.Common.{◌≡◌, arith, length}
 use Rattle.htl_segment.proofs.SeenLaws.{marked_all, marked_below, none_below, unmarked_below}
 use Rattle.htl_segment.proofs.seen.Seen.note_marked.Goals as goal
 use Rattle.htl_segment.proofs.seen.Seen.note_marked.Goals.{then-marks-place+in_ok-note, else-marks-place}
@@ -19,5 +19,6 @@ loop-place-preserved c = λ numbers saw.
     ]
 
 pub returns : goal.returns
-returns c = λ numbers saw. marked_all c.loop-place.self numbers c.args.marks.now c.loop-place.place (omega (arith, c.loop-place.auto.place-end, c.loop-place-test.false))
-    (c.loop-place.invariant numbers saw)
+returns c = λ numbers saw.
+    let all : c.loop-place.place ≡ length c.args.marks.now = omega (arith, c.loop-place.auto.place-end, c.loop-place-test.false) in
+    marked_all c.loop-place.self numbers c.args.marks.now c.loop-place.place all (c.loop-place.invariant numbers saw)

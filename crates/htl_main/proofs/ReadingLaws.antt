@@ -57,7 +57,8 @@ still P first now place x each left here =
     subst P same (All-get_or P first place x within each)
 
 -- one source more
-pub one_before : {R S : Type 0} (hex : Bool) (workers : ℕ) (has_failed has_ended : R → Bool) (good_reads : R → ℕ) (remaining : R → Option (List ℕ)) (first now : List R)
+pub one_before : {R S : Type 0} (hex : Bool) (workers : ℕ) (has_failed has_ended : R → Bool) (good_reads : R → ℕ)
+    (remaining : R → Option (List ℕ)) (first now : List R)
     (place : ℕ) (x y : R) (value : S) → ReadBefore has_failed has_ended good_reads first now place → place < length now
     → slice_get now place ≡ Some x
     → IsRead hex workers has_failed has_ended good_reads remaining place x y (well {S = S} value) → has_ended y ≡ true
@@ -73,7 +74,8 @@ one_before hex workers has_failed has_ended good_reads remaining first now place
     }
 
 -- all were read
-pub all_read : {R S : Type 0} (hex : Bool) (workers : ℕ) (has_failed has_ended : R → Bool) (good_reads : R → ℕ) (remaining : R → Option (List ℕ)) (first now : List R)
+pub all_read : {R S : Type 0} (hex : Bool) (workers : ℕ) (has_failed has_ended : R → Bool) (good_reads : R → ℕ)
+    (remaining : R → Option (List ℕ)) (first now : List R)
     (place : ℕ) (value : S) → ReadBefore has_failed has_ended good_reads first now place → length now ≤ place
     → AreRead hex workers has_failed has_ended good_reads remaining first now (well {S = S} value)
 all_read hex workers has_failed has_ended good_reads remaining first now place value before all = record {
@@ -86,7 +88,8 @@ all_read hex workers has_failed has_ended good_reads remaining first now place v
 }
 
 -- a run ends at the source at a place
-pub read_to : {R S : Type 0} (hex : Bool) (workers : ℕ) (has_failed has_ended : R → Bool) (good_reads : R → ℕ) (remaining : R → Option (List ℕ)) (first now : List R)
+pub read_to : {R S : Type 0} (hex : Bool) (workers : ℕ) (has_failed has_ended : R → Bool) (good_reads : R → ℕ)
+    (remaining : R → Option (List ℕ)) (first now : List R)
     (place : ℕ) (x y : R) (fault : RunFault) → ReadBefore has_failed has_ended good_reads first now place → place < length now
     → slice_get now place ≡ Some x
     → IsRead hex workers has_failed has_ended good_reads remaining place x y (ill {S = S} fault)
@@ -114,7 +117,8 @@ read_to hex workers has_failed has_ended good_reads remaining first now place x 
 }
 
 -- a run ends for the fault, whatever it gives else
-pub ends_too : {R S T : Type 0} (hex : Bool) (workers : ℕ) (has_failed has_ended : R → Bool) (good_reads : R → ℕ) (remaining : R → Option (List ℕ)) (first now : List R)
+pub ends_too : {R S T : Type 0} (hex : Bool) (workers : ℕ) (has_failed has_ended : R → Bool) (good_reads : R → ℕ)
+    (remaining : R → Option (List ℕ)) (first now : List R)
     (fault : RunFault) → AreRead hex workers has_failed has_ended good_reads remaining first now (ill {S = S} fault)
     → AreRead hex workers has_failed has_ended good_reads remaining first now (ill {S = T} fault)
 ends_too hex workers has_failed has_ended good_reads remaining first now fault read = record {

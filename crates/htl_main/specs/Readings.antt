@@ -6,8 +6,8 @@ use Rattle.htl_main.specs.declared.fault.RunFault.TheVariants.{Read}
 
 -- Sources before and after a run with this result. Which of them has failed or ended, how many reads of it gave bytes
 -- and which bytes it has left, is said by the functions. One worker finds each fault of bytes before it reads on; several may not.
-pub record AreRead {R S : Type 0} (hex : Bool) (workers : ℕ) (has_failed has_ended : R → Bool) (good_reads : R → ℕ) (remaining : R → Option (List ℕ))
-    (old new : List R) (result : Result S RunFault) : Type 0 where
+pub record AreRead {R S : Type 0} (hex : Bool) (workers : ℕ) (has_failed has_ended : R → Bool) (good_reads : R → ℕ)
+    (remaining : R → Option (List ℕ)) (old new : List R) (result : Result S RunFault) : Type 0 where
   -- each is read to its end before the next
   pub ended : OnOk result (All (λ source. has_ended source ≡ true) new)
   pub in_order : AreReadInOrder has_ended old new

@@ -18,7 +18,8 @@ pub returns-in_err-check_workers-clause-reading : goal.returns-in_err-check_work
 returns-in_err-check_workers-clause-reading g c =
     let p = err_from_is_err_and c.from_residual.result c.from_residual.ensures.1 in
     let fault = c.in_err-check_workers.ensures.err in
-    rw (p.1, p.2, fault.0) (unread false c.args.job.now.workers g.R.Source.has_failed g.R.Source.has_ended g.R.Source.good_reads g.R.Source.remaining c.args.inputs.now
+    rw (p.1, p.2, fault.0) (unread false c.args.job.now.workers g.R.Source.has_failed g.R.Source.has_ended g.R.Source.good_reads
+    g.R.Source.remaining c.args.inputs.now
     c.requires.inputs)
 
 pub returns-in_err-check_workers-clause-to_fault : goal.returns-in_err-check_workers-clause-to_fault

@@ -37,8 +37,8 @@ loop-place-preserved g c =
           one_picked c.args.interest texts place knows.input c.loop-place.picks c.in_ok-picks.picks knows.here (inv.picked texts all)
           (at_known texts place (g.R.Source.remaining source) (ArePicksMore c.loop-place.picks c.in_ok-picks.picks) knows is.ok);
       to_fault = one_read (read_ahead c.args.workers BLOCK_LEN) g.R.Source.remaining (map g.R.Source.remaining c.args.sources.now)
-          c.loop-place.sources place source c.pick_source.new.source within inv.to_fault (known_now g.R.Source.remaining c.args.sources.now c.loop-place.sources place source
-          (inv.before.left place (omega arith)) here) is.to_fault;
+          c.loop-place.sources place source c.pick_source.new.source within inv.to_fault (known_now g.R.Source.remaining
+          c.args.sources.now c.loop-place.sources place source (inv.before.left place (omega arith)) here) is.to_fault;
     }
 
 pub returns-in_err-picks-clause-err : goal.returns-in_err-picks-clause-err

@@ -132,7 +132,7 @@ fn write_bundle<W: Sink>(hex: bool, bytes: &[u8], out: &mut W) -> Result<(), Run
 }
 
 /// How many bytes are written in hexadecimal at once.
-const STEP: usize = 32_768;
+const STEP: usize = 2_048;
 
 /// Writes the hexadecimal digits of bytes, in lower case.
 fn write_digits<W: Sink>(bytes: &[u8], out: &mut W) -> Result<(), RunFault>
@@ -152,7 +152,7 @@ fn write_digits<W: Sink>(bytes: &[u8], out: &mut W) -> Result<(), RunFault>
     Ok(())
 }
 
-/// The same of at most 32,768 bytes.
+/// The same of at most 2,048 bytes.
 fn write_step<W: Sink>(bytes: &[u8], out: &mut W) -> Result<(), RunFault>
     requires few { length bytes.now ≤ STEP }
     requires out { W.has_failed out.old ≡ false }

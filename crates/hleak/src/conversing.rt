@@ -14,7 +14,7 @@ use crate::stopped::Stopped;
 use crate::task::Task;
 use htl_ask::{AskFault, ask_from};
 use htl_command::Dialogue;
-use htl_main::{Reading, Refused, Source, Writing};
+use htl_main::{Reading, Refused, RunFault, Sink, Source, Writing};
 use std::io;
 use std::io::Stdin;
 use std::process::ExitCode;
@@ -25,23 +25,30 @@ use std::thread::Threads;
 /// program.
 pub fn converse(host: &HostRuntime, rt: &(impl Threads + Wait + Sync), of: &Dialogue) -> ExitCode {
     let mut listener = Listener::new(*host);
-    let ended = conversed(host, rt, of, &mut listener);
+    let mut out = Writing::new(io::writer(host));
+    let ended = conversed(host, rt, of, &mut listener, &mut out);
+    if out.is_pipe_broken() {
+        return ExitCode::from(RunFault::Write.status());
+    }
     end(host, of, &listener, ended)
 }
 
 /// Replies to the lines, and shows how much of the files was read where a person watches.
-fn conversed(
+fn conversed<W: Sink>(
     host: &HostRuntime,
     rt: &(impl Threads + Wait + Sync),
     of: &Dialogue,
     listener: &mut Listener,
-) -> Result<bool, AskFault> {
+    out: &mut W,
+) -> Result<bool, AskFault>
+    requires { W.has_failed out.old ≡ false }
+{
     let progress = if listener.is_watched() {
         Progress::begin(*host).ok()
     } else {
         None
     };
-    let ended = opened_and_asked(host, rt, of, progress.as_ref(), listener);
+    let ended = opened_and_asked(host, rt, of, progress.as_ref(), listener, out);
     if let Some(progress) = &progress {
         progress.clear();
     }
@@ -49,29 +56,34 @@ fn conversed(
 }
 
 /// Looks for the files, and replies to the lines.
-fn opened_and_asked(
+fn opened_and_asked<W: Sink>(
     host: &HostRuntime,
     rt: &(impl Threads + Wait + Sync),
     of: &Dialogue,
     progress: Option<&Progress>,
     listener: &mut Listener,
-) -> Result<bool, AskFault> {
+    out: &mut W,
+) -> Result<bool, AskFault>
+    requires { W.has_failed out.old ≡ false }
+{
     match opened(host, &of.files, progress) {
-        Ok(mut inputs) => read_and_asked(host, rt, of, &mut inputs, listener),
+        Ok(mut inputs) => read_and_asked(host, rt, of, &mut inputs, listener, out),
         Err(fault) => Err(AskFault::Run(Refused::from(fault))),
     }
 }
 
 /// Reads the table of symbols, and then the inputs, and replies to the lines.
-fn read_and_asked<R: Source>(
+fn read_and_asked<R: Source, W: Sink>(
     host: &HostRuntime,
     rt: &(impl Threads + Wait + Sync),
     of: &Dialogue,
     inputs: &mut [R],
     listener: &mut Listener,
+    out: &mut W,
 ) -> Result<bool, AskFault>
     requires fresh { All (λ input. R.has_failed input ≡ false) inputs.old }
     requires inside { All (λ input. R.has_ended input ≡ false) inputs.old }
+    requires out { W.has_failed out.old ≡ false }
 {
     let symbols = match symbols(host, of.symbols.as_ref()) {
         Ok(symbols) => symbols,
@@ -79,7 +91,6 @@ fn read_and_asked<R: Source>(
     };
     let symbols = symbols.as_deref();
     let mut questions = Reading::new(questions(host));
-    let mut out = Writing::new(io::writer(host));
     let ended = ask_from(
         rt,
         host.alloc(),
@@ -87,7 +98,7 @@ fn read_and_asked<R: Source>(
         inputs,
         symbols,
         &mut questions,
-        &mut out,
+        out,
         listener,
     );
     if listener.is_typed() && questions.ended() {

@@ -1,10 +1,11 @@
 //! The runs that print segments as text and make segments of text.
 
+ghost use Rattle.std.specs.Prelude.{◌≡◌, false};
+
 use crate::opening::opened;
 use crate::progress::Progress;
 use htl_command::Conversion;
-use htl_main::{RunFault, Writing, dump_from, encode_from};
-use std::io;
+use htl_main::{RunFault, Sink, dump_from, encode_from};
 use std::io::IsTerminal;
 
 /// Which way files are converted.
@@ -26,37 +27,42 @@ impl Direction {
     }
 }
 
-/// Looks for the files, and writes to standard output what is made of them. Shows how much was read
+/// Looks for the files, and writes what is made of them. Shows how much was read
 /// where a person watches, unless a terminal gets the text of segments meanwhile.
-pub fn converted(
+pub fn converted<W: Sink>(
     rt: &HostRuntime,
     direction: Direction,
     of: &Conversion,
     is_watched: bool,
-) -> Result<(), RunFault> {
+    out: &mut W,
+) -> Result<(), RunFault>
+    requires { W.has_failed out.old ≡ false }
+{
     let is_shown = matches!(direction, Direction::Dump) && rt.stdout().is_terminal();
     let progress = if is_watched && !is_shown {
         Progress::begin(*rt).ok()
     } else {
         None
     };
-    let ended = opened_and_converted(rt, direction, of, progress.as_ref());
+    let ended = opened_and_converted(rt, direction, of, progress.as_ref(), out);
     if let Some(progress) = &progress {
         progress.clear();
     }
     ended
 }
 
-fn opened_and_converted(
+fn opened_and_converted<W: Sink>(
     rt: &HostRuntime,
     direction: Direction,
     of: &Conversion,
     progress: Option<&Progress>,
-) -> Result<(), RunFault> {
+    out: &mut W,
+) -> Result<(), RunFault>
+    requires { W.has_failed out.old ≡ false }
+{
     let mut inputs = opened(rt, &of.files, progress)?;
-    let mut out = Writing::new(io::writer(rt));
     match direction {
-        Direction::Dump => dump_from(rt.alloc(), of.hex, &mut inputs, &mut out),
-        Direction::Encode => encode_from(rt.alloc(), of.hex, &mut inputs, &mut out),
+        Direction::Dump => dump_from(rt.alloc(), of.hex, &mut inputs, out),
+        Direction::Encode => encode_from(rt.alloc(), of.hex, &mut inputs, out),
     }
 }

@@ -15,7 +15,7 @@
 //! dialogue stopped. `shown.rt` keeps control characters of names from the terminal.
 #![tactic(auto)]
 
-ghost use Rattle.std.specs.Prelude.{◌≡◌, ⊤, All, IfErr, IfOk, Some, false};
+ghost use Rattle.std.specs.Prelude.{◌≡◌, ⊤, All, IfErr, IfNone, IfOk, Some, false};
 ghost use Rattle.std.specs.Process.{exit_status};
 ghost use Rattle.htl_command.specs.Refusals.{IsUsageWith};
 ghost use Rattle.htl_main.specs.Origins.{by_fault};
@@ -50,7 +50,8 @@ use explained::Explained;
 use explanation::Explanation;
 use htl_command::{Asked, Command, Conversion, ParseFault, parse};
 use htl_main::{
-    Between, Completed, Interest, Refused, RunFault, Source, Writing, interest, pick_from, run_from,
+    Between, Completed, Interest, Refused, RunFault, Sink, Source, Writing, interest, pick_from,
+    run_from,
 };
 use note::Note;
 use opening::{can_be_read_again, opened, symbols};
@@ -75,13 +76,18 @@ fn main(rt: HostRuntime) -> ExitCode {
     }
 }
 
-/// Answers what is asked, with workers in threads of the runtime, and ends the program.
+/// Answers what is asked, with workers in threads of the runtime, and ends the program. A pipe that
+/// nobody reads any more, as after `head`, is no news to anybody.
 fn answer(host: &HostRuntime, rt: &(impl Threads + Sync), asked: &Asked) -> ExitCode {
     let is_watched = host.stderr().is_terminal();
     if is_watched && asked.files.is_empty() {
         await_typing(host, "segments are");
     }
-    let ended = answered(host, rt, asked, is_watched);
+    let mut out = Writing::new(io::writer(host));
+    let ended = answered(host, rt, asked, is_watched, &mut out);
+    if out.is_pipe_broken() {
+        return ExitCode::from(RunFault::Write.status());
+    }
     end(host, asked, is_watched, ended)
 }
 
@@ -99,7 +105,11 @@ fn convert(rt: &HostRuntime, direction: Direction, of: &Conversion) -> ExitCode 
     if is_watched && of.files.is_empty() {
         await_typing(rt, direction.expected());
     }
-    let ended = converted(rt, direction, of, is_watched);
+    let mut out = Writing::new(io::writer(rt));
+    let ended = converted(rt, direction, of, is_watched, &mut out);
+    if out.is_pipe_broken() {
+        return ExitCode::from(RunFault::Write.status());
+    }
     end_conversion(rt, of, is_watched, ended)
 }
 
@@ -236,18 +246,21 @@ fn explain(rt: &HostRuntime, asked: &Asked, ended: Result<Completed, Refused>) {
 }
 
 /// Runs what is asked for, with workers in threads of the runtime, and shows how much was read.
-fn answered(
+fn answered<W: Sink>(
     host: &HostRuntime,
     rt: &(impl Threads + Sync),
     asked: &Asked,
     is_watched: bool,
-) -> Result<Completed, Refused> {
+    out: &mut W,
+) -> Result<Completed, Refused>
+    requires { W.has_failed out.old ≡ false }
+{
     let progress = if is_watched {
         Progress::begin(*host).ok()
     } else {
         None
     };
-    let ended = opened_and_run(host, rt, asked, progress.as_ref());
+    let ended = opened_and_run(host, rt, asked, progress.as_ref(), out);
     if let Some(progress) = &progress {
         progress.clear();
     }
@@ -256,62 +269,60 @@ fn answered(
 
 /// Looks for the files, and runs what is asked for: of files that can be read again, by what the
 /// question asks about alone, where that tells what comes of them.
-fn opened_and_run(
+fn opened_and_run<W: Sink>(
     host: &HostRuntime,
     rt: &(impl Threads + Sync),
     asked: &Asked,
     progress: Option<&Progress>,
-) -> Result<Completed, Refused> {
+    out: &mut W,
+) -> Result<Completed, Refused>
+    requires { W.has_failed out.old ≡ false }
+{
     let mut inputs = opened(host, &asked.files, progress)?;
     if can_be_read_again(host, &asked.files) {
         if let Some(interest) = interest(&asked.job) {
-            if let Some(completed) = read_and_pick(host, rt, asked, interest, &mut inputs)? {
+            if let Some(completed) = read_and_pick(host, rt, asked, interest, &mut inputs, out)? {
                 return Ok(completed);
             }
             inputs = opened(host, &asked.files, progress)?;
         }
     }
-    read_and_run(host, rt, asked, &mut inputs)
+    read_and_run(host, rt, asked, &mut inputs, out)
 }
 
 /// Reads the table of symbols, and then what the question asks about of the inputs.
-fn read_and_pick<R: Source>(
+fn read_and_pick<R: Source, W: Sink>(
     host: &HostRuntime,
     rt: &(impl Threads + Sync),
     asked: &Asked,
     interest: Interest,
     inputs: &mut [R],
+    out: &mut W,
 ) -> Result<Option<Completed>, RunFault>
     requires fresh { All (λ input. R.has_failed input ≡ false) inputs.old }
     requires inside { All (λ input. R.has_ended input ≡ false) inputs.old }
+    requires out { W.has_failed out.old ≡ false }
     requires about { asks_about asked.now.job.hex asked.now.job.question ≡ Some interest }
+    ensures { IfOk result (λ done. IfNone done (out.new ≡ out.old)) }
 {
     let symbols = symbols(host, asked.symbols.as_ref())?;
     let symbols = symbols.as_deref();
-    let mut out = Writing::new(io::writer(host));
-    pick_from(
-        rt,
-        host.alloc(),
-        &asked.job,
-        interest,
-        inputs,
-        symbols,
-        &mut out,
-    )
+    pick_from(rt, host.alloc(), &asked.job, interest, inputs, symbols, out)
 }
 
 /// Reads the table of symbols, and then the inputs.
-fn read_and_run<R: Source>(
+fn read_and_run<R: Source, W: Sink>(
     host: &HostRuntime,
     rt: &(impl Threads + Sync),
     asked: &Asked,
     inputs: &mut [R],
+    out: &mut W,
 ) -> Result<Completed, Refused>
     requires fresh { All (λ input. R.has_failed input ≡ false) inputs.old }
     requires inside { All (λ input. R.has_ended input ≡ false) inputs.old }
+    requires out { W.has_failed out.old ≡ false }
 {
     let symbols = symbols(host, asked.symbols.as_ref())?;
     let symbols = symbols.as_deref();
-    let mut out = Writing::new(io::writer(host));
-    run_from(rt, host.alloc(), &asked.job, inputs, symbols, &mut out)
+    run_from(rt, host.alloc(), &asked.job, inputs, symbols, out)
 }

@@ -74,11 +74,11 @@ class Asking:
             file.write(data)
         return path
 
-    def answer(self, words, files, most=None):
-        """The status, the text and the lines on standard error, in at most so many bytes of addresses."""
-        limit = f"ulimit -v {most // 1024} && " if most else ""
+    def answer(self, words, files, most=None, limit="true"):
+        """The status, the text and the lines on standard error, in at most so many bytes of addresses or under another limit."""
+        limit = f"ulimit -v {most // 1024}" if most else limit
         ended = subprocess.run(
-            ["sh", "-c", limit + 'exec "$0" "$@"', PROGRAM, *words.split(), *files],
+            ["sh", "-c", limit + ' && exec "$0" "$@"', PROGRAM, *words.split(), *files],
             capture_output=True,
             timeout=60,
             env={**os.environ, "MALLOC_ARENA_MAX": "1"},

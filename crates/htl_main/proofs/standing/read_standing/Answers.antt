@@ -13,7 +13,7 @@ use Rattle.htl_main.proofs.standing.read_standing.Goals as goal
 
 pub returns-in_err-check_workers-clause-reported : goal.returns-in_err-check_workers-clause-reported
 returns-in_err-check_workers-clause-reported g c =
-    λ place failed. absurd (true_nowhere g.R.Source.has_failed c.args.inputs.now place c.requires failed)
+    λ place failed. absurd (true_nowhere g.R.Source.has_failed c.args.inputs.now place c.requires.fresh failed)
 
 pub returns-in_err-check_workers-clause-to_fault : goal.returns-in_err-check_workers-clause-to_fault
 returns-in_err-check_workers-clause-to_fault g c =

@@ -3,8 +3,10 @@
 use crate::rows::assert_row;
 use crate::sharing::{bundle, told};
 use htl_device::Reading;
-use htl_reading::{SourceFault, read_bundle};
-use htl_segment::{Fault, Segment, decode_bundle};
+use htl_event::Interest;
+use htl_reading::{SourceFault, gather_bundle, read_bundle};
+use htl_samples::{RandomTrace, SMALL};
+use htl_segment::{Fault, Picks, Segment, decode_bundle};
 use std::alloc::Global;
 use std::io;
 use std::io::Read;
@@ -34,13 +36,17 @@ impl Read for Pieces<'_> {
 }
 
 /// What the reads come to: what their bytes do, where these have a fault that more bytes wouldn't
-/// mend; else a failed read, where one comes before the end.
+/// mend; else a failed read, where one comes before the end. The first read asks for 4,096 bytes.
 fn expected(alloc: Global, source: Pieces) -> Result<u64, SourceFault> {
+    let len = source.bytes.len();
+    let first = source.piece.min(4_096).min(len);
+    let later = (len - first).div_ceil(source.piece.max(1));
+    let fails = source.reads_left <= later.saturating_add(1);
     let given = source
         .piece
-        .wrapping_mul(source.reads_left)
-        .min(source.bytes.len());
-    let fails = source.reads_left <= source.bytes.len().div_ceil(source.piece.max(1));
+        .saturating_mul(source.reads_left.saturating_sub(1))
+        .saturating_add(first)
+        .min(len);
     let (read, _) = source.bytes.split_at(given);
     match decode_bundle(alloc, read) {
         Ok(_) if fails => Err(SourceFault::Read),
@@ -117,4 +123,63 @@ fn pieces_that_workers_share(rt: HostRuntime) {
             *cell = 0xFF;
         }
     }
+}
+
+/// What is picked of a process by workers: numbers that tell the outlines and the events apart, and
+/// whether a sequence came twice.
+fn picked(
+    rt: &(impl Threads + Sync),
+    alloc: Global,
+    workers: u32,
+    block_len: usize,
+    bytes: &[u8],
+) -> Result<(u64, u64, bool), SourceFault> {
+    let mut source = Reading::new(Pieces {
+        bytes,
+        piece: 65_536,
+        reads_left: usize::MAX,
+    });
+    let picks = Picks::new(alloc, Interest::Process(1));
+    let Picks {
+        outlines,
+        events,
+        seen,
+        ..
+    } = gather_bundle(rt, alloc, workers, block_len, &mut source, picks)?;
+    let mut of_outlines: u64 = 1;
+    for outline in &outlines {
+        of_outlines = of_outlines.wrapping_mul(31).wrapping_add(outline.last);
+    }
+    let mut of_events: u64 = 1;
+    for event in &events {
+        of_events = of_events.wrapping_mul(31).wrapping_add(event.sequence);
+    }
+    Ok((of_outlines, of_events, seen.comes_twice()))
+}
+
+/// Workers pick what one does.
+fn picks_by_all(rt: &(impl Abort + Threads + Sync), alloc: Global, bytes: &[u8], comes_twice: bool) {
+    let alone = picked(rt, alloc, 1, 0, bytes);
+    assert_row(rt, bytes.len(), alone.map(|told| told.2), Ok(comes_twice));
+    for workers in [2, 3, 8] {
+        for block_len in [0, 100_000, 10_000_000] {
+            let shared = picked(rt, alloc, workers, block_len, bytes);
+            assert_row(rt, (workers, block_len), shared, alone);
+        }
+    }
+}
+
+#[test]
+fn picks_of_workers(rt: HostRuntime) {
+    let alloc = rt.alloc();
+    let trace = RandomTrace {
+        segments: 20,
+        events: 150,
+        ..SMALL
+    };
+    let once = trace.bundle(alloc).ok().expect(&rt, "a bundle");
+    picks_by_all(&rt, alloc, &once, false);
+    let mut twice = trace.bundle(alloc).ok().expect(&rt, "a bundle");
+    twice.extend_from_slice(&once).expect(&rt, "the memory");
+    picks_by_all(&rt, alloc, &twice, true);
 }

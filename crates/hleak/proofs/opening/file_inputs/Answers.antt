@@ -13,6 +13,7 @@ loop-file-preserved c =
     let pushed : length c.push.new.self.items ≡ length at.inputs.items + 1 = search rules in
     record {
       fresh = search rules;
+      inside = search rules;
       count = omega (arith, pushed, at.invariant.count, length-append at.yielded one);
       left = at.invariant.left ∙ ap (λ l. at.yielded ++ l) steps ∙ sym (append_assoc at.yielded one rest);
       len = search rules;

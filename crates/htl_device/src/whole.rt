@@ -73,11 +73,7 @@ pub fn read_whole<R: Source>(alloc: Global, source: &mut R) -> Result<Vec<u8>, R
 }
 
 /// All bytes of a source, of which at most `most` reads give some.
-fn read_within<R: Source>(
-    alloc: Global,
-    source: &mut R,
-    most: u64,
-) -> Result<Vec<u8>, ReadFault>
+fn read_within<R: Source>(alloc: Global, source: &mut R, most: u64) -> Result<Vec<u8>, ReadFault>
     requires fresh { R.has_failed source.old ≡ false }
     requires inside { R.has_ended source.old ≡ false }
     requires some { 0 < most }

@@ -100,8 +100,8 @@ read_to hex workers has_failed has_ended good_reads remaining first now place x 
   reported = λ at failed.
       let new = true_of_new has_failed now place at y before.fine failed in
       rw (new.0) (failed_or_before hex workers place (remaining x) (remaining y) (map remaining first) (map remaining (set now place y)) fault
-          (known_now remaining first now place x (before.left place (omega arith)) here) (value_there remaining now place y within)
-          (is.reported new.1));
+      (known_now remaining first now place x (before.left place (omega arith)) here) (value_there remaining now place y within)
+      (is.reported new.1));
   read = λ at told.
       let read = is.read at told in
       rw (read.0) (elim (read.1) [

@@ -4,7 +4,7 @@ use Rattle.std.proofs.Common.{append_assoc, refl, sym, ap, ◌∙◌, arith, inl
 use Rattle.std.specs.Prelude.{Contains, MatchOption, is_some}
 use Rattle.htl_event.proofs.Members.{Contains-here, Contains-there, Contains-cases, Contains-nil}
 use Rattle.std.specs.List.{list_any}
-use Rattle.std.proofs.Common.{length, subst}
+use Rattle.std.proofs.Common.{length}
 use Rattle.std.proofs.lemmas.Bool.{cases_eq, cases_lt, cases_Bool, or_cases, or_left, or_right}
 use Rattle.std.proofs.lemmas.List.{append-nil, get_or_past}
 use Rattle.htl_event.specs.Members.{IsLeastSuch}
@@ -70,8 +70,12 @@ marked_below old new numbers marks place marked noted so_far =
             (omega (arith, times_more place place more, so_far.above place (omega arith), times_once place, one))
         | inr other ↦ omega (arith, times_more n place more, times_other n place [] other, so_far.below n (omega (arith, under, other)))
       ];
-      above = λ n over. omega (arith, times_more n place more, times_other n place [] (λ same. omega (arith, same, over)),
-          so_far.above n (omega (arith, over)));
+      above = λ n over. omega (
+        arith,
+        times_more n place more,
+        times_other n place [] (λ same. omega (arith, same, over)),
+        so_far.above n (omega (arith, over)),
+      );
     }
 
 -- or it has none
@@ -113,8 +117,14 @@ pub saw_both : (seen : Seen) (numbers more apart : List ℕ) (marks : List Bool)
     → SawMarked seen (numbers ++ apart) marks → Saw seen (numbers ++ more)
 saw_both seen numbers more apart marks are both =
     saw_same seen ((numbers ++ apart) ++ both.more) (numbers ++ more)
-    (λ n. omega (arith, times_both n (numbers ++ apart) both.more, times_both n numbers apart, times_both n numbers more,
-    are n, both.are n)) both.saw
+    (λ n. omega (
+      arith,
+      times_both n (numbers ++ apart) both.more,
+      times_both n numbers apart,
+      times_both n numbers more,
+      are n,
+      both.are n,
+    )) both.saw
 
 -- or it saw one twice
 pub saw_twice : (numbers more : List ℕ) → (n : ℕ) × (2 ≤ times n more) → (n : ℕ) × (2 ≤ times n (numbers ++ more))

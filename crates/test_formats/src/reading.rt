@@ -158,7 +158,12 @@ fn picked(
 }
 
 /// Workers pick what one does.
-fn picks_by_all(rt: &(impl Abort + Threads + Sync), alloc: Global, bytes: &[u8], comes_twice: bool) {
+fn picks_by_all(
+    rt: &(impl Abort + Threads + Sync),
+    alloc: Global,
+    bytes: &[u8],
+    comes_twice: bool,
+) {
     let alone = picked(rt, alloc, 1, 0, bytes);
     assert_row(rt, bytes.len(), alone.map(|told| told.2), Ok(comes_twice));
     for workers in [2, 3, 8] {

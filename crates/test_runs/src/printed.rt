@@ -89,12 +89,7 @@ pub fn has_line(rt: &impl Abort, alloc: Global, fault: &impl fmt::Display, line:
 }
 
 /// A row's text is printed by so many workers.
-fn is_printed(
-    rt: &(impl Threads + Sync + Abort),
-    alloc: Global,
-    row: &Printed,
-    workers: u32,
-) {
+fn is_printed(rt: &(impl Threads + Sync + Abort), alloc: Global, row: &Printed, workers: u32) {
     let job = Job {
         workers,
         ..over_bytes(row.question)
@@ -252,11 +247,7 @@ fn refuses_what_is_no_case(rt: HostRuntime) {
 }
 
 /// The refusal of a run over inputs that are given by lines. Its symbols have a fault too.
-fn refused_lines(
-    rt: &(impl Threads + Sync + Abort),
-    alloc: Global,
-    inputs: &[&str],
-) -> Refusal {
+fn refused_lines(rt: &(impl Threads + Sync + Abort), alloc: Global, inputs: &[&str]) -> Refusal {
     let inputs = bundles(rt, alloc, inputs);
     let (written, ended) = printed(rt, alloc, &over_bytes(OUTSTANDING), &inputs, Some(""));
     refusal(rt, &written, ended)

@@ -146,12 +146,7 @@ fn prints_summaries(rt: HostRuntime) {
 }
 
 /// A trace's summary is printed by so many workers.
-fn is_summarized(
-    rt: &(impl Threads + Sync + Abort),
-    alloc: Global,
-    row: &Summary,
-    workers: u32,
-) {
+fn is_summarized(rt: &(impl Threads + Sync + Abort), alloc: Global, row: &Summary, workers: u32) {
     let job = Job {
         workers,
         ..over_bytes(Question::Summary)
@@ -188,12 +183,7 @@ fn refuses_gaps_before_faulty_symbols(rt: HostRuntime) {
 }
 
 /// A trace is refused with this line.
-fn is_incomplete(
-    rt: &(impl Threads + Sync + Abort),
-    alloc: Global,
-    row: &Summary,
-    line: &str,
-) {
+fn is_incomplete(rt: &(impl Threads + Sync + Abort), alloc: Global, row: &Summary, line: &str) {
     let (written, ended) = printed_if_complete(rt, alloc, row, Some(""));
     let fault = fault_of(rt, &written, ended);
     has_line(rt, alloc, &fault, line);

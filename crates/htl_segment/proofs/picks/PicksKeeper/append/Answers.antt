@@ -1,5 +1,4 @@
 -- The outlines, the events and the sequences of both, and then the other has none.
-use Rattle.std.proofs.Common.{◌≡◌, [], refl}
 use Rattle.htl_segment.specs.Repeated.{sequences_of}
 use Rattle.htl_segment.specs.Traces.{all_events}
 use Rattle.htl_segment.proofs.PicksLaws.{both_events, both_outlines, both_sequences}

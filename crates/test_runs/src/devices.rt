@@ -53,7 +53,9 @@ pub fn printed_from<'a>(
     sources: &mut [Reading<Pieces<'a>>],
     symbols: Option<&str>,
 ) -> (Vec<u8>, Result<Completed, Refused>)
-    requires { All (λ source. ⟦<Reading<Pieces<'a>> as Source>⟧.has_failed source ≡ false)
+    requires fresh { All (λ source. ⟦<Reading<Pieces<'a>> as Source>⟧.has_failed source ≡ false)
+        sources.old }
+    requires inside { All (λ source. ⟦<Reading<Pieces<'a>> as Source>⟧.has_ended source ≡ false)
         sources.old }
 {
     let mut written = Vec::new(alloc);

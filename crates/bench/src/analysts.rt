@@ -4,11 +4,11 @@
 use crate::stopwatch::Stopwatch;
 use anyhow::{Context, Result};
 use htl_analyst::Analyst;
-use htl_event::Slot;
+use htl_event::{Slot, number_of_events};
 use htl_samples::{RandomTrace, SMALL, TRACE};
 use htl_segment::Segment;
 use htl_tables::Latest;
-use htl_tree::{StackTree, fits_events};
+use htl_tree::StackTree;
 use std::alloc::Global;
 
 const SEGMENTS: u32 = 256;
@@ -61,7 +61,7 @@ fn fold(watch: &mut Stopwatch<'_>, trace: &RandomTrace) -> Result<Analyst<Global
 
 /// The tree and the table of latest events by themselves.
 fn alone(watch: &mut Stopwatch<'_>, segments: &[Segment]) -> Result<()> {
-    if fits_events(segments) {
+    if number_of_events(segments).is_some() {
         let tree = StackTree::of(watch.alloc(), segments)?;
         watch.lap("events in a tree alone", tree.total());
         let latest = Latest::of(watch.alloc(), segments)?;

@@ -3,9 +3,10 @@
 
 use crate::stopwatch::Stopwatch;
 use anyhow::Result;
+use htl_event::number_of_events;
 use htl_samples::{RandomTrace, SMALL};
 use htl_segment::{Segment, decode_bundle};
-use htl_tree::{StackTree, fits_events};
+use htl_tree::StackTree;
 use std::alloc::Global;
 
 /// Events of 16 processes with 100,000 handles, and of as many objects.
@@ -42,7 +43,7 @@ pub fn measure(watch: &mut Stopwatch<'_>, size: u32) -> Result<()> {
 }
 
 fn measure_tree(watch: &mut Stopwatch<'_>, segments: &[Segment]) -> Result<()> {
-    if !fits_events(segments) {
+    if number_of_events(segments).is_none() {
         return Ok(());
     }
     let tree = StackTree::of(watch.alloc(), segments)?;

@@ -1,4 +1,2 @@
-pub mod FirstRefused
-pub mod PlaceByPlace
 pub mod Padding
 pub mod ShownTags

@@ -1,10 +1,8 @@
 pub mod Absences
 pub mod Arguments
-pub mod Endings
 pub mod Notes
 pub mod Openings
 pub mod Stages
 pub mod Subjects
 pub mod Sides
-pub mod Words
 pub mod Wrongs

@@ -7,8 +7,8 @@ use crate::meaning::Meaning;
 use crate::shown::Shown;
 use crate::sides::Side;
 use crate::task::Task;
-use crate::words::FREE_MEMORY;
 use htl_main::{Between, Question, RunFault};
+use htl_program::FREE_MEMORY;
 use std::fmt;
 
 /// A fault in words: the file or the two segments that it is about, the line of the event in a text

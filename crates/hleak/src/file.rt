@@ -1,7 +1,7 @@
 //! A file that is open only while it is read.
 
-ghost use Rattle.std.specs.Prelude.{◌≡◌, ◌≤◌, IfOk, OnErr, OnOk, Ok, length};
-ghost use Rattle.hleak.specs.Openings.{IsKnownLen};
+ghost use Rattle.std.specs.Prelude.{◌≡◌, ◌≤◌, IfOk, OnErr, OnOk, Ok, length, string_bytes};
+ghost use Rattle.hleak.specs.Openings.{IsKnownLen, StaysOpen};
 ghost use Rattle.hleak.specs.Stages.{IsBegun, IsStageAfter, IsUnread};
 
 use std::fs::{File, Metadata};
@@ -20,22 +20,23 @@ pub enum Stage {
 
 /// A file of a name, which is opened at its first read and closed once its end is found.
 #[derive(Drop)]
-pub struct InputFile<'a> {
+pub struct InputFile {
     rt: HostRuntime,
-    name: &'a str,
+    name: String,
     len: Option<u64>,
     stage: Stage,
 }
 
-impl<'a> InputFile<'a> {
+impl InputFile {
     /// The file of this name, where it can be opened. It is closed again until it is read, so that
     /// there may be more files than may be open at once. What gives other bytes each time that it is
     /// opened, as a pipe or a terminal, stays open.
-    pub fn find(rt: &HostRuntime, name: &'a str) -> io::Result<InputFile<'a>>
-        ensures name { IfOk result (λ found. found.name ≡ name.entry) }
+    pub fn find(rt: &HostRuntime, name: &str) -> io::Result<InputFile>
+        ensures name { IfOk result (λ found. string_bytes found.name ≡ name.now) }
         ensures unread { IfOk result (λ found. IsUnread found.stage) }
     {
         let file = File::open(rt, name)?;
+        let name = String::from_str(rt.alloc(), name)?;
         let metadata = file.metadata();
         let len = known_len(&metadata);
         let stage = if stays_open(&metadata) {
@@ -65,7 +66,7 @@ impl<'a> InputFile<'a> {
         ensures name { self.new.name ≡ self.old.name }
     {
         if let Stage::Found = self.stage {
-            self.stage = Stage::Open(File::open(&self.rt, self.name)?);
+            self.stage = Stage::Open(File::open(&self.rt, &self.name)?);
         }
         Ok(())
     }
@@ -91,7 +92,7 @@ impl<'a> InputFile<'a> {
     }
 }
 
-impl Read for InputFile<'_> {
+impl Read for InputFile {
     fn read(&mut self, buffer: &mut [u8]) -> io::Result<usize> {
         self.read_on(buffer)
     }
@@ -108,7 +109,9 @@ pub fn known_len(metadata: &io::Result<Metadata>) -> Option<u64>
 }
 
 /// Whether a file can't be opened once more in its place. A folder can, and can't be read.
-fn stays_open(metadata: &io::Result<Metadata>) -> bool {
+fn stays_open(metadata: &io::Result<Metadata>) -> bool
+    ensures { StaysOpen metadata.now result }
+{
     match metadata {
         Ok(metadata) => !metadata.is_file() && !metadata.is_dir(),
         Err(_) => true,

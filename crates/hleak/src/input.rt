@@ -26,10 +26,10 @@ impl<'a, D: Read> Input<'a, D> {
     }
 }
 
-impl<'a> Input<'a, Device<'a>> {
+impl<'a> Input<'a, Device> {
     /// A file, of which nothing was read.
-    pub fn file(file: InputFile<'a>, progress: Option<&'a Progress>) -> Input<'a, Device<'a>>
-        ensures device { result.device ≡ Device.File file.entry }
+    pub fn file(file: InputFile, progress: Option<&'a Progress>) -> Input<'a, Device>
+        ensures device { result.device ≡ Device.File file }
         ensures watched { result.progress ≡ progress.entry }
     {
         if let Some(progress) = progress {
@@ -39,7 +39,7 @@ impl<'a> Input<'a, Device<'a>> {
     }
 
     /// Standard input. What a person types is not counted.
-    pub fn standard(rt: &HostRuntime, progress: Option<&'a Progress>) -> Input<'a, Device<'a>>
+    pub fn standard(rt: &HostRuntime, progress: Option<&'a Progress>) -> Input<'a, Device>
         ensures device { (standard : Stdin) × (result.device ≡ Device.Standard standard) }
         ensures watched { (result.progress ≡ None) ⊎ (result.progress ≡ progress.entry) }
     {
@@ -69,12 +69,12 @@ impl<D: Read> Read for Input<'_, D> {
 
 /// A file, or standard input.
 #[derive(Drop)]
-pub enum Device<'a> {
-    File(InputFile<'a>),
+pub enum Device {
+    File(InputFile),
     Standard(Stdin),
 }
 
-impl Read for Device<'_> {
+impl Read for Device {
     fn read(&mut self, buffer: &mut [u8]) -> io::Result<usize> {
         match self {
             Device::File(file) => file.read(buffer),

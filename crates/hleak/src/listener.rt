@@ -37,25 +37,18 @@ impl Listener {
         }
     }
 
-    /// Whether a person reads standard error at a terminal.
-    pub fn is_watched(&self) -> bool
-        ensures { result ≡ self.now.is_watched }
-    {
-        self.is_watched
-    }
-
-    /// Whether a person types the lines and reads standard error at a terminal.
-    pub fn is_typed(&self) -> bool
-        ensures { result ≡ self.now.is_typed }
-    {
-        self.is_typed
-    }
-
     /// Whether wrong lines make the status of a wrong command line: a person may ask for help.
     pub fn counts_wrong(&self) -> bool
         ensures { result ≡ (not self.now.is_typed || self.now.has_refused) }
     {
         !self.is_typed || self.has_refused
+    }
+
+    /// Ends the line where the end of the lines was typed.
+    pub fn ends_line(&self) {
+        if self.is_typed {
+            let _ = eprintln!(self.rt; "");
+        }
     }
 
     /// A line was wrong, for this reason.
@@ -76,6 +69,13 @@ fn is_refusal(fault: &ParseFault) -> bool
 }
 
 impl Host for Listener {
+    ghost use Rattle.hleak.specs.Wrongs.{counts_as_wrong};
+
+    // A line that was refused is kept in mind, and nothing else.
+    ghost told = { λ s note. record s { has_refused = s.has_refused || counts_as_wrong note } };
+
+    ghost wants_absence = { λ s. s.is_watched };
+
     fn awaits(&mut self) {
         if self.is_typed {
             let _ = eprint!(self.rt; "hleak> ");

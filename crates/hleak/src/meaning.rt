@@ -1,8 +1,8 @@
 //! What a fault means, in words: those of its code, with its numbers or its field.
 
-use crate::words::{advice, form_meaning, meaning};
 use htl_case::CaseFault;
 use htl_command::Code;
+use htl_program::{advice, form_meaning, meaning};
 use htl_segment::{Fault, HexFault};
 use htl_symbols::SymbolFault;
 use htl_text::{Field, FormFault, LineFault};

@@ -178,6 +178,7 @@ pub struct Progress {
     rt: HostRuntime,
     began: Instant,
     meter: Cell<Meter>,
+    is_hidden: Cell<bool>,
 }
 
 impl Progress {
@@ -185,7 +186,17 @@ impl Progress {
     pub fn begin(rt: HostRuntime) -> io::Result<Progress> {
         let began = Instant::now(&rt)?;
         let meter = Cell::new(Meter::new());
-        Ok(Progress { rt, began, meter })
+        Ok(Progress {
+            rt,
+            began,
+            meter,
+            is_hidden: Cell::new(false),
+        })
+    }
+
+    /// Shows nothing from now on.
+    pub fn hide(&self) {
+        self.is_hidden.set(true);
     }
 
     /// One more input will be read, of so many bytes where they are known.
@@ -200,7 +211,7 @@ impl Progress {
         let mut meter = self.meter.get();
         meter.count(bytes);
         if let Ok(now) = self.began.elapsed(&self.rt) {
-            if meter.is_due(now) {
+            if !self.is_hidden.get() && meter.is_due(now) {
                 let _ = eprint!(self.rt; "\r{meter}");
                 meter.shown = Some(now);
             }

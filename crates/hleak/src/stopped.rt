@@ -1,8 +1,8 @@
 //! What a person at a terminal reads where the replies of a dialogue stopped.
 
 use crate::meaning::Meaning;
-use crate::words::FREE_MEMORY;
 use htl_dialogue::DialogueFault;
+use htl_program::FREE_MEMORY;
 use std::fmt;
 
 /// A dialogue's fault in words: what it is about, what is wrong, and what to do.

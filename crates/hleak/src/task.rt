@@ -3,7 +3,7 @@
 ghost use Rattle.std.specs.Prelude.{◌≡◌};
 ghost use Rattle.hleak.specs.Subjects.{input_name, symbols_name};
 
-use htl_command::{Asked, Conversion, Dialogue};
+use htl_command::{Asked, Command, Conversion, Dialogue};
 
 /// What was being done.
 #[derive(Clone, Copy)]
@@ -14,6 +14,16 @@ pub enum Task<'a> {
 }
 
 impl<'a> Task<'a> {
+    /// That of a command. A code is explained without any input.
+    pub fn of(command: &'a Command) -> Option<Task<'a>> {
+        match command {
+            Command::Answer(asked) => Some(Task::Answer(asked)),
+            Command::Dump(of) | Command::Encode(of) => Some(Task::Convert(of)),
+            Command::Converse(of) => Some(Task::Converse(of)),
+            Command::Explain(_) => None,
+        }
+    }
+
     /// What a person calls the input at a place.
     pub fn input(self, place: u64) -> &'a str
         ensures { result.now ≡ input_name self.entry place }

@@ -25,7 +25,8 @@ use Rattle.htl_analyst.proofs.Held.{number}
 use Rattle.htl_analyst.proofs.Runs.{IsRunFrom, events_of-run, run_taken, run_has}
 use Rattle.htl_analyst.proofs.Fresh.{run_events-0}
 use Rattle.htl_taken.proofs.Members.{Contains-drop}
-use Rattle.htl_analyst.proofs.Updates.{place-set_same, place-set_other, part-set_same, part-set_other, IsState-updated, IsRight-updated}
+use Rattle.htl_analyst.proofs.Updates.{place-set_other, part-set_same, part-set_other, IsState-updated, IsRight-updated}
+use Rattle.htl_taken.proofs.NumberSets.{numbers_at-set_same}
 
 pub run_reaches : (q : Numbers) → q.front + (reach_of q - q.front) ≡ reach_of q
 run_reaches q = let ge = reach_from-ge q.front q.loose in omega (arith, ge)
@@ -170,7 +171,7 @@ module _ (a b : State) (p : ℕ) (is : IsState a) (lt : p < a.processors) (f : I
   in_parts = let e = is.parts in omega (arith, e)
 
   pub place-compacted : numbers_at b.taken p ≡ settled (numbers_at a.taken p)
-  place-compacted = ap (λ (x : State). numbers_at x.taken p) f.is ∙ place-set_same a.taken p (settled (numbers_at a.taken p)) in_places
+  place-compacted = ap (λ (x : State). numbers_at x.taken p) f.is ∙ numbers_at-set_same a.taken p (settled (numbers_at a.taken p)) in_places
 
   pub place-compacted_other : (r : ℕ) → r ≢ p → numbers_at b.taken r ≡ numbers_at a.taken r
   place-compacted_other r ne =

@@ -35,12 +35,14 @@ are_proper a is p =
           subst IsProper (sym (numbers_at-past a.taken p past)) (IsProper-no_numbers p)
     ]
 
+-- either of two analysts may be merged into the other
 pub commutative : IsCommutative
 commutative T a b ab ba trace ra rb m w =
     determined T ab ba trace (right_merged T a b ab ra rb m) (right_merged T b a ba rb ra w)
     (sets.commutative a.taken b.taken ab.taken ba.taken (as_many_places T a b ra rb) (are_union a b ab ra.state m)
     (are_union b a ba rb.state w))
 
+-- any two of three may be merged first
 pub associative : IsAssociative
 associative T a b c ab bc l r trace ra rb rc mab mbc ml mr =
     let rab = right_merged T a b ab ra rb mab in
@@ -49,11 +51,13 @@ associative T a b c ab bc l r trace ra rb rc mab mbc ml mr =
     (sets.associative a.taken b.taken c.taken ab.taken bc.taken l.taken r.taken
     (are_union a b ab ra.state mab) (are_union b c bc rb.state mbc) (are_union ab c l rab.state ml) (are_union a bc r ra.state mr))
 
+-- merged with itself an analyst stays the same
 pub idempotent : IsIdempotent
 idempotent T a c trace ra m =
     determined T c a trace (right_merged T a a c ra ra m) ra
     (sets.idempotent a.taken c.taken (are_proper a ra.state) (are_union a a c ra.state m))
 
+-- the merge is the least state above both
 pub least : IsLeastMerge
 least T a b m ra rb is =
     let rm = right_merged T a b m ra rb is in
@@ -76,6 +80,7 @@ are_settled a absent p =
       | inr le ↦ omega (arith, le, ge)
     ]
 
+-- analysts with the same segments are equal once compacted
 pub equal_once_compacted : AreEqualOnceCompacted
 equal_once_compacted T a b trace sa sb into from =
     determined T a b trace sa.right sb.right

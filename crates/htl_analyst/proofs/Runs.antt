@@ -3,7 +3,7 @@ use Rattle.std.proofs.Common.{◌≡◌, ℕ, zero, suc, ◌+◌, ◌<◌, ◌�
 use Rattle.std.proofs.Common.{arith, append_assoc, append-nil, inl, inr}
 use Rattle.std.specs.Prelude.{Contains}
 use Rattle.std.specs.List.{AllByRecursion}
-use Rattle.std.proofs.lemmas.Bool.{cases_eq, eq-eqb, ne_eqb}
+use Rattle.std.proofs.lemmas.Bool.{cases_eq}
 use Rattle.htl_event.specs.Events.{Event}
 use Rattle.htl_event.proofs.Members.{Contains-here, Contains-there}
 use Rattle.htl_segment.specs.Content.{Content}
@@ -12,6 +12,7 @@ use Rattle.htl_segment.specs.Traces.{AreInOrder, all_events, events_of}
 use Rattle.htl_segment.proofs.Traces.{runs_grow}
 use Rattle.htl_taken.specs.Rising.{reach_from}
 use Rattle.htl_analyst.proofs.Held.{number}
+use Rattle.htl_taken.proofs.Reaching.{reach-stop, reach-next}
 
 -- segments of the processor whose numbers go on from n without a gap
 abbrev pub IsRunFrom : ℕ → ℕ → List Content → Type 0
@@ -36,12 +37,6 @@ events_of-run ss ordered p n (h ∷ hs) run all =
     ∙ events_of-run ss ordered p (n + 1) hs run.2 all.1
     ∙ ap (λ (es : List Event). es ++ all_events hs) (run_grows ss h p n ordered all.0 run.0 run.1)
     ∙ append_assoc (events_of (run_below p n) ss) h.events (all_events hs)
-
-reach-next : (n m : ℕ) (ms : List ℕ) → m ≡ n → reach_from n (m ∷ ms) ≡ reach_from (n + 1) ms
-reach-next n m ms e = rw (eq-eqb m n e) refl
-
-reach-stop : (n m : ℕ) (ms : List ℕ) → (m ≡ n → ⊥) → reach_from n (m ∷ ms) ≡ n
-reach-stop n m ms ne = rw (ne_eqb m n ne) refl
 
 -- the held segments up to the reach are a run
 pub run_taken : (p n k : ℕ) (hs : List Content) → AllByRecursion (λ s. s.processor ≡ p) hs → n + k ≡ reach_from n (map number hs)

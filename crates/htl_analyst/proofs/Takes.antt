@@ -21,7 +21,8 @@ use Rattle.htl_analyst.proofs.Lists.{map-insert, all-insert}
 use Rattle.htl_analyst.proofs.Held.{number, one_segment, one_held, length-numbers}
 use Rattle.htl_taken.specs.Rising.{Rises}
 use Rattle.htl_taken.proofs.Rising.{Rises-member, length-Rises}
-use Rattle.htl_analyst.proofs.Updates.{place-set_same, place-set_other, IsState-updated, IsRight-updated}
+use Rattle.htl_analyst.proofs.Updates.{place-set_other, IsState-updated, IsRight-updated}
+use Rattle.htl_taken.proofs.NumberSets.{numbers_at-set_same}
 
 module _ (a : State) (s : Content) (is : IsState a) (fits : Fits s) (of_state : IsOfState a s) (new : HasTaken a s.processor s.number
     → ⊥) where
@@ -75,7 +76,7 @@ module _ (a : State) (s : Content) (is : IsState a) (fits : Fits s) (of_state : 
       elim (cases_eq p s.processor) [
         | inl e ↦ subst (λ (r : ℕ). HasTaken (with_segment a s) r n ↔ (HasTaken a r n ⊎ ((r ≡ s.processor) × (n ≡ s.number)))) (sym e)
             (subst (λ (x : Numbers). Has x n ↔ (Has q n ⊎ ((s.processor ≡ s.processor) × (n ≡ s.number))))
-            (sym (place-set_same a.taken s.processor (with_loose q s.number) places))
+            (sym (numbers_at-set_same a.taken s.processor (with_loose q s.number) places))
             (let w = Has-with_loose q s.number n in (
               (λ h. elim (w.0 h) [ inl old ↦ inl old | inr same ↦ inr (refl, same) ]),
               (λ h. elim h [ inl old ↦ w.1 (inl old) | inr both ↦ w.1 (inr both.1) ]),
@@ -91,7 +92,7 @@ module _ (a : State) (s : Content) (is : IsState a) (fits : Fits s) (of_state : 
       let places : s.processor < length a.taken = (let e = is.places in let lt = here in omega (arith, e, lt)) in
       elim (cases_eq p s.processor) [
         | inl e ↦ subst (λ (r : ℕ). (numbers_at a.taken r).front ≡ (numbers_at (with_segment a s).taken r).front) (sym e)
-            (sym (ap (λ (x : Numbers). x.front) (place-set_same a.taken s.processor (with_loose q s.number) places)))
+            (sym (ap (λ (x : Numbers). x.front) (numbers_at-set_same a.taken s.processor (with_loose q s.number) places)))
         | inr ne ↦ sym (ap (λ (x : Numbers). x.front) (place-set_other a.taken s.processor p (with_loose q s.number) ne))
       ]
 

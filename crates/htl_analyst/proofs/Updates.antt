@@ -7,9 +7,7 @@ use Rattle.htl_segment.specs.Traces.{Trace}
 use Rattle.htl_analyst.specs.States.{Part, part_at, no_part, State}
 use Rattle.htl_analyst.specs.Right.{IsPart, IsState, IsRightAt, IsRight}
 use Rattle.htl_analyst.specs.Steps.{updated}
-
-pub place-set_same : (ps : List Numbers) (p : ℕ) (q : Numbers) → p < length ps → numbers_at (slice_set ps p q) p ≡ q
-place-set_same ps p q lt = get_or-set_same ps p q no_numbers lt
+use Rattle.htl_taken.proofs.NumberSets.{numbers_at-set_same}
 
 pub place-set_other : (ps : List Numbers) (p r : ℕ) (q : Numbers) → r ≢ p → numbers_at (slice_set ps p q) r ≡ numbers_at ps r
 place-set_other ps p r q ne = get_or-set_other ps p r q no_numbers ne
@@ -33,7 +31,7 @@ module _ (a : State) (p : ℕ) (q : Numbers) (k : Part) (is : IsState a) (lt : p
   each_part P old here r in_r =
       elim (cases_eq r p) [
         | inl e ↦ subst (λ (n : ℕ). P n (numbers_at (slice_set a.taken p q) n) (part_at (slice_set a.parts p k) n)) (sym e)
-            (rw (place-set_same a.taken p q in_places, part-set_same a.parts p k in_parts) here)
+            (rw (numbers_at-set_same a.taken p q in_places, part-set_same a.parts p k in_parts) here)
         | inr ne ↦ rw (place-set_other a.taken p r q ne, part-set_other a.parts p r k ne) (old r in_r)
       ]
 

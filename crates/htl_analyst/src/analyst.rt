@@ -1,4 +1,4 @@
-//! The analyst: its state, and what it answers of that.
+//! The analyst: its state, and the calls that read it.
 ghost use Rattle.std.specs.Prelude.{◌≡◌, IfOk, replicate};
 ghost use Rattle.htl_analyst.specs.States.{no_part};
 
@@ -11,7 +11,7 @@ use htl_taken::Taken;
 use std::alloc::Allocator;
 use std::marker::Model;
 
-/// What is known of a trace: which of its segments were taken, and what they come to.
+/// What is known of a trace: the segments that were taken, and the counts and tables of their events.
 #[derive(Drop)]
 pub struct Analyst<A: Allocator> {
     pub(crate) trace_id: u64,
@@ -50,7 +50,7 @@ impl<A: Allocator> Analyst<A> {
         self.trace_id
     }
 
-    /// How many processors the trace has.
+    /// The number of processors of the trace.
     pub fn processors(&self) -> u16
         ensures value { result ≡ self.now.processors }
         // What every analyst's state is, so that callers have it too.
@@ -59,7 +59,7 @@ impl<A: Allocator> Analyst<A> {
         self.processors
     }
 
-    /// Whether the segment was taken. None of a processor that isn't there was.
+    /// Whether the segment was taken. No segment of a processor that isn't there was.
     pub fn has(&self, processor: u16, number: u32) -> bool
         ensures { result ≡ keys self.now processor number }
     {
@@ -74,7 +74,7 @@ impl<A: Allocator> Analyst<A> {
         self.taken.front(processor)
     }
 
-    /// How many segments are held.
+    /// The number of held segments.
     pub fn held(&self) -> u64
         ensures { result ≡ sum_by (λ k. length k.held) self.now.parts }
     {
@@ -85,15 +85,14 @@ impl<A: Allocator> Analyst<A> {
         held
     }
 
-    /// How many segments were taken.
+    /// The number of taken segments.
     pub fn taken(&self) -> u64
         ensures { result ≡ number_taken self.now }
     {
         self.taken.len()
     }
 
-    /// Whether both have the same fronts, hold the same segments and come to the same counts and
-    /// tables.
+    /// Whether both have the same fronts, held segments, counts and tables.
     pub fn same(&self, other: &Analyst<A>) -> bool
         ensures { IsTrue result ↔ IsSame self.now other.now }
     {
@@ -189,7 +188,7 @@ impl<A: Allocator + Clone> Analyst<A> {
     }
 }
 
-/// A part that has nothing for each processor.
+/// An empty part for each processor.
 fn no_parts<A: Allocator + Clone>(alloc: A, processors: u16) -> Result<Vec<Part<A>, A>, NoMemory>
     ensures { IfOk result (λ parts. parts.items ≡ replicate processors no_part) }
 {

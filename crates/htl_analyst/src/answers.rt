@@ -1,4 +1,4 @@
-//! Answers: those of `htl_answers` over the parts of all processors, which are the definitions'
+//! Answers: those of `htl_answers` over the parts of all processors. They are the definitions' answers
 //! over the events of the taken keys.
 use crate::analyst::Analyst;
 use crate::part::Part;
@@ -59,7 +59,7 @@ impl<A: Allocator + Clone> Analyst<A> {
         answers::latest(&self.parts, process, handle)
     }
 
-    /// The mark of the process: the sequence of its latest snapshot, 0 where there is none.
+    /// The mark of the process: the sequence of its latest snapshot, or 0 where it has none.
     pub fn mark(&self, process: u32) -> u64
         ensures { (T : Trace) → IsRight self.now T
             → IsMark (Contains (taken_events T self.now)) process result }
@@ -85,7 +85,7 @@ impl<A: Allocator + Clone> Analyst<A> {
         Ok(rows)
     }
 
-    /// Those that were opened after a moment.
+    /// The outstanding handles of the process that were opened after a moment.
     pub fn diff(
         &self,
         alloc: Global,

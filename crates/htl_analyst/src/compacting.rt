@@ -1,4 +1,4 @@
-//! Folding what goes on from the fronts without a gap.
+//! Compaction: it folds the segments that follow the fronts without a gap.
 ghost use Rattle.std.specs.Prelude.{◌≡◌, ◌≤◌, length, drop};
 
 use crate::analyst::Analyst;
@@ -61,7 +61,7 @@ impl<A: Allocator + Clone> Analyst<A> {
         Ok(())
     }
 
-    /// What was folded of the processor, and the run after it.
+    /// The fold of the processor, with the run after it folded too.
     fn folded(&self, processor: u16, run: usize) -> Result<Folded<A>, NoMemory>
         requires here { processor < self.now.processors }
         requires run { run ≡ run_length self.now processor }
@@ -83,7 +83,7 @@ impl<A: Allocator + Clone> Analyst<A> {
         Ok(both)
     }
 
-    /// Moves the front of one processor to its reach, over what was folded by then.
+    /// Moves the front of one processor to its reach, and keeps the fold of all segments below it.
     fn settle(&mut self, processor: u16, run: usize, folded: Folded<A>)
         requires here { processor < self.old.processors }
         requires run { run ≡ run_length self.old processor }

@@ -1,4 +1,4 @@
-//! Answers of calls that take, merge or make analysts.
+//! Why analysts are not made, and segments and analysts not taken in; and what a take answers.
 ghost use Rattle.std.specs.Prelude.{◌≡◌};
 ghost use Rattle.htl_analyst.specs.declared.fault.AnalystFault.TheVariants as analysts;
 ghost use Rattle.htl_analyst.specs.declared.fault.MergeFault.TheVariants as merges;
@@ -21,7 +21,7 @@ pub enum TakeFault {
     OtherTrace,
     /// The segment has another processor count.
     OtherProcessors,
-    /// A segment of this processor and number is held that says something else.
+    /// A different segment of this processor and number is held.
     Conflict(u16, u32),
     NoMemory,
 }
@@ -33,8 +33,8 @@ pub enum MergeFault {
     OtherTrace,
     /// The analysts have two processor counts.
     OtherProcessors,
-    /// Both hold a segment of this processor and number, and the two say different things. It is
-    /// the least such processor, and the least such number there.
+    /// Both hold a segment of this processor and number, and the two are different. It is the least such
+    /// processor, and the least such number there.
     Conflict(u16, u32),
     NoMemory,
 }

@@ -1,4 +1,4 @@
-//! What is left of the segments of one processor that were folded.
+//! The fold of one processor's segments: what is left of their events.
 
 use htl_event::NoMemory;
 use htl_segment::{Segment, greatest_sequence};
@@ -59,14 +59,14 @@ impl<A: Allocator> Folded<A> {
         &self.exits
     }
 
-    /// The greatest folded sequence, 0 where there is none.
+    /// The greatest folded sequence, or 0 where no event was folded.
     pub fn last_sequence(&self) -> u64
         ensures { result ≡ self.now.last_sequence }
     {
         self.last_sequence
     }
 
-    /// Whether both come to the same counts, tables and sequence.
+    /// Whether both have the same counts, tables and sequence.
     pub fn same(&self, other: &Folded<A>) -> bool
         ensures { IsTrue result ↔ IsSameFolded self.now other.now }
     {
@@ -107,7 +107,7 @@ impl<A: Allocator + Clone> Folded<A> {
         })
     }
 
-    /// What the events of the segments come to.
+    /// The fold of the segments' events.
     pub fn of(alloc: A, segments: &[Segment]) -> Result<Folded<A>, NoMemory>
         requires { length (all_events segments.now) < 2 ^ 64 }
         ensures folded { IfOk result (λ f. IsFolded f (all_events segments.now)) }
@@ -122,7 +122,7 @@ impl<A: Allocator + Clone> Folded<A> {
         })
     }
 
-    /// What both come to.
+    /// The fold of the events of both.
     pub fn joined(&self, other: &Folded<A>) -> Result<Folded<A>, NoMemory>
         requires { total_count self.now.tree + total_count other.now.tree < 2 ^ 64 }
         ensures folded { IfOk result (λ f. (events more : List Event)

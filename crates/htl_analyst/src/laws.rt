@@ -16,17 +16,17 @@ pub fn states_are_determined()
     ensures { IsDetermined }
 {}
 
-/// It is all one which of two analysts is merged into the other.
+/// A merge is commutative: either of two analysts may be merged into the other.
 pub fn merge_is_commutative()
     ensures { IsCommutative }
 {}
 
-/// It is all one which two of three analysts are merged first.
+/// A merge is associative: any two of three analysts may be merged first.
 pub fn merge_is_associative()
     ensures { IsAssociative }
 {}
 
-/// An analyst merged with itself knows what it knew.
+/// A merge is idempotent: an analyst merged with itself knows what it knew.
 pub fn merge_is_idempotent()
     ensures { IsIdempotent }
 {}
@@ -58,7 +58,7 @@ pub fn nothing_comes_later()
     ensures { NothingComesLater }
 {}
 
-/// What holds of states that are right about the segments of a collection holds for each trace.
+/// A fact of states that are right about a collection's segments holds for each trace.
 pub fn traces_are_collections()
     ensures { TracesAreCollections }
 {}

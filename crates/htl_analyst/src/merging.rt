@@ -1,4 +1,4 @@
-//! Taking over what another analyst knows.
+//! Merging: an analyst takes over what another one knows.
 ghost use Rattle.std.specs.Prelude.{◌≡◌, ℕ, ◌<◌, ◌≤◌, length, nat_lt, if◌then◌else◌};
 ghost use Rattle.htl_taken.specs.Numbers.{front_at};
 ghost use Rattle.htl_analyst.specs.States.{part, part_at, held_at, folded_at};
@@ -42,7 +42,7 @@ impl<A: Allocator> Analyst<A> {
         Ok(())
     }
 
-    /// The least number of the processor under which the two hold two contents.
+    /// The least number of the processor under which the two hold different segments.
     fn find_conflict(&self, other: &Analyst<A>, processor: u16) -> Option<u32>
         requires here { processor < self.now.processors }
         requires there { processor < other.now.processors }
@@ -60,7 +60,7 @@ impl<A: Allocator> Analyst<A> {
         None
     }
 
-    /// Whether a segment of this key with other content is held.
+    /// Whether a different segment of this key is held.
     fn holds_other(&self, segment: &Segment, processor: u16) -> bool
         requires here { processor < self.now.processors }
         requires of { segment.now.processor ≡ processor }
@@ -161,8 +161,7 @@ impl<A: Allocator + Clone> Analyst<A> {
         }
     }
 
-    /// The keys of both, and parts that hold the segments of the loose ones and have nothing
-    /// folded.
+    /// The keys of both, and parts that hold the segments of the loose numbers and have nothing folded.
     fn union_of(&self, other: &Analyst<A>) -> Result<(Taken<A>, Vec<Part<A>, A>), MergeFault>
         ensures len { IfOk result (λ r. length r.0 ≡ self.now.processors) }
         ensures union { IfOk result (λ r. (p : ℕ)
@@ -316,8 +315,7 @@ fn unite<A: Allocator>(
     }
 }
 
-/// Puts what one side has folded into the incoming part. It is moved: that side gets what stood
-/// there.
+/// Moves what one side has folded into the incoming part. That side gets what the part had folded.
 fn unite_at<A: Allocator>(
     own: &mut Part<A>,
     theirs: &mut Part<A>,

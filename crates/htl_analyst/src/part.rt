@@ -1,4 +1,4 @@
-//! What an analyst keeps of one processor.
+//! Parts: what an analyst keeps of one processor.
 use crate::folded::Folded;
 use htl_event::NoMemory;
 use htl_segment::Segment;
@@ -6,7 +6,7 @@ use std::alloc::Allocator;
 use std::marker::Model;
 use std::mem;
 
-/// The segments that wait for others with lower numbers, and what was folded of all below them.
+/// The segments that wait for others with lower numbers, and the fold of all segments below the front.
 #[derive(Drop)]
 pub(crate) struct Part<A: Allocator> {
     pub held: Vec<Segment, A>,
@@ -33,14 +33,14 @@ impl<A: Allocator> Part<A> {
         self.held.as_slice()
     }
 
-    /// What was folded below the front.
+    /// The fold of the segments below the front.
     pub fn folded(&self) -> &Folded<A>
         ensures { result.now ≡ self.now.folded }
     {
         &self.folded
     }
 
-    /// Exchanges what was folded. Each keeps its held segments.
+    /// Exchanges the folds of two parts. Each keeps its held segments.
     pub fn swap_folded(&mut self, other: &mut Part<A>)
         ensures own { self.new ≡ part self.old.held other.old.folded }
         ensures others { other.new ≡ part other.old.held self.old.folded }
@@ -63,7 +63,7 @@ impl<A: Allocator + Clone> Part<A> {
     ghost use Rattle.std.specs.Prelude.{◌≡◌, IfOk};
     ghost use Rattle.htl_analyst.specs.States.{no_part};
 
-    /// A part that has nothing.
+    /// An empty part.
     pub fn new(alloc: A) -> Result<Part<A>, NoMemory>
         ensures { IfOk result (λ part. part ≡ no_part) }
     {

@@ -1,4 +1,4 @@
-//! What a summary states of the taken segments: processes, objects and gaps.
+//! The summary of the taken segments: processes, objects and gaps.
 use crate::analyst::Analyst;
 use htl_event::{NoMemory, ProcessRow};
 use htl_summary::Objects;
@@ -10,8 +10,8 @@ impl<A: Allocator> Analyst<A> {
     ghost use Rattle.htl_taken.specs.Gaps.{IsGaps};
     ghost use Rattle.htl_analyst.specs.Keys.{HasTaken};
 
-    /// Which segments are missing: for each processor, in order, the longest unbroken runs of
-    /// numbers that weren't taken, below one that was; or that none of its segments was taken.
+    /// The gaps, by processor: each longest unbroken run of numbers that weren't taken, below one that
+    /// was. Of a processor none of whose segments was taken, that is stated instead.
     pub fn gaps(&self, alloc: Global) -> Result<Vec<Gap>, NoMemory>
         ensures { IfOk result (λ gaps. IsGaps (HasTaken self.now) self.now.processors gaps.items) }
     {
@@ -37,8 +37,8 @@ impl<A: Allocator + Clone> Analyst<A> {
         Ok(rows)
     }
 
-    /// How many objects were referenced or dereferenced, and those with an unbalanced tag, the most
-    /// unbalanced tags first and then by object.
+    /// The number of objects that were referenced or dereferenced, and the objects with an unbalanced
+    /// tag, those with the most unbalanced tags first and then by object.
     pub fn objects(&self, alloc: Global) -> Result<Objects, NoMemory>
         ensures number { IfOk result (λ objects. (T : Trace) → IsRight self.now T
             → IsNumberOfObjects (taken_events T self.now) objects.number) }

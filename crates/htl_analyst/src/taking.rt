@@ -20,9 +20,8 @@ impl<A: Allocator> Analyst<A> {
     ghost use Rattle.htl_analyst.specs.Steps.{with_segment, taken_as};
     ghost use Rattle.htl_analyst.specs.Moments.{NeverFalls};
 
-    /// Takes a segment. One whose key was taken is a repeat, and one that is new is held, whatever
-    /// its number. A refusal hands the segment back. Memory is asked for where the segment is new
-    /// alone.
+    /// Takes a segment. A segment whose key was taken is a repeat. A new one is held, whatever its
+    /// number. A refusal hands the segment back. Memory is asked for only where the segment is new.
     pub fn take(&mut self, segment: Segment) -> Result<Took, (TakeFault, Segment)>
         ensures keys { OnOk result ((p n : ℕ) → HasTaken self.new p n
             ↔ (HasTaken self.old p n ⊎ ((p ≡ segment.processor) × (n ≡ segment.number)))) }
@@ -57,7 +56,7 @@ impl<A: Allocator> Analyst<A> {
         }
     }
 
-    /// Whether the segment would be taken now, or was before.
+    /// Whether the segment would be new, or is a repeat.
     fn check_take(&self, segment: &Segment) -> Result<Took, TakeFault>
         ensures accepted { OnOk result (TakeAccepted self.now segment.now) }
         ensures new { IfOk result (λ took. (took ≡ Took.New)
@@ -132,14 +131,14 @@ impl<A: Allocator> Analyst<A> {
     }
 }
 
-/// What every segment keeps. It does nothing when it runs.
+/// For proofs: the rules that every segment keeps. It does nothing when it runs.
 fn fits(segment: &Segment)
     ensures { Fits segment.now }
 {
     let _events = segment.events();
 }
 
-/// Puts a segment in where there is room.
+/// Inserts a segment. There is room for it.
 fn insert_reserved<A: Allocator>(held: &mut Vec<Segment, A>, place: usize, segment: Segment)
     requires within { place ≤ length held.old.items }
     requires room { vec_len held.old < vec_capacity held.old }

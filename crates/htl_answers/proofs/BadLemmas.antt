@@ -7,7 +7,7 @@ use Rattle.std.specs.Ordering.{nat_cmp, ordering_then}
 use Rattle.std.specs.declared.cmp.Ordering.{Ordering}
 use Rattle.std.specs.declared.cmp.Ordering.TheVariants.{Less, Equal, Greater}
 use Rattle.std.proofs.lemmas.Bool.Decides.{Decides-eqb}
-use Rattle.std.proofs.lemmas.Bool.{eqb-true}
+use Rattle.std.proofs.lemmas.Bool.{eqb-true, and_right}
 use Rattle.std.proofs.lemmas.Cmp.{tied_itself, nat_cmp_total}
 use Rattle.std.proofs.lemmas.List.Sums.{sum_by-cons}
 use Rattle.htl_event.specs.Events.{Event}
@@ -27,7 +27,6 @@ use Rattle.htl_answers.specs.RowOrder.{row_cmp}
 use Rattle.htl_answers.specs.Rows.{ByKey}
 use Rattle.htl_answers.proofs.FilterMaps.{Contains-filter_map, Contains-from_filter_map, IsRising-filter_map}
 use Rattle.htl_answers.proofs.SlotLists.{IsCount}
-use Rattle.htl_answers.proofs.Opens.{and_false}
 
 -- ---- a row
 
@@ -65,10 +64,12 @@ row_at process row count is = rw ((Decides-eqb process process).1 refl) (ap (λ 
 abbrev with_stack : List ℕ → Count → ℕ → ℕ × List ℕ × ℕ
 with_stack stack count handle = (handle, stack, count.plus)
 
+-- a slot with a handle has a row
 pub some_row : (stack : List ℕ) (count : Count) (o : Option ℕ) (handle : ℕ) → o ≡ Some handle
     → option_map (with_stack stack count) o ≡ Some (handle, stack, count.plus)
 some_row stack count o handle is = ap (option_map (with_stack stack count)) is
 
+-- and one without has none
 pub no_row : (stack : List ℕ) (count : Count) (o : Option ℕ) → ((handle : ℕ) → o ≡ Some handle → ⊥) → (row : ℕ × List ℕ × ℕ)
     → option_map (with_stack stack count) o ≡ Some row → ⊥
 no_row stack count None none row e = cc
@@ -89,7 +90,7 @@ no_minus (e ∷ es) process handle passes =
     weight b = cond b 1 0
 
     never : (kind : Kind) → is_slot (Bad process handle) Minus (slot_by_kind kind e) ≡ false
-    never BadRef = and_false _
+    never BadRef = and_right _ _ refl
     never kind = refl
 
 module _ (events : List Event) (process : ℕ) (counts : List ((Slot × List ℕ) × Count))

@@ -10,6 +10,7 @@ after_option : {Y : Type 0} (o : Option Y) (ys : List Y) (y : Y) → Contains ys
 after_option None ys y h = h
 after_option (Some a) ys y h = Contains-there a ys y h
 
+-- the row of a member is a member
 pub Contains-filter_map : {X Y : Type 0} (f : X → Option Y) (xs : List X) (x : X) (y : Y) → Contains xs x → f x ≡ Some y
     → Contains (filter_map f xs) y
 Contains-filter_map f [] x y h e = absurd (Contains-nil x h)
@@ -22,6 +23,7 @@ Contains-filter_map f (z ∷ xs) x y h e =
 abbrev IsFrom : {X Y : Type 0} → (X → Option Y) → List X → Y → Type 0
 IsFrom {X} f xs y = (x : X) × Contains xs x × (f x ≡ Some y)
 
+-- a member is the row of a member
 pub Contains-from_filter_map : {X Y : Type 0} (f : X → Option Y) (xs : List X) (y : Y) → Contains (filter_map f xs) y → IsFrom f xs y
 Contains-from_filter_map f [] y h = absurd (Contains-nil y h)
 Contains-from_filter_map {X} {Y} f (z ∷ xs) y h = go (Contains-from_filter_map f xs y) (f z) refl h
@@ -58,10 +60,12 @@ none_of : {Y : Type 0} (o : Option Y) → ((y : Y) → o ≡ Some y → ⊥) →
 none_of None h = refl
 none_of (Some y) h = absurd (h y refl)
 
+-- one more element with a row adds that row
 pub one_row_more : {X Y : Type 0} (f : X → Option Y) (xs : List X) (x : X) (y : Y) → f x ≡ Some y
     → filter_map f (xs ++ x ∷ []) ≡ filter_map f xs ++ y ∷ []
 one_row_more f xs x y e = filter_map-append f xs (x ∷ []) ∙ ap (λ o. filter_map f xs ++ cons_option o []) e
 
+-- one more element without a row adds nothing
 pub no_row_more : {X Y : Type 0} (f : X → Option Y) (xs : List X) (x : X) → ((y : Y) → f x ≡ Some y → ⊥)
     → filter_map f (xs ++ x ∷ []) ≡ filter_map f xs
 no_row_more f xs x none = filter_map-append f xs (x ∷ []) ∙ ap (λ o. filter_map f xs ++ cons_option o []) (none_of (f x) none)

@@ -10,6 +10,7 @@ use Rattle.htl_answers.proofs.PartLemmas.{last_part, one_part_more}
 abbrev IsGreatestOver : (Event → Type 0) → List Event → ℕ → Type 0
 IsGreatestOver P events = IsGreatestSequence (λ e. Contains events e × P e)
 
+-- the greatest of the parts before, of what the next folded and of what it holds
 pub greatest_more : (P : Event → Type 0) {X : Type 0} (contents : X → Contents) (parts : List X) (i : ℕ) (part : X) → i < length parts
     → part ≡ get_or parts i part
     → (before folded held : ℕ) → ((events : List Event) → AreEventsOf (map contents (take i parts)) events

@@ -6,12 +6,13 @@ use Rattle.std.specs.FinMap.{nat_cmp-IsAntisymmetric}
 use Rattle.std.specs.declared.cmp.Ordering.{Ordering}
 use Rattle.std.specs.declared.cmp.Ordering.TheVariants.{Less, Equal}
 use Rattle.std.specs.declared.cmp.Reverse.{Reverse}
-use Rattle.std.proofs.lemmas.Bool.{and_from}
+use Rattle.std.proofs.lemmas.Bool.{and_from, and_right}
 use Rattle.std.proofs.lemmas.Bool.Decides.{Decides-eqb}
 use Rattle.std.proofs.lemmas.List.Sums.{sum_by-cons}
 use Rattle.htl_event.specs.Events.{Event}
 use Rattle.htl_event.specs.declared.kind.Kind.{Kind}
 use Rattle.htl_event.specs.declared.kind.Kind.TheVariants.{Opened}
+use Rattle.htl_event.specs.declared.slot.Slot.{Slot}
 use Rattle.htl_event.specs.declared.slot.Slot.TheVariants.{Handles}
 use Rattle.htl_event.specs.declared.slot.Sign.TheVariants.{Plus, Minus}
 use Rattle.htl_event.specs.declared.slot.Count.{Count}
@@ -20,10 +21,14 @@ use Rattle.htl_event.specs.Members.{IsRising, Lists}
 use Rattle.htl_event.specs.Stacks.{stack_cmp}
 use Rattle.htl_event.specs.Handles.{IsOutstanding}
 use Rattle.htl_event.specs.Tallies.{times, tally, has_stack, MostFirst, IsLeaks}
-use Rattle.htl_tree.specs.Trees.{Tree, HasTally, ListsRows, count_at}
-pub use Rattle.htl_answers.specs.RowOrder.{both_tied, stack_same}
+use Rattle.htl_tree.specs.declared.slots.Slots.TheVariants.{One}
+use Rattle.htl_tree.proofs.Under.{same_slot_Decides}
+use Rattle.htl_answers.specs.Rows.{rows_of, ByKey, AreSums}
+pub use Rattle.htl_answers.specs.RowOrder.{both_tied, stack_same, row_cmp}
 use Rattle.htl_answers.specs.Leaks.{counted_first, stack_before_number}
 use Rattle.htl_event.proofs.Members.{Contains-here, Contains-there, Contains-map, Contains-from_map, each_member, at_member}
+use Rattle.htl_answers.proofs.EventRows.{rows_positive}
+use Rattle.htl_answers.proofs.SlotLists.{IsCount, counts_listed}
 
 -- each event opens a handle of the process
 pub record AllOpen (process : ℕ) (events : List Event) : Type 0 where
@@ -34,12 +39,8 @@ counted_open : (kind : Kind) (e : Event) (process : ℕ) → kind ≡ Opened →
 counted_open Opened e process k p = and_from _ _ ((Decides-eqb process e.process).1 (sym p)) refl
 counted_open kind e process k p = absurd cc
 
-pub and_false : (b : Bool) → (b && false) ≡ false
-and_false true = refl
-and_false false = refl
-
 not_closed : (kind : Kind) (e : Event) (process : ℕ) → kind ≡ Opened → is_slot (Handles process) Minus (slot_by_kind kind e) ≡ false
-not_closed Opened e process k = and_false _
+not_closed Opened e process k = and_right _ _ refl
 not_closed kind e process k = absurd cc
 
 tail : (process : ℕ) (e : Event) (es : List Event) → AllOpen process (e ∷ es) → AllOpen process es
@@ -107,40 +108,41 @@ row_ties x y e =
 abbrev IsLeak : List Event → List ℕ × ℕ → Type 0
 IsLeak opens row = (row.1 ≡ count_by (has_stack row.0) opens) × (0 < row.1)
 
-module _ (process : ℕ) (opens : List Event) (all : AllOpen process opens) (tree : Tree) (tallied : HasTally tree opens)
-    (stacks : List (List ℕ × Count)) (listed : ListsRows tree (Handles process) stacks) where
-  counts : (stack : List ℕ) → count_at tree (Handles process) stack ≡ record { plus = count_by (has_stack stack) opens; minus = 0 }
-  counts stack = tallied (Handles process) stack ∙ opens_tally process opens all stack
-
-  leak_from_row : (r : List ℕ × Count) → Contains stacks r → IsLeak opens (r.0, r.1.plus)
+module _ (process : ℕ) (opens : List Event) (all : AllOpen process opens) (rows : List ((Slot × List ℕ) × Count))
+    (listed : Lists (ByKey row_cmp) (IsCount (One (Handles process)) opens) rows) where
+  leak_from_row : (r : (Slot × List ℕ) × Count) → Contains rows r → IsLeak opens (r.0.1, r.1.plus)
   leak_from_row r h =
       let is = (listed.members r).0 h in
-      let whole = is.0 ∙ counts r.0 in
+      let slot = (same_slot_Decides (Handles process) r.0.0).0 is.2 in
+      let whole = is.0 ∙ ap (λ s. tally opens s r.0.1) (sym slot) ∙ opens_tally process opens all r.0.1 in
       let none : r.1.minus ≡ 0 = ap (λ (n : Count). n.minus) whole in
       let some = is.1 in
       (ap (λ (n : Count). n.plus) whole, omega (arith, none, some))
 
-  row_from_leak : (row : List ℕ × ℕ) → IsLeak opens row → Contains stacks (row.0, record { plus = row.1; minus = 0 })
+  abbrev opens_row : List ℕ × ℕ → (Slot × List ℕ) × Count
+  opens_row row = ((Handles process, row.0), record { plus = row.1; minus = 0 })
+
+  row_from_leak : (row : List ℕ × ℕ) → IsLeak opens row → Contains rows (opens_row row)
   row_from_leak row h =
       let some = h.1 in
-      (listed.members (row.0, record { plus = row.1; minus = 0 })).1 (ap count_of h.0 ∙ sym (counts row.0), omega (arith, some))
+      let count : (opens_row row).1 ≡ tally opens (Handles process) row.0 = ap count_of h.0 ∙ sym (opens_tally process opens all row.0) in
+      (listed.members (opens_row row)).1 (count, omega (arith, some), (same_slot_Decides (Handles process) (Handles process)).1 refl)
     where
       count_of : ℕ → Count
       count_of n = record { plus = n; minus = 0 }
 
   module _ (ordered : List (Reverse ℕ × List ℕ)) (rising : IsRising (λ a b. leak_cmp a b ≡ Less) ordered)
-      (same : (row : Reverse ℕ × List ℕ) → Contains ordered row ↔ Contains (map counted_first stacks) row) where
+      (same : (row : Reverse ℕ × List ℕ) → Contains ordered row ↔ Contains (map counted_first rows) row) where
     leak_from_ordered : (row : List ℕ × ℕ) → Contains (map stack_before_number ordered) row → IsLeak opens row
     leak_from_ordered row h =
         let x = Contains-from_map stack_before_number ordered row h in
-        let r = Contains-from_map counted_first stacks x.0 ((same x.0).0 x.1) in
+        let r = Contains-from_map counted_first rows x.0 ((same x.0).0 x.1) in
         subst (IsLeak opens) (ap stack_before_number r.2 ∙ x.2) (leak_from_row r.0 r.1)
 
     ordered_from_leak : (row : List ℕ × ℕ) → IsLeak opens row → Contains (map stack_before_number ordered) row
     ordered_from_leak row h =
-        let r : List ℕ × Count = (row.0, record { plus = row.1; minus = 0 }) in
-        Contains-map stack_before_number ordered (counted_first r)
-        ((same (counted_first r)).1 (Contains-map counted_first stacks r (row_from_leak row h)))
+        let r = counted_first (opens_row row) in
+        Contains-map stack_before_number ordered r ((same r).1 (Contains-map counted_first rows (opens_row row) (row_from_leak row h)))
 
     Lists-leaks : Lists MostFirst (IsLeak opens) (map stack_before_number ordered)
     Lists-leaks = record {
@@ -153,13 +155,15 @@ all_open : (events : List Event) (process : ℕ) (opens : List Event) → IsOuts
 all_open events process opens is = record { each = λ e h. (let o = (is.members e).0 h in (o.opens, o.latest.of_handle.owner)) }
 
 pub leaks_listed : (events : List Event) (process : ℕ) (opens : List Event) → IsOutstanding (Contains events) process opens
-    → (tree : Tree) → HasTally tree opens
-    → (stacks : List (List ℕ × Count)) → ListsRows tree (Handles process) stacks → (ordered : List (Reverse ℕ × List ℕ))
-    → IsRising (λ a b. leak_cmp a b ≡ Less) ordered
-    → ((row : Reverse ℕ × List ℕ) → Contains ordered row ↔ Contains (map counted_first stacks) row)
+    → (rows : List ((Slot × List ℕ) × Count)) → AreSums row_cmp (rows_of (λ s stack. (s, stack)) (One (Handles process)) opens) rows
+    → (ordered : List (Reverse ℕ × List ℕ)) → IsRising (λ a b. leak_cmp a b ≡ Less) ordered
+    → ((row : Reverse ℕ × List ℕ) → Contains ordered row ↔ Contains (map counted_first rows) row)
     → IsLeaks (Contains events) process (map stack_before_number ordered)
-leaks_listed events process opens is tree tallied stacks listed ordered rising same = record {
-  outstanding = opens;
-  is = is;
-  stacks = Lists-leaks process opens (all_open events process opens is) tree tallied stacks listed ordered rising same;
-}
+leaks_listed events process opens is rows sums ordered rising same =
+    let positive = sums.positive (rows_positive row_cmp (λ s stack. (s, stack)) (One (Handles process)) opens) in
+    let listed = counts_listed (One (Handles process)) opens rows sums.rising positive sums.counts in
+    record {
+      outstanding = opens;
+      is = is;
+      stacks = Lists-leaks process opens (all_open events process opens is) rows listed ordered rising same;
+    }

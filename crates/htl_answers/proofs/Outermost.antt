@@ -4,6 +4,7 @@ use Rattle.std.proofs.Common.{ap, ◌∙◌, arith, length-drop}
 use Rattle.std.proofs.Math.Seq.{take-append_seam}
 use Rattle.std.proofs.lemmas.List.{take-append-drop, reverse-append, length-reverse}
 
+-- the first elements of a reversed list are the last ones, reversed
 pub take-reverse : (xs : List ℕ) (k n : ℕ) → k + n ≡ length xs → take n (reverse xs) ≡ reverse (drop k xs)
 take-reverse xs k n e =
     let tail = reverse (drop k xs) in

@@ -10,12 +10,7 @@ use Rattle.htl_tree.specs.declared.slots.Slots.{Slots}
 use Rattle.htl_answers.specs.Rows.{count_of, total_in, rows_of, CountAlike}
 use Rattle.htl_answers.proofs.RowCounts.{count_of-append}
 use Rattle.htl_answers.proofs.EventRows.{rows_of-append, rows_few}
-
-plus_again : (a b c : Count) → plus_count (plus_count a b) c ≡ plus_count a (plus_count b c)
-plus_again a b c =
-    let p : a.plus + b.plus + c.plus ≡ a.plus + (b.plus + c.plus) = omega arith in
-    let m : a.minus + b.minus + c.minus ≡ a.minus + (b.minus + c.minus) = omega arith in
-    λ i. record { plus = p i; minus = m i }
+use Rattle.htl_tree.proofs.SumsFromTally.{plus_assoc}
 
 module _ {K : Type 0} (cmp : K → K → Ordering) (key : Slot → List ℕ → K) (slots : Slots) (before folded : List (K × Count))
     (xs ys held : List Event) where
@@ -29,7 +24,7 @@ module _ {K : Type 0} (cmp : K → K → Ordering) (key : Slot → List ℕ → 
       ∙ ap (λ c. plus_count c (count_of cmp k (rows held))) (count_of-append cmp k before folded)
       ∙ ap (λ c. plus_count (plus_count c (count_of cmp k folded)) (count_of cmp k (rows held))) of_before
       ∙ ap (λ c. plus_count (plus_count (count_of cmp k (rows xs)) c) (count_of cmp k (rows held))) of_folded
-      ∙ plus_again (count_of cmp k (rows xs)) (count_of cmp k (rows ys)) (count_of cmp k (rows held))
+      ∙ plus_assoc (count_of cmp k (rows xs)) (count_of cmp k (rows ys)) (count_of cmp k (rows held))
       ∙ ap (plus_count (count_of cmp k (rows xs))) (sym (ap (count_of cmp k) (rows_of-append key slots ys held) ∙ count_of-append cmp k (rows ys) (rows held)))
       ∙ sym (ap (count_of cmp k) (rows_of-append key slots xs (ys ++ held)) ∙ count_of-append cmp k (rows xs) (rows (ys ++ held)))
 

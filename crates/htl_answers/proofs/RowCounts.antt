@@ -6,7 +6,7 @@ use Rattle.std.specs.List.Sorted.{IsPermutation}
 use Rattle.std.specs.Cmp.{IsTotalOrder, tied_itself}
 use Rattle.std.specs.Ordering.{is_eq}
 use Rattle.std.specs.declared.cmp.Ordering.{Ordering}
-use Rattle.std.specs.declared.cmp.Ordering.TheVariants.{Less, Equal, Greater}
+use Rattle.std.specs.declared.cmp.Ordering.TheVariants.{Equal}
 use Rattle.std.proofs.lemmas.Bool.{cases_Bool, false≢true}
 use Rattle.std.proofs.lemmas.List.Sorted.{sum_by-IsPermutation}
 use Rattle.std.proofs.lemmas.List.Sums.{sum_by-cons, sum_by-append, sum_by-le-sum_by}
@@ -16,17 +16,13 @@ use Rattle.htl_event.specs.Tallies.{zero_count, plus_count, total_of, IsPositive
 use Rattle.htl_event.proofs.Members.{Contains-here, Contains-there, Contains-cases, Contains-nil, at_member}
 use Rattle.htl_answers.specs.Rows.{at_key, count_of, total_in, EachPositive}
 use Rattle.htl_answers.proofs.NumberSums.{sum_upto, sum_swap}
+use Rattle.htl_lemmas.proofs.Tests.{equal}
 
 abbrev pub plus_side : Count → ℕ
 plus_side count = count.plus
 
 abbrev pub minus_side : Count → ℕ
 minus_side count = count.minus
-
-pub tied : (r : Ordering) → is_eq r ≡ true → r ≡ Equal
-tied Less e = cc
-tied Equal e = refl
-tied Greater e = cc
 
 module _ {K : Type 0} (cmp : K → K → Ordering) (k : K) where
   pub count_of-append : (xs ys : List (K × Count)) → count_of cmp k (xs ++ ys) ≡ plus_count (count_of cmp k xs) (count_of cmp k ys)
@@ -48,7 +44,7 @@ module _ {K : Type 0} {cmp : K → K → Ordering} (o : IsTotalOrder cmp) (prope
   differs : (k j : K) → k ≢ j → is_eq (cmp k j) ≡ false
   differs k j other =
       elim (cases_Bool (is_eq (cmp k j))) [
-        | inl is ↦ absurd (other (proper k j (tied (cmp k j) is)))
+        | inl is ↦ absurd (other (proper k j (equal (cmp k j) is)))
         | inr not ↦ not
       ]
 
@@ -92,7 +88,7 @@ module _ {K : Type 0} {cmp : K → K → Ordering} (o : IsTotalOrder cmp) (prope
     found k (r ∷ rows) some =
         let both = sum_by-cons (at_key cmp k side) r rows in
         elim (cases_Bool (is_eq (cmp k r.0))) [
-          | inl is ↦ (r, Contains-here r rows, sym (proper k r.0 (tied (cmp k r.0) is)))
+          | inl is ↦ (r, Contains-here r rows, sym (proper k r.0 (equal (cmp k r.0) is)))
           | inr not ↦
               let head : at_key cmp k side r ≡ 0 = ap (λ b. cond b (side r.1) 0) not in
               let there = found k rows (omega (arith, both, head, some)) in
@@ -203,7 +199,7 @@ module _ {K : Type 0} {cmp : K → K → Ordering} (o : IsTotalOrder cmp) (prope
         let both = sum_by-cons (λ row. part row x) r rows in
         elim (cases_Bool (is_eq (cmp r.0 (key x)))) [
           | inl is ↦
-              let at = proper r.0 (key x) (tied (cmp r.0 (key x)) is) in
+              let at = proper r.0 (key x) (equal (cmp r.0 (key x)) is) in
               let rest = none_part x rows (λ y h e. others r rows rising y h (at ∙ sym e)) in
               let head : part r x ≡ size x = ap (λ b. cond b (size x) 0) is in
               omega (arith, both, rest, head)

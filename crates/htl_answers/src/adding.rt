@@ -1,4 +1,4 @@
-//! Rows of one key made one.
+//! Adds up the rows of each key.
 
 ghost use Rattle.std.specs.Prelude.{◌≡◌, ◌+◌, ◌<◌, ◌^◌, [], ◌∷◌, ◌++◌, false, IfOk, OnOk};
 ghost use Rattle.std.specs.List.Sorted.{IsPermutation, IsSortedByKey};
@@ -13,7 +13,7 @@ use crate::counts::sum_of;
 use htl_event::{Count, NoMemory};
 use std::alloc::Global;
 
-/// The rows in the order of their keys, those of one key made one.
+/// Sorts the rows by their keys, and adds up those of each key.
 pub(crate) fn add_up<L: CountedBy>(
     alloc: Global,
     rows: &mut Vec<(L::Key, Count)>,
@@ -32,7 +32,7 @@ fn sort_by_key<L: CountedBy>(rows: &mut Vec<(L::Key, Count)>)
     rows.sort_unstable_by(|one, other| one.0.cmp(&other.0));
 }
 
-/// The same of rows whose keys don't fall, in one pass.
+/// Adds up the rows of each key in one pass. Their keys must not fall.
 fn add_up_in_order<L: CountedBy>(
     alloc: Global,
     rows: &[(L::Key, Count)],
@@ -48,7 +48,7 @@ fn add_up_in_order<L: CountedBy>(
     Ok(sums)
 }
 
-/// Adds the row to the last sum, if that has its key, or puts it after a sum of a lesser key.
+/// Adds the row to the last sum, if that has its key, or else puts it after that.
 fn add_row<L: CountedBy>(
     sums: &mut Vec<(L::Key, Count)>,
     row: &(L::Key, Count),

@@ -1,4 +1,4 @@
-//! The counts of the slots that are asked for, over all parts.
+//! Counts of the slots that are asked for, over all parts or over a list of events.
 
 ghost use Rattle.std.specs.Prelude.{◌≡◌, ◌+◌, ◌≤◌, ◌<◌, ◌^◌, [], ◌∷◌, ◌++◌, List, length, map};
 ghost use Rattle.std.specs.Prelude.{flat_map, true, false, IfOk, OnOk};
@@ -7,20 +7,22 @@ ghost use Rattle.htl_event.specs.Members.{IsRising};
 ghost use Rattle.htl_event.specs.Slots.{slot_of};
 ghost use Rattle.htl_answers.specs.Parts.{AreEventsOf, size_of_all};
 ghost use Rattle.htl_answers.specs.Rows.{count_of, total_in, rows_of, if_asked};
-ghost use Rattle.htl_answers.specs.Rows.{ByKey, EachPositive, CountAlike};
+ghost use Rattle.htl_answers.specs.Rows.{ByKey, EachPositive, CountAlike, AreSums};
 ghost use Rattle.htl_answers.specs.Counts.{one_count};
 
 use crate::adding::add_up;
 use crate::counted_by::CountedBy;
 use crate::counts::{one, sum_of};
-use crate::hints::Hints;
+use crate::hints::RowHints;
 use crate::part::Part;
-use htl_event::{Count, EventList, NoMemory, SharedEvent, SharedStack, Sign, Slot};
+use htl_event::{
+    Count, EventList, NoMemory, SharedEvent, SharedStack, Sign, Slot, number_of_events,
+};
 use htl_tree::Slots;
 use std::alloc::Global;
 
-/// How often these slots came, over all parts, in the order of the keys. What the parts folded is
-/// listed of their trees, and what they hold is counted event by event: no tree is made.
+/// How often these slots came, over all parts, in the order of the keys. The trees of the parts list
+/// what was folded, and the held events are counted one by one, so no tree is made.
 pub(crate) fn counts_of_slots<L: CountedBy, P: Part>(
     alloc: Global,
     parts: &[P],
@@ -55,7 +57,7 @@ fn rows_of_parts<L: CountedBy, P: Part>(
         total_in rows.items ≤ size_of_all (map P.contents parts.now)) }
 {
     let mut rows = Vec::new(alloc);
-    let mut hints = Hints::new(alloc, number_held(parts))?;
+    let mut hints = RowHints::new(alloc, number_held(parts))?;
     for part in parts {
         let mut folded = L::counts_in(alloc, part.tree(), slots)?;
         rows.append(&mut folded)?;
@@ -66,26 +68,33 @@ fn rows_of_parts<L: CountedBy, P: Part>(
 
 /// About how many events the parts hold.
 fn number_held<P: Part>(parts: &[P]) -> usize {
-    let mut number = 0;
+    let mut number = 0usize;
     for part in parts {
-        number = number_in(part.held(), number);
+        number = number.saturating_add(number_of_events(part.held()).unwrap_or(usize::MAX));
     }
     number
 }
 
-/// About how many events these lists have, and so many more.
-fn number_in<E: EventList>(lists: &[E], more: usize) -> usize {
-    let mut number = more;
-    for list in lists {
-        number = number.saturating_add(list.events().len());
-    }
-    number
+/// How often these slots came among these events, in the order of the keys.
+pub(crate) fn counts_of_events<L: CountedBy>(
+    alloc: Global,
+    events: &[SharedEvent],
+    slots: Slots,
+) -> Result<Vec<(L::Key, Count)>, NoMemory>
+    requires { length events.now < 2 ^ 64 }
+    ensures { IfOk result (λ sums.
+        AreSums L.Key.cmp (rows_of L.key_of slots events.now) sums.items) }
+{
+    let mut rows = Vec::new(alloc);
+    let mut hints = RowHints::new(alloc, events.len())?;
+    count_events::<L>(&mut rows, &mut hints, events, slots)?;
+    add_up::<L>(alloc, &mut rows)
 }
 
 /// Counts the events of these lists whose slots are asked for.
 fn count_held<L: CountedBy, E: EventList>(
     rows: &mut Vec<(L::Key, Count)>,
-    hints: &mut Hints,
+    hints: &mut RowHints,
     lists: &[E],
     slots: Slots,
 ) -> Result<(), NoMemory>
@@ -100,10 +109,10 @@ fn count_held<L: CountedBy, E: EventList>(
     Ok(())
 }
 
-/// Counts those of these events whose slots are asked for.
+/// Counts the events whose slots are asked for.
 fn count_events<L: CountedBy>(
     rows: &mut Vec<(L::Key, Count)>,
-    hints: &mut Hints,
+    hints: &mut RowHints,
     events: &[SharedEvent],
     slots: Slots,
 ) -> Result<(), NoMemory>
@@ -119,11 +128,11 @@ fn count_events<L: CountedBy>(
     Ok(())
 }
 
-/// Counts one more of the slot with the stack: in the row of its key, where a hint has one, or else
-/// in a new row.
+/// Counts the slot with the stack once more: in the row of its key, where a hint has one, or else in a
+/// new row.
 fn count<L: CountedBy>(
     rows: &mut Vec<(L::Key, Count)>,
-    hints: &mut Hints,
+    hints: &mut RowHints,
     slot: Slot,
     stack: &SharedStack,
     sign: Sign,
@@ -141,7 +150,7 @@ fn count<L: CountedBy>(
     Ok(())
 }
 
-/// Counts one more in the row at this place, where there is one of this key.
+/// Counts once more in the row at this place, if that has this key.
 fn count_in_row<L: CountedBy>(
     rows: &mut [(L::Key, Count)],
     place: usize,
@@ -162,7 +171,7 @@ fn count_in_row<L: CountedBy>(
     true
 }
 
-/// What the event is counted under, if that is asked for.
+/// The slot and the sign of the event, if its slot is asked for.
 fn if_asked(event: &SharedEvent, slots: Slots) -> Option<(Slot, Sign)>
     ensures { result ≡ if_asked slots (slot_of event.now) }
 {

@@ -33,7 +33,7 @@ pub fn bad<P: Part>(
     bad_rows(alloc, &counts, process)
 }
 
-/// The rows of those slots that are the process's bad references.
+/// The rows of the bad references of the process.
 fn bad_rows(
     alloc: Global,
     counts: &[((Slot, SharedStack), Count)],
@@ -51,7 +51,7 @@ fn bad_rows(
     Ok(rows)
 }
 
-/// The handle of the slot, if it is one of the process's bad references.
+/// The handle of the slot, if the slot is one of bad references of the process.
 fn bad_handle(slot: Slot, process: u32) -> Option<u32>
     ensures { (stack : List ℕ) (count : Count) → bad_row process slot stack count
         ≡ option_map (λ handle. (handle, stack, count.plus)) result }

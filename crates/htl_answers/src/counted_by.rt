@@ -1,4 +1,4 @@
-//! What counts are listed by: by slots, or by slots and stacks.
+//! The keys of counts: slots, or slots with stacks.
 
 ghost use Rattle.std.specs.Prelude.{◌≡◌, ◌≤◌, ℕ, List, true, IfOk};
 ghost use Rattle.std.specs.declared.cmp.Ordering.TheVariants.{Equal};
@@ -7,12 +7,11 @@ ghost use Rattle.htl_event.specs.declared.slot.Slot.{Slot};
 ghost use Rattle.htl_tree.specs.Trees.{HasTally, total_count};
 ghost use Rattle.htl_answers.specs.Rows.{count_of, total_in, rows_of, EachPositive};
 
-use crate::hints::hash_of;
 use htl_event::{Count, NoMemory, SharedStack, Slot};
 use htl_tree::{Slots, StackTree};
 use std::alloc::{AllocError, Allocator, Global};
 
-/// What counts are listed by.
+/// The key by which counts are listed.
 pub(crate) trait CountedBy {
     type Key: Ord + Drop;
 
@@ -21,7 +20,7 @@ pub(crate) trait CountedBy {
     fn key(slot: Slot, stack: &SharedStack) -> Result<Self::Key, AllocError>
         ensures { IfOk result (λ key. key ≡ key_of slot stack.now) };
 
-    /// A number by which a hint finds the key's row again.
+    /// A hash of the key, by which a hint finds its row again.
     fn hash(slot: Slot, stack: &SharedStack) -> u64;
 
     fn is_key(key: &Self::Key, slot: Slot, stack: &SharedStack) -> bool
@@ -46,7 +45,7 @@ pub(crate) trait CountedBy {
     ghost proper: { (x y : Self.Key) → Self.Key.cmp x y ≡ Equal → x ≡ y };
 }
 
-/// By slots, whatever the stacks.
+/// Counts by slot, whatever the stacks.
 pub(crate) struct BySlot;
 
 impl CountedBy for BySlot {
@@ -63,7 +62,7 @@ impl CountedBy for BySlot {
     }
 
     fn hash(slot: Slot, _stack: &SharedStack) -> u64 {
-        hash_of(slot)
+        slot.fingerprint()
     }
 
     fn is_key(key: &Slot, slot: Slot, _stack: &SharedStack) -> bool {
@@ -83,7 +82,7 @@ impl CountedBy for BySlot {
     }
 }
 
-/// By slots, and the stacks of each.
+/// Counts by slot and stack.
 pub(crate) struct BySlotAndStack;
 
 impl CountedBy for BySlotAndStack {
@@ -100,7 +99,7 @@ impl CountedBy for BySlotAndStack {
     }
 
     fn hash(slot: Slot, stack: &SharedStack) -> u64 {
-        hash_of(slot) ^ stack.fingerprint()
+        slot.fingerprint().rotate_left(31) ^ stack.fingerprint()
     }
 
     fn is_key(key: &(Slot, SharedStack), slot: Slot, stack: &SharedStack) -> bool {

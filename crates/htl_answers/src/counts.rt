@@ -1,4 +1,4 @@
-//! Counts over parts.
+//! The prefix tally over parts.
 
 ghost use Rattle.std.specs.Prelude.{◌≡◌, ◌+◌, ◌<◌, ◌≤◌, ◌^◌, [], ◌∷◌, List, true, length, map};
 ghost use Rattle.std.specs.Prelude.{flat_map, reverse, nat_eq};
@@ -42,7 +42,7 @@ pub(crate) fn sum_of(one: Count, other: Count) -> Count
     }
 }
 
-/// The same over lists of events.
+/// As `under`, over lists of events.
 fn under_held<E: EventList>(lists: &[E], path: &[u64], slot: Slot) -> Count
     requires { length (flat_map E.events_of lists.now) < 2 ^ 64 }
     ensures value { result ≡ under (flat_map E.events_of lists.now) path.now slot }
@@ -55,7 +55,7 @@ fn under_held<E: EventList>(lists: &[E], path: &[u64], slot: Slot) -> Count
     sum
 }
 
-/// The same over a list of events.
+/// As `under`, over a list of events.
 fn under_events(events: &[SharedEvent], path: &[u64], slot: Slot) -> Count
     requires { length events.now < 2 ^ 64 }
     ensures value { result ≡ under events.now path.now slot }
@@ -68,7 +68,7 @@ fn under_events(events: &[SharedEvent], path: &[u64], slot: Slot) -> Count
     sum
 }
 
-/// The same of one event.
+/// As `under`, of one event.
 fn under_event(event: &SharedEvent, path: &[u64], slot: Slot) -> Count
     ensures value { result ≡ under (event.now ∷ []) path.now slot }
     ensures few { total_of result ≤ 1 }
@@ -79,7 +79,7 @@ fn under_event(event: &SharedEvent, path: &[u64], slot: Slot) -> Count
     count_of_event(event, slot)
 }
 
-/// One where the event is counted under the slot, on its side.
+/// One on the event's side if the event is counted under the slot, or else zero.
 pub(crate) fn count_of_event(event: &SharedEvent, slot: Slot) -> Count
     ensures value { result ≡ count_where (λ e. true) (event.now ∷ []) slot }
     ensures few { total_of result ≤ 1 }
@@ -90,7 +90,7 @@ pub(crate) fn count_of_event(event: &SharedEvent, slot: Slot) -> Count
     }
 }
 
-/// One on this side.
+/// The count that is one on this side.
 pub(crate) fn one(sign: Sign) -> Count
     ensures { result ≡ one_count sign }
 {

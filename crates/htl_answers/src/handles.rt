@@ -32,8 +32,7 @@ pub fn latest<P: Part>(parts: &[P], process: u32, handle: u32) -> Option<&Shared
     latest
 }
 
-/// The snapshot mark of the process: the greatest sequence of its snapshots, 0 where there are
-/// none.
+/// The snapshot mark of the process: the greatest sequence of its snapshots, or 0 where it has none.
 pub fn mark<P: Part>(parts: &[P], process: u32) -> u64
     ensures { (events : List Event) → AreEventsOf (map P.contents parts.now) events
         → IsMark (Contains events) process result }
@@ -47,8 +46,8 @@ pub fn mark<P: Part>(parts: &[P], process: u32) -> u64
     mark
 }
 
-/// The last exit of the process: the greatest sequence of its exits, 0 where there are none.
-pub fn last_exit<P: Part>(parts: &[P], process: u32) -> u64
+/// The last exit of the process: the greatest sequence of its exits, or 0 where it has none.
+pub(crate) fn last_exit<P: Part>(parts: &[P], process: u32) -> u64
     ensures { (events : List Event) → AreEventsOf (map P.contents parts.now) events
         → IsLastExit (Contains events) process result }
 {

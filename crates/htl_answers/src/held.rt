@@ -1,4 +1,4 @@
-//! What is asked of lists of events that were not folded.
+//! Answers over held events, which were not folded.
 
 ghost use Rattle.std.specs.Prelude.{◌≡◌, ◌↔◌, IsTrue, Contains, flat_map};
 ghost use Rattle.std.specs.Option.{option_copied};
@@ -7,7 +7,7 @@ ghost use Rattle.htl_event.specs.Handles.{LatestIs, IsGreatestSequence, IsOf, la
 
 use htl_event::{EventList, Kind, SharedEvent, base};
 
-/// The later of two events, the first where they came at once.
+/// The later of two events, or the first where they have one sequence.
 pub fn later_of<'a>(
     one: Option<&'a SharedEvent>,
     other: Option<&'a SharedEvent>,
@@ -27,7 +27,8 @@ pub fn later_of<'a>(
     }
 }
 
-/// The later of an event and one more, where that opens or closes the base handle of the process.
+/// The later of an event and one more, if that opens or closes the base handle of the process, or else
+/// the first.
 fn with_event<'a>(
     old: Option<&'a SharedEvent>,
     event: &'a SharedEvent,
@@ -86,8 +87,8 @@ fn greatest_of_events(events: &[SharedEvent], kind: Kind, process: u32) -> u64
     greatest
 }
 
-/// The greatest sequence of the kind's events of the process among the events of the lists, 0 where
-/// there are none.
+/// The greatest sequence of the kind's events of the process among the events of the lists, or 0 where
+/// there is none.
 pub fn greatest_held<E: EventList>(lists: &[E], kind: Kind, process: u32) -> u64
     ensures { IsGreatestSequence
         (λ e. Contains (flat_map E.events_of lists.now) e × IsOf kind process e) result }

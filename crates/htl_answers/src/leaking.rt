@@ -1,4 +1,4 @@
-//! The stacks that opened outstanding handles.
+//! Leaks: the stacks that opened outstanding handles.
 
 ghost use Rattle.std.specs.Prelude.{◌≡◌, ◌↔◌, List, Contains, map, IfOk};
 ghost use Rattle.std.specs.declared.cmp.Ordering.TheVariants.{Less, Equal};
@@ -9,10 +9,12 @@ ghost use Rattle.htl_event.specs.Tallies.{IsLeaks};
 ghost use Rattle.htl_answers.specs.Parts.{AreEventsOf};
 ghost use Rattle.htl_answers.specs.Leaks.{counted_first, stack_before_number};
 
+use crate::asked::counts_of_events;
+use crate::counted_by::BySlotAndStack;
 use crate::open::outstanding;
 use crate::part::Part;
 use htl_event::{Count, NoMemory, SharedStack, Slot};
-use htl_tree::StackTree;
+use htl_tree::Slots;
 use std::alloc::Global;
 use std::cmp::Reverse;
 
@@ -28,22 +30,22 @@ pub fn leaks<P: Part>(
         → HaveOwnSequences events → IsLeaks (Contains events) process rows.items) }
 {
     let opens = outstanding(alloc, parts, process)?;
-    let tree = StackTree::of(alloc, &[opens])?;
-    let stacks = tree.rows(alloc, Slot::Handles { process })?;
-    let mut leaks = number_first(alloc, &stacks)?;
+    let slots = Slots::One(Slot::Handles { process });
+    let counts = counts_of_events::<BySlotAndStack>(alloc, &opens, slots)?;
+    let mut leaks = number_first(alloc, &counts)?;
     put_in_order(&mut leaks);
     stack_first(alloc, &leaks)
 }
 
-/// The rows with the number of opens first, the greatest number before others.
+/// The rows with the number of opens first. It is reversed, so that a sort puts the greatest first.
 fn number_first(
     alloc: Global,
-    stacks: &[(SharedStack, Count)],
+    counts: &[((Slot, SharedStack), Count)],
 ) -> Result<Vec<(Reverse<u64>, SharedStack)>, NoMemory>
-    ensures { IfOk result (λ rows. rows.items ≡ map counted_first stacks.now) }
+    ensures { IfOk result (λ rows. rows.items ≡ map counted_first counts.now) }
 {
-    let mut rows = Vec::with_capacity(alloc, stacks.len())?;
-    for (stack, count) in stacks {
+    let mut rows = Vec::with_capacity(alloc, counts.len())?;
+    for ((_, stack), count) in counts {
         rows.push((Reverse(count.plus), stack.copy()?))?;
     }
     Ok(rows)
@@ -63,7 +65,7 @@ fn stack_first(
     Ok(rows)
 }
 
-/// Puts rows in order, each once.
+/// Sorts rows, and leaves each in once.
 pub(crate) fn put_in_order<T: Ord>(rows: &mut Vec<T>)
 where
     T: Drop,

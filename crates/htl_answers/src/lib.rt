@@ -3,15 +3,15 @@
 //!
 //! `specs/Parts` says which events parts stand for. Each answer is that of htl_event's definitions
 //! over these events, whatever was folded and whatever is held. Handles are answered from the
-//! tables' rows of one process. What is counted is answered from rows: those that the parts' trees
-//! list of the slots that are asked for, and those that count the held events, which hints find. The
-//! rows of all parts are sorted, and those of one key added up, so that no tree is made.
+//! tables' rows of one process. Counts are answered from rows: the parts' trees list rows of the slots
+//! that are asked for, and the held events are counted in rows that hints find. The rows of all parts
+//! are sorted, and those of one key added up, so no tree is made.
 //!
 //! Files, in reading order: `part.rt` (what the answers are made of), `held.rt` and `handles.rt`
-//! (what is asked of held events, and answers that take no memory), `open.rt` and `leaking.rt`
-//! (outstanding handles, differences, and the stacks that opened them), `counts.rt` (the prefix
-//! tally), `counted_by.rt`, `hints.rt`, `adding.rt` and `asked.rt` (the rows of the slots that are
-//! asked for, of all parts), `tagging.rt` and `bad_references.rt` (the answers made of these),
+//! (answers over held events, and those that take no memory), `open.rt` (outstanding handles and
+//! differences), `counts.rt` (the prefix tally), `counted_by.rt`, `hints.rt`, `adding.rt` and
+//! `asked.rt` (the rows of the slots that are asked for), `leaking.rt`, `tagging.rt` and
+//! `bad_references.rt` (the answers made of these),
 //! `sums.rt` (how often each slot came), `whole.rt` (the one tree of all parts).
 #![tactic(auto)]
 
@@ -32,7 +32,7 @@ mod whole;
 
 pub use bad_references::bad;
 pub use counts::under;
-pub use handles::{last_exit, latest, mark};
+pub use handles::{latest, mark};
 pub use leaking::leaks;
 pub use open::{diff, outstanding};
 pub use part::Part;

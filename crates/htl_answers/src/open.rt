@@ -1,4 +1,4 @@
-//! Handles that were opened and are still open, and the stacks that opened them.
+//! Outstanding handles: they were opened and are still open.
 
 ghost use Rattle.std.specs.Prelude.{◌≡◌, ◌++◌, List, Contains, IfOk, map, filter};
 ghost use Rattle.htl_event.specs.Events.{Event};
@@ -65,7 +65,8 @@ fn latest_of_process<P: Part>(
     left.join_process(&right, process)
 }
 
-/// The same of one part: the latest that it holds, joined with those that it folded.
+/// The latest open or close of each base handle of the process in one part: among its held events and
+/// its folded ones.
 fn latest_of_part<P: Part>(
     alloc: Global,
     part: &P,
@@ -79,7 +80,7 @@ fn latest_of_part<P: Part>(
     held.join_process(part.latest(), process)
 }
 
-/// The opens that came after a moment.
+/// Copies of the opens that came after a moment.
 fn opened_after(
     alloc: Global,
     latest: &[SharedEvent],

@@ -1,4 +1,4 @@
-//! What the answers are made of.
+//! Parts: the answers are made of them.
 
 ghost use Rattle.std.specs.Prelude.{◌≡◌, flat_map};
 
@@ -7,8 +7,8 @@ use htl_tables::{Exits, Latest, Marks};
 use htl_tree::StackTree;
 use std::alloc::Allocator;
 
-/// A part of what is known: what was folded of some events, and the lists of events that were
-/// not folded yet.
+/// A part of what is known: tables and a tree of the events that were folded, and the lists of events
+/// that were not folded yet.
 pub trait Part {
     ghost use Rattle.htl_answers.specs.Parts.{Contents};
 

@@ -16,7 +16,7 @@ use htl_event::{Count, NoMemory, Slot};
 use htl_tree::Slots;
 use std::alloc::Global;
 
-/// Each slot of the parts' events and how often it came, with whatever stack, in slot order.
+/// Each slot of the parts' events in slot order, and how often it came with any stack.
 pub fn slot_sums<P: Part>(alloc: Global, parts: &[P]) -> Result<Vec<(Slot, Count)>, NoMemory>
     requires { size_of_all (map P.contents parts.now) < 2 ^ 64 }
     ensures sums { IfOk result (λ sums. (events : List Event)

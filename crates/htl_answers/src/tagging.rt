@@ -1,4 +1,4 @@
-//! The balances of an object's tags, and the stacks of one.
+//! The balances of an object's tags, and the stacks of one tag.
 
 ghost use Rattle.std.specs.Prelude.{◌≡◌, ◌<◌, ◌^◌, ℕ, List, map, IfOk};
 ghost use Rattle.std.specs.List.{filter_map};
@@ -32,7 +32,7 @@ pub fn tags<P: Part>(
     tag_rows(alloc, &sums, object)
 }
 
-/// The rows of those slots that are the object's.
+/// The rows of the object's slots.
 fn tag_rows(
     alloc: Global,
     sums: &[(Slot, Count)],
@@ -50,7 +50,7 @@ fn tag_rows(
     Ok(rows)
 }
 
-/// The row of the slot, if it is one of the object.
+/// The row of the slot, if the slot is of the object.
 fn tag_row(slot: Slot, count: Count, object: u64) -> Option<([u8; 4], Count)>
     ensures { result ≡ tag_row object slot count }
 {
@@ -83,7 +83,7 @@ pub fn stacks<P: Part>(
     without_slot(alloc, &counts)
 }
 
-/// The rows of one slot without it.
+/// The rows of one slot, with the slot left out.
 fn without_slot(
     alloc: Global,
     counts: &[((Slot, SharedStack), Count)],

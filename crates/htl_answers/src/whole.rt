@@ -9,8 +9,7 @@ use crate::part::Part;
 use htl_event::NoMemory;
 use htl_tree::StackTree;
 
-/// How often each slot came with each stack, over all parts. The trees of parts are put together in
-/// pairs.
+/// The tree of the events of all parts. The trees of parts are added in pairs.
 pub fn whole_tree<P: Part>(alloc: &P::Alloc, parts: &[P]) -> Result<StackTree<P::Alloc>, NoMemory>
     requires { size_of_all (map P.contents parts.now) < 2 ^ 64 }
     ensures tally { IfOk result (λ tree. (events : List Event)
@@ -31,7 +30,7 @@ pub fn whole_tree<P: Part>(alloc: &P::Alloc, parts: &[P]) -> Result<StackTree<P:
     left.plus(&right)
 }
 
-/// The same of one part: the tree of what it holds, and its own.
+/// The tree of the events of one part: the held events and the folded ones.
 fn tree_of_part<P: Part>(alloc: &P::Alloc, part: &P) -> Result<StackTree<P::Alloc>, NoMemory>
     requires { size_of (P.contents part.now) < 2 ^ 64 }
     ensures tally { IfOk result (λ tree. (folded : List Event)

@@ -1,57 +1,91 @@
 -- What a session's replies are, as texts that runs of their own print.
-use Rattle.std.proofs.Common.{◌≡◌, ◌∙◌, ℕ, Bool, List, [], ◌∷◌, Option, Result, Err, inr, subst, sym, ap}
+use Rattle.std.proofs.Common.{◌≡◌, ◌⊎◌, ◌∙◌, ℕ, Bool, true, false, List, [], ◌∷◌, ◌++◌, Option, Result, Err, inl, inr, subst, sym, ap}
 use Rattle.htl_symbols.specs.Ranges.{Range}
 use Rattle.htl_segment.specs.Traces.{Trace}
 use Rattle.htl_command.specs.declared.question.Job.{Job}
 use Rattle.htl_command.specs.declared.question.Setting.{Setting}
-use Rattle.htl_main.specs.Standings.{AreStandingOf}
+use Rattle.htl_main.specs.Loading.{AreLoadedOf}
 use Rattle.htl_main.specs.declared.fault.RunFault.TheVariants.{Memory}
-use Rattle.htl_dialogue.specs.Dialogues.{AreReplies, Converses, IsReply, IsWritten, StopsAt}
+use Rattle.htl_command.specs.declared.question.Question.{Question}
+use Rattle.htl_main.specs.Coverages.{Covers, IsCoverage}
+use Rattle.htl_main.specs.Subjects.{ReportsSubject}
+use Rattle.htl_main.specs.declared.coverage.Coverage.{Coverage}
+use Rattle.htl_dialogue.specs.Dialogues.{AreReplies, Converses, Gets as GetsIn, GotAt, IsReply, StopsAt}
+use Rattle.htl_dialogue.specs.Notes.{AreNotes, IsAbsence, IsAbsenceOf, Note, awaits, begins}
 use Rattle.htl_dialogue.specs.Sayings.{Saying, nothing, quits, asks, wrong, saying_of}
 use Rattle.htl_dialogue.specs.declared.dialogue.DialogueFault.{DialogueFault}
 use Rattle.htl_dialogue.specs.declared.dialogue.DialogueFault.TheVariants.{Questions, Write, NoMemory}
 use Rattle.htl_ask.specs.declared.fault.AskFault.{AskFault}
 use Rattle.htl_ask.specs.declared.fault.AskFault.TheVariants.{Dialogue}
-use Rattle.htl_ask.specs.Sessions.{SessionValue, IsSessionOf, IsSessionText, session_value}
-use Rattle.htl_ask.specs.Asking.{IsRunsCause, IsRunsText}
+use Rattle.htl_ask.specs.Sessions.{SessionValue, IsSessionOf, IsSessionText, ReportsSessionSubject, session_value}
+use Rattle.htl_ask.specs.Asking.{BeginsAndGets, IsRunsCause, IsRunsText}
 
--- ---- a session over what stands
+-- ---- a session over what was loaded
 
 text_of : (setting : Setting) (inputs : List (List ℕ)) (symbols : Option (List ℕ)) (T : Trace) (table : List Range)
-    → AreStandingOf inputs symbols setting T table → (job : Job) (text : List ℕ) → IsSessionText (session_value T table) job text
+    → AreLoadedOf inputs symbols setting T table → (job : Job) (text : List ℕ) → IsSessionText (session_value T table) job text
     → IsRunsText setting inputs symbols job text
-text_of setting inputs symbols T table stands job text is = (
-  stands.workers,
-  stands.segments,
-  stands.decoded,
+text_of setting inputs symbols T table loaded job text is = (
+  loaded.workers,
+  loaded.segments,
+  loaded.decoded,
   record {
     trace = T;
-    taken = (stands.standing.case, stands.standing.complete);
+    taken = (loaded.loaded.case, loaded.loaded.complete);
     table = table;
-    named = stands.standing.named;
+    named = loaded.loaded.named;
     is = is;
   },
 )
 
 -- its texts are those of runs
 pub runs_text : (setting : Setting) (inputs : List (List ℕ)) (symbols : Option (List ℕ)) (T : Trace) (table : List Range)
-    (session : SessionValue) → AreStandingOf inputs symbols setting T table → IsSessionOf T table session
+    (session : SessionValue) → AreLoadedOf inputs symbols setting T table → IsSessionOf T table session
     → (job : Job) (text : List ℕ) → IsSessionText session job text → IsRunsText setting inputs symbols job text
-runs_text setting inputs symbols T table session stands of job text is =
-    text_of setting inputs symbols T table stands job text (subst (λ s. IsSessionText s job text) of is)
+runs_text setting inputs symbols T table session loaded of job text is =
+    text_of setting inputs symbols T table loaded job text (subst (λ s. IsSessionText s job text) of is)
 
--- where it stands, memory may be refused to a run
-pub memory_cause : (setting : Setting) (inputs : List (List ℕ)) (symbols : Option (List ℕ)) (T : Trace) (table : List Range)
-    (lefts : List (Option (List ℕ))) (ends : List Bool) → AreStandingOf inputs symbols setting T table
-    → IsRunsCause setting inputs lefts ends symbols Memory
-memory_cause setting inputs symbols T table lefts ends stands = λ job. (
-  stands.workers,
-  inr (stands.segments, stands.decoded, inr (T, (stands.standing.case, stands.standing.complete))),
+-- so is whether what a question names has an event
+pub runs_subject : (setting : Setting) (inputs : List (List ℕ)) (symbols : Option (List ℕ)) (T : Trace) (table : List Range)
+    (session : SessionValue) → AreLoadedOf inputs symbols setting T table → IsSessionOf T table session
+    → (question : Question) (found : Bool) → ReportsSessionSubject session question found
+    → ReportsSubject setting.hex inputs question found
+runs_subject setting inputs symbols T table session loaded of question found is = (
+  loaded.segments,
+  loaded.decoded,
+  subst (λ s. ReportsSessionSubject s question found) of is loaded.segments loaded.loaded.case,
 )
 
--- ---- replies whose texts are other texts too
+-- and how much of its trace the case has
+pub runs_coverage : (setting : Setting) (inputs : List (List ℕ)) (symbols : Option (List ℕ)) (T : Trace) (table : List Range)
+    (session : SessionValue) (coverage : Coverage) → AreLoadedOf inputs symbols setting T table → IsSessionOf T table session
+    → IsCoverage session.trace coverage → Covers setting.hex inputs coverage
+runs_coverage setting inputs symbols T table session coverage loaded of is = (
+  loaded.segments,
+  loaded.decoded,
+  (T, loaded.loaded.case, subst (λ s. IsCoverage s.trace coverage) of is),
+)
 
-module _ (One Other : Job → List ℕ → Type 0) (weaker : (job : Job) (text : List ℕ) → One job text → Other job text) where
+-- what is told after the coverage
+pub gets_after : {Host : Type 0} (old new : Option (List ℕ)) (told : Host → Note → Host) (audience host after : Host) (coverage : Coverage)
+    → host ≡ told audience (begins coverage.gaps coverage.complete_to) → (replies : List ℕ) (notes : List Note)
+    → GetsIn old new told host after replies notes → BeginsAndGets old new told audience after coverage replies notes
+gets_after old new told audience host after coverage is replies notes got = (got.0, rw is at got.1)
+
+-- where it was loaded, memory may be refused to a run
+pub memory_cause : (setting : Setting) (inputs : List (List ℕ)) (symbols : Option (List ℕ)) (T : Trace) (table : List Range)
+    (lefts : List (Option (List ℕ))) (ends : List Bool) → AreLoadedOf inputs symbols setting T table
+    → IsRunsCause setting inputs lefts ends symbols Memory
+memory_cause setting inputs symbols T table lefts ends loaded = λ job. (
+  loaded.workers,
+  inr (loaded.segments, loaded.decoded, inr (T, (loaded.loaded.case, loaded.loaded.complete))),
+)
+
+-- ---- what is said of a session is said of runs
+
+module _ (One Other : Job → List ℕ → Type 0) (weaker : (job : Job) (text : List ℕ) → One job text → Other job text)
+    (Has Reports : Question → Bool → Type 0) (also : (question : Question) (found : Bool) → Has question found → Reports question found)
+    (Got Gets : List ℕ → List Note → Type 0) (gets : (replies : List ℕ) (notes : List Note) → Got replies notes → Gets replies notes) where
   reply : (said : Saying) (text : List ℕ) → IsReply One said text → IsReply Other said text
   reply (asks job) text is = (is.0, weaker job is.0 is.1, is.2)
   reply wrong text is = is
@@ -63,31 +97,58 @@ module _ (One Other : Job → List ℕ → Type 0) (weaker : (job : Job) (text :
   replies (line ∷ more) text are =
       (are.0, are.1, reply (saying_of line) are.0 are.2, replies more are.1 are.3, are.4)
 
-  pub converses : (text : List ℕ) (old new : Option (List ℕ)) (has_wrong : Bool) → Converses One text old new has_wrong
-      → Converses Other text old new has_wrong
-  converses text old new has_wrong all = record {
+  absence_of : (wanted : Bool) (question : Question) (notes : List Note) → IsAbsenceOf Has wanted question notes
+      → IsAbsenceOf Reports wanted question notes
+  absence_of false question notes is = is
+  absence_of true question notes is = (is.0, also question is.0 is.1, is.2)
+
+  absence : (wanted : Bool) (said : Saying) (notes : List Note) → IsAbsence Has wanted said notes → IsAbsence Reports wanted said notes
+  absence wanted (asks job) notes is = absence_of wanted job.question notes is
+  absence wanted wrong notes is = is
+  absence wanted nothing notes is = is
+  absence wanted quits notes is = is
+
+  noted : (wanted : Bool) (lines : List (List ℕ)) (notes : List Note) → AreNotes Has wanted lines notes → AreNotes Reports wanted lines notes
+  noted wanted [] notes are = are
+  noted wanted (line ∷ more) notes are =
+      (are.0, are.1, are.2, are.3, absence wanted (saying_of line) are.1 are.4, noted wanted more are.2 are.5, are.6)
+
+  pub converses : (wanted : Bool) (text : List ℕ) (has_wrong : Bool) → Converses One Has wanted text Got has_wrong
+      → Converses Other Reports wanted text Gets has_wrong
+  converses wanted text has_wrong all = record {
     replies = all.replies;
     are = replies _ all.replies all.are;
-    written = all.written;
+    notes = all.notes;
+    noted = noted wanted _ all.notes all.noted;
+    got = gets _ _ all.got;
     any = all.any;
   }
 
-  written : (fault : DialogueFault) (later : List (List ℕ)) (text : List ℕ) (old new : Option (List ℕ))
-      → IsWritten One fault later text old new → IsWritten Other fault later text old new
-  written Write [] text old new is = is
-  written Write (line ∷ more) text old new is = (is.0, reply (saying_of line) is.0 is.1, is.2)
-  written Questions later text old new is = is
-  written NoMemory later text old new is = is
+  waited : (failed : Bool) (text : List ℕ) (notes : List Note) → Got text (notes ++ awaits ∷ []) ⊎ ((failed ≡ false) × Got text notes)
+      → Gets text (notes ++ awaits ∷ []) ⊎ ((failed ≡ false) × Gets text notes)
+  waited failed text notes (inl is) = inl (gets _ _ is)
+  waited failed text notes (inr is) = inr (is.0, gets _ _ is.1)
 
-  pub stops : (text : List ℕ) (old new : Option (List ℕ)) (fault : DialogueFault) → StopsAt One text old new fault
-      → StopsAt Other text old new fault
-  stops text old new fault at = record {
+  got_at : (failed : Bool) (fault : DialogueFault) (later : List (List ℕ)) (text : List ℕ) (notes : List Note)
+      → GotAt One failed Got fault later text notes → GotAt Other failed Gets fault later text notes
+  got_at failed Write [] text notes is = is
+  got_at failed Write (line ∷ more) text notes is =
+      (is.0, is.1, is.2, reply (saying_of line) is.0 is.3, is.4, gets _ _ is.5)
+  got_at failed Questions later text notes is = waited failed text notes is
+  got_at failed NoMemory later text notes is = waited failed text notes is
+
+  pub stops : (wanted : Bool) (text : List ℕ) (left : Option (List ℕ)) (failed : Bool) (fault : DialogueFault)
+      → StopsAt One Has wanted text left failed Got fault → StopsAt Other Reports wanted text left failed Gets fault
+  stops wanted text left failed fault at = record {
     before = at.before;
     later = at.later;
     cut = at.cut;
     replies = at.replies;
     are = replies at.before at.replies at.are;
-    written = written fault at.later at.replies old new at.written;
+    notes = at.notes;
+    noted = noted wanted at.before at.notes at.noted;
+    got = got_at failed fault at.later at.replies at.notes at.got;
+    in_time = at.in_time;
   }
 
 -- the fault that a dialogue ended with is the one that is reported

@@ -1,10 +1,13 @@
 -- What asking comes to (this project's own): the texts that runs of their own print, or why nothing can be asked.
-use Rattle.std.specs.Prelude.{ℕ, Bool, false, List, Option, Result, Ok, Err}
+use Rattle.std.specs.Prelude.{ℕ, Bool, false, List, ◌∷◌, Option, Result, Ok, Err}
 use Rattle.htl_command.specs.declared.question.Job.{Job}
 use Rattle.htl_command.specs.declared.question.Setting.{Setting}
+use Rattle.htl_dialogue.specs.Dialogues.{Gets}
+use Rattle.htl_dialogue.specs.Notes.{Note, begins}
+use Rattle.htl_main.specs.declared.coverage.Coverage.{Coverage}
 use Rattle.htl_main.specs.Printed.{Printed}
 use Rattle.htl_main.specs.Sources.{IsSourcesCause}
-use Rattle.htl_main.specs.Standings.{in_setting}
+use Rattle.htl_main.specs.Loading.{in_setting}
 use Rattle.htl_main.specs.declared.fault.RunFault.{RunFault}
 use Rattle.htl_main.specs.declared.fault.RunFault.TheVariants.{Memory}
 use Rattle.htl_main.specs.declared.origin.Between.TheVariants.{Nothing}
@@ -15,6 +18,12 @@ use Rattle.htl_ask.specs.declared.fault.AskFault.TheVariants.{Run, Dialogue}
 -- This is what a run of its own prints for the job, over these inputs and symbols, read in this setting.
 abbrev pub IsRunsText : Setting → List (List ℕ) → Option (List ℕ) → Job → List ℕ → Type 0
 IsRunsText setting inputs symbols job text = Printed (in_setting setting job) inputs symbols (Ok text)
+
+-- A sink got these replies, and the audience these notes, after it was told how much of its trace is there.
+abbrev pub BeginsAndGets : {Host : Type 0} → Option (List ℕ) → Option (List ℕ) → (Host → Note → Host) → Host → Host → Coverage → List ℕ
+    → List Note → Type 0
+BeginsAndGets old new told audience after coverage replies notes =
+    Gets old new told audience after replies (begins coverage.gaps coverage.complete_to ∷ notes)
 
 -- why a run of its own over sources of these bytes would end, whatever it is asked
 abbrev pub IsRunsCause : Setting → List (List ℕ) → List (Option (List ℕ)) → List Bool → Option (List ℕ) → RunFault → Type 0

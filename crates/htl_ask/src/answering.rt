@@ -7,7 +7,6 @@ ghost use Rattle.htl_case.specs.Cases.{IsCase};
 ghost use Rattle.htl_exchange.specs.Desks.{IsWholeStanding};
 ghost use Rattle.htl_command.specs.declared.question.Question.TheVariants as asked;
 ghost use Rattle.htl_main.specs.Answers.{IsAnswer, IsAnswerOver};
-ghost use Rattle.htl_main.specs.Coverages.{IsCoverage};
 ghost use Rattle.htl_main.specs.Questions.{IsOfParts};
 
 use crate::session::Session;
@@ -16,23 +15,19 @@ use htl_case::Case;
 use htl_command::{Job, Question};
 use htl_dialogue::Answerer;
 use htl_event::NoMemory;
-use htl_main::{Coverage, has_subject, lines, summary_of};
+use htl_main::{has_subject, lines, summary_of};
 use htl_report::Answer;
 use std::alloc::Global;
 
 impl Answerer for Session {
-    ghost use Rattle.htl_ask.specs.Sessions.{IsSessionText};
+    ghost use Rattle.htl_ask.specs.Sessions.{IsSessionText, ReportsSessionSubject};
 
     ghost has_text = { IsSessionText };
 
+    ghost reports_subject = { ReportsSessionSubject };
+
     fn answer(&self, alloc: Global, job: &Job) -> Result<Vec<u8>, NoMemory> {
-        let answer = answer(
-            alloc,
-            job.question,
-            &self.case,
-            self.coverage,
-            &self.analyst,
-        )?;
+        let answer = answer(alloc, job.question, &self.case, &self.analyst)?;
         let text = lines(alloc, job, &answer, &self.symbols)?;
         Ok(text)
     }
@@ -42,17 +37,15 @@ impl Answerer for Session {
     }
 }
 
-/// The answer to a question over a case of this coverage, which the analyst took in. Only a listing
-/// looks at the segments themselves.
+/// The answer to a question over a case, which the analyst took in. Only a listing looks at the
+/// segments themselves.
 fn answer(
     alloc: Global,
     question: Question,
     case: &Case,
-    coverage: Coverage,
     analyst: &Analyst<Global>,
 ) -> Result<Answer, NoMemory>
     requires case { IsCase case.now }
-    requires coverage { IsCoverage case.now coverage }
     requires whole { IsWholeStanding case.now analyst.now }
     ensures { IfOk result (IsAnswer case.now question) }
 {
@@ -63,7 +56,7 @@ fn answer(
             rows: case.trace(alloc, process, handle)?,
         }),
         Question::Summary => {
-            let answer = summary(alloc, case, coverage, analyst)?;
+            let answer = summary(alloc, case, analyst)?;
             Ok(answer)
         }
         question => {
@@ -73,21 +66,15 @@ fn answer(
     }
 }
 
-/// The summary of a case of this coverage, which the analyst took in.
-fn summary(
-    alloc: Global,
-    case: &Case,
-    coverage: Coverage,
-    analyst: &Analyst<Global>,
-) -> Result<Answer, NoMemory>
+/// The summary of a case, which the analyst took in.
+fn summary(alloc: Global, case: &Case, analyst: &Analyst<Global>) -> Result<Answer, NoMemory>
     requires case { IsCase case.now }
-    requires coverage { IsCoverage case.now coverage }
     requires whole { IsWholeStanding case.now analyst.now }
     ensures { IfOk result (IsAnswer case.now asked.Summary) }
 {
     let processes = analyst.processes(alloc)?;
     let objects = analyst.objects(alloc)?;
-    let answer = summary_of(alloc, case, coverage, processes, objects)?;
+    let answer = summary_of(alloc, case, processes, objects)?;
     Ok(answer)
 }
 

@@ -1,41 +1,44 @@
 //! From the first input to the last line.
 
 ghost use Rattle.std.specs.Prelude.{◌≡◌, ◌≤◌, ◌⊎◌, ℕ, List, All, Some, Err};
-ghost use Rattle.std.specs.Prelude.{false, true, length, map, slice_get, IfErr, IfOk, IfSome, OnOk};
+ghost use Rattle.std.specs.Prelude.{false, true, length, map, IfErr, IfOk, IfSome, OnOk};
 ghost use Rattle.std.specs.Option.{option_copied};
 ghost use Rattle.htl_device.specs.declared.whole.TheConstants.{MAX_READS};
-ghost use Rattle.htl_reading.specs.Sources.{read_ahead};
-ghost use Rattle.htl_reading.specs.declared.reading.TheConstants.{BLOCK_LEN};
+ghost use Rattle.htl_main.specs.Coverages.{Covers};
 ghost use Rattle.htl_main.specs.Origins.{IsBetween, by_fault};
 ghost use Rattle.htl_main.specs.Reads.{NeverWrite};
-ghost use Rattle.htl_main.specs.Sources.{AreReadInOrder, AreReadToFault, AreReadWithin};
-ghost use Rattle.htl_main.specs.Sources.{EndsBefore, IsEndless, IsTrueAt};
-ghost use Rattle.htl_main.specs.Sources.{ReadsNoFault, ReportsFailed};
-ghost use Rattle.htl_main.specs.declared.fault.RunFault.TheVariants as runs;
+ghost use Rattle.htl_main.specs.Readings.{AreRead};
+ghost use Rattle.htl_main.specs.Subjects.{ReportsSubject};
+ghost use Rattle.htl_main.specs.declared.coverage.Coverage.{Coverage};
 ghost use Rattle.htl_dialogue.specs.Dialogues.{Converses, StopsAt};
 ghost use Rattle.htl_dialogue.specs.declared.dialogue.DialogueFault.{DialogueFault};
 ghost use Rattle.htl_dialogue.specs.declared.dialogue.DialogueFault.TheVariants as dialogues;
-ghost use Rattle.htl_ask.specs.Asking.{IsRunsCause, IsRunsText, before_dialogue};
+ghost use Rattle.htl_ask.specs.Asking.{BeginsAndGets, IsRunsCause, IsRunsText, before_dialogue};
 
 use crate::fault::AskFault;
 use crate::session::Session;
 use htl_command::Setting;
 use htl_device::{Sink, Source};
 use htl_dialogue::{Host, converse};
-use htl_main::{Coverage, read_standing};
+use htl_main::{Coverage, load};
 use std::alloc::Global;
 use std::sync::Wait;
 use std::thread::Threads;
 
 /// Who is told what goes on beside the replies, and when questions can come.
 pub trait Audience: Host {
+    ghost use Rattle.htl_dialogue.specs.Notes.{begins};
+
     /// The inputs were read and folded, and so much of their trace is there.
-    fn begins(&mut self, coverage: Coverage);
+    fn begins(&mut self, coverage: Coverage)
+        ensures told { self.new ≡ Self.told self.old (begins coverage.gaps coverage.complete_to) }
+        ensures same { Self.wants_absence self.new ≡ Self.wants_absence self.old };
 }
 
 /// Reads all sources and folds their case once, and then replies to each line of the questions up to
 /// `quit` or to their end: to a question with what a run of its own prints over the same sources and
-/// symbols, and an empty line. Says whether a line was wrong.
+/// symbols, and an empty line. Says whether a line was wrong. The audience is told when questions
+/// can come, over how much of the trace, and then what goes on beside the replies.
 ///
 /// The sources are read as by `run_from`, to the same faults, and no question is read before. Where
 /// threads are refused, the case is folded by this thread.
@@ -54,17 +57,24 @@ pub fn ask_from<Rt: Threads + Wait + Sync, R: Source, Q: Source, W: Sink, H: Aud
     requires questions { Q.has_failed questions.old ≡ false }
     requires open { Q.has_ended questions.old ≡ false }
     requires out { W.has_failed out.old ≡ false }
-    // Each line gets what a run of its own prints, as its reply.
+    // Each line gets what a run of its own prints, as its reply, and the audience its notes.
     ensures ok { (texts : List (List ℕ)) (lines : List ℕ)
         → map R.remaining inputs.old ≡ map Some texts → Q.remaining questions.old ≡ Some lines
-        → IfOk result (Converses (IsRunsText setting texts (option_copied symbols.entry)) lines
-        (W.contents out.old) (W.contents out.new)) }
-    // Or those before a fault do.
+        → IfOk result (λ has_wrong. (coverage : Coverage) × Covers setting.hex texts coverage
+        × Converses (IsRunsText setting texts (option_copied symbols.entry))
+        (ReportsSubject setting.hex texts) (H.wants_absence audience.old) lines
+        (BeginsAndGets (W.contents out.old) (W.contents out.new) H.told audience.old audience.new
+        coverage) has_wrong) }
+    // Or those before a fault do: where a read of the lines fails, these are all that were read.
     ensures stops { (texts : List (List ℕ)) (lines : List ℕ) (fault : DialogueFault)
         → map R.remaining inputs.old ≡ map Some texts → Q.remaining questions.old ≡ Some lines
         → result ≡ Err (AskFault.Dialogue fault)
-        → StopsAt (IsRunsText setting texts (option_copied symbols.entry)) lines
-        (W.contents out.old) (W.contents out.new) fault }
+        → (coverage : Coverage) × Covers setting.hex texts coverage
+        × StopsAt (IsRunsText setting texts (option_copied symbols.entry))
+        (ReportsSubject setting.hex texts) (H.wants_absence audience.old) lines
+        (Q.remaining questions.new) (Q.has_failed questions.new)
+        (BeginsAndGets (W.contents out.old) (W.contents out.new) H.told audience.old audience.new
+        coverage) fault }
     ensures fine { OnOk result ((Q.has_failed questions.new ≡ false)
         × (W.has_failed out.new ≡ false)) }
     // What failed is reported, and nothing else is reported as failed.
@@ -79,7 +89,7 @@ pub fn ask_from<Rt: Threads + Wait + Sync, R: Source, Q: Source, W: Sink, H: Aud
         → W.has_failed out.new ≡ true }
     // What the sources' bytes come to is reported as by a run, before a question is read.
     ensures untouched { IfErr (before_dialogue result) (λ _. (questions.new ≡ questions.old)
-        × (out.new ≡ out.old)) }
+        × (out.new ≡ out.old) × (audience.new ≡ audience.old)) }
     ensures cause { (texts : List (List ℕ)) → map R.remaining inputs.old ≡ map Some texts
         → IfErr (by_fault (before_dialogue result)) (IsRunsCause setting texts
         (map R.remaining inputs.new) (map R.has_ended inputs.new) (option_copied symbols.entry)) }
@@ -87,31 +97,13 @@ pub fn ask_from<Rt: Threads + Wait + Sync, R: Source, Q: Source, W: Sink, H: Aud
     ensures between { (texts : List (List ℕ)) → map R.remaining inputs.old ≡ map Some texts
         → IfErr (before_dialogue result) (λ refused.
         IsBetween setting.hex texts refused.fault refused.between) }
-    // Each source is read to its end before the next.
-    ensures ended { OnOk (before_dialogue result)
-        (All (λ source. R.has_ended source ≡ true) inputs.new) }
-    ensures in_order { AreReadInOrder R.has_ended inputs.old inputs.new }
-    // A read that failed is reported, or what stands before it, as by a run.
-    ensures reported { ReportsFailed setting.hex setting.workers (map R.has_failed inputs.new)
-        (map R.remaining inputs.old) (map R.remaining inputs.new)
-        (by_fault (before_dialogue result)) }
-    ensures read { (place : ℕ) → by_fault (before_dialogue result) ≡ Err (runs.Read place)
-        → IsTrueAt (map R.has_failed inputs.new) place
-        ⊎ IsEndless (map R.good_reads inputs.new) (map R.remaining inputs.old) place }
-    ensures no_fault { (place : ℕ) → by_fault (before_dialogue result) ≡ Err (runs.Read place)
-        → setting.hex ≡ false
-        → ReadsNoFault (map R.remaining inputs.old) (map R.remaining inputs.new) place }
-    ensures bounded { AreReadWithin (map R.good_reads inputs.old) (map R.good_reads inputs.new) }
-    // A fault ends the reading.
-    ensures unread { IfErr (by_fault (before_dialogue result)) (λ fault. (place : ℕ)
-        → EndsBefore fault place → slice_get inputs.new place ≡ slice_get inputs.old place) }
-    ensures to_fault { setting.hex ≡ false
-        → AreReadToFault (read_ahead setting.workers BLOCK_LEN) (map R.remaining inputs.old)
-        (map R.remaining inputs.new) }
+    // The sources are read as by a run.
+    ensures reading { AreRead setting.hex setting.workers R.has_failed R.has_ended R.good_reads
+        R.remaining inputs.old inputs.new (by_fault (before_dialogue result)) }
     ensures no_write { NeverWrite (by_fault (before_dialogue result)) }
 {
-    let standing = read_standing(rt, alloc, setting, inputs, symbols)?;
-    let session = Session::of(rt, alloc, standing, setting.workers)?;
+    let loaded = load(rt, alloc, setting, inputs, symbols)?;
+    let session = Session::of(rt, alloc, loaded, setting.workers)?;
     audience.begins(session.coverage());
     let has_wrong = converse(alloc, &session, questions, out, audience)?;
     Ok(has_wrong)

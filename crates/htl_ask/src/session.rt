@@ -7,7 +7,7 @@ use htl_analyst::Analyst;
 use htl_case::Case;
 use htl_event::NoMemory;
 use htl_exchange::{Exchange, Free, SurveyFault, survey};
-use htl_main::{Coverage, Standing};
+use htl_main::{Coverage, Loaded};
 use htl_symbols::Symbols;
 use std::alloc::Global;
 use std::marker::Model;
@@ -41,22 +41,22 @@ impl Session {
     ghost use Rattle.htl_main.specs.Coverages.{IsCoverage};
     ghost use Rattle.htl_ask.specs.Sessions.{IsSessionOf};
 
-    /// Folds the case of what stands, by so many workers.
+    /// Folds the case that was loaded, by so many workers.
     pub fn of<Rt: Threads + Wait + Sync>(
         rt: &Rt,
         alloc: Global,
-        standing: Standing,
+        loaded: Loaded,
         workers: u32,
     ) -> Result<Session, NoMemory>
-        requires case { IsCase standing.case }
-        requires coverage { IsCoverage standing.case standing.coverage }
-        ensures { IfOk result (IsSessionOf standing.case standing.symbols) }
+        requires case { IsCase loaded.case }
+        requires coverage { IsCoverage loaded.case loaded.coverage }
+        ensures { IfOk result (IsSessionOf loaded.case loaded.symbols) }
     {
-        let Standing {
+        let Loaded {
             case,
             coverage,
             symbols,
-        } = standing;
+        } = loaded;
         let analyst = fold(rt, alloc, &case, workers)?;
         Ok(Session {
             case,

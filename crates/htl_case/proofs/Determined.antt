@@ -1,6 +1,7 @@
 -- A question has one answer over a set of keys of a trace.
-use Rattle.std.proofs.Common.{◌≡◌, ℕ, Bool, true, List, Option, Vec, Global, refl, sym, ◌∙◌}
+use Rattle.std.proofs.Common.{◌≡◌, ℕ, Bool, true, List, Option, Vec, Global, refl, sym, subst, ◌∙◌}
 use Rattle.std.specs.Prelude.{Contains, count_by}
+use Rattle.std.proofs.Math.Path.{fun_ext}
 use Rattle.std.proofs.lemmas.List.Sorted.{IsPermutation-refl}
 use Rattle.htl_event.specs.Events.{Event}
 use Rattle.htl_event.specs.declared.slot.Slot.{Slot}
@@ -24,7 +25,7 @@ use Rattle.htl_case.specs.declared.question.AnalystQuestion.{AnalystQuestion}
 use Rattle.htl_case.specs.declared.question.AnalystQuestion.TheVariants as asked
 use Rattle.htl_case.specs.declared.question.AnalystAnswer.{AnalystAnswer}
 use Rattle.htl_case.specs.declared.question.AnalystAnswer.TheVariants as answered
-use Rattle.htl_case.specs.Answers.{IsAnswer, IsSameAnswer}
+use Rattle.htl_case.specs.Answers.{AnswersAreDetermined, IsAnswer, IsSameAnswer}
 use Rattle.htl_case.specs.Asked.{IsStated}
 
 -- of a trace the answer to each question is stated
@@ -148,3 +149,8 @@ module _ (T : Trace) (trace : IsTrace T) (S : ℕ → ℕ → Bool) where
   one_answer asked.Processes (answered.Processes a) y is other = same_processes a is y other
   one_answer asked.Objects (answered.Objects n a) y is other = same_objects n a is y other
   one_answer q x y is other = absurd is
+
+pub answers_are_determined : AnswersAreDetermined
+answers_are_determined T trace S R same q x y is other =
+    let one : R ≡ S = fun_ext λ p. fun_ext λ n. sym (same p n) in
+    one_answer T trace S q x y is (subst (λ (keys : ℕ → ℕ → Bool). IsAnswer T keys q y) one other)

@@ -2,7 +2,7 @@
 use Rattle.std.proofs.Common.{◌≡◌, ◌≢◌, ℕ, ◌+◌, ◌<◌, ◌≤◌, List, length, get_or, refl, sym, ap, ◌∙◌, subst, inl, inr}
 use Rattle.std.proofs.Common.{arith}
 use Rattle.std.specs.Prelude.{slice_get}
-use Rattle.std.proofs.lemmas.Bool.{cases_eq, cases_lt}
+use Rattle.std.proofs.lemmas.Bool.{cases_eq, cases_order}
 use Rattle.std.proofs.lemmas.Option.{slice_get_within, get_or_from_slice_get}
 use Rattle.htl_case.specs.declared.step.Step.{Step}
 use Rattle.htl_case.specs.declared.fault.PlayFault.{PlayFault}
@@ -10,14 +10,13 @@ use Rattle.htl_case.specs.declared.fault.PlayFault.TheVariants.{NoAnalyst, NoSeg
 use Rattle.htl_event.specs.Members.{IsLeastSuch}
 use Rattle.htl_case.specs.Plays.{HasAt, NamesNoAnalyst, NamesNoSegment, IsFaulty, NoneIsFaulty, IsPlayRefusal, IsAnswerRefusal}
 
-one_least : (P : ℕ → Type 0) (i j : ℕ) → IsLeastSuch ◌<◌ P i → IsLeastSuch ◌<◌ P j → i ≡ j
+-- there is one least number with a property
+pub one_least : (P : ℕ → Type 0) (i j : ℕ) → IsLeastSuch ◌<◌ P i → IsLeastSuch ◌<◌ P j → i ≡ j
 one_least P i j a b =
-    elim (cases_eq i j) [
-      | inl e ↦ e
-      | inr ne ↦ elim (cases_lt i j) [
-        | inl lt ↦ absurd (b.least i lt a.holds)
-        | inr le ↦ let lt : j < i = omega arith in absurd (a.least j lt b.holds)
-      ]
+    elim (cases_order i j) [
+      | inl same ↦ same
+      | inr (inl lt) ↦ absurd (b.least i lt a.holds)
+      | inr (inr gt) ↦ absurd (a.least j gt b.holds)
     ]
 
 module _ (n m : ℕ) (steps : List Step) where

@@ -35,6 +35,7 @@ newer_total = on_total sequence_of (back_total nat_cmp_total)
 newer_order : IsStrictWeakOrder newer
 newer_order = ranks_by newer_total (λ (e : Event). e)
 
+-- events sorted by falling sequences have the newest first
 pub newest_first : (es : List Event) → IsSortedByKey sequence_of (λ x y. nat_cmp y x) es → IsNewestFirst es
 newest_first [] up = tt
 newest_first (e ∷ es) up =
@@ -88,6 +89,7 @@ of_handle process base e = (
 
 -- ---- the listing
 
+-- a filter leaves a sequence no more often than before
 pub fewer : (p : Event → Bool) (x : ℕ) (es : List Event) → times x (map sequence_of (filter p es)) ≤ times x (map sequence_of es)
 fewer p x [] = omega arith
 fewer p x (e ∷ es) =
@@ -99,10 +101,12 @@ fewer p x (e ∷ es) =
       | inr fails ↦ rw (filter-skip p e es fails) (omega (arith, rest, all))
     ]
 
+-- a sequence comes as often in another order
 pub times-moved : (x : ℕ) (xs ys : List Event) → IsPermutation xs ys → times x (map sequence_of ys) ≡ times x (map sequence_of xs)
 times-moved x xs ys moved = sum_by-IsPermutation (λ (y : ℕ). cond (eqb y x) 1 0) (map sequence_of xs) (map sequence_of ys)
     (IsPermutation-map sequence_of xs ys moved)
 
+-- the events of a handle, the newest first, are its listing
 pub listing : (es rows sorted : List Event) (process base handle : ℕ) → HaveOwnSequences es → base ≡ base_of handle
     → rows ≡ filter (is_of_handle process base) es
     → IsPermutation rows sorted → IsNewestFirst sorted → IsListing (Contains es) process handle sorted

@@ -5,7 +5,7 @@ use Rattle.std.specs.Prelude.{Contains, slice_get}
 use Rattle.std.proofs.lemmas.Bool.{cases_order}
 use Rattle.std.proofs.lemmas.Option.{none-some}
 use Rattle.htl_event.specs.Members.{IsRising, IsStrictOrder}
-use Rattle.htl_event.proofs.Members.{Contains-here, Contains-cases, Contains-nil, at_member, same_members}
+use Rattle.htl_event.proofs.Members.{Contains-cases, Contains-nil, at_member, same_members, some_member}
 use Rattle.htl_segment.specs.Content.{Content}
 use Rattle.htl_segment.specs.Traces.{Trace, trace, AreInOrder, IsBefore, all_events}
 use Rattle.htl_case.specs.declared.fault.CaseFault.{CaseFault}
@@ -20,6 +20,7 @@ use Rattle.htl_case.specs.Faults.{key_of}
 use Rattle.htl_case.proofs.KeyOrder.{cases_key, not_itself, before_before}
 use Rattle.htl_segment.proofs.Spans.{at_place}
 use Rattle.htl_case.proofs.Twice.{twice_counted, times_from_own}
+use Rattle.htl_case.proofs.FirstFaults.{one_least}
 
 -- ---- one case
 
@@ -38,13 +39,9 @@ same_trace S T id count segments =
     ap (λ (x : ℕ). trace x S.processors S.segments) id ∙ ap (λ (x : ℕ). trace T.id x S.segments) count ∙ ap
     (λ (ss : List Content). trace T.id T.processors ss) segments
 
-pub a_member : (ss : List Content) → ss ≢ [] → (s : Content) × Contains ss s
-a_member [] some = absurd (some refl)
-a_member (s ∷ ss) some = (s, Contains-here s ss)
-
 pub one_case : (given : List Content) (S T : Trace) → IsCaseOf given S → IsCaseOf given T → S ≡ T
 one_case given S T a b =
-    let first = a_member S.segments a.is_case.some in
+    let first = some_member S.segments a.is_case.some in
     let of_S = at_member (λ s. (s.trace_id ≡ S.id) × (s.processors ≡ S.processors)) S.segments first.0 a.is_case.trace.same first.1 in
     let of_T = at_member (λ s. (s.trace_id ≡ T.id) × (s.processors ≡ T.processors)) T.segments first.0 b.is_case.trace.same
     ((b.members first.0).1 ((a.members first.0).0 first.1)) in
@@ -92,7 +89,7 @@ module _ (given : List Content) (T : Trace) (is : IsCaseOf given T) where
 
   pub case_some : given ≢ []
   case_some none =
-      let first = a_member T.segments is.is_case.some in
+      let first = some_member T.segments is.is_case.some in
       Contains-nil first.0 (subst (λ (ss : List Content). Contains ss first.0) none ((is.members first.0).0 first.1))
 
   pub case_once : (x : ℕ) → ComesTwice given x → ⊥
@@ -220,14 +217,6 @@ none_earlier ss NoMemory later lt told b r = b
 
 -- ---- one fault
 
-one_number : (P : ℕ → Type 0) (x y : ℕ) → IsLeastSuch ◌<◌ P x → IsLeastSuch ◌<◌ P y → x ≡ y
-one_number P x y a b =
-    elim (cases_order x y) [
-      | inl same ↦ same
-      | inr (inl lt) ↦ absurd (b.least x lt a.holds)
-      | inr (inr gt) ↦ absurd (a.least y gt b.holds)
-    ]
-
 one_key : (P : ℕ × ℕ → Type 0) (x y : ℕ × ℕ) → IsLeastSuch IsKeyBefore P x → IsLeastSuch IsKeyBefore P y → x ≡ y
 one_key P x y a b =
     elim (cases_key x y) [
@@ -238,11 +227,11 @@ one_key P x y a b =
 
 same_turn : (ss : List Content) (f g : CaseFault) → turn f ≡ turn g → f ≢ NoMemory → IsRefusal ss f → IsRefusal ss g → f ≡ g
 same_turn ss Empty Empty e told a b = refl
-same_turn ss (OtherTrace x) (OtherTrace y) e told a b = ap OtherTrace (one_number (HasOtherTrace ss) x y a b)
-same_turn ss (OtherProcessors x) (OtherProcessors y) e told a b = ap OtherProcessors (one_number (HasOtherProcessors ss) x y a.1 b.1)
+same_turn ss (OtherTrace x) (OtherTrace y) e told a b = ap OtherTrace (one_least (HasOtherTrace ss) x y a b)
+same_turn ss (OtherProcessors x) (OtherProcessors y) e told a b = ap OtherProcessors (one_least (HasOtherProcessors ss) x y a.1 b.1)
 same_turn ss (TwoContents p n) (TwoContents q m) e told a b = ap (λ (k : ℕ × ℕ). TwoContents k.0 k.1)
     (one_key (HasTwoContents ss) (p, n) (q, m) a.2 b.2)
-same_turn ss (SequenceTwice x) (SequenceTwice y) e told a b = ap SequenceTwice (one_number (ComesTwice ss) x y a.1 b.1)
+same_turn ss (SequenceTwice x) (SequenceTwice y) e told a b = ap SequenceTwice (one_least (ComesTwice ss) x y a.1 b.1)
 same_turn ss (Falling p n) (Falling q m) e told a b = ap (λ (k : ℕ × ℕ). Falling k.0 k.1) (one_key (Falls ss) (p, n) (q, m) a.2 b.2)
 same_turn ss NoMemory NoMemory e told a b = refl
 same_turn ss f g e told a b = absurd (omega (arith, e))

@@ -119,10 +119,12 @@ times_in_moved n ss moved is =
 abbrev IsToldOf : List Content → Option (ℕ × ℕ) → Type 0
 IsToldOf ss told = MatchOption told ((key : ℕ × ℕ) → Falls ss key → ⊥) (IsLeastSuch IsKeyBefore (Falls ss))
 
+-- a key that was told falls
 pub told_to_fall : (ss : List Content) (told : Option (ℕ × ℕ)) → is_some told ≡ true → IsToldOf ss told → (key : ℕ × ℕ) × Falls ss key
 told_to_fall ss None some told = absurd cc
 told_to_fall ss (Some key) some told = (key, told.holds)
 
+-- where none was told, no key falls
 pub told_to_rise : (ss : List Content) (told : Option (ℕ × ℕ)) → is_some told ≡ false → IsToldOf ss told → (key : ℕ × ℕ) → Falls ss key → ⊥
 told_to_rise ss None none told = told
 told_to_rise ss (Some key) none told = absurd cc
@@ -218,6 +220,7 @@ module _ (interest : Interest) (picks : Picks) (segments : List Content) (are : 
 
 -- ---- what was picked of a trace
 
+-- the events of a picked case have sequences of their own
 pub picked_own : (interest : Interest) (T : Trace) (case : Picked) → IsTrace T → IsPickedOf interest T case → HaveOwnSequences case.events
 picked_own interest T case is of = own_from_times case.events (λ n.
     omega (

@@ -6,7 +6,7 @@ use Rattle.std.proofs.lemmas.List.{take_all, length-set, length-replicate, get_o
 use Rattle.std.proofs.lemmas.List.Sums.{fold_more}
 use Rattle.std.proofs.Math.Seq.{take-append_seam}
 use Rattle.std.proofs.lemmas.Option.{slice_get-get_or, slice_get_within, get_or_from_slice_get}
-use Rattle.htl_event.proofs.Members.{at_member}
+use Rattle.htl_event.proofs.Members.{at_member, some_member}
 use Rattle.htl_segment.specs.Content.{Content, Fits}
 use Rattle.htl_segment.specs.Traces.{Trace}
 use Rattle.htl_segment.specs.declared.version.Version.{Version}
@@ -23,7 +23,6 @@ use Rattle.htl_case.specs.Reached.{after_step, reached}
 use Rattle.htl_case.specs.Histories.{History, begun, Leaves, history_after, history, AreRight, HaveReached, HaveHistories}
 use Rattle.htl_case.specs.Changes.{Changes, IsMergeFrom, IsStep, IsTriedStep}
 use Rattle.htl_case.proofs.Stepped.{step_histories, tried_keys}
-use Rattle.htl_case.proofs.Outcomes.{a_member}
 
 pub on_ok : {X E : Type 0} (r : Result X E) (P Q : Type 0) → OnOk r P → (P → Q) → OnOk r Q
 on_ok (Ok x) P Q h f = f h
@@ -38,7 +37,7 @@ few_by_version V2 n le = omega arith
 module _ (T : Trace) (is : IsCase T) where
   first : (s : Content) × Fits s × (s.processors ≡ T.processors)
   first =
-      let s = a_member T.segments is.some in (
+      let s = some_member T.segments is.some in (
         s.0,
         at_member Fits T.segments s.0 is.trace.fit s.1,
         (at_member (λ s. (s.trace_id ≡ T.id) × (s.processors ≡ T.processors)) T.segments s.0 is.trace.same s.1).1,

@@ -14,6 +14,7 @@ use Rattle.htl_case.specs.Faults.{ComesTwice, Falls, AreOfOneTrace, IsRefusal}
 use Rattle.htl_case.specs.Ordered.{AreOf, IsInOrder, IsTwoContents}
 use Rattle.htl_case.proofs.Scanned.{falls_moved, rise_from_none}
 
+-- two contents under one key refuse the list
 pub two_refused : (given : List Content) (id processors : ℕ) (fault : CaseFault) → AreOf given id processors → IsTwoContents given fault
     → IsRefusal given fault
 two_refused given id processors fault of (processor, number, is, least) =
@@ -23,6 +24,7 @@ two_refused given id processors fault of (processor, number, is, least) =
       least,
     )
 
+-- a sequence that comes twice in some segments does so in all
 pub twice_moved : (a b : List Content) (x : ℕ) → ((s : Content) → Contains a s → Contains b s) → ComesTwice a x → ComesTwice b x
 twice_moved a b x into two = record {
   one = two.one;

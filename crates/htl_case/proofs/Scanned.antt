@@ -161,7 +161,7 @@ falls_more seen s left floor place low none up key falls =
     ]
 
 -- a segment comes no earlier than those before it
-processor_rises : (s t : Content) → IsBefore s t → s.processor ≤ t.processor
+pub processor_rises : (s t : Content) → IsBefore s t → s.processor ≤ t.processor
 processor_rises s t (inl lt) = omega (arith, lt)
 processor_rises s t (inr same) = omega (arith, same.0)
 

@@ -6,7 +6,7 @@ use Rattle.htl_event.specs.Handles.{LatestIs, IsMark, IsOutstanding, IsDiff}
 use Rattle.htl_event.specs.Tallies.{tally, under, IsTags, IsBad, IsLeaks, IsStacks}
 use Rattle.htl_event.specs.Summaries.{IsProcesses, IsNumberOfObjects, IsUnbalanced}
 use Rattle.htl_taken.specs.Gaps.{IsGaps}
-use Rattle.htl_segment.specs.Traces.{Trace, key_is_in, events_of}
+use Rattle.htl_segment.specs.Traces.{Trace, IsTrace, key_is_in, events_of}
 use Rattle.htl_case.specs.declared.question.AnalystQuestion.{AnalystQuestion}
 use Rattle.htl_case.specs.declared.question.AnalystQuestion.TheVariants as asked
 use Rattle.htl_case.specs.declared.question.AnalystAnswer.{AnalystAnswer}
@@ -54,3 +54,8 @@ IsSameAnswer (answered.Under a) (answered.Under b) = a ≡ b
 IsSameAnswer (answered.Processes a) (answered.Processes b) = a.items ≡ b.items
 IsSameAnswer (answered.Objects n a) (answered.Objects m b) = (n ≡ m) × (a.items ≡ b.items)
 IsSameAnswer one other = ⊥
+
+-- A question has one answer over the segments of a trace whose keys are in a set, however the set is given.
+abbrev pub AnswersAreDetermined : Type 0
+AnswersAreDetermined = (T : Trace) → IsTrace T → (S R : ℕ → ℕ → Bool) → ((p n : ℕ) → S p n ≡ R p n)
+    → (q : AnalystQuestion) (x y : AnalystAnswer) → IsAnswer T S q x → IsAnswer T R q y → IsSameAnswer x y

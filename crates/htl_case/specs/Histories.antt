@@ -72,7 +72,7 @@ pub record IsReachedBy (T : Trace) (S : ℕ → ℕ → Bool) (a : State) : Type
   pub leaves : Leaves T history a
   pub set : (p n : ℕ) → reached_by T history p n ≡ S p n
 
--- Once compacted: it neither took nor merged since.
+-- Its last step was a compaction, which was not refused.
 abbrev pub IsCompacted : History → Type 0
 IsCompacted (compacted before) = Unit {0}
 IsCompacted other = ⊥

@@ -1,4 +1,4 @@
-//! Asking an analyst a question: any analyst, or one of those that a list of steps leads to.
+//! Asking an analyst a question: any analyst, or one that a list of steps leads to.
 
 ghost use Rattle.std.specs.Prelude.{◌≡◌, ◌≢◌, ◌<◌, length, IfOk, IfErr, OnOk};
 ghost use Rattle.std.specs.Option.{option_copied};
@@ -20,7 +20,7 @@ use htl_analyst::Analyst;
 use htl_event::{Count, NoMemory, SharedEvent, Slot, Stack};
 use std::alloc::{Allocator, Global};
 
-/// What an analyst answers after these steps. Each of the analysts begins with nothing.
+/// The answer of an analyst after these steps. Each of the analysts begins with no segment.
 ///
 /// It is the definition's value over exactly the events of the segments that reached the analyst,
 /// whatever the steps were. A step that names an analyst or a segment that isn't there is refused

@@ -1,4 +1,4 @@
-//! A case, and what it answers of its trace.
+//! Cases: all segments of one trace.
 
 use crate::fault::CaseFault;
 use crate::ordering::{check_one_trace, in_order};
@@ -71,7 +71,7 @@ impl Case {
         self.trace_id
     }
 
-    /// How many processors the trace has.
+    /// The number of processors of the trace.
     pub fn processors(&self) -> u16
         ensures { result ≡ self.now.processors }
     {

@@ -5,36 +5,36 @@ use std::alloc::{AllocError, AllocFailed};
 use thiserror::Error;
 
 /// Why a list of segments is no case: the first rule that it breaks, each tried over all segments
-/// before the next. The text is the fault's code.
+/// before the next. The `Display` text is the fault's code.
 #[derive(Clone, Copy, Debug, PartialEq, Eq, Error)]
 pub enum CaseFault {
-    /// No segments.
+    /// There are no segments.
     #[error("C1")]
     Empty,
-    /// The first place, counted from 0, whose trace id isn't that of place 0.
+    /// The segment at this place, counted from 0, is the first whose trace id isn't that of place 0.
     #[error("C2({0})")]
     OtherTrace(u64),
-    /// The first place whose processor count isn't that of place 0.
+    /// The segment at this place is the first whose processor count isn't that of place 0.
     #[error("C3({0})")]
     OtherProcessors(u64),
-    /// The least processor and number that two different segments have.
+    /// Two different segments have this processor and number, the least such ones.
     #[error("C4({0}, {1})")]
     TwoContents(u16, u32),
-    /// The least sequence that is in two different segments.
+    /// Two different segments have an event of this sequence, the least such one.
     #[error("C5({0})")]
     SequenceTwice(u64),
-    /// An allocation was refused. It comes after `TwoContents` and before the faults that are
+    /// An allocation was refused. It is reported after `TwoContents`, and before the faults that are
     /// tried later.
     #[error("C6")]
     NoMemory,
-    /// The least processor and number whose segment has an event that isn't above every sequence in
-    /// the processor's segments of lower numbers. It is tried last.
+    /// The segment of this processor and number has an event that isn't above every sequence in the
+    /// processor's segments of lower numbers. It is the least such segment. This rule is tried last.
     #[error("C7({0}, {1})")]
     Falling(u16, u32),
 }
 
 /// Why a list of steps isn't played. The steps are checked in their order before any is done, so
-/// the fault is that of the first step that has one. The text is the fault's code.
+/// the fault is that of the first step that has one. The `Display` text is the fault's code.
 #[derive(Clone, Copy, Debug, PartialEq, Eq, Error)]
 pub enum PlayFault {
     /// The step at this place, counted from 0, names an analyst that isn't there.

@@ -1,5 +1,6 @@
 //! The law that this project is about, and its premise. Each function does nothing when it runs.
 
+ghost use Rattle.htl_case.specs.Answers.{AnswersAreDetermined};
 ghost use Rattle.htl_case.specs.Headline.{Headline, AnySegmentsCanBeTaken, AreSameOnceWhole};
 
 /// Take a trace, and any number of analysts that begin with nothing. They take its segments, merge
@@ -24,4 +25,11 @@ pub fn any_segments_can_be_taken()
 /// through.
 pub fn same_once_whole()
     ensures { AreSameOnceWhole }
+{}
+
+/// Analysts that the same segments reached agree: each question has one answer over the segments of
+/// a trace whose keys are in a set. So two answers of `answer_after` to one question say the same
+/// wherever the steps bring the same keys to both analysts.
+pub fn answers_are_determined()
+    ensures { AnswersAreDetermined }
 {}

@@ -45,7 +45,7 @@ impl PickedCase {
     ghost use Rattle.htl_segment.specs.Traces.{Trace, IsTrace};
     ghost use Rattle.htl_case.specs.Picked.{IsPickedOf};
 
-    /// The same listing, over the events that are asked about.
+    /// The same listing, over the events that the question asks about.
     pub fn trace(
         &self,
         alloc: Global,

@@ -1,4 +1,4 @@
-//! The segments of one trace in the order of their keys, each once. Nothing here takes memory.
+//! Puts the segments of one trace in the order of their keys, each once. Nothing here takes memory.
 
 ghost use Rattle.std.specs.Prelude.{◌≡◌, ◌↔◌, ◌==◌, not, position};
 ghost use Rattle.std.specs.Prelude.{IsTrue, IfOk, IfErr, MatchOption};
@@ -80,7 +80,7 @@ fn sort_by_key(segments: &mut Vec<Segment>)
     segments.sort_unstable_by_key(|segment| key(segment));
 }
 
-/// The least key that two different segments have, among segments in the order of their keys.
+/// The least key that two different segments have. The segments are in the order of their keys.
 fn two_contents(segments: &[Segment]) -> Option<(u16, u32)>
     requires { AreSorted segments.now }
     ensures { MatchOption result

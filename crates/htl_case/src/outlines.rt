@@ -1,5 +1,5 @@
-//! Outlines of segments: those of segments in hand, and whether some are those of one trace, each
-//! with a key of its own.
+//! Outlines: those of segments in hand, and whether outlines are those of one trace, each with a key
+//! of its own.
 
 ghost use Rattle.std.specs.Prelude.{◌≡◌, ◌≤◌, ℕ, true, false, map, IfOk, MatchOption};
 ghost use Rattle.std.specs.List.{list_all};
@@ -31,7 +31,7 @@ pub fn key(outline: &Outline) -> (u16, u32)
     (outline.processor, outline.number)
 }
 
-/// The processor count of all segments. None: there are none, or they are of several traces.
+/// The processor count of all segments, or none where there is no segment or there are several traces.
 pub fn processors_of(outlines: &[Outline]) -> Option<u16>
     ensures { MatchOption result
         ((processors : ℕ) → AreOfOne outlines.now processors → ⊥)
@@ -66,7 +66,7 @@ pub fn sort_by_key(outlines: &mut Vec<Outline>)
     outlines.sort_unstable_by_key(|outline| key(outline));
 }
 
-/// Whether a key comes twice, among outlines in the order of their keys.
+/// Whether a key comes twice. The outlines are in the order of their keys.
 pub fn key_comes_twice(outlines: &[Outline]) -> bool
     requires { AreSortedBy outline_key outlines.now }
     ensures once { result ≡ false → IsRising IsOutlineBefore outlines.now }

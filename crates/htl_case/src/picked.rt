@@ -1,4 +1,4 @@
-//! A case of which only what a question asks about is in hand.
+//! Picked cases: of these only what a question asks about is in hand.
 
 use crate::outlines::{key_comes_twice, processors_of, sort_by_key};
 use crate::rising::falling;
@@ -32,8 +32,8 @@ impl PickedCase {
     ghost use Rattle.htl_case.specs.Cases.{IsCaseOf};
     ghost use Rattle.htl_case.specs.Picked.{IsPickedOf, NeedsWhole};
 
-    /// The case of what was picked of segments, which may come in any order. It takes no memory.
-    /// None: a key comes twice, or the segments are no case. Which of these it is, and why, only
+    /// The case of what was picked of segments, which may come in any order. It takes no memory. It is
+    /// none where a key comes twice or the segments are no case: which of these holds, and why, only
     /// whole segments tell.
     pub fn of(picks: Picks) -> Option<PickedCase>
         ensures some { IfSome result (λ case.
@@ -62,7 +62,7 @@ impl PickedCase {
         })
     }
 
-    /// How many processors the trace has.
+    /// The number of processors of the trace.
     pub fn processors(&self) -> u16
         ensures { result ≡ self.now.processors }
     {
@@ -76,7 +76,7 @@ impl PickedCase {
         self.outlines.as_slice()
     }
 
-    /// The events that are asked about, in any order.
+    /// The events that the question asks about, in any order.
     pub fn events(&self) -> &Vec<SharedEvent>
         ensures { result.now.items ≡ self.now.events }
     {

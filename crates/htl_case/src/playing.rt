@@ -43,7 +43,7 @@ pub fn play(
     Ok(played)
 }
 
-/// The same, where no step is faulty and a compaction that is refused is a step like any other: the
+/// As `play`, where no step is faulty. A compaction that is refused is a step like any other: the
 /// analyst goes on as it was left.
 pub(crate) fn analysts_after(
     alloc: Global,
@@ -82,7 +82,7 @@ pub(crate) fn check_steps(analysts: u32, segments: usize, steps: &[Step]) -> Res
     Ok(())
 }
 
-/// Analysts of the case's trace that have taken nothing.
+/// Analysts of the case's trace that have taken no segment.
 fn new_analysts(
     alloc: Global,
     case: &Case,
@@ -101,7 +101,7 @@ fn new_analysts(
     Ok(new)
 }
 
-/// A case has 1 to 256 processors, so only memory may be wanting.
+/// An analyst that has taken no segment. A case has 1 to 256 processors, so only memory can be refused.
 fn new_analyst(alloc: Global, case: &Case) -> Result<Analyst<Global>, PlayFault>
     requires { IsCase case.now }
     ensures ok { IfOk result (λ a. a ≡ new_state case.now.id case.now.processors) }
@@ -114,8 +114,7 @@ fn new_analyst(alloc: Global, case: &Case) -> Result<Analyst<Global>, PlayFault>
     }
 }
 
-/// What the step does. The step names analysts and a segment that are there, so only memory may be
-/// wanting.
+/// Does the step. It names analysts and a segment that are there, so only memory can be refused.
 fn do_step(analysts: &mut [Analyst<Global>], case: &Case, step: Step) -> Result<(), PlayFault>
     requires there { IsFaulty (length analysts.old) (length case.now.segments) step → ⊥ }
     requires right { AreRight case.now analysts.old }
@@ -134,7 +133,7 @@ fn do_step(analysts: &mut [Analyst<Global>], case: &Case, step: Step) -> Result<
     }
 }
 
-/// The same, but a compaction that is refused is done as far as it came.
+/// Does the step, and keeps a refused compaction as far as it came.
 fn try_step(analysts: &mut [Analyst<Global>], case: &Case, step: Step) -> Result<(), PlayFault>
     requires there { IsFaulty (length analysts.old) (length case.now.segments) step → ⊥ }
     requires right { AreRight case.now analysts.old }

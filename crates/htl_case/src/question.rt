@@ -3,15 +3,15 @@
 use htl_event::{Count, ObjectRow, ProcessRow, SharedEvent, SharedStack, Slot, Stack};
 use htl_taken::Gap;
 
-/// What an analyst may be asked. Each question has the name of the call that answers it, but for
+/// The questions to an analyst. Each question has the name of the call that answers it, but for
 /// `Tally`, which looks one count up in the whole tree.
 #[derive(Debug, Drop)]
 pub enum AnalystQuestion {
-    /// Whether it has taken a segment.
+    /// Whether the analyst has taken a segment.
     Has { processor: u16, number: u32 },
-    /// How many segments it has taken.
+    /// The number of segments that the analyst has taken.
     Taken,
-    /// Which segments are missing.
+    /// The segments that are missing.
     Gaps,
     /// The latest open or close of a handle of a process.
     Latest { process: u32, handle: u32 },
@@ -19,7 +19,7 @@ pub enum AnalystQuestion {
     Mark { process: u32 },
     /// The handles of a process that are open.
     Outstanding { process: u32 },
-    /// Those among them that were opened after a sequence.
+    /// The handles of a process that are open, and were opened after a sequence.
     Diff { process: u32, since: u64 },
     /// The stacks that opened handles of a process which are still open.
     Leaks { process: u32 },
@@ -34,9 +34,9 @@ pub enum AnalystQuestion {
     Tally { slot: Slot, stack: Stack },
     /// How often a slot came with a stack that begins with a path, read from the outermost frame.
     Under { path: Vec<u64>, slot: Slot },
-    /// What each process did with handles.
+    /// The numbers of handles of each process.
     Processes,
-    /// How many objects were referenced or dereferenced, and which of them don't balance.
+    /// The number of objects that were referenced or dereferenced, and those that don't balance.
     Objects,
 }
 

@@ -1,4 +1,4 @@
-//! Whether sequences of a trace rise along each processor. Nothing here takes memory.
+//! The test that the sequences of a trace rise along each processor. Nothing here takes memory.
 
 ghost use Rattle.std.specs.Prelude.{◌≡◌, ℕ, ◌<◌, ◌≤◌, ◌↔◌, if◌then◌else◌, ◌==◌, List, map, All};
 ghost use Rattle.std.specs.Prelude.{IsTrue, MatchOption};
@@ -12,8 +12,8 @@ ghost use Rattle.htl_case.specs.Faults.{Falls};
 use crate::outlines::key;
 use htl_segment::Outline;
 
-/// The first segment with an event that isn't above all those in lower segments of its processor,
-/// among segments in the order of their keys.
+/// The first segment with an event that isn't above all events in lower segments of its processor. The
+/// segments are in the order of their keys.
 pub fn falling(outlines: &[Outline]) -> Option<(u16, u32)>
     ensures { (segments : List Content) → outlines.now ≡ map outline_of segments
         → AreInOrder segments → All Fits segments
@@ -34,8 +34,8 @@ pub fn falling(outlines: &[Outline]) -> Option<(u16, u32)>
     None
 }
 
-/// What a segment's sequences have to be above, where the processor of the one before it has come
-/// to a highest sequence.
+/// The sequence above which a segment's sequences have to be: the highest so far of its processor, or 0
+/// where the segment before it is of another one.
 fn floor_of(outline: &Outline, processor: u16, highest: u64) -> u64
     ensures { result ≡ (if outline.now.processor == processor then highest else 0) }
 {
@@ -46,7 +46,7 @@ fn floor_of(outline: &Outline, processor: u16, highest: u64) -> u64
     }
 }
 
-/// Whether the segment has a first event, and its sequence isn't above the floor.
+/// Whether the segment has an event, and the sequence of its first one isn't above the floor.
 fn begins_within(outline: &Outline, floor: u64) -> bool
     ensures { IsTrue result ↔ ((0 < outline.now.first) × (outline.now.first ≤ floor)) }
 {

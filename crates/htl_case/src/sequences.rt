@@ -1,4 +1,4 @@
-//! Whether a sequence of a trace comes twice.
+//! The test that no sequence of a trace comes twice.
 
 ghost use Rattle.std.specs.Prelude.{◌≡◌, ℕ, ◌<◌, ◌≤◌, ◌++◌, false, List, map, All, IfOk, OnOk};
 ghost use Rattle.std.specs.Prelude.{MatchOption};
@@ -11,7 +11,7 @@ ghost use Rattle.htl_case.specs.Faults.{ComesTwice};
 ghost use Rattle.htl_segment.specs.Repeated.{sequence_of, times};
 ghost use Rattle.htl_segment.specs.Seen.{Saw};
 
-use htl_event::{NoMemory, SharedEvent};
+use htl_event::{NoMemory, SharedEvent, number_of_events};
 use htl_segment::{Seen, Segment, first_repeated};
 use std::alloc::Global;
 
@@ -31,7 +31,7 @@ pub fn repeated_sequence(alloc: Global, segments: &[Segment]) -> Result<Option<u
     Ok(first_repeated(&sequences))
 }
 
-/// Whether a sequence comes twice. One pass over the events tells that; which one, a sort.
+/// Whether a sequence comes twice. One pass over the events tells that. Only a sort tells which one.
 fn one_comes_twice(alloc: Global, segments: &[Segment]) -> Result<bool, NoMemory>
     ensures once { IfOk result (λ twice. twice ≡ false
         → (n : ℕ) → times n (map sequence_of (all_events segments.now)) ≤ 1) }
@@ -59,20 +59,11 @@ fn sequences_of(alloc: Global, segments: &[Segment]) -> Result<Vec<u64>, NoMemor
         sequences.items ≡ map sequence_of (all_events segments.now)) }
     ensures fit { OnOk result (All Fits segments.now) }
 {
-    let mut sequences = Vec::with_capacity(alloc, event_count(segments))?;
+    let mut sequences = Vec::with_capacity(alloc, number_of_events(segments).unwrap_or(0))?;
     for segment in segments {
         push_sequences(&mut sequences, segment.events())?;
     }
     Ok(sequences)
-}
-
-/// Room for all sequences, so that their list grows once.
-fn event_count(segments: &[Segment]) -> usize {
-    let mut count = 0usize;
-    for segment in segments {
-        count = count.saturating_add(segment.events().len());
-    }
-    count
 }
 
 fn push_sequences(sequences: &mut Vec<u64>, events: &[SharedEvent]) -> Result<(), NoMemory>

@@ -1,9 +1,9 @@
-//! One step of some analysts over a case.
+//! Steps of analysts over a case.
 
 ghost use Rattle.std.specs.Prelude.{◌↔◌, IsTrue};
 ghost use Rattle.htl_case.specs.Plays.{NamesNoAnalyst, NamesNoSegment};
 
-/// What one of some analysts does. Analysts are named by their places, counted from 0, and segments
+/// One step of one analyst. Analysts are named by their places, counted from 0, and segments
 /// by theirs in `Case::segments`.
 #[derive(Clone, Copy, Debug, PartialEq, Eq)]
 pub enum Step {
@@ -17,7 +17,7 @@ pub enum Step {
 }
 
 impl Step {
-    /// Whether the step names another analyst than the first ones.
+    /// Whether the step names an analyst beyond the first ones, of which there are this many.
     pub(crate) fn names_no_analyst(self, analysts: u32) -> bool
         ensures { IsTrue result ↔ NamesNoAnalyst analysts self }
     {
@@ -27,7 +27,7 @@ impl Step {
         }
     }
 
-    /// Whether the step names another segment than the first ones.
+    /// Whether the step names a segment beyond the first ones, of which there are this many.
     pub(crate) fn names_no_segment(self, segments: usize) -> bool
         ensures { IsTrue result ↔ NamesNoSegment segments self }
     {

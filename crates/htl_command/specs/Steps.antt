@@ -1,5 +1,5 @@
 -- What only private functions say.
-use Rattle.std.specs.Prelude.{◌≡◌, ◌≢◌, ⊤, true, false, List, [], string_bytes, unwrap_or}
+use Rattle.std.specs.Prelude.{◌≡◌, ◌≢◌, ⊤, Bool, true, false, List, [], ◌∷◌, ◌++◌, Some, None, find, is_none, string_bytes, unwrap_or}
 use Rattle.clap.specs.Words.{App, Row, Text, app_of, found_of, rows_of}
 use Rattle.clap.specs.declared.builder.Command.{Command}
 use Rattle.clap.specs.declared.builder.Command.TheViews.{out-Command as fields_of}
@@ -7,9 +7,13 @@ use Rattle.clap.specs.declared.error.ErrorKind.{ErrorKind}
 use Rattle.clap.specs.declared.error.ErrorKind.TheVariants.{OutOfMemory}
 use Rattle.clap.specs.declared.parser.ArgMatches.{ArgMatches}
 use Rattle.htl_command.specs.Refusals.{HasReason, IsUsageText, is_mistake, is_wish}
-use Rattle.htl_command.specs.Requests.{given as given_in, is_given}
+use Rattle.htl_command.specs.Requests.{given as given_in, is_given, optional, value, workers}
+use Rattle.htl_command.specs.Values.{handle_in, object_in, process_in, sequence_in, tag_in, top_in}
 use Rattle.htl_command.specs.declared.commands.CommandFlag.TheVariants as flag
 use Rattle.htl_command.specs.declared.commands.CommandOption.{CommandOption}
+use Rattle.htl_command.specs.declared.commands.CommandOption.TheVariants.{Process, Since, Object, Tag, Handle, Top, Symbols, Workers}
+use Rattle.htl_command.specs.declared.commands.QuestionName.{QuestionName}
+use Rattle.htl_command.specs.declared.commands.QuestionName.TheVariants as name
 use Rattle.htl_command.specs.declared.reading.NoJob.{NoJob}
 use Rattle.htl_command.specs.declared.reading.NoJob.TheVariants.{Value, Formats}
 use Rattle.htl_command.specs.declared.reading.Refused.{Refused}
@@ -26,10 +30,42 @@ pub record Names (wanted : CommandOption) (rows : List Row) (refused : Refused) 
   pub option : refused.option ≡ wanted
   pub given : refused.given.now ≡ unwrap_or (given_in wanted rows) []
 
--- the entries are no job, since a value breaks its rule, or two forms of an answer are asked for
-abbrev pub IsNoJob : List Row → NoJob → Type 0
-IsNoJob rows (Value refused) = Names refused.option rows refused
-IsNoJob rows Formats = (is_given flag.Json rows ≡ true) × (is_given flag.Folded rows ≡ true)
+-- the value of an option breaks its rule, or is missing where there has to be one
+abbrev pub breaks_rule : List Row → CommandOption → Bool
+breaks_rule rows Process = is_none (value process_in Process rows)
+breaks_rule rows Since = is_none (optional sequence_in Since rows)
+breaks_rule rows Object = is_none (value object_in Object rows)
+breaks_rule rows Tag = is_none (value tag_in Tag rows)
+breaks_rule rows Handle = is_none (value handle_in Handle rows)
+breaks_rule rows Top = is_none (optional top_in Top rows)
+breaks_rule rows Workers = is_none (workers rows)
+breaks_rule rows Symbols = false
+
+-- the options whose values make a question, in the order in which they are read
+abbrev pub question_options : QuestionName → List CommandOption
+question_options name.Summary = []
+question_options name.Outstanding = Process ∷ []
+question_options name.Diff = Process ∷ Since ∷ []
+question_options name.Tags = Object ∷ []
+question_options name.Bad = Process ∷ []
+question_options name.Leaks = Process ∷ []
+question_options name.Stacks = Object ∷ Tag ∷ []
+question_options name.Trace = Process ∷ Handle ∷ []
+
+-- of these options this is the first whose value breaks its rule
+abbrev pub IsFirstBroken : List Row → List CommandOption → Refused → Type 0
+IsFirstBroken rows options refused = Names refused.option rows refused × (find (breaks_rule rows) options ≡ Some refused.option)
+
+-- two forms of an answer are asked for
+abbrev pub IsTwoForms : List Row → NoJob → Type 0
+IsTwoForms rows (Value refused) = ⊥
+IsTwoForms rows Formats = (is_given flag.Json rows ≡ true) × (is_given flag.Folded rows ≡ true)
+
+-- the entries are no job, since a value is the first that breaks its rule, or none does and two forms of an answer are asked for
+abbrev pub IsNoJob : QuestionName → List Row → NoJob → Type 0
+IsNoJob name rows (Value refused) = IsFirstBroken rows (question_options name ++ Workers ∷ Top ∷ []) refused
+IsNoJob name rows Formats =
+    IsTwoForms rows Formats × (find (breaks_rule rows) (question_options name ++ Workers ∷ Top ∷ []) ≡ None)
 
 -- the entries that `clap` found
 abbrev pub entries_of : ArgMatches → List Row

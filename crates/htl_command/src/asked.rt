@@ -140,7 +140,7 @@ pub(crate) fn matches<'a>(
 /// it for another option: nothing where the option has no such value. None where no value stands
 /// so.
 fn tip(arguments: &[String]) -> Option<&'static str> {
-    if has_parted(arguments) {
+    if has_separated(arguments) {
         Some("\n\n  tip: a value that begins with '-' follows '=', as in '--tag=-abc'")
     } else if has_no_number(arguments) {
         Some("")
@@ -149,12 +149,12 @@ fn tip(arguments: &[String]) -> Option<&'static str> {
     }
 }
 
-fn has_parted(arguments: &[String]) -> bool {
+fn has_separated(arguments: &[String]) -> bool {
     let next = arguments.iter().skip(1);
     arguments
         .iter()
         .zip(next)
-        .any(|(option, value)| is_parted(option, value))
+        .any(|(option, value)| is_separated(option, value))
 }
 
 fn has_no_number(arguments: &[String]) -> bool {
@@ -167,7 +167,7 @@ fn has_no_number(arguments: &[String]) -> bool {
 
 /// Whether a value that begins with `-`, of an option that may have such a value, stands apart from
 /// it.
-fn is_parted(option: &str, value: &str) -> bool {
+fn is_separated(option: &str, value: &str) -> bool {
     matches!(option, "--tag" | "--symbols") && value.starts_with('-')
 }
 

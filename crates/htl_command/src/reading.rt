@@ -1,9 +1,11 @@
 //! The job of a command, read from the entries that `clap` gives.
-ghost use Rattle.std.specs.Prelude.{◌≡◌, ◌==◌, IfErr, IfOk, is_some, length, map, not, option_map};
+ghost use Rattle.std.specs.Prelude.{◌≡◌, ◌==◌, IfErr, IfOk, None, find, is_some, length, map, not};
+ghost use Rattle.std.specs.Prelude.{option_map};
 ghost use Rattle.std.specs.Prelude.{string_bytes};
 ghost use Rattle.std.specs.Result.{result_ok};
 ghost use Rattle.clap.specs.Words.{all_of, first_of};
-ghost use Rattle.htl_command.specs.Steps.{IsNoJob, Names, entries_of};
+ghost use Rattle.htl_command.specs.Steps.{IsFirstBroken, IsNoJob, IsTwoForms, Names, entries_of};
+ghost use Rattle.htl_command.specs.Steps.{breaks_rule, question_options};
 ghost use Rattle.htl_command.specs.Requests.{code_of, file_names, format_of, given as given_in};
 ghost use Rattle.htl_command.specs.Requests.{is_given as is_given_in, job_of, optional, question_of};
 ghost use Rattle.htl_command.specs.Requests.{is_of_run, setting_of, value};
@@ -93,7 +95,7 @@ impl Refused<'_> {
     }
 }
 
-/// Whether these are the halves of an address, which a debugger parts by a backquote.
+/// Whether these are the halves of an address, which a debugger separates by a backquote.
 fn is_address(high: &str, low: &str) -> bool {
     low.len() == 8
         && !low.starts_with("0x")
@@ -206,7 +208,9 @@ fn workers<'a>(entries: &ArgMatches<'a>) -> Result<u32, Refused<'a>>
 #[tactic(auto, unfolding(crate::specs::Requests::question_of))]
 fn question<'a>(name: QuestionName, entries: &ArgMatches<'a>) -> Result<Question, Refused<'a>>
     ensures ok { result_ok result ≡ question_of name (entries_of entries.now) }
-    ensures err { IfErr result (λ refused. Names refused.option (entries_of entries.now) refused) }
+    ensures err { IfErr result (IsFirstBroken (entries_of entries.now) (question_options name)) }
+    ensures none { IfOk result (λ _.
+        find (breaks_rule (entries_of entries.now)) (question_options name) ≡ None) }
 {
     Ok(match name {
         QuestionName::Summary => Question::Summary,
@@ -291,7 +295,7 @@ pub(crate) fn is_given(entries: &ArgMatches, flag: CommandFlag) -> bool
 /// The form of the answer.
 fn format<'a>(entries: &ArgMatches<'a>) -> Result<Format, NoJob<'a>>
     ensures ok { result_ok result ≡ format_of (entries_of entries.now) }
-    ensures err { IfErr result (IsNoJob (entries_of entries.now)) }
+    ensures err { IfErr result (IsTwoForms (entries_of entries.now)) }
 {
     let json = is_given(entries, CommandFlag::Json);
     let folded = is_given(entries, CommandFlag::Folded);
@@ -303,11 +307,12 @@ fn format<'a>(entries: &ArgMatches<'a>) -> Result<Format, NoJob<'a>>
     }
 }
 
-/// The job of the question with these entries.
+/// The job of the question with these entries. Where several values break their rules, the first is
+/// reported: those of the question's own options, of `--workers` and of `--top`, in this order.
 #[tactic(auto, unfolding(crate::specs::Requests::job_of))]
 pub(crate) fn job<'a>(name: QuestionName, entries: &ArgMatches<'a>) -> Result<Job, NoJob<'a>>
     ensures ok { result_ok result ≡ job_of name (entries_of entries.now) }
-    ensures err { IfErr result (IsNoJob (entries_of entries.now)) }
+    ensures err { IfErr result (IsNoJob name (entries_of entries.now)) }
 {
     Ok(Job {
         question: question(name, entries)?,

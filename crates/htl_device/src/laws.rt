@@ -4,12 +4,12 @@ ghost use Rattle.std.specs.Prelude.{◌≡◌, ◌^◌};
 
 use crate::{MAX_READ_LEN, MAX_READS};
 
-/// How many reads of one source may give bytes.
+/// At most 2^32 reads of one source give bytes.
 pub fn reads_are_bounded()
     ensures { MAX_READS ≡ 2 ^ 32 }
 {}
 
-/// How many bytes each read asks for.
+/// A read asks for at most 65,536 bytes.
 pub fn a_read_is_bounded()
     ensures { MAX_READ_LEN ≡ 2 ^ 16 }
 {}

@@ -9,20 +9,15 @@ use crate::Failed;
 use std::io;
 use std::io::Write;
 
-/// A place that takes bytes one after the other.
+/// A sink of bytes, which are written one after the other.
 pub trait Sink {
     // The bytes that the sink holds, where they are known.
     ghost contents: { Self → Option (List ℕ) } = { λ _. None };
 
-    // Whether a write has failed, or took none of some bytes.
+    // Whether a write has failed, or was given bytes and took none. It stays so.
     ghost has_failed: { Self → Bool };
 
-    /// Whether a write has failed, or took none of some bytes. It stays so.
-    fn failed(&self) -> bool
-        ensures { result ≡ has_failed self.now };
-
-    /// Takes some of the bytes from their front, and says how many. It is not written to after a failed
-    /// write.
+    /// Takes some of the bytes from their front, and gives their number. No write follows a failed one.
     fn write(&mut self, bytes: &[u8]) -> Result<usize, Failed>
         requires { has_failed self.old ≡ false }
         ensures bound { IfOk result (λ n. n ≤ length bytes.now) }
@@ -39,7 +34,7 @@ pub struct Writing<W> {
 }
 
 impl<W: Write> Writing<W> {
-    /// A sink that has not failed and holds what the writer holds.
+    /// A sink that has not failed, and has the bytes that the writer has.
     pub fn new(writer: W) -> Writing<W>
         ensures fresh { ⟦<Writing<W> as Sink>⟧.has_failed result ≡ false }
         ensures bytes { ⟦<Writing<W> as Sink>⟧.contents result ≡ W.contents writer }
@@ -61,10 +56,6 @@ impl<W: Write> Sink for Writing<W> {
     ghost contents = { λ s. W.contents s.writer };
 
     ghost has_failed = { λ s. s.failed };
-
-    fn failed(&self) -> bool {
-        self.failed
-    }
 
     fn write(&mut self, bytes: &[u8]) -> Result<usize, Failed> {
         match self.writer.write(bytes) {

@@ -8,40 +8,32 @@ ghost use Rattle.htl_device.specs.Devices.{finds_end, reads_after};
 use crate::Failed;
 use std::io::Read;
 
-/// How many bytes a read asks for at most.
+/// The most bytes that a read asks for.
 pub const MAX_READ_LEN: usize = 65_536;
 
-/// How many bytes a read asks for at least.
+/// The fewest bytes that a read asks for.
 pub const MIN_READ_LEN: usize = 4_096;
 
-/// Bytes that are read from the front.
+/// A source of bytes, which are read one after the other.
 pub trait Source {
     // The bytes that reads will give, where they are known.
     ghost remaining: { Self → Option (List ℕ) } = { λ _. None };
 
-    // Whether a read has failed.
+    // Whether a read has failed. It stays so.
     ghost has_failed: { Self → Bool };
 
-    // How many reads gave bytes, as far as 64 bits count.
+    // The number of reads that gave bytes, as far as 64 bits count.
     ghost good_reads: { Self → ℕ };
 
     // Whether the last read found the end.
     ghost has_ended: { Self → Bool };
 
-    /// Whether a read has failed. It stays so.
-    fn failed(&self) -> bool
-        ensures { result ≡ has_failed self.now };
-
-    /// How many reads gave bytes, or `u64::MAX` where more did.
-    fn reads(&self) -> u64
-        ensures { result ≡ good_reads self.now };
-
     /// Whether the last read found the end.
     fn ended(&self) -> bool
         ensures { result ≡ has_ended self.now };
 
-    /// Reads some of the bytes that are left into a buffer of 4,096 to 65,536 bytes, and says how many.
-    /// None means that the source has ended. It is read neither after its end nor after a failed read.
+    /// Reads some of the bytes that are left into a buffer of 4,096 to 65,536 bytes, and gives their
+    /// number. It is 0 where the source has ended. No read follows the end or a failed read.
     fn read(&mut self, buffer: &mut [u8]) -> Result<usize, Failed>
         requires fresh { has_failed self.old ≡ false }
         requires inside { has_ended self.old ≡ false }
@@ -64,8 +56,8 @@ pub struct Reading<R> {
 }
 
 impl<R: Read> Reading<R> {
-    /// A source that was not read yet and gives what the reader gives. Each error of the reader is a
-    /// failure, also one that a caller might try again after.
+    /// A source that was not read yet, and gives the bytes of the reader. Every error of the reader is a
+    /// failure, even one after which a caller might try again.
     pub fn new(reader: R) -> Reading<R>
         ensures fresh { ⟦<Reading<R> as Source>⟧.has_failed result ≡ false }
         ensures unread { ⟦<Reading<R> as Source>⟧.good_reads result ≡ 0 }
@@ -89,14 +81,6 @@ impl<R: Read> Source for Reading<R> {
     ghost good_reads = { λ s. s.reads };
 
     ghost has_ended = { λ s. s.ended };
-
-    fn failed(&self) -> bool {
-        self.failed
-    }
-
-    fn reads(&self) -> u64 {
-        self.reads
-    }
 
     fn ended(&self) -> bool {
         self.ended

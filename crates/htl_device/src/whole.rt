@@ -1,4 +1,4 @@
-//! Whole texts, over as many reads or writes as they take.
+//! Whole texts, read or written by as many calls as it takes.
 ghost use Rattle.std.specs.Prelude.{◌≡◌, ◌<◌, ◌≤◌, ◌+◌, ◌⊎◌, ℕ, List, Option, false, true, length};
 ghost use Rattle.std.specs.Prelude.{is_err};
 ghost use Rattle.std.specs.Prelude.{IfOk, IfErr, IfSome, OnOk, OnErr};
@@ -10,7 +10,7 @@ use crate::source::{MAX_READ_LEN, MIN_READ_LEN};
 use crate::{Failed, Sink, Source};
 use std::alloc::{AllocError, Global};
 
-/// Writes the whole text, or some first part of it where the sink fails.
+/// Writes the whole text, or some first part of it if the sink fails.
 pub fn write_whole<W: Sink>(out: &mut W, text: &[u8]) -> Result<(), Failed>
     requires { W.has_failed out.old ≡ false }
     ensures ok { OnOk result (Appends (W.contents out.old) (W.contents out.new) text.now) }
@@ -28,7 +28,7 @@ pub fn write_whole<W: Sink>(out: &mut W, text: &[u8]) -> Result<(), Failed>
     Ok(())
 }
 
-/// Why the bytes of a source could not be had.
+/// Why a source could not be read whole.
 #[derive(Clone, Copy, Debug, PartialEq, Eq)]
 pub enum ReadFault {
     /// A read failed, or more than `MAX_READS` of them gave bytes.
@@ -48,7 +48,7 @@ impl From<AllocError> for ReadFault {
     }
 }
 
-/// How many reads of one source may give bytes: 2^32.
+/// The most reads of one source that may give bytes: 2^32.
 pub const MAX_READS: u64 = 4_294_967_296;
 
 /// All bytes of a source, in reads of 65,536 bytes each, but for the first, of 4,096. The 2^32-nd read
@@ -72,7 +72,7 @@ pub fn read_whole<R: Source>(alloc: Global, source: &mut R) -> Result<Vec<u8>, R
     read_within(alloc, source, MAX_READS)
 }
 
-/// All bytes of a source, of which at most `most` reads give some.
+/// All bytes of a source. At most `most` reads may give bytes.
 fn read_within<R: Source>(alloc: Global, source: &mut R, most: u64) -> Result<Vec<u8>, ReadFault>
     requires fresh { R.has_failed source.old ≡ false }
     requires inside { R.has_ended source.old ≡ false }
@@ -109,7 +109,7 @@ fn read_buffer(alloc: Global) -> Result<Vec<u8>, AllocError>
     vec![in alloc; 0; MAX_READ_LEN]
 }
 
-/// Puts what a source gives after its first read behind what that gave.
+/// Reads the source on to its end, and puts its bytes behind those of the first read.
 fn read_on<R: Source>(
     source: &mut R,
     buffer: &mut [u8],

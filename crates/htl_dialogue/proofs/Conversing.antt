@@ -1,116 +1,75 @@
--- How far a dialogue has come: which lines got their replies, and which are left.
-use Rattle.std.proofs.Common.{◌≡◌, ◌+◌, ◌<◌, ◌≤◌, ◌∙◌, ℕ, Bool, true, false, List, [], ◌∷◌, ◌++◌, None, Some, length, take, refl, sym, ap}
-use Rattle.std.proofs.Common.{arith, append_assoc, length-append}
-use Rattle.std.specs.Prelude.{◌||◌, IfSome, Option}
-use Rattle.std.specs.List.{list_any, slice_split}
-use Rattle.std.specs.Io.KnownBytes.{Appends, Consumes, IsAtEnd}
+-- How far a dialogue has come: which lines got their replies and their notes, and which are left.
+use Rattle.std.proofs.Common.{◌≡◌, ◌+◌, ◌≤◌, ◌∙◌, ℕ, Bool, true, false, List, [], ◌∷◌, ◌++◌, Some, length, refl, sym, ap, arith}
+use Rattle.std.proofs.Common.{append_assoc}
+use Rattle.std.specs.Prelude.{◌||◌, Option, if◌then◌else◌}
+use Rattle.std.specs.List.{list_any}
+use Rattle.std.specs.Io.KnownBytes.{Appends}
 use Rattle.std.proofs.KnownBytes.{Appends-nil, Appends-trans}
 use Rattle.std.proofs.lemmas.List.{append-nil}
-use Rattle.std.proofs.Math.Seq.{take-append-add}
 use Rattle.std.proofs.lemmas.List.Folds.{list_any-append}
-use Rattle.std.proofs.lemmas.List.Splits.{slice_split_at, slice_split_none}
-use Rattle.htl_device.specs.Devices.{AppendsPrefix}
-use Rattle.htl_device.specs.declared.whole.ReadFault.{ReadFault}
-use Rattle.htl_device.specs.declared.whole.ReadFault.TheVariants as reads
 use Rattle.htl_command.specs.declared.question.Job.{Job}
-use Rattle.htl_dialogue.specs.Dialogues.{AreReplies, Converses, IsReply, IsWritten, StopsAt, asked_lines, before_end, is_end, is_wrong}
-use Rattle.htl_dialogue.specs.Lines.{is_feed, lines_of}
-use Rattle.htl_dialogue.specs.Reading.{HasNoFeed, IsLine, IsNext, taken_of}
-use Rattle.htl_dialogue.specs.Replying.{IsRefusedReply, Replies, of_read}
-use Rattle.htl_dialogue.specs.Sayings.{Saying, saying_of}
-use Rattle.htl_dialogue.specs.declared.dialogue.DialogueFault.{DialogueFault}
-use Rattle.htl_dialogue.specs.declared.dialogue.DialogueFault.TheVariants.{Questions, Write, NoMemory}
-use Rattle.htl_dialogue.specs.declared.line.Line.{Line}
+use Rattle.htl_command.specs.declared.question.Question.{Question}
+use Rattle.htl_dialogue.specs.Dialogues.{AreReplies, Converses, Gets, IsReply, asked_lines, before_end, is_end, is_wrong, last_wait}
+use Rattle.htl_dialogue.specs.Lines.{lines_of}
+use Rattle.htl_dialogue.specs.Notes.{AreNotes, Note, after_notes, awaits}
+use Rattle.htl_dialogue.specs.Reading.{IsLine, IsNext}
+use Rattle.htl_dialogue.specs.Replying.{Hears, KeepsFault, Replies, refusal_of}
+use Rattle.htl_dialogue.specs.Sayings.{saying, saying_of}
 use Rattle.htl_dialogue.specs.declared.reading.NextLine.{NextLine}
+use Rattle.htl_dialogue.specs.declared.saying.Said.{Said}
+use Rattle.htl_dialogue.proofs.NextLines.{first_line, line_first}
+use Rattle.htl_dialogue.proofs.Noting.{is_refusal, line_more, notes_more, one_more}
 
 abbrev pub line_is_wrong : List ℕ → Bool
 line_is_wrong line = is_wrong (saying_of line)
 
--- So many lines were read of a text of which this is left, and got their replies.
-pub record Progress (HasText : Job → List ℕ → Type 0) (text : List ℕ) (left old new : Option (List ℕ)) (has_wrong : Bool) (count : ℕ)
-    : Type 0 where
+abbrev pub line_is_end : List ℕ → Bool
+line_is_end line = is_end (saying_of line)
+
+-- So many lines were read of a text of which this is left, and got their replies and their notes. None ends the dialogue.
+pub record Progress {Host : Type 0} (HasText : Job → List ℕ → Type 0) (HasSubject : Question → Bool → Type 0) (wanted : Bool)
+    (told : Host → Note → Host) (text : List ℕ) (old : Option (List ℕ)) (host : Host) (left new : Option (List ℕ)) (now : Host)
+    (has_wrong : Bool) (count : ℕ) : Type 0 where
+  pub read : List ℕ
   pub rest : List ℕ
   pub left_is : left ≡ Some rest
+  pub is : text ≡ read ++ rest
   pub lines : List (List ℕ)
-  pub cut : asked_lines text ≡ lines ++ asked_lines rest
+  pub reads : (more : List ℕ) → lines_of (read ++ more) ≡ lines ++ lines_of more
+  pub asks : (more : List (List ℕ)) → before_end (lines ++ more) ≡ lines ++ before_end more
+  pub goes_on : (more : List (List ℕ)) → list_any line_is_end (lines ++ more) ≡ list_any line_is_end more
   pub replies : List ℕ
   pub are : AreReplies HasText lines replies
   pub written : Appends old new replies
+  pub notes : List Note
+  pub noted : AreNotes HasSubject wanted lines notes
+  pub heard : now ≡ after_notes told host notes
   pub any : has_wrong ≡ list_any line_is_wrong lines
   pub each : count + length rest ≤ length text
 
--- nothing was read
-pub begins : (HasText : Job → List ℕ → Type 0) (text : List ℕ) (left out : Option (List ℕ)) → left ≡ Some text
-    → Progress HasText text left out out false 0
-begins HasText text left out is = record {
-  rest = text;
-  left_is = is;
-  lines = [];
-  cut = refl;
-  replies = [];
-  are = refl;
-  written = Appends-nil out;
-  any = refl;
-  each = omega arith;
-}
-
--- ---- the next line
-
--- the first of the lines that are left, and those that follow it
-pub record FirstLine (rest : List ℕ) (left : Option (List ℕ)) (next : NextLine) : Type 0 where
-  pub bytes : List ℕ
-  pub is : IsLine bytes next.line
-  pub later : List ℕ
-  pub left_is : left ≡ Some later
-  pub others : List (List ℕ)
-  pub lines : lines_of rest ≡ bytes ∷ others
-  pub last : next.is_last ≡ true → others ≡ []
-  pub more : next.is_last ≡ false → (others ≡ lines_of later) × (length later < length rest)
-
-first_of : (rest bytes : List ℕ) (left : Option (List ℕ)) (line : Line) (is_last : Bool) → HasNoFeed bytes → IsLine bytes line
-    → Consumes (Some rest) left (taken_of is_last bytes) → (is_last ≡ true → IsAtEnd left)
-    → FirstLine rest left (record { line = line; is_last = is_last })
-unfolding lines_of
-first_of rest bytes None line is_last none is taken ended = absurd taken
-first_of rest bytes (Some later) line true none is taken ended =
-    let all : rest ≡ bytes = taken ∙ ap (λ l. bytes ++ l) (ended refl) ∙ append-nil bytes in
-    record {
-      bytes = bytes;
-      is = is;
-      later = later;
-      left_is = refl;
-      others = [];
-      lines = ap (slice_split is_feed) all ∙ slice_split_none is_feed bytes none;
-      last = λ _. refl;
-      more = λ bad. cc;
-    }
-first_of rest bytes (Some later) line false none is taken ended =
-    let all : rest ≡ bytes ++ 10 ∷ later = taken ∙ append_assoc bytes (10 ∷ []) later in
-    record {
-      bytes = bytes;
-      is = is;
-      later = later;
-      left_is = refl;
-      others = slice_split is_feed later;
-      lines = ap (slice_split is_feed) all ∙ slice_split_at is_feed bytes 10 later none refl;
-      last = λ bad. cc;
-      more = λ _. (refl, omega (arith, ap length all, length-append bytes (10 ∷ later)));
-    }
-
-pub first_line : (rest : List ℕ) (left now : Option (List ℕ)) (next : NextLine) → left ≡ Some rest → IsNext left now next
-    → FirstLine rest now next
-first_line rest left now next is found =
-    first_of rest found.bytes now next.line next.is_last found.no_feed found.line
-    (rw is at found.taken) found.ended
+-- A line was read, and this is said of it.
+pub record Takes (left now : Option (List ℕ)) (next : NextLine) (said : Said) : Type 0 where
+  pub found : IsNext left now next
+  pub says : (bytes : List ℕ) → IsLine bytes next.line → saying said ≡ saying_of bytes
+  pub keeps : (bytes : List ℕ) → IsLine bytes next.line → KeepsFault bytes said
 
 -- a line that ends the dialogue, and one that doesn't
-asked_none : (line : List ℕ) (more : List (List ℕ)) → is_end (saying_of line) ≡ true → before_end (line ∷ more) ≡ []
+asked_none : (line : List ℕ) (more : List (List ℕ)) → line_is_end line ≡ true → before_end (line ∷ more) ≡ []
 asked_none line more ends = rw ends refl
 
-asked_one : (line : List ℕ) (more : List (List ℕ)) → is_end (saying_of line) ≡ false → before_end (line ∷ more) ≡ line ∷ before_end more
+pub asked_one : (line : List ℕ) (more : List (List ℕ)) → line_is_end line ≡ false → before_end (line ∷ more) ≡ line ∷ before_end more
 asked_one line more goes_on = rw goes_on refl
 
--- ---- its reply
+waits : (text : List ℕ) (b : Bool) (wait : List Note) → list_any line_is_end (lines_of text) ≡ b
+    → (if b then awaits ∷ [] else []) ≡ wait → last_wait text ≡ wait
+waits text b wait is of = rw is of
+
+any_first : (line : List ℕ) (more : List (List ℕ)) → line_is_end line ≡ true → list_any line_is_end (line ∷ more) ≡ true
+any_first line more ends = rw ends refl
+
+any_later : (line : List ℕ) (more : List (List ℕ)) → line_is_end line ≡ false
+    → list_any line_is_end (line ∷ more) ≡ list_any line_is_end more
+any_later line more goes_on = rw goes_on refl
 
 -- the replies to one line more
 replies_more : (HasText : Job → List ℕ → Type 0) (lines : List (List ℕ)) (line replies reply : List ℕ) → AreReplies HasText lines replies
@@ -133,139 +92,120 @@ wrong_more lines line has_wrong wrong any is =
     only true = refl
     only false = refl
 
--- the line ends the dialogue
-pub ended : (HasText : Job → List ℕ → Type 0) (text : List ℕ) (left now old new : Option (List ℕ)) (has_wrong : Bool) (count : ℕ)
-    (next : NextLine) (said : Saying) → Progress HasText text left old new has_wrong count → IsNext left now next
-    → ((bytes : List ℕ) → IsLine bytes next.line → said ≡ saying_of bytes) → is_end said ≡ true
-    → Converses HasText text old new has_wrong
-ended HasText text left now old new has_wrong count next said so_far found says ends =
-    let first = first_line so_far.rest left now next so_far.left_is found in
-    let none : asked_lines so_far.rest ≡ [] = ap before_end first.lines
-    ∙ asked_none first.bytes first.others (ap is_end (sym (says first.bytes first.is)) ∙ ends) in
-    let all : asked_lines text ≡ so_far.lines = so_far.cut ∙ ap (λ l. so_far.lines ++ l) none ∙ append-nil so_far.lines in
-    record {
-      replies = so_far.replies;
-      are = rw all (so_far.are);
-      written = so_far.written;
-      any = rw all (so_far.any);
-    }
+module _ {Host : Type 0} (HasText : Job → List ℕ → Type 0) (HasSubject : Question → Bool → Type 0) (wanted : Bool)
+    (told : Host → Note → Host) (text : List ℕ) (old : Option (List ℕ)) (host : Host) where
+  -- nothing was read
+  pub begins : (left : Option (List ℕ)) → left ≡ Some text → Progress HasText HasSubject wanted told text old host left old host false 0
+  begins left is = record {
+    read = [];
+    rest = text;
+    left_is = is;
+    is = refl;
+    lines = [];
+    reads = λ more. refl;
+    asks = λ more. refl;
+    goes_on = λ more. refl;
+    replies = [];
+    are = refl;
+    written = Appends-nil old;
+    notes = [];
+    noted = refl;
+    heard = refl;
+    any = refl;
+    each = omega arith;
+  }
 
--- the line got its reply, and is the last
-pub replied_last : (HasText : Job → List ℕ → Type 0) (text : List ℕ) (left now old mid new : Option (List ℕ)) (has_wrong wrong : Bool)
-    (count : ℕ) (next : NextLine) (said : Saying) → Progress HasText text left old mid has_wrong count → IsNext left now next
-    → ((bytes : List ℕ) → IsLine bytes next.line → said ≡ saying_of bytes) → is_end said ≡ false → Replies HasText said mid new
-    → wrong ≡ is_wrong said → next.is_last ≡ true → Converses HasText text old new (has_wrong || wrong)
-replied_last HasText text left now old mid new has_wrong wrong count next said so_far found says goes_on reply is last =
-    let first = first_line so_far.rest left now next so_far.left_is found in
-    let same = says first.bytes first.is in
-    let one : asked_lines so_far.rest ≡ first.bytes ∷ [] = ap before_end first.lines
-    ∙ asked_one first.bytes first.others (ap is_end (sym same) ∙ goes_on) ∙ ap (λ l. first.bytes ∷ before_end l) (first.last last) in
-    let all : asked_lines text ≡ so_far.lines ++ first.bytes ∷ [] = so_far.cut ∙ ap (λ l. so_far.lines ++ l) one in
-    record {
-      replies = so_far.replies ++ reply.reply;
-      are = rw all (replies_more HasText so_far.lines first.bytes so_far.replies reply.reply so_far.are (rw same at reply.is));
-      written = Appends-trans old mid new so_far.replies reply.reply so_far.written reply.written;
-      any = rw all (wrong_more so_far.lines first.bytes has_wrong wrong so_far.any (is ∙ ap is_wrong same));
-    }
+  -- the line ends the dialogue
+  pub ended : (left after new : Option (List ℕ)) (now mid : Host) (has_wrong : Bool) (count : ℕ) (next : NextLine) (said : Said)
+      → Progress HasText HasSubject wanted told text old host left new now has_wrong count → mid ≡ told now awaits
+      → Takes left after next said → is_end (saying said) ≡ true
+      → Converses HasText HasSubject wanted text (Gets old new told host mid) has_wrong
+  ended left after new now mid has_wrong count next said so_far waited line ends =
+      let first = first_line so_far.rest left after next so_far.left_is line.found in
+      let same = line.says first.bytes first.is in
+      let is : line_is_end first.bytes ≡ true = ap is_end (sym same) ∙ ends in
+      let lines : lines_of text ≡ so_far.lines ++ first.bytes ∷ first.others = ap lines_of so_far.is ∙ so_far.reads so_far.rest
+      ∙ ap (λ l. so_far.lines ++ l) first.lines in
+      let all : asked_lines text ≡ so_far.lines = ap before_end lines ∙ so_far.asks (first.bytes ∷ first.others)
+      ∙ ap (λ l. so_far.lines ++ l) (asked_none first.bytes first.others is) ∙ append-nil so_far.lines in
+      let wait : last_wait text ≡ awaits ∷ [] = waits text true (awaits ∷ []) (ap (list_any line_is_end) lines
+      ∙ so_far.goes_on (first.bytes ∷ first.others) ∙ any_first first.bytes first.others is) refl in
+      record {
+        replies = so_far.replies;
+        are = rw all (so_far.are);
+        notes = so_far.notes;
+        noted = rw all (so_far.noted);
+        got = (so_far.written, rw wait (one_more told host now mid so_far.notes so_far.heard waited));
+        any = rw all (so_far.any);
+      }
 
--- or lines are left
-pub replied : (HasText : Job → List ℕ → Type 0) (text : List ℕ) (left now old mid new : Option (List ℕ)) (has_wrong wrong : Bool)
-    (count : ℕ) (next : NextLine) (said : Saying) → Progress HasText text left old mid has_wrong count → IsNext left now next
-    → ((bytes : List ℕ) → IsLine bytes next.line → said ≡ saying_of bytes) → is_end said ≡ false → Replies HasText said mid new
-    → wrong ≡ is_wrong said → next.is_last ≡ false → Progress HasText text now old new (has_wrong || wrong) (count + 1)
-replied HasText text left now old mid new has_wrong wrong count next said so_far found says goes_on reply is more =
-    let first = first_line so_far.rest left now next so_far.left_is found in
-    let same = says first.bytes first.is in
-    let after = first.more more in
-    let one : asked_lines so_far.rest ≡ first.bytes ∷ asked_lines first.later = ap before_end first.lines
-    ∙ asked_one first.bytes first.others (ap is_end (sym same) ∙ goes_on) ∙ ap (λ l. first.bytes ∷ before_end l) after.0 in
-    record {
-      rest = first.later;
-      left_is = first.left_is;
-      lines = so_far.lines ++ first.bytes ∷ [];
-      cut = so_far.cut ∙ ap (λ l. so_far.lines ++ l) one ∙ sym (append_assoc so_far.lines (first.bytes ∷ []) (asked_lines first.later));
-      replies = so_far.replies ++ reply.reply;
-      are = replies_more HasText so_far.lines first.bytes so_far.replies reply.reply so_far.are (rw same at reply.is);
-      written = Appends-trans old mid new so_far.replies reply.reply so_far.written reply.written;
-      any = wrong_more so_far.lines first.bytes has_wrong wrong so_far.any (is ∙ ap is_wrong same);
-      each = omega (arith, so_far.each, after.1);
-    }
+  -- the line got its reply and its notes, and is the last
+  pub replied_last : (left after mid_out new : Option (List ℕ)) (now mid end : Host) (has_wrong wrong : Bool) (count : ℕ)
+      (next : NextLine) (said : Said) → Progress HasText HasSubject wanted told text old host left mid_out now has_wrong count
+      → mid ≡ told now awaits → Takes left after next said → is_end (saying said) ≡ false
+      → Replies HasText (saying said) mid_out new → Hears HasSubject wanted told mid said end
+      → wrong ≡ is_wrong (saying said) → next.is_last ≡ true
+      → Converses HasText HasSubject wanted text (Gets old new told host end) (has_wrong || wrong)
+  replied_last left after mid_out new now mid end has_wrong wrong count next said so_far waited line goes_on reply hears is last =
+      let first = first_line so_far.rest left after next so_far.left_is line.found in
+      let same = line.says first.bytes first.is in
+      let not_end : line_is_end first.bytes ≡ false = ap is_end (sym same) ∙ goes_on in
+      let lines : lines_of text ≡ so_far.lines ++ first.bytes ∷ [] = ap lines_of so_far.is ∙ so_far.reads so_far.rest
+      ∙ ap (λ l. so_far.lines ++ l) first.lines ∙ ap (λ l. so_far.lines ++ first.bytes ∷ l) (first.last last) in
+      let all : asked_lines text ≡ so_far.lines ++ first.bytes ∷ [] = ap before_end lines ∙ so_far.asks (first.bytes ∷ [])
+      ∙ ap (λ l. so_far.lines ++ l) (asked_one first.bytes [] not_end) in
+      let wait : last_wait text ≡ [] = waits text false [] (ap (list_any line_is_end) lines ∙ so_far.goes_on (first.bytes ∷ [])
+      ∙ any_later first.bytes [] not_end) refl in
+      let own = awaits ∷ (refusal_of said ++ hears.absence) in
+      record {
+        replies = so_far.replies ++ reply.reply;
+        are = rw all (replies_more HasText so_far.lines first.bytes so_far.replies reply.reply so_far.are (rw same at reply.is));
+        notes = so_far.notes ++ own;
+        noted = rw all (notes_more HasSubject wanted so_far.lines first.bytes so_far.notes (refusal_of said) hears.absence so_far.noted
+            (is_refusal first.bytes said (line.keeps first.bytes first.is) same) (rw same at hears.is));
+        got = (
+          Appends-trans old mid_out new so_far.replies reply.reply so_far.written reply.written,
+          rw (wait, append-nil (so_far.notes ++ own)) (line_more told host now mid end so_far.notes (refusal_of said ++ hears.absence)
+              so_far.heard waited hears.heard),
+        );
+        any = rw all (wrong_more so_far.lines first.bytes has_wrong wrong so_far.any (is ∙ ap is_wrong same));
+      }
 
--- ---- why it ends before
-
--- memory was refused, or a read failed
-abbrev pub IsBeforeReply : DialogueFault → Type 0
-IsBeforeReply Write = ⊥
-IsBeforeReply other = Unit {0}
-
-pub stopped : (HasText : Job → List ℕ → Type 0) (text : List ℕ) (left old new : Option (List ℕ)) (has_wrong : Bool) (count : ℕ)
-    (fault : DialogueFault) → Progress HasText text left old new has_wrong count → IsBeforeReply fault → StopsAt HasText text old new fault
-stopped HasText text left old new has_wrong count fault so_far is = record {
-  before = so_far.lines;
-  later = asked_lines so_far.rest;
-  cut = so_far.cut;
-  replies = so_far.replies;
-  are = so_far.are;
-  written = went fault is;
-}
-  where
-    went : (fault : DialogueFault) → IsBeforeReply fault → IsWritten HasText fault (asked_lines so_far.rest) so_far.replies old new
-    went Write is = absurd is
-    went Questions is = so_far.written
-    went NoMemory is = so_far.written
-
--- some first part of a text is written after another
-prefix_after : (old mid new : Option (List ℕ)) (first more : List ℕ) → Appends old mid first → AppendsPrefix mid new more
-    → AppendsPrefix old new (first ++ more)
-prefix_after old mid new first more went part =
-    let all = Appends-trans old mid new first (take part.0 more) went part.1 in
-    (length first + part.0, rw (take-append-add first more part.0) all)
-
-pub unreplied : (HasText : Job → List ℕ → Type 0) (text : List ℕ) (left now old mid new : Option (List ℕ)) (has_wrong failed : Bool)
-    (count : ℕ) (next : NextLine) (said : Saying) (fault : DialogueFault) → Progress HasText text left old mid has_wrong count
-    → IsNext left now next → ((bytes : List ℕ) → IsLine bytes next.line → said ≡ saying_of bytes) → is_end said ≡ false
-    → IsRefusedReply HasText said mid new failed fault → StopsAt HasText text old new fault
-unreplied HasText text left now old mid new has_wrong failed count next said Questions so_far found says goes_on refused = absurd refused
-unreplied HasText text left now old mid new has_wrong failed count next said NoMemory so_far found says goes_on refused =
-    rw (refused.0) (stopped HasText text left old mid has_wrong count NoMemory so_far tt)
-unreplied HasText text left now old mid new has_wrong failed count next said Write so_far found says goes_on refused =
-    let first = first_line so_far.rest left now next so_far.left_is found in
-    let same = says first.bytes first.is in
-    let one : asked_lines so_far.rest ≡ first.bytes ∷ before_end first.others = ap before_end first.lines
-    ∙ asked_one first.bytes first.others (ap is_end (sym same) ∙ goes_on) in
-    record {
-      before = so_far.lines;
-      later = first.bytes ∷ before_end first.others;
-      cut = so_far.cut ∙ ap (λ l. so_far.lines ++ l) one;
-      replies = so_far.replies;
-      are = so_far.are;
-      written = (refused.1, rw same at (refused.2), prefix_after old mid new so_far.replies refused.1 so_far.written refused.3);
-    }
-
--- ---- too many reads or lines
-
-pub before_read : (fault : ReadFault) → IsBeforeReply (of_read fault)
-before_read reads.Failed = tt
-before_read reads.NoMemory = tt
-
-pub read_failed : (fault : ReadFault) → of_read fault ≡ Questions → fault ≡ reads.Failed
-read_failed reads.Failed is = refl
-read_failed reads.NoMemory is = cc
-
--- what is left of a text has no more bytes than it
-pub endless : (HasText : Job → List ℕ → Type 0) (known left old new : Option (List ℕ)) (has_wrong : Bool) (count most : ℕ)
-    → ((text : List ℕ) → known ≡ Some text → Progress HasText text left old new has_wrong count)
-    → IfSome left (λ rest. most ≤ length rest) → IfSome known (λ text. most ≤ length text)
-endless HasText None left old new has_wrong count most so_far many = tt
-endless HasText (Some text) left old new has_wrong count most so_far many =
-    let now = so_far text refl in
-    let more : most ≤ length now.rest = rw (now.left_is) at many in
-    omega (arith, more, now.each)
-
--- each line takes a byte
-pub too_many : (HasText : Job → List ℕ → Type 0) (known left old new : Option (List ℕ)) (has_wrong : Bool) (count most : ℕ)
-    → ((text : List ℕ) → known ≡ Some text → Progress HasText text left old new has_wrong count) → most ≤ count
-    → IfSome known (λ text. most ≤ length text)
-too_many HasText None left old new has_wrong count most so_far many = tt
-too_many HasText (Some text) left old new has_wrong count most so_far many =
-    let now = so_far text refl in omega (arith, many, now.each)
+  -- or lines are left
+  pub replied : (left after mid_out new : Option (List ℕ)) (now mid end : Host) (has_wrong wrong : Bool) (count : ℕ)
+      (next : NextLine) (said : Said) → Progress HasText HasSubject wanted told text old host left mid_out now has_wrong count
+      → mid ≡ told now awaits → Takes left after next said → is_end (saying said) ≡ false
+      → Replies HasText (saying said) mid_out new → Hears HasSubject wanted told mid said end
+      → wrong ≡ is_wrong (saying said) → next.is_last ≡ false
+      → Progress HasText HasSubject wanted told text old host after new end (has_wrong || wrong) (count + 1)
+  replied left after mid_out new now mid end has_wrong wrong count next said so_far waited line goes_on reply hears is more =
+      let first = first_line so_far.rest left after next so_far.left_is line.found in
+      let same = line.says first.bytes first.is in
+      let not_end : line_is_end first.bytes ≡ false = ap is_end (sym same) ∙ goes_on in
+      let later = first.more more in
+      record {
+        read = so_far.read ++ (first.bytes ++ 10 ∷ []);
+        rest = first.later;
+        left_is = first.left_is;
+        is = so_far.is ∙ ap (λ l. so_far.read ++ l) (later.1 ∙ sym (append_assoc first.bytes (10 ∷ []) first.later))
+            ∙ sym (append_assoc so_far.read (first.bytes ++ 10 ∷ []) first.later);
+        lines = so_far.lines ++ first.bytes ∷ [];
+        reads = λ text. ap lines_of (append_assoc so_far.read (first.bytes ++ 10 ∷ []) text
+            ∙ ap (λ l. so_far.read ++ l) (append_assoc first.bytes (10 ∷ []) text)) ∙ so_far.reads (first.bytes ++ 10 ∷ text)
+            ∙ ap (λ l. so_far.lines ++ l) (line_first first.bytes text first.no_feed)
+            ∙ sym (append_assoc so_far.lines (first.bytes ∷ []) (lines_of text));
+        asks = λ lines. ap before_end (append_assoc so_far.lines (first.bytes ∷ []) lines) ∙ so_far.asks (first.bytes ∷ lines)
+            ∙ ap (λ l. so_far.lines ++ l) (asked_one first.bytes lines not_end)
+            ∙ sym (append_assoc so_far.lines (first.bytes ∷ []) (before_end lines));
+        goes_on = λ lines. ap (list_any line_is_end) (append_assoc so_far.lines (first.bytes ∷ []) lines)
+            ∙ so_far.goes_on (first.bytes ∷ lines) ∙ any_later first.bytes lines not_end;
+        replies = so_far.replies ++ reply.reply;
+        are = replies_more HasText so_far.lines first.bytes so_far.replies reply.reply so_far.are (rw same at reply.is);
+        written = Appends-trans old mid_out new so_far.replies reply.reply so_far.written reply.written;
+        notes = so_far.notes ++ awaits ∷ (refusal_of said ++ hears.absence);
+        noted = notes_more HasSubject wanted so_far.lines first.bytes so_far.notes (refusal_of said) hears.absence so_far.noted
+            (is_refusal first.bytes said (line.keeps first.bytes first.is) same) (rw same at hears.is);
+        heard = line_more told host now mid end so_far.notes (refusal_of said ++ hears.absence) so_far.heard waited hears.heard;
+        any = wrong_more so_far.lines first.bytes has_wrong wrong so_far.any (is ∙ ap is_wrong same);
+        each = omega (arith, so_far.each, later.2);
+      }

@@ -3,10 +3,10 @@ use Rattle.std.proofs.Common.{◌≡◌, ℕ, Bool, true, false, List, [], ◌�
 use Rattle.std.specs.Prelude.{◌&&◌, not, filter}
 use Rattle.std.specs.List.{slice_split}
 use Rattle.std.proofs.lemmas.Bool.Decides.{nat_tests}
-use Rattle.htl_dialogue.specs.Lines.{argument_of, arguments_of, is_blank, is_some, marked, parts, turned}
+use Rattle.htl_dialogue.specs.Lines.{argument_of, arguments_of, is_blank, is_some, marked, separates, turned}
 use Rattle.htl_dialogue.specs.Parts.{kept, part_end, unquoted}
 
--- a blank that parts turns nothing
+-- a blank that separates turns nothing
 blank_turns : (quoted : Bool) (x : ℕ) → (is_blank x && not quoted) ≡ true → turned quoted x ≡ false
 blank_turns true x parts = grind (arith, nat_tests)
 blank_turns false x parts = grind (arith, nat_tests)
@@ -14,9 +14,9 @@ blank_turns false x parts = grind (arith, nat_tests)
 -- the first part, and the arguments that follow
 record FirstPart (quoted : Bool) (line : List ℕ) : Type 0 where
   more : List (List (ℕ × Bool))
-  cut : slice_split parts (marked quoted line) ≡ marked quoted (take (part_end quoted line) line) ∷ more
+  cut : slice_split separates (marked quoted line) ≡ marked quoted (take (part_end quoted line) line) ∷ more
   later : filter is_some (map argument_of more)
-      ≡ filter is_some (map argument_of (slice_split parts (marked false (drop 1 (drop (part_end quoted line) line)))))
+      ≡ filter is_some (map argument_of (slice_split separates (marked false (drop 1 (drop (part_end quoted line) line)))))
 
 first_part : (quoted : Bool) (line : List ℕ) → FirstPart quoted line
 first_part quoted [] = record { more = []; cut = refl; later = refl }
@@ -25,7 +25,7 @@ first_part quoted (x ∷ xs) = by_case quoted x xs (first_part (turned quoted x)
     by_case : (quoted : Bool) (x : ℕ) (xs : List ℕ) → FirstPart (turned quoted x) xs → (b : Bool) → (is_blank x && not quoted) ≡ b
         → FirstPart quoted (x ∷ xs)
     by_case quoted x xs f true e = record {
-      more = slice_split parts (marked (turned quoted x) xs);
+      more = slice_split separates (marked (turned quoted x) xs);
       cut = rw e refl;
       later = rw (e, blank_turns quoted x e) refl;
     }

@@ -1,10 +1,10 @@
 -- The lines of a text, and the arguments of a line (this project's own). Where quotes and blanks stand decides how a line is
--- parted; what arguments mean is the command line's matter.
+-- split; what arguments mean is the command line's matter.
 use Rattle.std.specs.Prelude.{◌≡◌, ⊤, ℕ, ◌==◌, ◌&&◌, ◌||◌, Bool, true, false, not, List, [], ◌∷◌, filter, map, if◌then◌else◌}
 use Rattle.std.specs.List.{list_all, slice_split}
 use Rattle.std.specs.Str.{is_utf8}
-use Rattle.htl_dialogue.specs.declared.parting.ArgumentFault.{ArgumentFault}
-use Rattle.htl_dialogue.specs.declared.parting.ArgumentFault.TheVariants.{OpenQuote, NoText, NoMemory}
+use Rattle.htl_dialogue.specs.declared.splitting.ArgumentFault.{ArgumentFault}
+use Rattle.htl_dialogue.specs.declared.splitting.ArgumentFault.TheVariants.{OpenQuote, NotUtf8, NoMemory}
 
 abbrev pub is_feed : ℕ → Bool
 is_feed b = b == 10
@@ -29,9 +29,9 @@ abbrev pub marked : Bool → List ℕ → List (ℕ × Bool)
 marked quoted [] = []
 marked quoted (b ∷ more) = (b, quoted) ∷ marked (turned quoted b) more
 
--- a blank parts arguments where it doesn't stand in quotes
-abbrev pub parts : ℕ × Bool → Bool
-parts (b, quoted) = is_blank b && not quoted
+-- a blank separates arguments where it doesn't stand in quotes
+abbrev pub separates : ℕ × Bool → Bool
+separates (b, quoted) = is_blank b && not quoted
 
 -- something stands there
 abbrev pub is_some : {X : Type 0} → List X → Bool
@@ -42,9 +42,9 @@ is_some (x ∷ more) = true
 abbrev pub argument_of : List (ℕ × Bool) → List ℕ
 argument_of part = filter (λ b. not (is_quote b)) (map (λ m. m.0) part)
 
--- The arguments of a line: what stands between blanks that part, without its quotes, where something is left.
+-- The arguments of a line: what stands between blanks that separate, without its quotes, where something is left.
 unfoldable pub arguments_of : List ℕ → List (List ℕ)
-arguments_of line = filter is_some (map argument_of (slice_split parts (marked false line)))
+arguments_of line = filter is_some (map argument_of (slice_split separates (marked false line)))
 
 -- whether a line ends in quotes, which a quote that is not ended leaves so
 abbrev pub ends_quoted : Bool → List ℕ → Bool
@@ -54,5 +54,5 @@ ends_quoted quoted (b ∷ more) = ends_quoted (turned quoted b) more
 -- why a line can't be read: a quote isn't ended, or else an argument is not text
 abbrev pub IsUnreadable : List ℕ → ArgumentFault → Type 0
 IsUnreadable line OpenQuote = ends_quoted false line ≡ true
-IsUnreadable line NoText = (ends_quoted false line ≡ false) × (list_all is_utf8 (arguments_of line) ≡ false)
+IsUnreadable line NotUtf8 = (ends_quoted false line ≡ false) × (list_all is_utf8 (arguments_of line) ≡ false)
 IsUnreadable line NoMemory = ⊤

@@ -4,9 +4,11 @@ ghost use Rattle.std.specs.Prelude.{◌≡◌, ◌≤◌, ◌⊎◌, ℕ, List, 
 ghost use Rattle.std.specs.Prelude.{IfErr, IfOk, IfSome, OnOk, length};
 ghost use Rattle.std.specs.Io.KnownBytes.{Appends};
 ghost use Rattle.htl_device.specs.Devices.{AppendsPrefix};
-ghost use Rattle.htl_dialogue.specs.Dialogues.{Converses, StopsAt, is_end, is_wrong};
+ghost use Rattle.htl_dialogue.specs.Dialogues.{Converses, Gets, StopsAt, is_end, is_wrong};
+ghost use Rattle.htl_dialogue.specs.Notes.{after_notes};
 ghost use Rattle.htl_dialogue.specs.Sayings.{saying};
-ghost use Rattle.htl_dialogue.specs.Replying.{IsRefusedReply, Replies};
+ghost use Rattle.htl_dialogue.specs.Replying.{Hears, IsRefusedReply, Lacks, Replies};
+ghost use Rattle.htl_dialogue.specs.Replying.{refused_notes};
 
 use crate::reading::{Held, next_line};
 use crate::saying::{Said, read_line};
@@ -18,32 +20,54 @@ use thiserror::Error;
 
 /// Who answers questions.
 pub trait Answerer {
+    ghost use Rattle.std.specs.Prelude.{Bool};
     ghost use Rattle.htl_command.specs.declared.question.Job.{Job};
+    ghost use Rattle.htl_command.specs.declared.question.Question.{Question};
 
     // This is the text of the answer to a job.
     ghost has_text: { Self → Job → List ℕ → Type 0 };
+
+    // Whether what a question names has an event.
+    ghost reports_subject: { Self → Question → Bool → Type 0 };
 
     /// The text of the answer to a job.
     fn answer(&self, alloc: Global, job: &Job) -> Result<Vec<u8>, NoMemory>
         ensures { IfOk result (λ text. has_text self.now job.now text.items) };
 
     /// Whether what a question names has an event.
-    fn has_subject(&self, question: Question) -> bool;
+    fn has_subject(&self, question: Question) -> bool
+        ensures { reports_subject self.now question result };
 }
 
 /// Who is told what goes on beside the replies. What it shows is no part of them.
 pub trait Host {
+    ghost use Rattle.std.specs.Prelude.{Bool};
+    ghost use Rattle.htl_dialogue.specs.Notes.{Note, awaits, lacks, refuses};
+
+    // The host once it was told a note.
+    ghost told: { Self → Note → Self };
+
+    // Whether it wants to know which questions name what has no event.
+    ghost wants_absence: { Self → Bool };
+
     /// A line is awaited.
-    fn awaits(&mut self);
+    fn awaits(&mut self)
+        ensures told { self.new ≡ told self.old awaits }
+        ensures same { wants_absence self.new ≡ wants_absence self.old };
 
     /// A line was wrong.
-    fn refuses(&mut self, fault: &ParseFault);
+    fn refuses(&mut self, fault: &ParseFault)
+        ensures told { self.new ≡ told self.old (refuses fault.now) }
+        ensures same { wants_absence self.new ≡ wants_absence self.old };
 
     /// Whether `lacks` is wanted, which costs a look at all events for each question.
-    fn notes_absence(&self) -> bool;
+    fn notes_absence(&self) -> bool
+        ensures { result ≡ wants_absence self.now };
 
     /// A question was answered, and what it names has no event.
-    fn lacks(&mut self, question: Question);
+    fn lacks(&mut self, question: Question)
+        ensures told { self.new ≡ told self.old (lacks question) }
+        ensures same { wants_absence self.new ≡ wants_absence self.old };
 }
 
 /// Why a dialogue ends before its lines do.
@@ -108,7 +132,11 @@ impl<T: Drop> From<AllocFailed<T>> for DialogueFault {
 }
 
 /// Replies to each line of the source up to `quit` or to its end, and says whether a line was wrong.
-/// The whole reply to a line goes to the sink before the next line is read.
+/// The host is told when a line is awaited, why a line is wrong before its reply is written, and
+/// after a reply that what the question names has no event.
+///
+/// All lines that were read have their replies before more is read, and nothing is read once a line
+/// ends the dialogue.
 pub fn converse<A: Answerer, Q: Source, W: Sink, H: Host>(
     alloc: Global,
     answerer: &A,
@@ -119,12 +147,16 @@ pub fn converse<A: Answerer, Q: Source, W: Sink, H: Host>(
     requires questions { Q.has_failed questions.old ≡ false }
     requires inside { Q.has_ended questions.old ≡ false }
     requires out { W.has_failed out.old ≡ false }
-    // Each line gets its reply.
+    // Each line gets its reply, and the host its notes.
     ensures ok { (text : List ℕ) → Q.remaining questions.old ≡ Some text → IfOk result
-        (Converses (A.has_text answerer.now) text (W.contents out.old) (W.contents out.new)) }
-    // Or those before a fault do.
+        (Converses (A.has_text answerer.now) (A.reports_subject answerer.now)
+        (H.wants_absence host.old) text
+        (Gets (W.contents out.old) (W.contents out.new) H.told host.old host.new)) }
+    // Or those before a fault do: where a read fails, these are all that were read.
     ensures stops { (text : List ℕ) → Q.remaining questions.old ≡ Some text → IfErr result
-        (StopsAt (A.has_text answerer.now) text (W.contents out.old) (W.contents out.new)) }
+        (StopsAt (A.has_text answerer.now) (A.reports_subject answerer.now)
+        (H.wants_absence host.old) text (Q.remaining questions.new) (Q.has_failed questions.new)
+        (Gets (W.contents out.old) (W.contents out.new) H.told host.old host.new)) }
     ensures fine { OnOk result ((Q.has_failed questions.new ≡ false)
         × (W.has_failed out.new ≡ false)) }
     // What failed is reported, and nothing else is reported as failed.
@@ -160,7 +192,7 @@ fn ends(said: &Said) -> bool
     matches!(said, Said::Quits)
 }
 
-/// Writes the reply to a line, and says whether the line is wrong.
+/// Writes the reply to a line, tells the host of it, and says whether the line is wrong.
 fn reply<A: Answerer, W: Sink, H: Host>(
     alloc: Global,
     answerer: &A,
@@ -171,10 +203,15 @@ fn reply<A: Answerer, W: Sink, H: Host>(
     requires { W.has_failed out.old ≡ false }
     ensures ok { IfOk result (λ _. Replies (A.has_text answerer.now) (saying said.now)
         (W.contents out.old) (W.contents out.new)) }
+    ensures told { IfOk result (λ _. Hears (A.reports_subject answerer.now)
+        (H.wants_absence host.old) H.told host.old said.now host.new) }
     ensures wrong { IfOk result (λ wrong. wrong ≡ is_wrong (saying said.now)) }
     ensures fine { OnOk result (W.has_failed out.new ≡ false) }
     ensures err { IfErr result (IsRefusedReply (A.has_text answerer.now) (saying said.now)
         (W.contents out.old) (W.contents out.new) (W.has_failed out.new)) }
+    ensures refused { IfErr result (λ fault.
+        host.new ≡ after_notes H.told host.old (refused_notes said.now fault)) }
+    ensures same { H.wants_absence host.new ≡ H.wants_absence host.old }
 {
     match said {
         Said::Nothing | Said::Quits => Ok(false),
@@ -194,7 +231,11 @@ fn reply<A: Answerer, W: Sink, H: Host>(
 }
 
 /// Tells a host that wants to know where what a question names has no event.
-fn note_absence<A: Answerer, H: Host>(answerer: &A, question: Question, host: &mut H) {
+fn note_absence<A: Answerer, H: Host>(answerer: &A, question: Question, host: &mut H)
+    ensures told { Lacks (A.reports_subject answerer.now) (H.wants_absence host.old) H.told host.old
+        question host.new }
+    ensures same { H.wants_absence host.new ≡ H.wants_absence host.old }
+{
     if host.notes_absence() && !answerer.has_subject(question) {
         host.lacks(question);
     }

@@ -1,6 +1,6 @@
 //! The lines of a source, as they come.
 
-ghost use Rattle.std.specs.Prelude.{◌≡◌, ◌≤◌, ◌⊎◌, false, true, length, position, Err};
+ghost use Rattle.std.specs.Prelude.{◌≡◌, ◌≤◌, ◌⊎◌, [], false, true, length, position, Err};
 ghost use Rattle.std.specs.Prelude.{IfErr, IfOk, IfSome, OnOk};
 ghost use Rattle.std.specs.Io.KnownBytes.{prepend_known};
 ghost use Rattle.htl_device.specs.declared.whole.ReadFault.TheVariants.{NoMemory};
@@ -107,7 +107,7 @@ pub struct NextLine {
 
 /// The next line of what is held and of what the source gives, which is read no further than to the
 /// line's end. The last line has no line feed after it, and may be empty. A line whose end doesn't
-/// come with 2^32 reads is a failure.
+/// come with 2^32 reads is a failure. Where a read failed, no bytes are held.
 pub fn next_line<R: Source>(
     alloc: Global,
     source: &mut R,
@@ -123,6 +123,7 @@ pub fn next_line<R: Source>(
     ensures reported { R.has_failed source.new ≡ true → result ≡ Err ReadFault.Failed }
     ensures begun { IfErr result (λ _. IsBegun (prepend_known held.old (R.remaining source.old))
         (prepend_known held.new (R.remaining source.new))) }
+    ensures all { R.has_failed source.new ≡ true → held.new ≡ [] }
     ensures failed { result ≡ Err ReadFault.Failed → (R.has_failed source.new ≡ true)
         ⊎ IfSome (prepend_known held.old (R.remaining source.old)) (λ text.
         MAX_READS ≤ length text) }

@@ -5,11 +5,12 @@ ghost use Rattle.htl_command.specs.Refusals.{RefusesQuestion};
 ghost use Rattle.htl_command.specs.Requests.{asked_in};
 ghost use Rattle.htl_command.specs.declared.fault.ParseFault.TheVariants as faults;
 ghost use Rattle.htl_dialogue.specs.Reading.{IsLine};
+ghost use Rattle.htl_dialogue.specs.Replying.{HasFault, KeepsFault};
 ghost use Rattle.htl_dialogue.specs.Sayings.{is_farewell, is_help_sign, is_quit, meant, saying};
 ghost use Rattle.htl_dialogue.specs.Sayings.{saying_by, saying_of, wrong as says_wrong};
 
 use crate::line::Line;
-use crate::parting::{ArgumentFault, arguments};
+use crate::splitting::{ArgumentFault, arguments};
 use htl_command::{Job, ParseFault, parse_question};
 use htl_event::NoMemory;
 use std::alloc::Global;
@@ -30,8 +31,10 @@ pub enum Said {
 /// What a line says.
 #[tactic(auto, unfolding(crate::specs::Sayings::saying_of))]
 pub fn read_line(alloc: Global, line: &Line) -> Result<Said, NoMemory>
-    ensures { IfOk result (λ said. (bytes : List ℕ) → IsLine bytes line.now
+    ensures said { IfOk result (λ said. (bytes : List ℕ) → IsLine bytes line.now
         → saying said ≡ saying_of bytes) }
+    ensures fault { IfOk result (λ said. (bytes : List ℕ) → IsLine bytes line.now
+        → KeepsFault bytes said) }
 {
     let Line::Whole(bytes) = line else {
         return wrong(ParseFault::long_line(alloc));
@@ -39,14 +42,15 @@ pub fn read_line(alloc: Global, line: &Line) -> Result<Said, NoMemory>
     match arguments(alloc, bytes) {
         Ok(arguments) => said_by(alloc, &arguments),
         Err(ArgumentFault::OpenQuote) => wrong(ParseFault::open_quote(alloc)),
-        Err(ArgumentFault::NoText) => wrong(ParseFault::no_text(alloc)),
+        Err(ArgumentFault::NotUtf8) => wrong(ParseFault::no_text(alloc)),
         Err(ArgumentFault::NoMemory) => Err(NoMemory),
     }
 }
 
 /// What arguments say.
 fn said_by(alloc: Global, arguments: &[String]) -> Result<Said, NoMemory>
-    ensures { IfOk result (λ said. saying said ≡ saying_by (map string_bytes arguments.now)) }
+    ensures said { IfOk result (λ said. saying said ≡ saying_by (map string_bytes arguments.now)) }
+    ensures fault { IfOk result (HasFault (RefusesQuestion (meant (map string_bytes arguments.now)))) }
 {
     if arguments.is_empty() {
         return Ok(Said::Nothing);
@@ -102,7 +106,8 @@ fn is_help_sign(arguments: &[String]) -> bool
 
 /// What is wrong with a line, unless memory was refused.
 fn wrong(fault: ParseFault) -> Result<Said, NoMemory>
-    ensures { IfOk result (λ said. (saying said ≡ says_wrong) × (fault ≢ faults.Memory)) }
+    ensures said { IfOk result (λ said. saying said ≡ says_wrong) }
+    ensures fault { IfOk result (HasFault (λ kept. kept ≡ fault)) }
 {
     match fault {
         ParseFault::Memory => Err(NoMemory),

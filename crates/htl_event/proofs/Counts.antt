@@ -49,7 +49,7 @@ count_where-IsPermutation passes xs ys moved slot =
     rw (side Plus, side Minus) refl
 
 -- rows that give each key the same value are the same rows
-same_rows : {K V : Type 0} (f g : K → V) (Q : V → Type 0) → ((k : K) → f k ≡ g k) → (row : K × V)
+pub same_rows : {K V : Type 0} (f g : K → V) (Q : V → Type 0) → ((k : K) → f k ≡ g k) → (row : K × V)
     → ((row.1 ≡ f row.0) × Q row.1) ↔ ((row.1 ≡ g row.0) × Q row.1)
 same_rows f g Q same row = (λ h. (h.0 ∙ same row.0, h.1), λ h. (h.0 ∙ sym (same row.0), h.1))
 

@@ -1,11 +1,11 @@
--- A list in order is the only one with its members. (htl_sorted says what a member of a list is; it is passed on here.)
+-- A list in order is the only one with its members. (htl_lemmas says what a member of a list is; it is passed on here.)
 use Rattle.std.proofs.Common.{◌≡◌, List, [], ◌∷◌, refl, sym, ap, ◌∙◌, subst, inl, inr}
 use Rattle.std.specs.Prelude.{Contains, ◌↔◌}
 use Rattle.htl_event.specs.Members.{IsRising, Lists, IsStrictOrder}
-pub use Rattle.htl_sorted.proofs.Members.{Contains-here, Contains-there, Contains-nil, Contains-cases, Contains-cons}
-pub use Rattle.htl_sorted.proofs.Members.{at_member, each_member, AllByRecursion-weaker, filter-pass, filter-skip}
-pub use Rattle.htl_sorted.proofs.Members.{Contains-filter, Contains-from_filter, Contains-map, Contains-from_map}
-pub use Rattle.htl_sorted.proofs.Members.{Contains-flat_map, Contains-from_flat_map}
+pub use Rattle.htl_lemmas.proofs.Members.{Contains-here, Contains-there, Contains-nil, Contains-cases, Contains-cons, some_member}
+pub use Rattle.htl_lemmas.proofs.Members.{at_member, each_member, AllByRecursion-weaker, filter-pass, filter-skip}
+pub use Rattle.htl_lemmas.proofs.Members.{Contains-filter, Contains-from_filter, Contains-map, Contains-from_map}
+pub use Rattle.htl_lemmas.proofs.Members.{Contains-flat_map, Contains-from_flat_map}
 
 module _ {X : Type 0} (before : X → X → Type 0) (strict : IsStrictOrder before) where
   asymmetric : (x y : X) → before x y → before y x → ⊥

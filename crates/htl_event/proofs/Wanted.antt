@@ -16,7 +16,7 @@ use Rattle.htl_event.specs.declared.slot.Count.{Count}
 use Rattle.htl_event.specs.Members.{Lists}
 use Rattle.htl_event.specs.Handles.{IsGreatestSequence, IsOf, IsLatest, IsOpen, IsOutstanding, IsOfHandle}
 use Rattle.htl_event.specs.Tallies.{count_where, times, has_stack, tally, balance, IsPositive, IsLeaks}
-use Rattle.htl_event.proofs.Counts.{count_where-IsPermutation}
+use Rattle.htl_event.proofs.Counts.{count_where-IsPermutation, same_rows}
 use Rattle.htl_event.proofs.Members.{filter-pass, filter-skip, Contains-filter, Contains-from_filter}
 use Rattle.htl_event.specs.declared.interest.Interest.TheVariants.{Process, Object}
 use Rattle.htl_event.specs.Interests.{wants, wanted, ProcessNeedsItsOwn, ObjectNeedsItsOwn}
@@ -125,10 +125,6 @@ tagged_object Ref o t sign e is = eqb-true _ _ (and_parts _ _ (and_parts _ _ is)
 tagged_object Deref o t sign e is = eqb-true _ _ (and_parts _ _ (and_parts _ _ is).0).0
 tagged_object Exited o t sign e is = absurd cc
 
-same_rows : {K V : Type 0} (f g : K → V) (Q : V → Type 0) → ((k : K) → f k ≡ g k) → (row : K × V)
-    → ((row.1 ≡ f row.0) × Q row.1) ↔ ((row.1 ≡ g row.0) × Q row.1)
-same_rows f g Q same row = (λ h. (h.0 ∙ same row.0, h.1), λ h. (h.0 ∙ sym (same row.0), h.1))
-
 -- ---- the laws
 
 agrees : (p : ℕ) (es own : List Event) → IsPermutation (wanted (Process p) es) own → Agree p (Contains es) (Contains own)
@@ -138,6 +134,7 @@ agrees p es own moved x owner = (
       (IsPermutation-sym (wanted (Process p) es) own moved) here)).0,
 )
 
+-- answers about a process need its own events alone
 pub process_needs_its_own : (process : ℕ) (events own : List Event) → IsPermutation (wanted (Process process) events) own
     → ProcessNeedsItsOwn process events own
 process_needs_its_own p es own moved =
@@ -160,6 +157,7 @@ process_needs_its_own p es own moved =
           (λ h. (h.0 ∙ ap (λ (c : Count). c.plus) counts, h.1), λ h. (h.0 ∙ ap (λ (c : Count). c.plus) (sym counts), h.1)));
     }
 
+-- answers about an object need its own events alone
 pub object_needs_its_own : (object : ℕ) (events own : List Event) → IsPermutation (wanted (Object object) events) own
     → ObjectNeedsItsOwn object events own
 object_needs_its_own o es own moved =

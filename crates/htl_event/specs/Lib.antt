@@ -1,5 +1,6 @@
 -- What public contracts cite, in the order in which a reader wants it: events as values, what they are counted
--- under, the orders, the questions about handles and about counts, what a summary states, what a question asks about, and the laws.
+-- under, the orders, the questions about handles and about counts, what a summary states, what a question asks about, the words of kinds,
+-- and the laws.
 pub mod Events
 pub mod Slots
 pub mod SlotOrder
@@ -10,6 +11,7 @@ pub mod Handles
 pub mod Tallies
 pub mod Summaries
 pub mod Interests
+pub mod Words
 pub mod Laws
 -- What only private contracts cite: the laws that the comparisons owe.
 pub mod OrderLaws

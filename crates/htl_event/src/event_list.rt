@@ -1,12 +1,12 @@
-//! What has a list of events.
+//! Lists of events, and how many events several lists have.
 
-ghost use Rattle.std.specs.Prelude.{◌≡◌};
+ghost use Rattle.std.specs.Prelude.{◌≡◌, ◌<◌, ◌≤◌, ◌^◌, None, IfSome, length, flat_map};
 
 use crate::event::SharedEvent;
 use std::alloc::Allocator;
 
-/// A run of events, as a segment has one. What is made of the events of several runs takes these as
-/// they are, so nobody puts events side by side first.
+/// A type that has a list of events, as a segment does. Calls that need the events of several such
+/// lists take a slice of them, so callers need not concatenate.
 pub trait EventList {
     ghost use Rattle.std.specs.Prelude.{List};
     ghost use Rattle.htl_event.specs.Events.{Event};
@@ -23,4 +23,16 @@ impl<A: Allocator> EventList for Vec<SharedEvent, A> {
     fn events(&self) -> &[SharedEvent] {
         self.as_slice()
     }
+}
+
+/// How many events the lists have, or none where that is no `u64`.
+pub fn number_of_events<R: EventList>(lists: &[R]) -> Option<usize>
+    ensures some { IfSome result (λ number. number ≡ length (flat_map R.events_of lists.now)) }
+    ensures none { result ≡ None → 2 ^ 64 ≤ length (flat_map R.events_of lists.now) }
+{
+    let mut number = 0usize;
+    for list in lists {
+        number = number.checked_add(list.events().len())?;
+    }
+    Some(number)
 }

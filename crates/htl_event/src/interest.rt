@@ -1,6 +1,6 @@
-//! What a question asks about.
+//! The events that a question asks about.
 
-/// What a question asks about: its answer depends on these events alone.
+/// The events that a question asks about. Its answer depends on them alone.
 #[derive(Clone, Copy, Debug, PartialEq, Eq)]
 pub enum Interest {
     /// A process: the events that came in it.

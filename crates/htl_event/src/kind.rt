@@ -1,4 +1,4 @@
-//! What events record.
+//! The kinds of events.
 
 /// What an event records, in the words of the debugger's `!htrace` and `!obtrace`.
 #[derive(Clone, Copy, Debug, PartialEq, Eq)]
@@ -22,11 +22,27 @@ pub enum Kind {
 impl Kind {
     ghost use Rattle.std.specs.Prelude.{◌≡◌};
     ghost use Rattle.htl_event.specs.Handles.{opens_or_closes};
+    ghost use Rattle.htl_event.specs.Words.{word_of};
 
     /// Whether such an event opens or closes a handle.
     pub fn opens_or_closes(self) -> bool
         ensures { result ≡ opens_or_closes self }
     {
         matches!(self, Kind::Opened | Kind::Closed)
+    }
+
+    /// The word that listings and texts have for such an event.
+    pub fn word(self) -> &'static str
+        ensures { result.now ≡ word_of self }
+    {
+        match self {
+            Kind::Opened => "OPEN",
+            Kind::Closed => "CLOSE",
+            Kind::BadRef => "BAD REF",
+            Kind::Snapshot => "SNAPSHOT",
+            Kind::Ref => "REF",
+            Kind::Deref => "DEREF",
+            Kind::Exited => "EXIT",
+        }
     }
 }

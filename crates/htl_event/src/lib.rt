@@ -3,14 +3,14 @@
 //! `specs/` has the definitions, which everything above cites; `specs/Lib` names them in reading
 //! order: what an event counts (`Slots`), which handles are outstanding and what a handle's
 //! listing is (`Handles`), how often a slot came (`Tallies`), the rows of a summary (`Summaries`),
-//! each over events as a set or as a flat list, what
-//! a question asks about (`Interests`), and what follows from them (`Laws`). The code has
-//! the types alone: no call of this crate takes memory but the making of a shared stack.
+//! each over events as a set or as a flat list, the events that a question asks about
+//! (`Interests`), and what follows from them (`Laws`). The code has little more than the types: only
+//! the making of a shared stack takes memory.
 //!
 //! Files, in reading order: `kind.rt` and `event.rt` (an event), `stack.rt` and `shared_stack.rt`
-//! (its stack, of its own or shared), `slot.rt` (what it is counted under), `event_list.rt` (what
-//! has a list of events), `summary.rt` (rows of a summary), `memory.rt` (the answer for refused
-//! memory), `laws.rt` (the laws of the definitions).
+//! (its stack, of its own or shared), `slot.rt` (what it is counted under), `event_list.rt` (lists
+//! of events), `interest.rt` (the events that a question asks about), `summary.rt` (rows of a
+//! summary), `memory.rt` (the error for refused memory), `laws.rt` (the laws of the definitions).
 //!
 //! In `proofs/`, `Members`, `Orders` and `Ordered` are on lists of members in order, `EventTests`
 //! on tests of one event; `Determined`, `Unions`, `Counts`, `Sums` and `Summarized` show the laws.
@@ -33,7 +33,7 @@ ghost use Rattle.std.specs.Prelude.{◌≡◌};
 ghost use Rattle.htl_event.specs.Slots.{base_of};
 
 pub use event::{Event, SharedEvent};
-pub use event_list::EventList;
+pub use event_list::{EventList, number_of_events};
 pub use interest::Interest;
 pub use kind::Kind;
 pub use memory::NoMemory;

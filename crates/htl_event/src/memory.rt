@@ -1,4 +1,4 @@
-//! The answer for memory that was refused.
+//! The error for memory that was refused.
 
 use std::alloc::{AllocError, AllocFailed};
 use std::error::Error;

@@ -1,4 +1,4 @@
-//! A call stack that events share.
+//! Call stacks that several events share.
 
 use crate::memory::NoMemory;
 use crate::stack::{MAX_FRAMES, from_outermost};
@@ -7,7 +7,7 @@ use std::cmp::Ordering;
 use std::marker::Model;
 use std::sync::Arc;
 
-/// What the owners of one stack share.
+/// The memory that all copies of one stack share.
 #[derive(Debug, Drop)]
 struct Frames {
     fingerprint: u64,
@@ -37,7 +37,7 @@ impl SharedStack {
     ghost use Rattle.std.specs.Prelude.{◌≡◌, ◌≤◌, length, IfOk};
 
     /// A stack of these addresses, the innermost call first. The fingerprint is a hint by which a
-    /// table finds equal stacks sooner: it is no part of the stack's value, and nothing depends on
+    /// table finds equal stacks sooner: it is no part of the stack's value, and no answer depends on
     /// it.
     pub fn of(alloc: Global, addresses: Vec<u64>, fingerprint: u64) -> Result<SharedStack, NoMemory>
         requires { length addresses.items ≤ MAX_FRAMES }
@@ -60,8 +60,8 @@ impl SharedStack {
         self.frames.addresses.as_slice()
     }
 
-    /// The hint that the stack was made with. Equal stacks may have other ones, and other stacks
-    /// the same.
+    /// The hint that the stack was made with. Equal stacks may have different fingerprints, and
+    /// different stacks the same one.
     pub fn fingerprint(&self) -> u64 {
         self.frames.fingerprint
     }

@@ -1,4 +1,4 @@
-//! What events are counted under, and how often they came.
+//! Slots: what events are counted under, and how often they came.
 
 use std::cmp::Ordering;
 
@@ -13,6 +13,21 @@ pub enum Slot {
     Handles { process: u32 },
     /// Bad references of a process to one handle value, as written.
     Bad { process: u32, handle: u32 },
+}
+
+impl Slot {
+    /// A hint by which a table finds equal slots sooner: equal slots have one fingerprint, and few
+    /// others have it too. No answer depends on it.
+    pub fn fingerprint(self) -> u64 {
+        let name = match self {
+            Slot::Tagged { object, tag } => {
+                object.rotate_left(32) ^ u64::from(u32::from_le_bytes(tag))
+            }
+            Slot::Handles { process } => u64::from(process),
+            Slot::Bad { process, handle } => u64::from(process) << 32 ^ u64::from(handle),
+        };
+        name.wrapping_mul(0x9e37_79b9_7f4a_7c15)
+    }
 }
 
 impl PartialOrd for Slot {
@@ -64,7 +79,7 @@ impl Ord for Slot {
     }
 }
 
-/// On which side of a count an event stands.
+/// The side of a count that an event adds to.
 #[derive(Clone, Copy, Debug, PartialEq, Eq)]
 pub enum Sign {
     /// An open, a bad reference or a reference.
@@ -73,7 +88,7 @@ pub enum Sign {
     Minus,
 }
 
-/// How often each sign came.
+/// How many events there were of each sign.
 #[derive(Clone, Copy, Debug, PartialEq, Eq)]
 pub struct Count {
     pub plus: u64,

@@ -1,4 +1,4 @@
-//! A call stack in place.
+//! Call stacks that lie in their events.
 
 ghost use Rattle.std.specs.Prelude.{◌≡◌, ◌≤◌, ◌<◌, ◌^◌, [], ◌∷◌, ◌++◌};
 ghost use Rattle.std.specs.Prelude.{length, nat_lt, if◌then◌else◌, All};
@@ -8,7 +8,7 @@ use arrayvec::ArrayVec;
 use std::cmp::Ordering;
 use std::marker::Model;
 
-/// How many addresses a stack has at most.
+/// The greatest number of addresses that a stack has.
 pub const MAX_FRAMES: usize = 64;
 
 /// The return addresses of one call stack, the innermost call first.
@@ -39,7 +39,7 @@ impl Stack {
         }
     }
 
-    /// Adds an outer call. A full stack stays as it is.
+    /// Adds an outer call, or answers false and leaves the stack as it is where it is full.
     pub fn push(&mut self, address: u64) -> bool
         ensures room { result ≡ nat_lt (length self.old) MAX_FRAMES }
         ensures items { self.new ≡ (if result then self.old ++ address ∷ [] else self.old) }
@@ -122,7 +122,7 @@ impl Ord for Stack {
     }
 }
 
-/// How the addresses of two stacks compare, from the outermost call inwards.
+/// Compares the addresses of two stacks from the outermost call inwards.
 pub(crate) fn from_outermost(one: &[u64], other: &[u64]) -> Ordering
     ensures { result ≡ stack_cmp one.now other.now }
 {

@@ -1,14 +1,14 @@
-//! Rows of a summary.
+//! The rows of a summary.
 
 /// A process that opened or closed a handle, or used one that wasn't open.
 #[derive(Clone, Copy, Debug, PartialEq, Eq)]
 pub struct ProcessRow {
     pub process: u32,
-    /// How many of its handles are outstanding.
+    /// The number of its handles that are outstanding.
     pub outstanding: u64,
     pub opens: u64,
     pub closes: u64,
-    /// How many bad references it made.
+    /// The number of bad references that it made.
     pub bad: u64,
     /// The sequence of its latest snapshot, 0 where there is none.
     pub mark: u64,
@@ -20,9 +20,9 @@ pub struct ProcessRow {
 #[derive(Clone, Copy, Debug, PartialEq, Eq)]
 pub struct ObjectRow {
     pub object: u64,
-    /// How many tags it has an event under.
+    /// The number of tags that its events name.
     pub tags: u64,
-    /// How many of these have more references than dereferences, or fewer.
+    /// The number of these tags whose references and dereferences differ in number.
     pub unbalanced: u64,
     pub refs: u64,
     pub derefs: u64,

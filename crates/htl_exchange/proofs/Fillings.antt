@@ -3,13 +3,13 @@ use Rattle.std.proofs.Common.{◌≡◌, ◌≢◌, ℕ, zero, suc, ◌+◌, ◌
 use Rattle.std.proofs.Common.{List, [], ◌∷◌, IsPermutation, length, add-one, sym, refl, ap, ◌∙◌, subst, inl, inr, ⊎_elim, arith}
 use Rattle.std.specs.Prelude.{Contains, ◌↔◌, cond, filter, if◌then◌else◌}
 use Rattle.std.specs.List.{list_any}
-use Rattle.std.proofs.lemmas.Bool.{eqb-true, eq-eqb, cases_Bool}
+use Rattle.std.proofs.lemmas.Bool.{eqb-true, eq-eqb, cases_Bool, and_right}
 use Rattle.std.proofs.Math.Dec.{leb-zero}
 use Rattle.std.proofs.lemmas.Bool.Decides.{eqb_tells, nat_tests}
 use Rattle.std.proofs.lemmas.List.Sums.{sum_by-cons}
 use Rattle.std.proofs.lemmas.List.Sorted.{Contains-permutation, IsPermutation-sym}
 use Rattle.crossbeam_queue.specs.Fifo.{Pushes, Held}
-use Rattle.htl_event.proofs.Members.{at_member, Contains-here, Contains-filter, Contains-from_filter, Contains-nil}
+use Rattle.htl_event.proofs.Members.{at_member, Contains-filter, Contains-from_filter, Contains-nil, some_member}
 use Rattle.htl_segment.specs.Content.{Content, Fits}
 use Rattle.htl_segment.specs.Traces.{Trace, HasKey}
 use Rattle.htl_case.specs.Cases.{IsCase}
@@ -20,8 +20,8 @@ use Rattle.htl_exchange.specs.Parcels.{trace_of, runs_in, HasSegment, IsParcelOf
 use Rattle.htl_exchange.specs.Rule.{blank, MakesUp}
 use Rattle.htl_exchange.specs.Moves.{left_of, Filled, CountsPushes}
 use Rattle.htl_exchange.specs.Filling.{FillsTo, IsIdle, runs_below}
-use Rattle.htl_exchange.proofs.Sets.{has-union, has-one, has-without, one-same, one-only, one_run, run_of_member, member_of_run}
-use Rattle.htl_exchange.proofs.Keeping.{fills}
+use Rattle.htl_exchange.proofs.Sets.{has-union, has-one, has-without, one-same, one-only, one_run, run_of_member, member_of_run, and_true}
+use Rattle.htl_exchange.proofs.Keeping.{fills, left_of-known}
 
 -- ---- a run as a parcel
 
@@ -36,10 +36,6 @@ turned_run T p segments made run of made_is turned s = (
       (subst (λ l. Contains l s) (sym made_is) (Contains-filter (is_of p) segments s (subst (λ l. Contains l s) (sym of) h.0) (eq-eqb s.processor p h.1)))),
 )
 
-some_list : (l : List Content) → l ≢ [] → (s : Content) × Contains l s
-some_list [] some_member = absurd (some_member refl)
-some_list (s ∷ l) some_member = (s, Contains-here s l)
-
 -- the one run of these segments
 pub is_one : (T : Trace) (p : ℕ) (run : List Content) → IsRunOf T p run → run ≢ [] → runs_of run ≡ one p
 is_one T p run of_run some_segment = one_run run p some_segment (λ s h. ((of_run s).0 h).1)
@@ -47,7 +43,7 @@ is_one T p run of_run some_segment = one_run run p some_segment (λ s h. ((of_ru
 -- the processor's run is one of the trace
 pub run_is_there : (T : Trace) (p : ℕ) (run : List Content) → IsRunOf T p run → run ≢ [] → has (runs_of T.segments) p ≡ true
 run_is_there T p run of_run some_segment =
-    let s = some_list run some_segment in
+    let s = some_member run some_segment in
     let k = (of_run s.0).0 s.1 in
     subst (λ q. has (runs_of T.segments) q ≡ true) k.1 (run_of_member T.segments s.0 k.0)
 
@@ -71,22 +67,6 @@ next_same p = grind (arith, nat_tests)
 next_other : (p q : ℕ) → p ≢ q → leb p q ≡ leb (p + 1) q
 next_other p q n = grind (arith, nat_tests)
 
-and_not : (a : Bool) → (a && not true) ≡ false
-and_not true = refl
-and_not false = refl
-
-and_kept : (a : Bool) → (a && not false) ≡ a
-and_kept true = refl
-and_kept false = refl
-
-and_false : (a : Bool) → (a && false) ≡ false
-and_false true = refl
-and_false false = refl
-
-and_true : (a : Bool) → (a && true) ≡ a
-and_true true = refl
-and_true false = refl
-
 one-other : (p q : ℕ) → p ≢ q → has (one p) q ≡ false
 one-other p q n = elim (cases_Bool (has (one p) q)) [
   | inl is ↦ absurd (n (one-only p q is))
@@ -97,9 +77,10 @@ one-other p q n = elim (cases_Bool (has (one p) q)) [
 next : (b : ℕ → Bool) (p q : ℕ) → ((b q && leb p q) && not (has (one p) q)) ≡ (b q && leb (p + 1) q)
 next b p q = ⊎_elim
     (λ (x : (eqb p q ≡ true) × (p ≡ q)). subst (λ k. ((b k && leb p k) && not (has (one p) k)) ≡ (b k && leb (p + 1) k)) x.1
-    (ap (λ t. (b p && leb p p) && not t) (one-same p) ∙ and_not (b p && leb p p) ∙ sym (and_false (b p)) ∙ ap (λ t. b p && t) (sym (next_same p))))
+    (ap (λ t. (b p && leb p p) && not t) (one-same p) ∙ and_right (b p && leb p p) false refl
+    ∙ sym (and_right (b p) false refl) ∙ ap (λ t. b p && t) (sym (next_same p))))
     (λ (x : (eqb p q ≡ false) × (p ≢ q)). ap (λ t. (b q && leb p q) && not t) (one-other p q x.1)
-    ∙ and_kept (b q && leb p q) ∙ ap (λ t. b q && t) (next_other p q x.1))
+    ∙ and_true (b q && leb p q) ∙ ap (λ t. b q && t) (next_other p q x.1))
     (eqb_tells p q)
 
 -- a processor without a run
@@ -202,10 +183,6 @@ skips T p run v of_run none f = record {
     | inr is ↦ is
   ]
 
-left_of-known : (T : Trace) (was : List Content) (got : List Bool) → was ≢ [] → left_of T was got ≡ got
-left_of-known T [] got n = absurd (n refl)
-left_of-known T (s ∷ was) got n = refl
-
 pub may_fill : (n i : ℕ) (T : Trace) (p : ℕ) (v : Known) (x : Parcel) → T.segments ≢ [] → trace_of x ≡ T → IsParcelOf T x → runs_in x ≡ one p
     → has (runs_of T.segments) p ≡ true → FillsTo T p v → Pushes MakesUp n i v x (Filled v x)
 may_fill n i T p v x some_segment of parcel only there f =
@@ -280,7 +257,7 @@ all_put T n v is_case past f = record {
   none q = f.left q ∙ below n q (has (runs_of T.segments) q) (λ h. let lt = within T is_case q h in omega (arith, lt, past))
 
   first : (s : Content) × Contains T.segments s
-  first = some_list T.segments is_case.some
+  first = some_member T.segments is_case.some
 
   not_blank : v.trace.segments ≡ [] → ⊥
   not_blank z = true≢false

@@ -232,7 +232,7 @@ fill_truth false true false r h = absurd (true≢false (sym (h refl)))
 fill_truth false false true r h = refl
 fill_truth false false false r h = refl
 
-left_of-known : (T : Trace) (was : List Content) (got : List Bool) → was ≢ [] → left_of T was got ≡ got
+pub left_of-known : (T : Trace) (was : List Content) (got : List Bool) → was ≢ [] → left_of T was got ≡ got
 left_of-known T [] got n = absurd (n refl)
 left_of-known T (s ∷ was) got n = refl
 

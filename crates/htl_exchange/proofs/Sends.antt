@@ -36,6 +36,7 @@ use Rattle.htl_tree.specs.declared.node.Node.TheBlock.{the_members, member-Node}
 use Rattle.htl_event.specs.contracts.slot.Slot as slot
 use Rattle.htl_event.specs.contracts.slot.Count as count
 
+-- what a tree has may move to another thread: slots, counts and nodes
 pub slot_send : IsSend slot.the_row
 slot_send = search sendable depth 20
 
@@ -62,6 +63,7 @@ knot_send = hole_send
 pub node_send : IsSend (node.the_row Heap.the_row ghosts)
 node_send = search (sendable, crosses, slot_send, count_send, knot_send) depth 20
 
+-- so may a tree
 pub tree_send : IsSend (tree.the_row Heap.the_row ghosts)
 tree_send = search (sendable, crosses, send, node_send) depth 20
 
@@ -85,6 +87,7 @@ event_send = search (sendable, stack_send) depth 20
 event_sync : IsSync (event.the_row stack.the_row)
 event_sync = search (sendable, stack_sync) depth 20
 
+-- and a segment
 pub segment_send : IsSend segment.the_row
 segment_send = search (sendable, crosses, event_send, event_sync) depth 20
 
@@ -105,11 +108,13 @@ folded_send = search (sendable, crosses, tree_send, latest_send) depth 20
 part_send : IsSend (part.the_row Heap.the_row ghosts)
 part_send = search (sendable, crosses, segment_send, folded_send) depth 20
 
+-- and an analyst
 pub analyst_send : IsSend (analyst.the_row Heap.the_row ghosts)
 analyst_send = search (sendable, crosses, taken_send, part_send) depth 20
 
 -- ---- desks
 
+-- and a parcel
 pub parcel_send : IsSend parcel.the_row
 parcel_send = search (sendable, crosses, segment_send, analyst_send) depth 20
 
@@ -119,6 +124,7 @@ seat_send S V s = record {
   leaving = λ k f vs. tt;
 }
 
+-- and so a desk
 pub desk_send : IsSend desk.the_row
 desk_send = search (sendable, crosses, seat_send, analyst_send, parcel_send) depth 20
 
@@ -134,5 +140,6 @@ shared_sync S V K P g s =
 lease_sync : (T A : RattleType) (g : alloc.Ghosts A.Denot) → IsSend T → Frees g g.dealloc_token → IsSync (lease.the_row T A g)
 lease_sync T A g s f = record { shared = λ d b o ν q. part_keyless (lease.the_row T A g) (right_send T A g f) q d b o }
 
+-- threads may share an exchange
 pub exchange_sync : IsSync exchange.the_row
 exchange_sync = search (sendable, crosses, parcel_send, shared_sync, lease_sync) depth 30

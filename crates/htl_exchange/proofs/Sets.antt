@@ -52,7 +52,7 @@ has-union (x ∷ xs) [] p = sym (or_false (has (x ∷ xs) p))
 has-union (x ∷ xs) (y ∷ ys) zero = refl
 has-union (x ∷ xs) (y ∷ ys) (suc p) = has-union xs ys p
 
-and_true : (b : Bool) → (b && not false) ≡ b
+pub and_true : (b : Bool) → (b && true) ≡ b
 and_true true = refl
 and_true false = refl
 

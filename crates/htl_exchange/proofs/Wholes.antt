@@ -11,5 +11,6 @@ use Rattle.htl_exchange.specs.Laws.{AreSame}
 within : (T : Trace) (a b : State) → IsWholeStanding T a → IsWholeStanding T b → (p n : ℕ) → HasTaken a p n → HasTaken b p n
 within T a b whole other p n taken = other.keys p n (key_of_trace T a whole.standing.right p n taken)
 
+-- two compacted states of the whole trace are the same
 pub same_wholes : AreSame
 same_wholes T a b trace one two = equal_once_compacted T a b trace one.standing two.standing (within T a b one two) (within T b a two one)

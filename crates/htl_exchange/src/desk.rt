@@ -1,4 +1,4 @@
-//! Desks: an analyst of one thread, the thread's pass to the queue, and what is in hand.
+//! Desks: each has the analyst of one thread, the thread's pass to the queue, and a parcel in hand.
 
 use crate::exchange::Exchange;
 use crate::parcel::Parcel;
@@ -11,18 +11,18 @@ use std::alloc::Global;
 use std::marker::Model;
 use std::sync::Wait;
 
-/// What `collect` took in.
+/// The answer of `collect`: what it took in.
 #[derive(Clone, Copy, Debug, PartialEq, Eq)]
 pub enum Collected {
-    /// A run: all segments of one processor.
+    /// It took in a run: all segments of one processor.
     Run,
-    /// The state of an analyst that was posted.
+    /// It took in the state of an analyst that was posted.
     State,
-    /// Nothing: the queue was empty at some moment of the call.
+    /// It took in nothing: the queue was empty at some moment of the call.
     Nothing,
 }
 
-/// What became of a posted state.
+/// The answer of `post`: what became of the posted state.
 #[derive(Clone, Copy, Debug, PartialEq, Eq)]
 pub enum Posted {
     /// It is in the queue.
@@ -65,7 +65,7 @@ impl Desk {
     ghost use Rattle.htl_exchange.specs.Filling.{IsIdle};
     ghost use Rattle.htl_exchange.specs.Collects.{CollectsAs, IsLeftInHand, HasRest};
 
-    /// A desk that has got nothing, with the pass's parts.
+    /// A desk that has taken in nothing, with this pass.
     pub(crate) fn new(analyst: Analyst<Global>, pass: DeskPass, parts: u32) -> Desk
         requires pass { pass.me.1 ≡ [] }
         requires parts { (0 < parts) × (parts ≡ (known_of pass).parts) }
@@ -93,7 +93,7 @@ impl Desk {
         &self.analyst
     }
 
-    /// Whether something that was popped isn't taken in yet, since memory was refused.
+    /// Whether a popped parcel isn't taken in yet, since memory was refused.
     pub fn in_hand(&self) -> bool
         ensures { IsTrue result ↔ IsSome self.now.hand }
     {
@@ -153,7 +153,7 @@ impl Desk {
         }
     }
 
-    /// How many parts of the right to know the whole the desk's pass has.
+    /// The desk's shares of the right to know the whole.
     pub(crate) fn parts(&self) -> u32
         ensures value { result ≡ self.now.known.parts }
         ensures some { 0 < result }

@@ -9,9 +9,9 @@ use std::snapshot::Snapshot;
 #[derive(Drop)]
 pub struct Exchange {
     pub(crate) queue: ParcelQueue,
-    /// For contracts alone: it takes no memory.
+    /// The case. It serves contracts alone, and takes no memory.
     pub(crate) case: Snapshot<Case>,
-    /// How many desks are out.
+    /// The number of desks that are out.
     pub(crate) desks: u32,
 }
 

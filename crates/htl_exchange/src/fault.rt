@@ -33,7 +33,7 @@ pub enum Why {
     NoMemory,
 }
 
-/// A refused close: why, and the exchange and the desks for another one.
+/// A refused close: the cause, and the exchange and the desks, so that it can be tried again.
 #[derive(Drop)]
 pub struct CloseFault {
     pub why: Why,

@@ -1,9 +1,9 @@
-//! Gates: what a caller of `survey` sees of the workers' turns.
+//! Gates: they tell the caller of `survey` of each turn of the workers.
 
 use htl_analyst::Analyst;
 use std::alloc::Global;
 
-/// Is called by each worker before each of its turns, in the worker's thread. A turn is one
+/// A gate. Each worker calls it before each of its turns, in the worker's thread. A turn is one
 /// `collect`.
 pub trait Gate {
     /// Workers are counted from 0, and a worker's turns from 1. The analyst is the worker's own.

@@ -7,11 +7,11 @@ use htl_segment::Segment;
 use std::alloc::Global;
 use std::snapshot::Snapshot;
 
-/// What desks pass on to each other: segments of one processor, of the highest number first, or a
-/// posted state.
+/// What desks pass on to each other: segments of one processor, those of the highest numbers first, or
+/// a posted state.
 #[derive(Drop)]
 pub enum Parcel {
-    /// The case of which the segments are is for contracts alone, and takes no memory.
+    /// The segments, and their case. The case serves contracts alone, and takes no memory.
     Run(Vec<Segment>, Snapshot<Case>),
     State(Analyst<Global>),
 }
@@ -20,7 +20,7 @@ impl Parcel {
     ghost use Rattle.std.specs.Prelude.{◌≡◌};
     ghost use Rattle.htl_exchange.specs.Parcels.{named};
 
-    /// What `collect` answers where it took this in.
+    /// The answer of `collect` where it took in this parcel.
     pub(crate) fn name(&self) -> Collected
         ensures { result ≡ named self.now }
     {

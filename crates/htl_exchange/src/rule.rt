@@ -5,7 +5,7 @@ use crate::pass::Known;
 use crossbeam_queue::RuledArrayQueue;
 use crossbeam_queue::protocol::{Join, Lesson, Outcome, Protocol, Split};
 
-/// The parcels and what the passes have got make up the case.
+/// The rule: the parcels and what the passes have got make up the case.
 pub struct Shares;
 
 impl Protocol<Parcel, Known> for Shares {
@@ -16,7 +16,7 @@ impl Protocol<Parcel, Known> for Shares {
     ghost first = { blank };
 }
 
-/// A filling push.
+/// The step that fills the queue: it pushes a run.
 pub struct Fills;
 
 impl Outcome<Parcel, Known> for Fills {
@@ -31,7 +31,7 @@ impl Lesson<Parcel, Known> for Fills {
     ghost fact = { CountsPushes };
 }
 
-/// A push of a posted state.
+/// The step that pushes a posted state.
 pub struct Posts;
 
 impl Outcome<Parcel, Known> for Posts {
@@ -46,7 +46,7 @@ impl Lesson<Parcel, Known> for Posts {
     ghost fact = { λ v items. ⊤ };
 }
 
-/// A pop.
+/// The step that pops a parcel.
 pub struct Takes;
 
 impl Outcome<Parcel, Known> for Takes {
@@ -61,7 +61,7 @@ impl Lesson<Parcel, Known> for Takes {
     ghost fact = { KnowsRest };
 }
 
-/// Splitting and joining.
+/// How shares of the right to know the whole are split and joined.
 pub struct Parts;
 
 impl Split<Known> for Parts {

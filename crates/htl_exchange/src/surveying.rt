@@ -15,7 +15,7 @@ use std::sync::Wait;
 use std::thread;
 use std::thread::{Promise, Scope, Threads};
 
-/// The compacted state of the whole case, taken in by so many workers at once, 1 to 8. Each worker
+/// The compacted state of the whole case, taken in by 1 to 8 workers at once. Each worker
 /// is a started thread with a desk of its own, which calls the gate before each of its turns; a
 /// turn is one `collect`. A worker stops at the first turn that finds nothing or is refused memory,
 /// or after one turn more than there are processors. What a refused turn left is taken in at the
@@ -34,9 +34,9 @@ pub fn survey<G: Gate + Sync, R: Threads + Wait + Sync>(
     take_in(rt, exchange, gate, most_turns(case), desks)
 }
 
-/// The same of a case that nobody needs any longer. It is dropped before the workers start, so that
-/// the events of a processor are gone once they are folded, and what is left of it need not lie
-/// beside the whole answer. A fault drops it too.
+/// As `survey`, of a case that nobody needs any longer. It is dropped before the workers start, so
+/// that the events of a processor are gone once they are folded, and need not lie beside the whole
+/// answer. A fault drops it too.
 pub fn survey_owned<G: Gate + Sync, R: Threads + Wait + Sync>(
     rt: &R,
     alloc: Global,

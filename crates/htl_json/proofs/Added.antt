@@ -13,6 +13,7 @@ use Rattle.htl_json.specs.declared.lines.Lines.{Lines}
 abbrev pub AddsValues : Lines → Lines → List Json → Type 0
 AddsValues old new values = AddsLines {R = Json} (λ value. value) old new values
 
+-- one more row adds its line
 pub row_added : {R : Type 0} (value_of : R → Json) (rows : List R) (i : ℕ) (row : R) (a b c : Lines) → i < length rows
     → AddsLines value_of a b (take i rows) → AddsLine b c (value_of (get_or rows i row)) → AddsLines value_of a c (take (i + 1) rows)
 row_added {R} value_of rows i row a b c within h k =
@@ -29,15 +30,18 @@ row_added {R} value_of rows i row a b c within h k =
           ∙ ap (λ text. before ++ text) (sym (flat_map-append line so_far (next ∷ []))),
     )
 
+-- and so does a row that is known by its place
 pub rows_more : {R : Type 0} (value_of : R → Json) (rows : List R) (i : ℕ) (row : R) (a b c : Lines) → i < length rows → row ≡ get_or rows i row
     → AddsLines value_of a b (take i rows) → AddsLine b c (value_of row) → AddsLines value_of a c (take (i + 1) rows)
 rows_more value_of rows i row a b c within at h k =
     row_added value_of rows i row a b c within h (subst (λ x. AddsLine b c (value_of x)) at k)
 
+-- after the last row all lines were added
 pub rows_done : {R : Type 0} (value_of : R → Json) (rows : List R) (i : ℕ) (a b : Lines) → length rows ≤ i → AddsLines value_of a b (take i rows)
     → AddsLines value_of a b rows
 rows_done value_of rows i a b all h = subst (AddsLines value_of a b) (take_all i rows all) h
 
+-- some values and then others
 pub values_then : (vs ws : List Json) (a b c : Lines) → AddsValues a b vs → AddsValues b c ws → AddsValues a c (vs ++ ws)
 values_then vs ws a b c h k =
     let before = a.writer.before in (
@@ -47,14 +51,17 @@ values_then vs ws a b c h k =
           ∙ append_assoc before (flat_map json_line vs) (flat_map json_line ws) ∙ ap (λ text. before ++ text) (sym (flat_map-append json_line vs ws)),
     )
 
+-- a line is a list of one value
 pub line_alone : (v : Json) (a b : Lines) → AddsLine a b v → AddsValues a b (v ∷ [])
 line_alone v a b h =
     (All-cons IsReadBack v [] h.0 (All-nil IsReadBack), h.1, h.2 ∙ ap (λ text. a.writer.before ++ text) (sym (append-nil (json_line v))))
 
+-- lines of rows are those of the values of the rows
 pub rows_as_values : {R : Type 0} (value_of : R → Json) (rows : List R) (a b : Lines) → AddsLines value_of a b rows → AddsValues a b (map value_of rows)
 rows_as_values value_of rows a b h =
     (All-map IsReadBack value_of rows h.0, h.1, h.2 ∙ ap (λ text. a.writer.before ++ text) (sym (flat_map-map json_line value_of rows)))
 
+-- the first line and then those of the rows
 pub answer_added : {R : Type 0} (value_of : R → Json) (v : Json) (rows : List R) (a b c : Lines) → AddsLine a b v → AddsLines value_of b c rows
     → AddsValues a c ((v ∷ []) ++ map value_of rows)
 answer_added value_of v rows a b c h k = values_then (v ∷ []) (map value_of rows) a b c (line_alone v a b h) (rows_as_values value_of rows b c k)

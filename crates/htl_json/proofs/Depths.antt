@@ -8,10 +8,12 @@ use Rattle.htl_json.specs.Frames.{address_fields, frame, named_fields, symbol_fi
 use Rattle.htl_json.specs.Records.{Field, members_of}
 use Rattle.htl_json.specs.Writing.{AreWithin}
 
+-- fields nest no deeper than both lists of them
 pub AreWithin-append : (d : ℕ) (fs gs : List Field) → AreWithin d fs → AreWithin d gs → AreWithin d (fs ++ gs)
 AreWithin-append d [] gs h k = k
 AreWithin-append d (f ∷ fs) gs h k = (h.0, AreWithin-append d fs gs h.1 k)
 
+-- members nest no deeper than their fields
 pub depth_of_members : (d : ℕ) (fs : List Field) → AreWithin d fs → members_depth (members_of fs) ≤ d
 depth_of_members d [] h = omega arith
 depth_of_members d (f ∷ fs) h = omega (arith, h.0, depth_of_members d fs h.1)
@@ -34,5 +36,6 @@ depth_of_frames : (symbols : List Range) (frames : List ℕ) → items_depth (it
 depth_of_frames symbols [] = omega arith
 depth_of_frames symbols (f ∷ fs) = omega (arith, depth_of_frame symbols f, depth_of_frames symbols fs)
 
+-- a stack nests two deep: the array, and the objects of its frames
 pub depth_of_stack : (symbols : List Range) (frames : List ℕ) → depth (array (items_of (map (frame symbols) frames))) ≤ 2
 depth_of_stack symbols frames = omega (arith, depth_of_frames symbols frames)

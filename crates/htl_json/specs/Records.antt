@@ -3,7 +3,7 @@ use Rattle.std.specs.Prelude.{◌++◌, ◌∷◌, [], ℕ, List, codes}
 use Rattle.std.specs.Fmt.{decimal}
 use Rattle.hex.specs.Hex.{encode_lower}
 use Rattle.json.specs.Json.{Json, Members, member, no_members, number, object, string}
-use Rattle.htl_report.specs.Addresses.{hex, hex16}
+use Rattle.htl_numbers.specs.Written.{hex, padded}
 use Rattle.htl_report.specs.Parts.{shown_tag}
 
 -- a name and a value
@@ -27,7 +27,7 @@ shown_handle handle = string (codes "0x" ++ hex handle)
 
 -- an address or an object, as in the text
 abbrev pub shown_address : ℕ → Json
-shown_address address = string (codes "0x" ++ hex16 address)
+shown_address address = string (codes "0x" ++ padded 16 address)
 
 -- a tag as in the text, and two hexadecimal digits for each of its bytes
 unfoldable pub tag_fields : List ℕ → List Field

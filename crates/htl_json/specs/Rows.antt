@@ -11,7 +11,7 @@ use Rattle.htl_taken.specs.declared.gap.Gap.TheVariants.{Between, Absent}
 use Rattle.json.specs.Json.{Json, string}
 use Rattle.htl_json.specs.Frames.{stack_fields}
 use Rattle.htl_json.specs.Records.{Field, count_fields, quantity, record_of, shown_address, shown_handle, tag_fields}
-use Rattle.htl_report.specs.Listings.{word_of}
+use Rattle.htl_event.specs.Words.{word_of}
 
 -- an event by this word and this handle
 unfoldable pub event_fields : List ℕ → ℕ → Event → List Field

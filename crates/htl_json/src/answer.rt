@@ -19,9 +19,9 @@ use htl_symbols::Symbols;
 use htl_taken::Gap;
 use std::alloc::{AllocError, Global};
 
-/// The lines of an answer as JSON, each an object and a line feed: first one with the fields of
-/// the text's first line, then one for each row that the text prints under the same `top`, in its
-/// order.
+/// The lines of an answer as JSON, each an object and a line feed. The first line has the fields of the
+/// text's first line. Then there is one for each row that the text prints under the same `top`, in the
+/// same order.
 pub fn json_lines(
     alloc: Global,
     answer: &Answer,

@@ -49,7 +49,7 @@ fn write_handles(lines: &mut Lines, handles: u64) -> Result<(), AllocError>
     lines.number("handles", handles)
 }
 
-/// Stacks of an object's references and dereferences under a tag.
+/// Writes the stacks of an object's references and dereferences under a tag.
 pub(crate) fn write_stacks(
     lines: &mut Lines,
     symbols: &Symbols,

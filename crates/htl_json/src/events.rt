@@ -7,11 +7,10 @@ ghost use Rattle.htl_json.specs.Writing.{AddsFields, AddsLine, AddsLines};
 use crate::frames::write_stack;
 use crate::lines::Lines;
 use htl_event::{SharedEvent, base};
-use htl_report::event_word;
 use htl_symbols::Symbols;
 use std::alloc::AllocError;
 
-/// Each handle by the event that opened it.
+/// Writes each handle by the event that opened it.
 pub(crate) fn write_opens(
     lines: &mut Lines,
     symbols: &Symbols,
@@ -38,7 +37,7 @@ fn write_open(lines: &mut Lines, symbols: &Symbols, event: &SharedEvent) -> Resu
     lines.end_line()
 }
 
-/// Each event by its word, its handle as it was written.
+/// Writes each event by its word, with its handle as written.
 pub(crate) fn write_listing(
     lines: &mut Lines,
     symbols: &Symbols,
@@ -60,7 +59,7 @@ fn write_listed(lines: &mut Lines, symbols: &Symbols, event: &SharedEvent) -> Re
         (AddsLine lines.old lines.new (listed symbols.now event.now)) }
 {
     lines.begin_object()?;
-    write_event(lines, event_word(event.kind), event.handle, event)?;
+    write_event(lines, event.kind.word(), event.handle, event)?;
     write_stack(lines, symbols, &event.stack)?;
     lines.end_line()
 }

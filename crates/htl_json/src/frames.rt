@@ -12,7 +12,7 @@ use htl_event::SharedStack;
 use htl_symbols::Symbols;
 use std::alloc::AllocError;
 
-/// The field of a stack, the innermost frame first.
+/// Writes the field of a stack, the innermost frame first.
 pub(crate) fn write_stack(
     lines: &mut Lines,
     symbols: &Symbols,
@@ -46,7 +46,7 @@ fn write_frame(lines: &mut Lines, symbols: &Symbols, address: u64) -> Result<(),
     lines.end_object()
 }
 
-/// An address, and where a symbol has it, how that is named.
+/// Writes an address, and the name of the symbol that has it, if there is one.
 fn write_address(lines: &mut Lines, symbols: &Symbols, address: u64) -> Result<(), AllocError>
     ensures { OnOk result (AddsFields lines.old lines.new
         (address_fields address ++ named_fields (resolved symbols.now address))) }

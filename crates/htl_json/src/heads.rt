@@ -45,7 +45,7 @@ pub(crate) fn write_diff_head(
     lines.end_line()
 }
 
-/// Of a listing, by the base handle.
+/// Writes the first line of a listing, by the base handle.
 pub(crate) fn write_trace_head(
     lines: &mut Lines,
     process: u32,

@@ -18,9 +18,9 @@ use std::mem;
 #[derive(Drop)]
 pub(crate) struct Lines {
     alloc: Global,
-    /// It writes after the lines that are whole.
+    /// The writer. It writes behind the lines that are whole.
     pub(crate) writer: Writer,
-    /// Where a text is made before it is written as a string.
+    /// A text that is made here before it is written as a string.
     room: String,
 }
 
@@ -36,7 +36,7 @@ impl Lines {
         }
     }
 
-    /// The bytes of all lines, of which the last was ended.
+    /// The bytes of all lines. The last one was ended.
     #[tactic(auto, unfolding(json::specs::Print::print_from))]
     pub(crate) fn into_bytes(self) -> Vec<u8>
         requires { self.writer.tokens ≡ [] }
@@ -70,7 +70,7 @@ impl Lines {
         self.writer.end_array()
     }
 
-    /// The name of the field whose value is written next.
+    /// Writes the name of a field, whose value is written next.
     pub(crate) fn key(&mut self, name: &str) -> Result<(), AllocError>
         ensures added { OnOk result (AddsTokens self.old self.new (token.key name.now ∷ [])) }
         ensures room { self.new.room ≡ self.old.room }
@@ -78,7 +78,7 @@ impl Lines {
         self.writer.key(name)
     }
 
-    /// The end of the object that is the line's value, and of the line.
+    /// Ends the object that is the line's value, and the line.
     pub(crate) fn end_line(&mut self) -> Result<(), AllocError>
         ensures { OnOk result
             (EndsLine self.old self.new (self.old.writer.tokens ++ end_object ∷ [])) }
@@ -90,7 +90,7 @@ impl Lines {
         Ok(())
     }
 
-    /// The bytes so far, of which the writer has none after.
+    /// The bytes so far. The writer has none of them afterwards.
     fn take_text(&mut self) -> Vec<u8>
         ensures items { result.items ≡ self.old.writer.before ++ print self.old.writer.tokens }
         ensures read { AreRead self.old.writer.tokens }
@@ -137,7 +137,7 @@ impl Lines {
         self.room_as(name)
     }
 
-    /// An address or an object.
+    /// Writes an address or an object.
     pub(crate) fn address(&mut self, name: &str, address: u64) -> Result<(), AllocError>
         ensures { OnOk result
             (AddsFields self.old self.new ((name.now, shown_address address) ∷ [])) }
@@ -147,7 +147,7 @@ impl Lines {
         self.room_as(name)
     }
 
-    /// A tag as it is shown, and its bytes.
+    /// Writes a tag as it is shown, and its bytes.
     #[tactic(auto, unfolding(crate::specs::Records::tag_fields))]
     pub(crate) fn tag(&mut self, tag: [u8; 4]) -> Result<(), AllocError>
         ensures { OnOk result (AddsFields self.old self.new (tag_fields tag)) }
@@ -166,7 +166,7 @@ impl Lines {
         self.room_as("tag")
     }
 
-    /// The text that was made, as a field of this name.
+    /// Writes the text that was made, as a field of this name.
     fn room_as(&mut self, name: &str) -> Result<(), AllocError>
         ensures { OnOk result (AddsFields self.old self.new
             ((name.now, string (string_bytes self.old.room)) ∷ [])) }

@@ -1,5 +1,5 @@
 -- A run of picks after its inputs were read, and why it ends.
-use Rattle.std.proofs.Common.{◌≡◌, ◌≢◌, ℕ, Bool, true, false, List, [], ◌∷◌, map, All, Option, Some, None, Result, Ok, Err, refl, inr}
+use Rattle.std.proofs.Common.{◌≡◌, ◌≢◌, ℕ, Bool, true, false, List, [], ◌∷◌, All, Option, Some, None, Result, Ok, Err, refl}
 use Rattle.std.specs.Prelude.{IfErr, IfNone, IfOk, IfSome}
 use Rattle.std.specs.Io.KnownBytes.{Appends}
 use Rattle.std.proofs.lemmas.List.Elements.{All-nil, All-append}
@@ -14,27 +14,11 @@ use Rattle.htl_main.specs.Inputs.{DecodeAll}
 use Rattle.htl_main.specs.Picked.{Reports, asks_about, interest_of}
 use Rattle.htl_main.specs.Picking.{ArePickedFor, ArePicksOfAll, EndsPrinting, PrintsOf, ReportsOf}
 use Rattle.htl_main.specs.Printed.{WorkersFit}
-use Rattle.htl_main.specs.Readings.{AreRead}
 use Rattle.htl_main.specs.Sources.{IsSourcesCause}
 use Rattle.htl_main.specs.declared.completed.Completed.{Completed}
 use Rattle.htl_main.specs.declared.fault.RunFault.{RunFault}
-use Rattle.htl_main.specs.declared.fault.RunFault.TheVariants.{Workers, Incomplete, Symbols, Memory, Write}
+use Rattle.htl_main.specs.declared.fault.RunFault.TheVariants.{Incomplete, Symbols, Memory, Write}
 use Rattle.htl_main.proofs.AfterDecoding.{sources_cause_of}
-use Rattle.htl_main.proofs.ReadingLaws.{ill}
-use Rattle.htl_main.proofs.SourceLaws.{none_read_within, true_nowhere}
-
--- nothing was read
-pub unread : {R B : Type 0} (hex : Bool) (workers : ℕ) (has_failed has_ended : R → Bool) (good_reads : R → ℕ) (remaining : R → Option (List ℕ)) (first : List R)
-    → All (λ source. has_failed source ≡ false) first
-    → AreRead hex workers has_failed has_ended good_reads remaining first first (ill {S = B} Workers)
-unread hex workers has_failed has_ended good_reads remaining first fine = record {
-  ended = tt;
-  in_order = λ earlier later below. inr refl;
-  reported = λ place failed. absurd (true_nowhere has_failed first place fine failed);
-  read = λ place told. absurd (cc told);
-  bounded = none_read_within (map good_reads first);
-  unread = λ place before. refl;
-}
 
 -- ---- what was picked
 

@@ -4,7 +4,7 @@ use Rattle.std.proofs.Common.{arith, inl, inr, subst, append_assoc, append-nil, 
 use Rattle.std.specs.Prelude.{is_err, slice_get, IfErr, OnOk}
 use Rattle.std.specs.Io.KnownBytes.{Appends, Consumes, IsAtEnd, ReadConsumes}
 use Rattle.std.proofs.KnownBytes.{Appends-trans, Consumes-kept, Consumes-trans}
-use Rattle.std.proofs.Math.Seq.{drop-append_seam, take-append_seam, take-append-add}
+use Rattle.std.proofs.Math.Seq.{drop-append_seam, take-append_seam}
 use Rattle.std.proofs.lemmas.Bool.{cases_lt}
 use Rattle.std.proofs.lemmas.Grind.{flat_map-append}
 use Rattle.std.proofs.lemmas.List.{flat_map_more, length-append, take_all, take-append-le}
@@ -12,13 +12,12 @@ use Rattle.std.proofs.lemmas.List.Elements.{All-append}
 use Rattle.htl_device.specs.Devices.{AppendsPrefix}
 use Rattle.htl_device.specs.declared.source.TheConstants.{MAX_READ_LEN}
 use Rattle.htl_segment.specs.Content.{Content, Fits}
-use Rattle.htl_segment.specs.Encoding.{encoding, BeginsWith}
+use Rattle.htl_segment.specs.Encoding.{BeginsWith}
 use Rattle.htl_segment.specs.Faults.{first_fault}
 use Rattle.htl_segment.specs.Bundles.{bundle, is_early_end, IsRest, SegmentAt, Splits}
 use Rattle.htl_segment.specs.declared.fault.Fault.{Fault}
 use Rattle.htl_segment.specs.declared.fault.Fault.TheVariants as faults
-use Rattle.htl_segment.proofs.BundleLaws.{late_stays, no_fault_stays, nothing_short, splits_one}
-use Rattle.htl_segment.proofs.PassedTests.{some_is}
+use Rattle.htl_segment.proofs.BundleLaws.{late_stays, no_fault_stays, splits_one}
 use Rattle.htl_text.specs.Texts.{segment_text}
 use Rattle.htl_main.specs.Inputs.{AsksMemory, HasBytes}
 use Rattle.htl_main.specs.Sources.{EndsBefore}
@@ -30,15 +29,10 @@ use Rattle.htl_main.proofs.InputLaws.{decode_next}
 use Rattle.htl_reading.specs.Keepers.{taken}
 use Rattle.htl_reading.specs.Sources.{IsReadToFault}
 use Rattle.htl_reading.proofs.FaultLaws.{ended_whole, read_more, read_without_fault, taken_splits}
+use Rattle.htl_segment.proofs.PiecesLaws.{bundle-append}
+use Rattle.htl_device.proofs.KnownBytes.{prefix_after}
 
 -- ---- what was written
-
--- one part, and then some first bytes of another
-pub prefix_after : (a b c : Option (List ℕ)) (xs ys : List ℕ) → Appends a b xs → AppendsPrefix b c ys → AppendsPrefix a c (xs ++ ys)
-prefix_after a b c xs ys first part = (
-  length xs + part.0,
-  subst (Appends a c) (sym (take-append-add xs ys part.0)) (Appends-trans a b c xs (take part.0 ys) first part.1),
-)
 
 -- some first bytes of a part are some of the whole
 pub prefix_more : (a b : Option (List ℕ)) (xs ys : List ℕ) → AppendsPrefix a b xs → AppendsPrefix a b (xs ++ ys)
@@ -85,10 +79,6 @@ front_next bytes rest n s old mid new so_far front written = record {
 -- the rest begins after the segments
 rest_at : (bytes rest : List ℕ) (ss : List Content) → Splits bytes ss rest → length bytes - length rest ≡ length (bundle ss)
 rest_at bytes rest ss split = omega (arith, ap length split.parts, length-append (bundle ss) rest)
-
-pub some_left : (rest : List ℕ) (fault : Fault) → first_fault rest ≡ Some fault → is_early_end fault ≡ false → 0 < length rest
-some_left [] fault is late = absurd (let same = some_is faults.Short fault (sym nothing_short ∙ is) in cc (ap is_early_end same ∙ late))
-some_left (x ∷ rest) fault is late = omega arith
 
 -- no segment follows, whatever follows
 pub front_refused : (place start : ℕ) (bytes rest : List ℕ) (old new : Option (List ℕ)) (fault : Fault) → FrontDumped bytes rest old new
@@ -193,15 +183,12 @@ input_stops hex left ended place input bytes old new fault has stops = absurd (s
 
 -- ---- a source that is dumped as it is read
 
-bundle_more : (ss ts : List Content) → bundle (ss ++ ts) ≡ bundle ss ++ bundle ts
-bundle_more ss ts = flat_map-append encoding ss ts
-
 -- what was taken in, one piece more, and its segments
 regrouped : (held piece rest : List ℕ) (ss ts : List Content) → Splits (held ++ piece) ts rest
     → (bundle ss ++ held) ++ piece ≡ bundle (ss ++ ts) ++ rest
 regrouped held piece rest ss ts split =
     append_assoc (bundle ss) held piece ∙ ap (λ (l : List ℕ). bundle ss ++ l) split.parts ∙ sym (append_assoc (bundle ss) (bundle ts) rest)
-    ∙ ap (λ (l : List ℕ). l ++ rest) (sym (bundle_more ss ts))
+    ∙ ap (λ (l : List ℕ). l ++ rest) (sym (bundle-append ss ts))
 
 pub so_far_next : (first mid last : Option (List ℕ)) (start : ℕ) (held piece rest : List ℕ) (old out new : Option (List ℕ))
     → DumpedSoFar first mid start held old out → Consumes mid last piece → FrontDumped (held ++ piece) rest out new → IsRest rest
@@ -213,7 +200,7 @@ so_far_next first mid last start held piece rest old out new so_far read next is
     arith,
     so_far.start_is,
     rest_at (held ++ piece) rest next.segments next.splits,
-    ap length (bundle_more so_far.segments next.segments),
+    ap length (bundle-append so_far.segments next.segments),
     length-append (bundle so_far.segments) (bundle next.segments),
   );
   is_rest = is_rest;
@@ -244,7 +231,7 @@ stops_behind xs ys zs place start held piece old out new fault so_far read stops
     so_far.given ∙ ap (λ (l : List ℕ). (bundle ss ++ held) ++ l) read ∙ sym (append_assoc (bundle ss ++ held) piece zs)
     ∙ ap (λ (l : List ℕ). l ++ zs) (regrouped held piece stops.rest ss ts stops.splits) ∙ append_assoc (bundle (ss ++ ts)) stops.rest zs in
     let offset : start + length (bundle ts) ≡ length (bundle (ss ++ ts)) =
-    omega (arith, so_far.start_is, ap length (bundle_more ss ts), length-append (bundle ss) (bundle ts)) in
+    omega (arith, so_far.start_is, ap length (bundle-append ss ts), length-append (bundle ss) (bundle ts)) in
     record {
       segments = ss ++ ts;
       rest = stops.rest ++ zs;
@@ -337,10 +324,11 @@ so_far_memory (Some xs) (Some ys) last ended place start held piece old new so_f
   written = so_far.written;
 }
 
-pub so_far_read : (first now : Option (List ℕ)) (start : ℕ) (held : List ℕ) (old new : Option (List ℕ))
-    → DumpedSoFar first now start held old new → IsReadToFault MAX_READ_LEN first now
-so_far_read first now start held old new so_far =
-    read_without_fault MAX_READ_LEN first now so_far.segments held so_far.fits so_far.is_rest so_far.given
+-- what was dumped so far has no fault
+pub so_far_read : (most : ℕ) (first now : Option (List ℕ)) (start : ℕ) (held : List ℕ) (old new : Option (List ℕ))
+    → DumpedSoFar first now start held old new → IsReadToFault most first now
+so_far_read most first now start held old new so_far =
+    read_without_fault most first now so_far.segments held so_far.fits so_far.is_rest so_far.given
 
 pub so_far_once_more : (first mid last : Option (List ℕ)) (start : ℕ) (held piece : List ℕ) (old new : Option (List ℕ))
     → DumpedSoFar first mid start held old new → Consumes mid last piece → length piece ≤ MAX_READ_LEN → IsReadToFault MAX_READ_LEN first last

@@ -18,7 +18,8 @@ use Rattle.htl_text.specs.Lines.{item_in, text_lines}
 use Rattle.htl_main.specs.Encodings.{EncodeAll}
 use Rattle.htl_main.specs.declared.fault.RunFault.{RunFault}
 use Rattle.htl_main.specs.declared.fault.RunFault.TheVariants.{Write}
-use Rattle.htl_main.proofs.DumpLaws.{prefix_after, prefix_more}
+use Rattle.htl_device.proofs.KnownBytes.{prefix_after}
+use Rattle.htl_main.proofs.DumpLaws.{prefix_more}
 
 -- ---- hexadecimal digits
 

@@ -1,23 +1,17 @@
 -- A trace has at most 2^40 segments, and so at most 2^52 events.
 use Rattle.std.proofs.Common.{◌≡◌, ℕ, ◌+◌, ◌*◌, ◌^◌, ◌<◌, ◌≤◌, zero, suc, List, [], ◌∷◌, get_or, length, take, ap, arith, length-append, inl, inr}
 use Rattle.std.specs.List.{AllByRecursion}
-use Rattle.htl_segment.specs.declared.version.Version.{Version}
-use Rattle.htl_segment.specs.declared.version.Version.TheVariants.{V1, V2}
 use Rattle.htl_segment.specs.Content.{Content, Fits}
 use Rattle.htl_segment.specs.Traces.{Trace, IsTrace, AreInOrder, IsBefore, all_events}
-use Rattle.htl_segment.specs.Versions.{limits_of}
+use Rattle.htl_segment.proofs.HeaderLaws.{processors≤256}
 
 -- a key as one number
 abbrev rank : Content → ℕ
 rank s = 2 ^ 32 * s.processor + s.number
 
-few_processors : (version : Version) → (limits_of version).processors ≤ 256
-few_processors V1 = omega arith
-few_processors V2 = omega arith
-
 rank_bound : (s : Content) → Fits s → rank s + 1 ≤ 2 ^ 40
 rank_bound s fits =
-    let few = few_processors s.version in
+    let few = processors≤256 s.version in
     let count = fits.processors.1 in
     let here = fits.processor in
     let number = fits.number in

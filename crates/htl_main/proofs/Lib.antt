@@ -20,7 +20,6 @@ pub mod PartLaws
 pub mod PairLaws
 pub mod CaseRefused
 pub mod AfterDecoding
-pub mod AfterStanding
 pub mod PickedAnswers
 pub mod PickLaws
 pub mod AfterPicking

@@ -1,11 +1,9 @@
--- The least key that a case misses, processor by processor.
-use Rattle.std.proofs.Common.{◌≡◌, ◌≢◌, ℕ, ◌+◌, ◌^◌, ◌<◌, ◌≤◌, true, List, [], ◌∷◌, length, drop, get_or, Option, ◌⊎◌}
+-- The least key that a case misses is the first of its first gap; and why a run ends that looks for gaps and symbols.
+use Rattle.std.proofs.Common.{◌≡◌, ◌≢◌, ℕ, ◌+◌, ◌-◌, ◌^◌, ◌≤◌, true, List, [], ◌∷◌, ◌++◌, Option, Some, None, ◌⊎◌}
 use Rattle.std.proofs.Common.{refl, ap, subst, sym, ◌∙◌, arith, inl, inr}
-use Rattle.std.specs.Prelude.{Contains}
-use Rattle.std.proofs.Math.ListN.{drop_of_length-le}
+use Rattle.std.specs.Prelude.{Contains, slice_get}
 use Rattle.std.proofs.lemmas.Bool.{cases_lt}
-use Rattle.std.proofs.lemmas.List.{drop_more}
-use Rattle.htl_event.proofs.Members.{Contains-cons, Contains-here, Contains-nil}
+use Rattle.htl_event.proofs.Members.{at_member, Contains-cases, Contains-here, Contains-nil, some_member}
 use Rattle.htl_segment.specs.Content.{Content}
 use Rattle.htl_segment.specs.Traces.{Trace, IsTrace, HasKey}
 use Rattle.htl_segment.specs.declared.outline.Outline.{Outline}
@@ -13,129 +11,107 @@ use Rattle.htl_analyst.proofs.Held.{one_segment}
 use Rattle.htl_case.specs.Cases.{IsCaseOf}
 use Rattle.htl_case.specs.Faults.{AreOfOneTrace}
 use Rattle.htl_case.proofs.Outcomes.{case_one_count, case_one_trace}
-use Rattle.htl_taken.specs.Gaps.{IsGap, IsGaps, processor_of}
+use Rattle.htl_taken.specs.Gaps.{IsGapBefore, IsGaps, first_of, processor_of}
 use Rattle.htl_taken.specs.GapLists.{gaps_from, gaps_of}
 use Rattle.htl_taken.specs.Rising.{Rises, reach_from}
 use Rattle.htl_taken.specs.declared.gap.Gap.{Gap}
 use Rattle.htl_taken.specs.declared.gap.Gap.TheVariants.{Between, Absent}
-use Rattle.htl_taken.proofs.GapLists.{gaps-before, gaps-next, gaps-some}
+use Rattle.htl_taken.proofs.GapLists.{gaps-before, gaps-next}
 use Rattle.htl_taken.proofs.Reaching.{reach-next, reach-stop}
 use Rattle.htl_command.specs.declared.question.Job.{Job}
-use Rattle.htl_main.specs.CaseOutlines.{numbers_of}
+use Rattle.htl_main.specs.CaseOutlines.{BeginWithFirst, IsMissed, numbers_of}
 use Rattle.htl_main.specs.Causes.{IsCauseAfter}
 use Rattle.htl_main.specs.Completeness.{IsComplete, IsLeastMissing, ReportsMissing}
+use Rattle.htl_main.specs.Summaries.{IsFirstMissing}
+use Rattle.htl_main.specs.declared.coverage.Missed.{Missed}
 use Rattle.htl_main.specs.declared.fault.RunFault.{RunFault}
 use Rattle.htl_main.specs.declared.fault.RunFault.TheVariants.{Incomplete, Memory}
 use Rattle.htl_main.specs.Faults.{of_symbols}
 use Rattle.htl_main.specs.Printed.{HasSymbolFault}
 use Rattle.htl_symbols.specs.declared.fault.SymbolFault.{SymbolFault}
 use Rattle.htl_symbols.specs.declared.fault.SymbolFault.TheVariants.{NoMemory}
-use Rattle.htl_main.proofs.OfProcessor.{some_numbers}
-use Rattle.htl_main.proofs.Outlined.{AreOwnOutlines, own_first, own_gaps}
+use Rattle.htl_main.proofs.Outlined.{AreOwnOutlines, own_first, own_rise}
 
--- a gap is one of its processor, however many processors there are
-of_fewer : (T : Trace) (n m : ℕ) (gap : Gap) → IsGap (HasKey T) n gap → processor_of gap < m → IsGap (HasKey T) m gap
-of_fewer T n m (Between p from to) is lt = (lt, is.1)
-of_fewer T n m (Absent p) is lt = (lt, is.1)
+-- ---- the first gap
 
-of_below : (T : Trace) (n : ℕ) (gap : Gap) → IsGap (HasKey T) n gap → processor_of gap < n
-of_below T n (Between p from to) is = is.0
-of_below T n (Absent p) is = is.0
-
--- where the processors so far have no gap, a gap is one of a later processor
-pub none_so_far : (T : Trace) (p n : ℕ) (gap : Gap) → IsGaps (HasKey T) p [] → IsGap (HasKey T) n gap → p ≤ processor_of gap
-none_so_far T p n gap none is =
-    elim (cases_lt (processor_of gap) p) [
-      | inl lt ↦ absurd (Contains-nil gap ((none.members gap).1 (of_fewer T n p gap is lt)))
-      | inr le ↦ le
+-- of the gaps before these numbers, which rise from a least one on, the first begins with the first number that isn't next
+begin_from : (p least high : ℕ) (ns : List ℕ) (gap : Gap) (more : List Gap) → Rises least high ns → gaps_from p least ns ≡ gap ∷ more
+    → (processor_of gap ≡ p) × (first_of gap ≡ reach_from least ns)
+begin_from p least high [] gap more rises is = absurd (cc is)
+begin_from p least high (n ∷ ns) gap more rises is =
+    elim (cases_lt least n) [
+      | inl lt ↦
+          let here : Between p least (n - 1) ∷ gaps_from p (n + 1) ns ≡ gap ∷ more = sym (gaps-before p least n ns lt) ∙ is in
+          let same : Between p least (n - 1) ≡ gap = cc here in
+          let stop = reach-stop least n ns (λ e. omega (arith, e, lt)) in
+          (sym (ap processor_of same), sym (ap first_of same) ∙ sym stop)
+      | inr le ↦
+          let low = rises.0 in
+          let next : n ≡ least = omega (arith, le, low) in
+          let later = subst (λ (m : ℕ). Rises (m + 1) high ns) next rises.1 in
+          let rest = subst (λ (m : ℕ). gaps_from p (m + 1) ns ≡ gap ∷ more) next (sym (gaps-next p least n ns le) ∙ is) in
+          let found = begin_from p (least + 1) high ns gap more later rest in
+          (found.0, found.1 ∙ sym (reach-next least n ns next))
     ]
 
-pub complete : (T : Trace) (p : ℕ) → T.processors ≤ p → IsGaps (HasKey T) p [] → IsComplete T
-complete T p all none gap there =
-    let le = none_so_far T p T.processors gap none there in
-    let lt = of_below T T.processors gap there in
-    omega (arith, all, le, lt)
+begin_of : (p high : ℕ) (ns : List ℕ) (gap : Gap) (more : List Gap) → Rises 0 high ns → gaps_of p 0 ns ≡ gap ∷ more
+    → (processor_of gap ≡ p) × (first_of gap ≡ reach_from 0 ns)
+begin_of p high [] gap more rises is =
+    let same : Absent p ≡ gap = cc is in (sym (ap processor_of same), sym (ap first_of same))
+begin_of p high (n ∷ ns) gap more rises is = begin_from p 0 high (n ∷ ns) gap more rises is
 
-module _ (T : Trace) (is : IsTrace T) (p : ℕ) (own : List Outline) (mine : AreOwnOutlines T p own) where
-  pub none_more : IsGaps (HasKey T) p [] → gaps_of p 0 (numbers_of own) ≡ [] → IsGaps (HasKey T) (p + 1) []
-  none_more none here =
-      subst (λ (gaps : List Gap). IsGaps (HasKey T) (p + 1) gaps) here (own_gaps T is p own mine [] none)
+joined : (T : Trace) (gaps added : List Gap) → BeginWithFirst T gaps → BeginWithFirst T added → BeginWithFirst T (gaps ++ added)
+joined T [] added so_far next gap more is = next gap more is
+joined T (g ∷ gs) added so_far next gap more is =
+    let same : g ≡ gap = cc is in
+    subst (λ (x : Gap). IsFirstMissing T (processor_of x) (first_of x)) same (so_far g gs refl)
 
-  abbrev first : ℕ
-  first = reach_from 0 (numbers_of own)
+-- the gaps of one processor more
+pub begin_more : (T : Trace) (is : IsTrace T) (p : ℕ) (own : List Outline) (mine : AreOwnOutlines T p own) (gaps : List Gap)
+    → BeginWithFirst T gaps → BeginWithFirst T (gaps ++ gaps_of p 0 (numbers_of own))
+begin_more T is p own mine gaps so_far = joined T gaps (gaps_of p 0 (numbers_of own)) so_far (λ gap more here.
+    let found = begin_of p (2 ^ 32) (numbers_of own) gap more (own_rise T is p own mine) here in
+    rw (found.0, found.1) (own_first T is p own mine))
 
-  pub least_missing : p < T.processors → IsGaps (HasKey T) p [] → 0 < length (gaps_of p 0 (numbers_of own)) → IsLeastMissing T p first
-  least_missing within none some = go (gaps_of p 0 (numbers_of own)) some (own_gaps T is p own mine [] none)
-    where
-      go : (gaps : List Gap) → 0 < length gaps → IsGaps (HasKey T) (p + 1) gaps → IsLeastMissing T p first
-      go [] some listed = absurd (omega (arith, some))
-      go (gap ∷ more) some listed =
-          let here = (listed.members gap).0 (Contains-cons gap more gap (inl refl)) in
-          let low = none_so_far T p (p + 1) gap none here in
-          let high = of_below T (p + 1) gap here in
-          record {
-            gap = gap;
-            there = of_fewer T (p + 1) T.processors gap here (omega (arith, high, within));
-            own = omega (arith, low, high);
-            first = own_first T is p own mine;
-            before = λ other there. none_so_far T p T.processors other none there;
-          }
+no_later : (a b : Gap) → IsGapBefore a b → processor_of a ≤ processor_of b
+no_later a b (inl lt) = omega (arith, lt)
+no_later a b (inr both) = let e = both.0 in omega (arith, e)
 
--- ---- the first gap of a processor
+first_at : (gaps : List Gap) (gap : Gap) → slice_get gaps 0 ≡ Some gap → (more : List Gap) × (gaps ≡ gap ∷ more)
+first_at [] gap at = absurd (cc at)
+first_at (g ∷ gs) gap at = let same : g ≡ gap = cc at in (gs, ap (λ (x : Gap). x ∷ gs) same)
 
--- what is missing of the numbers is missing of those from a place on
-pub record IsLeft (p place : ℕ) (left numbers : List ℕ) : Type 0 where
-  pub rises : Rises place (2 ^ 32) left
-  pub gaps : gaps_from p place left ≡ gaps_from p 0 numbers
-  pub reach : reach_from place left ≡ reach_from 0 numbers
+-- the first gap begins with the least key that is missing
+pub least_missing : (T : Trace) (missed : Missed) (gap : Gap) → IsMissed T missed → slice_get missed.gaps.items 0 ≡ Some gap
+    → IsLeastMissing T (processor_of gap) (first_of gap)
+least_missing T missed gap is at =
+    let found = first_at missed.gaps.items gap at in
+    let listed = subst (λ (gaps : List Gap). IsGaps (HasKey T) T.processors gaps) found.1 is.gaps in
+    record {
+      gap = gap;
+      there = (listed.members gap).0 (Contains-here gap found.0);
+      own = refl;
+      first = is.first gap found.0 found.1;
+      before = λ other there. elim (Contains-cases gap found.0 other ((listed.members other).1 there)) [
+        | inl same ↦ let e = ap processor_of same in omega (arith, e)
+        | inr later ↦ no_later gap other (at_member (IsGapBefore gap) found.0 other listed.rising.0 later)
+      ];
+    }
 
-module _ (p place : ℕ) (own : List Outline) (d : Outline) (within : place < length own)
-    (is : IsLeft p place (numbers_of (drop place own)) (numbers_of own)) where
-  abbrev number : ℕ
-  number = (get_or own place d).number
-
-  abbrev later : List ℕ
-  later = numbers_of (drop (place + 1) own)
-
-  next : IsLeft p place (number ∷ later) (numbers_of own)
-  next = subst (λ (ns : List ℕ). IsLeft p place ns (numbers_of own)) (ap numbers_of (drop_more own place d within)) is
-
-  pub one_less : number ≤ place → IsLeft p (place + 1) later (numbers_of own)
-  one_less le =
-      let low = next.rises.0 in
-      let here : number ≡ place = omega (arith, le, low) in
-      record {
-        rises = subst (λ (n : ℕ). Rises (n + 1) (2 ^ 32) later) here next.rises.1;
-        gaps = subst (λ (n : ℕ). gaps_from p (n + 1) later ≡ gaps_from p 0 (numbers_of own)) here
-            (sym (gaps-next p place number later le) ∙ next.gaps);
-        reach = sym (reach-next place number later here) ∙ next.reach;
-      }
-
-  pub first_left : place < number → (0 < length (gaps_of p 0 (numbers_of own))) × (place ≡ reach_from 0 (numbers_of own))
-  first_left lt =
-      let more = ap length (gaps-before p place number later lt) in
-      let here = ap length next.gaps in
-      let all = ap length (gaps-some p 0 (numbers_of own) (λ zero_is. some_numbers own (omega (arith, within)))) in (
-        omega (arith, more, here, all),
-        sym (reach-stop place number later (λ e. omega (arith, e, lt))) ∙ next.reach,
-      )
-
-pub none_left : (p place : ℕ) (own : List Outline) → 0 < length own → length own ≤ place
-    → IsLeft p place (numbers_of (drop place own)) (numbers_of own) → gaps_of p 0 (numbers_of own) ≡ []
-none_left p place own some past is =
-    gaps-some p 0 (numbers_of own) (λ zero_is. some_numbers own some) ∙ sym is.gaps
-    ∙ ap (λ (os : List Outline). gaps_from p place (numbers_of os)) (drop_of_length-le own past)
+-- a trace without a gap is complete
+pub complete : (T : Trace) (missed : Missed) → IsMissed T missed → slice_get missed.gaps.items 0 ≡ None → IsComplete T
+complete T missed is at gap there = go missed.gaps.items at ((is.gaps.members gap).1 there)
+  where
+    go : (gaps : List Gap) → slice_get gaps 0 ≡ None → Contains gaps gap → ⊥
+    go [] at h = Contains-nil gap h
+    go (g ∷ gs) at h = cc at
 
 -- ---- why a run ends
-
-a_member : (ss : List Content) → ss ≢ [] → (s : Content) × Contains ss s
-a_member [] some = absurd (some refl)
-a_member (s ∷ ss) some = (s, Contains-here s ss)
 
 of_one_trace : (segments : List Content) (T : Trace) → IsCaseOf segments T → AreOfOneTrace segments
 of_one_trace segments T is = record {
   some = λ none.
-      let first = a_member T.segments is.is_case.some in
+      let first = some_member T.segments is.is_case.some in
       Contains-nil first.0 (subst (λ (ss : List Content). Contains ss first.0) none ((is.members first.0).0 first.1));
   trace = case_one_trace segments T is;
   count = case_one_count segments T is;

@@ -13,7 +13,7 @@ use Rattle.htl_report.specs.Texts.{text_of}
 use Rattle.htl_report.specs.declared.answer.Answer.{Answer}
 use Rattle.htl_report.specs.declared.answer.Answer.TheVariants.{Outstanding, Diff, Tags, Bad, Leaks, Stacks, Trace as Listing, Summary}
 use Rattle.htl_command.specs.declared.question.Question.{Question}
-use Rattle.htl_command.specs.declared.question.Question.TheVariants as asked
+use Rattle.htl_command.specs.declared.question.Question.TheVariants as questions
 use Rattle.htl_command.specs.declared.question.Format.{Format}
 use Rattle.htl_command.specs.declared.question.Format.TheVariants.{Plain, Json, Folded}
 use Rattle.htl_json.specs.Lines.{json_line, values_of}
@@ -48,52 +48,52 @@ one_diff events process None m n rs ss p q =
 
 over_events : (events : List Event) (question : Question) (a b : Answer) → IsAnswerOver events question a → IsAnswerOver events question b
     → AreSame a b
-over_events events (asked.Outstanding process) (Outstanding x rs) (Outstanding y ss) p q =
+over_events events (questions.Outstanding process) (Outstanding x rs) (Outstanding y ss) p q =
     (p.0 ∙ sym q.0, (handles events).outstanding process rs.items ss.items p.1 q.1)
-over_events events (asked.Outstanding process) (Outstanding x rs) other p q = absurd q
-over_events events (asked.Outstanding process) other b p q = absurd p
-over_events events (asked.Diff process since) (Diff x m rs) (Diff y n ss) p q =
+over_events events (questions.Outstanding process) (Outstanding x rs) other p q = absurd q
+over_events events (questions.Outstanding process) other b p q = absurd p
+over_events events (questions.Diff process since) (Diff x m rs) (Diff y n ss) p q =
     let both = one_diff events process since m n rs.items ss.items p.1 q.1 in (p.0 ∙ sym q.0, both.0, both.1)
-over_events events (asked.Diff process since) (Diff x m rs) other p q = absurd q
-over_events events (asked.Diff process since) other b p q = absurd p
-over_events events (asked.Tags object) (Tags x rs) (Tags y ss) p q =
+over_events events (questions.Diff process since) (Diff x m rs) other p q = absurd q
+over_events events (questions.Diff process since) other b p q = absurd p
+over_events events (questions.Tags object) (Tags x rs) (Tags y ss) p q =
     (p.0 ∙ sym q.0, (counts events).tags object rs.items ss.items p.1 q.1)
-over_events events (asked.Tags object) (Tags x rs) other p q = absurd q
-over_events events (asked.Tags object) other b p q = absurd p
-over_events events (asked.Bad process) (Bad x rs) (Bad y ss) p q =
+over_events events (questions.Tags object) (Tags x rs) other p q = absurd q
+over_events events (questions.Tags object) other b p q = absurd p
+over_events events (questions.Bad process) (Bad x rs) (Bad y ss) p q =
     (p.0 ∙ sym q.0, (counts events).bad process rs.items ss.items p.1 q.1)
-over_events events (asked.Bad process) (Bad x rs) other p q = absurd q
-over_events events (asked.Bad process) other b p q = absurd p
-over_events events (asked.Leaks process) (Leaks x rs) (Leaks y ss) p q =
+over_events events (questions.Bad process) (Bad x rs) other p q = absurd q
+over_events events (questions.Bad process) other b p q = absurd p
+over_events events (questions.Leaks process) (Leaks x rs) (Leaks y ss) p q =
     (p.0 ∙ sym q.0, (handles events).leaks process rs.items ss.items p.1 q.1)
-over_events events (asked.Leaks process) (Leaks x rs) other p q = absurd q
-over_events events (asked.Leaks process) other b p q = absurd p
-over_events events (asked.Stacks object tag) (Stacks x m rs) (Stacks y n ss) p q =
+over_events events (questions.Leaks process) (Leaks x rs) other p q = absurd q
+over_events events (questions.Leaks process) other b p q = absurd p
+over_events events (questions.Stacks object tag) (Stacks x m rs) (Stacks y n ss) p q =
     (p.0 ∙ sym q.0, p.1 ∙ sym q.1, (counts events).stacks object tag rs.items ss.items p.2 q.2)
-over_events events (asked.Stacks object tag) (Stacks x m rs) other p q = absurd q
-over_events events (asked.Stacks object tag) other b p q = absurd p
-over_events events (asked.Trace process handle) (Listing x m rs) (Listing y n ss) p q =
+over_events events (questions.Stacks object tag) (Stacks x m rs) other p q = absurd q
+over_events events (questions.Stacks object tag) other b p q = absurd p
+over_events events (questions.Trace process handle) (Listing x m rs) (Listing y n ss) p q =
     (p.0 ∙ sym q.0, p.1 ∙ sym q.1, (handles events).listing process handle rs.items ss.items p.2 q.2)
-over_events events (asked.Trace process handle) (Listing x m rs) other p q = absurd q
-over_events events (asked.Trace process handle) other b p q = absurd p
-over_events events asked.Summary a b p q = absurd p
+over_events events (questions.Trace process handle) (Listing x m rs) other p q = absurd q
+over_events events (questions.Trace process handle) other b p q = absurd p
+over_events events questions.Summary a b p q = absurd p
 
 pub one_answer : (T : Trace) (question : Question) (a b : Answer) → IsAnswer T question a → IsAnswer T question b → AreSame a b
-one_answer T asked.Summary (Summary t gs ps os) (Summary u hs qs ns) p q = (
+one_answer T questions.Summary (Summary t gs ps os) (Summary u hs qs ns) p q = (
   one_totals T t u p.totals_are q.totals_are,
   one_gaps T gs.items hs.items p.gaps_are q.gaps_are,
   one_processes T ps.items qs.items p.processes_are q.processes_are,
   one_objects T os.items ns.items p.objects_are q.objects_are,
 )
-one_answer T asked.Summary (Summary t gs ps os) other p q = absurd q
-one_answer T asked.Summary other b p q = absurd p
-one_answer T (asked.Outstanding process) a b p q = over_events (all_events T.segments) (asked.Outstanding process) a b p q
-one_answer T (asked.Diff process since) a b p q = over_events (all_events T.segments) (asked.Diff process since) a b p q
-one_answer T (asked.Tags object) a b p q = over_events (all_events T.segments) (asked.Tags object) a b p q
-one_answer T (asked.Bad process) a b p q = over_events (all_events T.segments) (asked.Bad process) a b p q
-one_answer T (asked.Leaks process) a b p q = over_events (all_events T.segments) (asked.Leaks process) a b p q
-one_answer T (asked.Stacks object tag) a b p q = over_events (all_events T.segments) (asked.Stacks object tag) a b p q
-one_answer T (asked.Trace process handle) a b p q = over_events (all_events T.segments) (asked.Trace process handle) a b p q
+one_answer T questions.Summary (Summary t gs ps os) other p q = absurd q
+one_answer T questions.Summary other b p q = absurd p
+one_answer T (questions.Outstanding process) a b p q = over_events (all_events T.segments) (questions.Outstanding process) a b p q
+one_answer T (questions.Diff process since) a b p q = over_events (all_events T.segments) (questions.Diff process since) a b p q
+one_answer T (questions.Tags object) a b p q = over_events (all_events T.segments) (questions.Tags object) a b p q
+one_answer T (questions.Bad process) a b p q = over_events (all_events T.segments) (questions.Bad process) a b p q
+one_answer T (questions.Leaks process) a b p q = over_events (all_events T.segments) (questions.Leaks process) a b p q
+one_answer T (questions.Stacks object tag) a b p q = over_events (all_events T.segments) (questions.Stacks object tag) a b p q
+one_answer T (questions.Trace process handle) a b p q = over_events (all_events T.segments) (questions.Trace process handle) a b p q
 
 same_text : (table : List Range) (top : Option ℕ) (a b : Answer) → AreSame a b → text_of table top a ≡ text_of table top b
 same_text table top (Outstanding p rs) (Outstanding q ss) same = rw (same.0, same.1) refl

@@ -1,6 +1,6 @@
 -- What the outlines of one processor say of its keys and sequences is so of its segments.
 use Rattle.std.proofs.Common.{◌≡◌, ℕ, zero, suc, ◌+◌, ◌^◌, ◌<◌, ◌≤◌, List, [], ◌∷◌, ◌++◌, map, max, take, All}
-use Rattle.std.proofs.Common.{refl, ap, subst, sym, ◌∙◌, arith, inl, inr}
+use Rattle.std.proofs.Common.{refl, ap, subst, sym, ◌∙◌, arith}
 use Rattle.std.specs.Prelude.{get_or, Contains}
 use Rattle.std.specs.List.{AllByRecursion}
 use Rattle.std.specs.List.Sorted.{IsNonDecreasingBy}
@@ -23,6 +23,7 @@ use Rattle.htl_main.specs.CaseOutlines.{AreOutlinesOf, greatest_from, numbers_of
 use Rattle.htl_main.specs.Summaries.{IsFirstMissing, IsUnbrokenTo}
 use Rattle.htl_main.proofs.Covered.{AreFrom, AreOwn, segment_numbers, cut, first_is, from_first, more_gaps, next_back, own_front, rises}
 use Rattle.htl_main.proofs.Covered.{unbroken_to}
+use Rattle.htl_case.proofs.Scanned.{processor_rises}
 
 -- the outlines of the trace's segments of the processor, and of those from it on
 pub record AreOwnOutlines (T : Trace) (p : ℕ) (own : List Outline) : Type 0 where
@@ -40,17 +41,13 @@ outlines_from_first T n outlines are = record { segments = T.segments; from = fr
 
 -- ---- of the processors from one on
 
-no_earlier : (s t : Content) → IsBefore s t → s.processor ≤ t.processor
-no_earlier s t (inl lt) = omega (arith, lt)
-no_earlier s t (inr both) = let e = both.0 in omega (arith, e)
-
 by_processor : (ss : List Content) → AreInOrder ss → IsNonDecreasingBy (λ o. o.processor) (map outline_of ss)
 by_processor [] ordered i j d le within = absurd (omega (arith, within))
 by_processor (s ∷ ss) ordered zero zero d le within = omega arith
 by_processor (s ∷ ss) ordered zero (suc j) d le within =
     let there = Contains-get_or (map outline_of ss) j d (omega (arith, within)) in
     let from = Contains-from_map outline_of ss (get_or (map outline_of ss) j d) there in
-    let low = no_earlier s from.0 (at_member (IsBefore s) ss from.0 ordered.0 from.1) in
+    let low = processor_rises s from.0 (at_member (IsBefore s) ss from.0 ordered.0 from.1) in
     let same : (from.0).processor ≡ (get_or (map outline_of ss) j d).processor = ap (λ (o : Outline). o.processor) from.2 in
     omega (arith, low, same)
 by_processor (s ∷ ss) ordered (suc i) zero d le within = absurd (omega (arith, le))

@@ -1,10 +1,10 @@
 -- Two segments that break a rule are found wherever there are some.
 use Rattle.std.proofs.Common.{◌≡◌, ◌∙◌, ◌<◌, ◌≤◌, ◌+◌, ℕ, Bool, true, false, List, [], ◌∷◌, length, get_or, ltb, Option, Some, None}
 use Rattle.std.proofs.Common.{refl, sym, ap, subst, arith, inl, inr}
-use Rattle.std.specs.Prelude.{Contains, MatchOption, cond, nat_le, nat_lt, position, slice_get, ◌&&◌, ◌==◌}
+use Rattle.std.specs.Prelude.{Contains, MatchOption, cond, nat_le, nat_lt, position, slice_get, ◌==◌}
 use Rattle.std.specs.List.{position_or_len}
 use Rattle.std.specs.Cmp.Derive.{both_true}
-use Rattle.std.proofs.lemmas.Bool.{cases_Bool, cases_eq, eq-eqb, eqb-true, le-leb, leb-true, lt-ltb, ltb-false, ltb-true}
+use Rattle.std.proofs.lemmas.Bool.{cases_Bool, cases_eq, eq-eqb, eqb-true, le-leb, leb-true, lt-ltb, ltb-false, ltb-true, and_parts}
 use Rattle.std.proofs.lemmas.List.Folds.{Any-from_list_any}
 use Rattle.std.proofs.lemmas.Option.{slice_get-get_or}
 use Rattle.std.proofs.lemmas.List.Quantifiers.{position-Some}
@@ -21,10 +21,6 @@ use Rattle.htl_main.specs.Origins.{BreakRuleAt, is_about_two}
 use Rattle.htl_main.specs.Pairs.{AreOne, AreTwoAt, HaveOne, IsLeastSequence, NonePasses, PassesAt, has_shared, is_key, reaches}
 use Rattle.htl_main.specs.declared.pairing.Shared.{Shared}
 use Rattle.htl_main.specs.declared.pairing.Shared.TheVariants.{Key, Sequence}
-
-both : (a b : Bool) → a && b ≡ true → (a ≡ true) × (b ≡ true)
-both true b is = (refl, is)
-both false b is = absurd cc
 
 -- a member stands at some place
 pub member_at : {X : Type 0} (xs : List X) (x : X) (h : Contains xs x) → slice_get xs h.0 ≡ Some x
@@ -104,7 +100,7 @@ has_key processor number s same =
 
 key_is : (processor number : ℕ) (s : Content) → is_key processor number s ≡ true → key_of s ≡ (processor, number)
 key_is processor number s has =
-    let tests = both (s.processor == processor) (s.number == number) has in
+    let tests = and_parts (s.processor == processor) (s.number == number) has in
     let p = eqb-true s.processor processor tests.0 in
     let n = eqb-true s.number number tests.1 in
     cc
@@ -212,8 +208,8 @@ module _ (segments : List Content) (processor number : ℕ) where
       → BreakRuleAt segments (Falling processor number) place lower
   fall_found place s at has floor least lower found =
       let passes = found.passes in
-      let tests = both (found.one.processor == processor) _ passes in
-      let more = both (nat_lt found.one.number number) _ tests.1 in
+      let tests = and_parts (found.one.processor == processor) _ passes in
+      let more = and_parts (nat_lt found.one.number number) _ tests.1 in
       let some = Any-from_list_any (λ (e : Event). nat_le floor e.sequence) found.one.events more.1 in
       let up : floor ≤ some.1.sequence = leb-true floor some.1.sequence some.4 in
       let is = least.sequence in

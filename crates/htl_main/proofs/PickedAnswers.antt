@@ -14,7 +14,7 @@ use Rattle.htl_event.proofs.Wanted.{process_needs_its_own, object_needs_its_own}
 use Rattle.htl_report.specs.declared.answer.Answer.{Answer}
 use Rattle.htl_report.specs.declared.answer.Answer.TheVariants.{Outstanding, Diff, Tags, Bad, Leaks, Stacks, Trace as Listing}
 use Rattle.htl_command.specs.declared.question.Question.{Question}
-use Rattle.htl_command.specs.declared.question.Question.TheVariants as asked
+use Rattle.htl_command.specs.declared.question.Question.TheVariants as questions
 use Rattle.htl_symbols.proofs.Searches.{list_any-true, list_any-false}
 use Rattle.htl_main.specs.Answers.{IsAnswerOver}
 use Rattle.htl_main.specs.Picked.{interest_of}
@@ -24,15 +24,15 @@ use Rattle.htl_main.specs.Subjects.{is_about, names_handle, names_object}
 -- ---- questions
 
 pub of_parts : (question : Question) → is_some (interest_of question) ≡ true
-    → ((process handle : ℕ) → question ≡ asked.Trace process handle → ⊥) → IsOfParts question
-of_parts (asked.Outstanding p) some other = tt
-of_parts (asked.Diff p since) some other = tt
-of_parts (asked.Tags o) some other = tt
-of_parts (asked.Bad p) some other = tt
-of_parts (asked.Leaks p) some other = tt
-of_parts (asked.Stacks o tag) some other = tt
-of_parts (asked.Trace p handle) some other = absurd (other p handle refl)
-of_parts asked.Summary some other = absurd cc
+    → ((process handle : ℕ) → question ≡ questions.Trace process handle → ⊥) → IsOfParts question
+of_parts (questions.Outstanding p) some other = tt
+of_parts (questions.Diff p since) some other = tt
+of_parts (questions.Tags o) some other = tt
+of_parts (questions.Bad p) some other = tt
+of_parts (questions.Leaks p) some other = tt
+of_parts (questions.Stacks o tag) some other = tt
+of_parts (questions.Trace p handle) some other = absurd (other p handle refl)
+of_parts questions.Summary some other = absurd cc
 
 -- ---- answers
 
@@ -54,40 +54,40 @@ of_object o interest es own is moved =
 pub over_all : (question : Question) (interest : Interest) (es own : List Event) (answer : Answer)
     → interest_of question ≡ Some interest → IsPermutation (wanted interest es) own → IsAnswerOver own question answer
     → IsAnswerOver es question answer
-over_all (asked.Outstanding p) interest es own (Outstanding of rows) is moved over =
+over_all (questions.Outstanding p) interest es own (Outstanding of rows) is moved over =
     (over.0, ((of_process p interest es own is moved).outstanding rows.items).1 over.1)
-over_all (asked.Diff p (Some since)) interest es own (Diff of from rows) is moved over =
+over_all (questions.Diff p (Some since)) interest es own (Diff of from rows) is moved over =
     (over.0, (over.1.0, ((of_process p interest es own is moved).diff since rows.items).1 over.1.1))
-over_all (asked.Diff p None) interest es own (Diff of from rows) is moved over =
+over_all (questions.Diff p None) interest es own (Diff of from rows) is moved over =
     let same = of_process p interest es own is moved in
     (over.0, ((same.mark from).1 over.1.0, (same.diff from rows.items).1 over.1.1))
-over_all (asked.Tags o) interest es own (Tags of rows) is moved over =
+over_all (questions.Tags o) interest es own (Tags of rows) is moved over =
     (over.0, ((of_object o interest es own is moved).tags rows.items).1 over.1)
-over_all (asked.Bad p) interest es own (Bad of rows) is moved over =
+over_all (questions.Bad p) interest es own (Bad of rows) is moved over =
     (over.0, ((of_process p interest es own is moved).bad rows.items).1 over.1)
-over_all (asked.Leaks p) interest es own (Leaks of rows) is moved over =
+over_all (questions.Leaks p) interest es own (Leaks of rows) is moved over =
     (over.0, ((of_process p interest es own is moved).leaks rows.items).1 over.1)
-over_all (asked.Stacks o tag) interest es own (Stacks of under rows) is moved over =
+over_all (questions.Stacks o tag) interest es own (Stacks of under rows) is moved over =
     (over.0, over.1, ((of_object o interest es own is moved).stacks tag rows.items).1 over.2)
-over_all (asked.Trace p handle) interest es own (Listing of under rows) is moved over =
+over_all (questions.Trace p handle) interest es own (Listing of under rows) is moved over =
     (over.0, over.1, ((of_process p interest es own is moved).listing handle rows.items).1 over.2)
-over_all asked.Summary interest es own answer is moved over = absurd (cc is)
+over_all questions.Summary interest es own answer is moved over = absurd (cc is)
 over_all question interest es own answer is moved over = over
 
 -- ---- what the question is about
 
 is_wanted : (question : Question) (interest : Interest) (e : Event) → interest_of question ≡ Some interest → is_about question e ≡ true
     → wants interest e ≡ true
-is_wanted asked.Summary interest e is about = absurd (cc is)
-is_wanted (asked.Outstanding p) interest e is about = rw (sym (is_interest interest (Process p) is)) about
-is_wanted (asked.Diff p since) interest e is about = rw (sym (is_interest interest (Process p) is)) about
-is_wanted (asked.Bad p) interest e is about = rw (sym (is_interest interest (Process p) is)) about
-is_wanted (asked.Leaks p) interest e is about = rw (sym (is_interest interest (Process p) is)) about
-is_wanted (asked.Trace p handle) interest e is about =
+is_wanted questions.Summary interest e is about = absurd (cc is)
+is_wanted (questions.Outstanding p) interest e is about = rw (sym (is_interest interest (Process p) is)) about
+is_wanted (questions.Diff p since) interest e is about = rw (sym (is_interest interest (Process p) is)) about
+is_wanted (questions.Bad p) interest e is about = rw (sym (is_interest interest (Process p) is)) about
+is_wanted (questions.Leaks p) interest e is about = rw (sym (is_interest interest (Process p) is)) about
+is_wanted (questions.Trace p handle) interest e is about =
     rw (sym (is_interest interest (Process p) is)) ((and_parts _ _ (and_parts (names_handle e.kind) _ about).1).0)
-is_wanted (asked.Tags o) interest e is about =
+is_wanted (questions.Tags o) interest e is about =
     rw (sym (is_interest interest (Object o) is)) ((and_parts (names_object e.kind) _ about).1)
-is_wanted (asked.Stacks o tag) interest e is about =
+is_wanted (questions.Stacks o tag) interest e is about =
     rw (sym (is_interest interest (Object o) is)) ((and_parts _ _ (and_parts (names_object e.kind) _ about).1).0)
 
 pub same_subject : (question : Question) (interest : Interest) (es own : List Event) → interest_of question ≡ Some interest

@@ -1,20 +1,23 @@
 -- Sources that are read one after another, and the one at which a run ends.
-use Rattle.std.proofs.Common.{◌≡◌, ◌⊎◌, ◌<◌, ◌≤◌, ◌+◌, ℕ, Bool, true, false, List, length, map, All, get_or, refl, subst, sym, ap, ◌∙◌, arith, inl, inr}
+use Rattle.std.proofs.Common.{◌≡◌, ◌<◌, ◌≤◌, ◌+◌, ℕ, Bool, false, List, length, map, All, refl, sym, ap, ◌∙◌, arith, inl, inr}
 use Rattle.std.proofs.Common.{Option, Some, Result, Ok, Err}
-use Rattle.std.specs.Prelude.{option_map, slice_get}
+use Rattle.std.specs.Prelude.{IfErr, option_map, slice_get}
 use Rattle.std.proofs.Math.ListN.{set}
 use Rattle.std.proofs.lemmas.Bool.{false_from_ne_true}
-use Rattle.std.proofs.lemmas.List.Elements.{All-get_or, All-set}
-use Rattle.std.proofs.lemmas.Option.{slice_get-get_or, slice_get-map, slice_get_within}
+use Rattle.std.proofs.lemmas.List.Elements.{All-set}
+use Rattle.std.proofs.lemmas.Option.{slice_get-map}
 use Rattle.htl_device.specs.declared.whole.TheConstants.{MAX_READS}
-use Rattle.htl_main.specs.Reads.{FailsOnly, NamesOnly}
+use Rattle.htl_reading.specs.Sources.{read_ahead}
+use Rattle.htl_reading.specs.declared.reading.TheConstants.{BLOCK_LEN}
+use Rattle.htl_main.specs.Reads.{IsRead, NeverRead}
 use Rattle.htl_main.specs.Readings.{AreRead}
-use Rattle.htl_main.specs.Sources.{AreReadWithin, IsTrueAt, StandsBefore}
+use Rattle.htl_main.specs.Sources.{AreReadToFault, AreReadWithin, EndsBefore, IsTrueAt}
 use Rattle.htl_main.specs.declared.fault.RunFault.{RunFault}
-use Rattle.htl_main.specs.declared.fault.RunFault.TheVariants.{Memory, Read}
-use Rattle.htl_main.proofs.SourceLaws.{ended_next, endless_at, known_now, none_read_within, one_read_within, other_value, slice_get-set_other}
-use Rattle.htl_main.proofs.SourceLaws.{stopped_at, stopped_before, true_nowhere, true_of_all, true_of_new, true_there, value_there}
-use Rattle.htl_main.proofs.OneSource.{failed_again, failed_or_before, never_failed}
+use Rattle.htl_main.specs.declared.fault.RunFault.TheVariants.{Memory, Read, Workers}
+use Rattle.htl_main.proofs.SourceLaws.{ended_next, endless_at, known_now, none_read, none_read_within, one_read, one_read_within, other_value}
+use Rattle.htl_main.proofs.SourceLaws.{read_no_fault, slice_get-set_other, stopped_at, stopped_before, true_nowhere, true_of_all, true_of_new}
+use Rattle.htl_main.proofs.SourceLaws.{true_there, value_there}
+use Rattle.htl_main.proofs.OneSource.{failed_again, failed_or_before, never_failed, none_failed}
 
 abbrev pub well : {S : Type 0} → S → Result S RunFault
 well value = Ok value
@@ -23,133 +26,175 @@ abbrev pub ill : {S : Type 0} → RunFault → Result S RunFault
 ill fault = Err fault
 
 -- The sources before a place were read to their ends, and the others weren't read.
-pub record ReadBefore {R : Type 0} (has_failed has_ended : R → Bool) (good_reads : R → ℕ) (first now : List R) (place : ℕ) : Type 0 where
+pub record ReadBefore {R : Type 0} (is_text : Bool) (workers : ℕ) (has_failed has_ended : R → Bool) (good_reads : R → ℕ)
+    (remaining : R → Option (List ℕ)) (first now : List R) (place : ℕ) : Type 0 where
   pub left : (k : ℕ) → place ≤ k → slice_get now k ≡ slice_get first k
   pub ended : (k : ℕ) → k < place → IsTrueAt (map has_ended now) k
   pub fine : All (λ source. has_failed source ≡ false) now
   pub bounded : AreReadWithin (map good_reads first) (map good_reads now)
+  pub to_fault : is_text ≡ false → AreReadToFault (read_ahead workers BLOCK_LEN) (map remaining first) (map remaining now)
 
-pub none_before : {R : Type 0} (has_failed has_ended : R → Bool) (good_reads : R → ℕ) (first : List R)
-    → All (λ source. has_failed source ≡ false) first → ReadBefore has_failed has_ended good_reads first first 0
-none_before has_failed has_ended good_reads first fine = record {
-  left = λ k above. refl;
-  ended = λ k below. absurd (omega (arith, below));
-  fine = fine;
-  bounded = none_read_within (map good_reads first);
-}
+module _ {R : Type 0} (is_text : Bool) (workers : ℕ) (has_failed has_ended : R → Bool) (good_reads : R → ℕ)
+    (remaining : R → Option (List ℕ)) (first : List R) where
+  abbrev ahead : ℕ
+  ahead = read_ahead workers BLOCK_LEN
 
--- How the source x at a place was read, and is y after that.
-pub record IsRead {R S : Type 0} (hex : Bool) (workers : ℕ) (has_failed has_ended : R → Bool) (good_reads : R → ℕ) (remaining : R → Option (List ℕ)) (place : ℕ)
-    (x y : R) (result : Result S RunFault) : Type 0 where
-  pub reported : has_failed y ≡ true → (result ≡ Err (Read place)) ⊎ StandsBefore hex workers place (remaining x) (remaining y) result
-  pub read : FailsOnly place (has_failed y) (good_reads y) (remaining x) MAX_READS result
-  pub bounded : good_reads y ≤ good_reads x + MAX_READS
-  pub named : NamesOnly place result
+  -- before the first read
+  pub none_before : All (λ source. has_failed source ≡ false) first
+      → ReadBefore is_text workers has_failed has_ended good_reads remaining first first 0
+  none_before fine = record {
+    left = λ k above. refl;
+    ended = λ k below. absurd (omega (arith, below));
+    fine = fine;
+    bounded = none_read_within (map good_reads first);
+    to_fault = λ bytes. none_read ahead (map remaining first);
+  }
 
--- the source at a place that wasn't read yet is as it was
-pub still : {R : Type 0} (P : R → Type 0) (first now : List R) (place : ℕ) (x : R) → All P first → slice_get now place ≡ slice_get first place
-    → slice_get now place ≡ Some x → P x
-still P first now place x each left here =
-    let there : slice_get first place ≡ Some x = sym left ∙ here in
-    let within = slice_get_within first place x there in
-    let got = slice_get-get_or first place x within in
-    let same : get_or first place x ≡ x = cc (got, there) in
-    subst P same (All-get_or P first place x within each)
+  -- a run that ends before its first read reads no source
+  pub unread : {S : Type 0} → All (λ source. has_failed source ≡ false) first
+      → AreRead is_text workers has_failed has_ended good_reads remaining first first (ill {S = S} Workers)
+  unread fine = record {
+    ended = tt;
+    in_order = λ earlier later below. inr refl;
+    reported = λ place failed. absurd (true_nowhere has_failed first place fine failed);
+    read = λ place told. absurd (cc told);
+    no_fault = λ place told bytes. absurd (cc told);
+    bounded = none_read_within (map good_reads first);
+    unread = λ place before. refl;
+    to_fault = λ bytes. none_read ahead (map remaining first);
+  }
 
--- one source more
-pub one_before : {R S : Type 0} (hex : Bool) (workers : ℕ) (has_failed has_ended : R → Bool) (good_reads : R → ℕ)
-    (remaining : R → Option (List ℕ)) (first now : List R)
-    (place : ℕ) (x y : R) (value : S) → ReadBefore has_failed has_ended good_reads first now place → place < length now
-    → slice_get now place ≡ Some x
-    → IsRead hex workers has_failed has_ended good_reads remaining place x y (well {S = S} value) → has_ended y ≡ true
-    → ReadBefore has_failed has_ended good_reads first (set now place y) (place + 1)
-one_before hex workers has_failed has_ended good_reads remaining first now place x y value before within here is ended =
-    let fine : has_failed y ≡ false = false_from_ne_true (has_failed y) (λ failed. never_failed hex workers place _ _ value (is.reported failed)) in
-    record {
-      left = λ k above. slice_get-set_other now place k y (λ e. omega (arith, above, e)) ∙ before.left k (omega (arith, above));
-      ended = ended_next has_ended now place y within ended before.ended;
-      fine = All-set (λ source. has_failed source ≡ false) now place y fine before.fine;
-      bounded = one_read_within good_reads (map good_reads first) now place x y within before.bounded
-          (known_now good_reads first now place x (before.left place (omega arith)) here) is.bounded;
+  module _ (now : List R) where
+    -- all were read
+    pub all_read : {S : Type 0} (place : ℕ) (value : S) → ReadBefore is_text workers has_failed has_ended good_reads remaining first now place
+        → length now ≤ place
+        → AreRead is_text workers has_failed has_ended good_reads remaining first now (well {S = S} value)
+    all_read place value before all = record {
+      ended = true_of_all has_ended now (λ k within. before.ended k (omega (arith, all, within)));
+      in_order = stopped_before has_ended first now place before.ended before.left;
+      reported = λ at failed. absurd (true_nowhere has_failed now at before.fine failed);
+      read = λ at is. absurd (cc is);
+      no_fault = λ at is bytes. absurd (cc is);
+      bounded = before.bounded;
+      unread = tt;
+      to_fault = before.to_fault;
     }
 
--- all were read
-pub all_read : {R S : Type 0} (hex : Bool) (workers : ℕ) (has_failed has_ended : R → Bool) (good_reads : R → ℕ)
-    (remaining : R → Option (List ℕ)) (first now : List R)
-    (place : ℕ) (value : S) → ReadBefore has_failed has_ended good_reads first now place → length now ≤ place
-    → AreRead hex workers has_failed has_ended good_reads remaining first now (well {S = S} value)
-all_read hex workers has_failed has_ended good_reads remaining first now place value before all = record {
-  ended = true_of_all has_ended now (λ k within. before.ended k (omega (arith, all, within)));
-  in_order = stopped_before has_ended first now place before.ended before.left;
-  reported = λ at failed. absurd (true_nowhere has_failed now at before.fine failed);
-  read = λ at is. absurd (cc is);
-  bounded = before.bounded;
-  unread = tt;
-}
-
--- a run ends at the source at a place
-pub read_to : {R S : Type 0} (hex : Bool) (workers : ℕ) (has_failed has_ended : R → Bool) (good_reads : R → ℕ)
-    (remaining : R → Option (List ℕ)) (first now : List R)
-    (place : ℕ) (x y : R) (fault : RunFault) → ReadBefore has_failed has_ended good_reads first now place → place < length now
-    → slice_get now place ≡ Some x
-    → IsRead hex workers has_failed has_ended good_reads remaining place x y (ill {S = S} fault)
-    → AreRead hex workers has_failed has_ended good_reads remaining first (set now place y) (ill {S = S} fault)
-read_to hex workers has_failed has_ended good_reads remaining first now place x y fault before within here is = record {
-  ended = tt;
-  in_order = stopped_at has_ended first now place y before.ended before.left;
-  reported = λ at failed.
-      let new = true_of_new has_failed now place at y before.fine failed in
-      rw (new.0) (failed_or_before hex workers place (remaining x) (remaining y) (map remaining first) (map remaining (set now place y)) fault
-      (known_now remaining first now place x (before.left place (omega arith)) here) (value_there remaining now place y within)
-      (is.reported new.1));
-  read = λ at told.
-      let read = is.read at told in
-      rw (read.0) (elim (read.1) [
-        | inl failed ↦ inl (true_there has_failed now place y within failed)
-        | inr many ↦ inr (endless_at remaining good_reads first now place x y within
-            (known_now remaining first now place x (before.left place (omega arith)) here) many)
-      ]);
-  bounded = one_read_within good_reads (map good_reads first) now place x y within before.bounded
-      (known_now good_reads first now place x (before.left place (omega arith)) here) is.bounded;
-  unread = λ later ends.
-      let above : place < later = is.named later ends in
-      slice_get-set_other now place later y (λ e. omega (arith, above, e)) ∙ before.left later (omega (arith, above));
-}
-
--- a run ends for the fault, whatever it gives else
-pub ends_too : {R S T : Type 0} (hex : Bool) (workers : ℕ) (has_failed has_ended : R → Bool) (good_reads : R → ℕ)
-    (remaining : R → Option (List ℕ)) (first now : List R)
-    (fault : RunFault) → AreRead hex workers has_failed has_ended good_reads remaining first now (ill {S = S} fault)
-    → AreRead hex workers has_failed has_ended good_reads remaining first now (ill {S = T} fault)
-ends_too hex workers has_failed has_ended good_reads remaining first now fault read = record {
-  ended = tt;
-  in_order = read.in_order;
-  reported = λ at failed. failed_again hex workers at (map remaining first) (map remaining now) fault (read.reported at failed);
-  read = λ at told. (let same : fault ≡ Read at = cc told in read.read at (rw same refl));
-  bounded = read.bounded;
-  unread = read.unread;
-}
-
--- a source was read, and then memory was refused
-pub refused_after : {R S T : Type 0} (hex : Bool) (workers : ℕ) (has_failed has_ended : R → Bool) (good_reads : R → ℕ) (remaining : R → Option (List ℕ))
-    (first now : List R)
-    (place : ℕ) (x y : R) (value : S) → ReadBefore has_failed has_ended good_reads first now place → place < length now
-    → slice_get now place ≡ Some x
-    → IsRead hex workers has_failed has_ended good_reads remaining place x y (well {S = S} value)
-    → AreRead hex workers has_failed has_ended good_reads remaining first (set now place y) (ill {S = T} Memory)
-refused_after hex workers has_failed has_ended good_reads remaining first now place x y value before within here is =
-    let fine : has_failed y ≡ false = false_from_ne_true (has_failed y) (λ failed. never_failed hex workers place _ _ value (is.reported failed)) in
-    record {
+    -- a run ends for the fault of its sources, whatever it gives else
+    pub ends_too : {S T : Type 0} (fault : RunFault)
+        → AreRead is_text workers has_failed has_ended good_reads remaining first now (ill {S = S} fault)
+        → AreRead is_text workers has_failed has_ended good_reads remaining first now (ill {S = T} fault)
+    ends_too fault read = record {
       ended = tt;
-      in_order = stopped_at has_ended first now place y before.ended before.left;
-      reported = λ at failed.
-          let new = true_of_new has_failed now place at y before.fine failed in
-          let no : has_failed y ≡ true = new.1 in absurd (cc (no, fine));
-      read = λ at told. absurd (cc told);
-      bounded = one_read_within good_reads (map good_reads first) now place x y within before.bounded
-          (known_now good_reads first now place x (before.left place (omega arith)) here) is.bounded;
-      unread = λ later ends. absurd ends;
+      in_order = read.in_order;
+      reported = λ at failed. failed_again is_text workers at (map remaining first) (map remaining now) fault (read.reported at failed);
+      read = λ at told. (let same : fault ≡ Read at = cc told in read.read at (rw same refl));
+      no_fault = λ at told. (let same : fault ≡ Read at = cc told in read.no_fault at (rw same refl));
+      bounded = read.bounded;
+      unread = read.unread;
+      to_fault = read.to_fault;
     }
+
+    -- a run that has read all its sources ends well, or for a fault of no input
+    pub read_then : {S T : Type 0} (value : S) (result : Result T RunFault)
+        → AreRead is_text workers has_failed has_ended good_reads remaining first now (well {S = S} value) → NeverRead result
+        → IfErr result (λ fault. (place : ℕ) → EndsBefore fault place → ⊥)
+        → AreRead is_text workers has_failed has_ended good_reads remaining first now result
+    read_then value (Ok done) read never names = record {
+      ended = read.ended;
+      in_order = read.in_order;
+      reported = λ at failed. absurd (none_failed is_text workers _ _ _ value read.reported at failed);
+      read = λ at told. absurd (never at told);
+      no_fault = λ at told. absurd (never at told);
+      bounded = read.bounded;
+      unread = tt;
+      to_fault = read.to_fault;
+    }
+    read_then value (Err fault) read never names = record {
+      ended = tt;
+      in_order = read.in_order;
+      reported = λ at failed. absurd (none_failed is_text workers _ _ _ value read.reported at failed);
+      read = λ at told. absurd (never at told);
+      no_fault = λ at told. absurd (never at told);
+      bounded = read.bounded;
+      unread = λ place before. absurd (names place before);
+      to_fault = read.to_fault;
+    }
+
+    -- The source x at a place is read next, and is y after that.
+    module _ (place : ℕ) (x y : R) (before : ReadBefore is_text workers has_failed has_ended good_reads remaining first now place)
+        (within : place < length now) (here : slice_get now place ≡ Some x) where
+      bytes_of : slice_get (map remaining first) place ≡ Some (remaining x)
+      bytes_of = known_now remaining first now place x (before.left place (omega arith)) here
+
+      few : good_reads y ≤ good_reads x + MAX_READS → AreReadWithin (map good_reads first) (map good_reads (set now place y))
+      few one = one_read_within good_reads (map good_reads first) now place x y within before.bounded
+          (known_now good_reads first now place x (before.left place (omega arith)) here) one
+
+      -- one source more
+      pub one_before : {S : Type 0} (value : S)
+          → IsRead is_text workers MAX_READS has_failed has_ended good_reads remaining place x y (well {S = S} value)
+          → ReadBefore is_text workers has_failed has_ended good_reads remaining first (set now place y) (place + 1)
+      one_before value is =
+          let fine : has_failed y ≡ false = false_from_ne_true (has_failed y)
+          (λ failed. never_failed is_text workers place _ _ value (is.reported failed)) in
+          record {
+            left = λ k above. slice_get-set_other now place k y (λ e. omega (arith, above, e)) ∙ before.left k (omega (arith, above));
+            ended = ended_next has_ended now place y within is.ended before.ended;
+            fine = All-set (λ source. has_failed source ≡ false) now place y fine before.fine;
+            bounded = few is.bounded;
+            to_fault = λ bytes. one_read ahead remaining (map remaining first) now place x y within (before.to_fault bytes) bytes_of
+                (is.to_fault bytes);
+          }
+
+      -- a run ends at the source at a place
+      pub read_to : {S T : Type 0} (fault : RunFault)
+          → IsRead is_text workers MAX_READS has_failed has_ended good_reads remaining place x y (ill {S = S} fault)
+          → AreRead is_text workers has_failed has_ended good_reads remaining first (set now place y) (ill {S = T} fault)
+      read_to fault is = record {
+        ended = tt;
+        in_order = stopped_at has_ended first now place y before.ended before.left;
+        reported = λ at failed.
+            let new = true_of_new has_failed now place at y before.fine failed in
+            rw (new.0) (failed_or_before is_text workers place (remaining x) (remaining y) (map remaining first)
+            (map remaining (set now place y)) fault bytes_of (value_there remaining now place y within) (is.reported new.1));
+        read = λ at told.
+            let same : fault ≡ Read at = cc told in
+            let read = is.read at (rw same refl) in
+            rw (read.0) (elim (read.1) [
+              | inl failed ↦ inl (true_there has_failed now place y within failed)
+              | inr many ↦ inr (endless_at remaining good_reads first now place x y within bytes_of many)
+            ]);
+        no_fault = λ at told bytes.
+            let same : fault ≡ Read at = cc told in
+            let read = is.read at (rw same refl) in
+            rw (read.0) (read_no_fault remaining (map remaining first) now place x y within bytes_of (is.no_fault at (rw same refl) bytes));
+        bounded = few is.bounded;
+        unread = λ later ends.
+            let above : place < later = is.named later ends in
+            slice_get-set_other now place later y (λ e. omega (arith, above, e)) ∙ before.left later (omega (arith, above));
+        to_fault = λ bytes. one_read ahead remaining (map remaining first) now place x y within (before.to_fault bytes) bytes_of
+            (is.to_fault bytes);
+      }
+
+      -- a source was read, and then memory was refused
+      pub refused_after : {S T : Type 0} (value : S)
+          → IsRead is_text workers MAX_READS has_failed has_ended good_reads remaining place x y (well {S = S} value)
+          → AreRead is_text workers has_failed has_ended good_reads remaining first (set now place y) (ill {S = T} Memory)
+      refused_after value is =
+          record {
+            ended = tt;
+            in_order = stopped_at has_ended first now place y before.ended before.left;
+            reported = λ at failed.
+                let new = true_of_new has_failed now place at y before.fine failed in
+                absurd (never_failed is_text workers place _ _ value (is.reported new.1));
+            read = λ at told. absurd (cc told);
+            no_fault = λ at told. absurd (cc told);
+            bounded = few is.bounded;
+            unread = λ later ends. absurd ends;
+            to_fault = λ bytes. one_read ahead remaining (map remaining first) now place x y within (before.to_fault bytes) bytes_of
+                (is.to_fault bytes);
+          }
 
 -- the sources after the last that was read have all their bytes left
 pub unread_later : {R : Type 0} (remaining : R → Option (List ℕ)) (first now : List R) (texts : List (List ℕ)) (place : ℕ) (y : R)

@@ -9,7 +9,9 @@ use Rattle.std.proofs.lemmas.List.Elements.{All-cons, All-head, All-nil, All-tai
 use Rattle.std.proofs.lemmas.Option.{slice_get-map}
 use Rattle.htl_device.specs.declared.whole.TheConstants.{MAX_READS}
 use Rattle.htl_segment.specs.Content.{Fits}
-use Rattle.htl_main.specs.Sources.{AreReadInOrder, AreReadToFault, AreReadWithin, IsEndless, IsTrueAt, ReadsNoFault}
+use Rattle.htl_main.specs.Sources.{AreReadInOrder, AreReadToFault, AreReadWithin, IsEndless, IsReportedAt, IsReportedOfSource, IsTrueAt}
+use Rattle.htl_main.specs.Sources.{ReadsNoFault}
+use Rattle.htl_main.specs.declared.fault.RunFault.{RunFault}
 use Rattle.htl_reading.specs.Sources.{IsReadToFault}
 use Rattle.htl_reading.proofs.FaultLaws.{read_without_fault}
 
@@ -88,6 +90,14 @@ at_known inputs place (Some x) P knows fact = let is : x ≡ knows.input = let e
 -- what a new element at a place is mapped to
 pub value_there : {X Y : Type 0} (f : X → Y) (xs : List X) (i : ℕ) (y : X) → i < length xs → slice_get (map f (set xs i y)) i ≡ Some (f y)
 value_there f xs i y within = slice_get-map f (set xs i y) i ∙ ap (option_map f) (slice_get-set_same xs i y within)
+
+-- what is reported of the source that was read last is reported of it among all
+pub reported_at : {R : Type 0} (has_ended : R → Bool) (remaining : R → Option (List ℕ)) (now : List R) (place : ℕ) (y : R)
+    → place < length now → (hex : Bool) (input : List ℕ) (fault : RunFault)
+    → IsReportedOfSource hex (remaining y) (has_ended y) place input fault
+    → IsReportedAt hex (map remaining (set now place y)) (map has_ended (set now place y)) place input fault
+reported_at has_ended remaining now place y within hex input fault reported =
+    (remaining y, has_ended y, value_there remaining now place y within, value_there has_ended now place y within, reported)
 
 -- ---- in which order sources are read
 

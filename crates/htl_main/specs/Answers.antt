@@ -10,7 +10,7 @@ use Rattle.htl_case.specs.Cases.{IsCaseOf}
 use Rattle.htl_report.specs.declared.answer.Answer.{Answer}
 use Rattle.htl_report.specs.declared.answer.Answer.TheVariants.{Outstanding, Diff, Tags, Bad, Leaks, Stacks, Trace as Listing, Summary}
 use Rattle.htl_command.specs.declared.question.Question.{Question}
-use Rattle.htl_command.specs.declared.question.Question.TheVariants as asked
+use Rattle.htl_command.specs.declared.question.Question.TheVariants as questions
 use Rattle.htl_main.specs.Inputs.{DecodeAll}
 use Rattle.htl_main.specs.Summaries.{IsSummary}
 
@@ -21,20 +21,21 @@ IsDiffSince events process None moment rows = IsMark (Contains events) process m
 
 -- the answer to a question about the events of a trace
 abbrev pub IsAnswerOver : List Event → Question → Answer → Type 0
-IsAnswerOver events (asked.Outstanding process) (Outstanding of rows) = (of ≡ process) × IsOutstanding (Contains events) process rows.items
-IsAnswerOver events (asked.Diff process since) (Diff of from rows) = (of ≡ process) × IsDiffSince events process since from rows.items
-IsAnswerOver events (asked.Tags object) (Tags of rows) = (of ≡ object) × IsTags events object rows.items
-IsAnswerOver events (asked.Bad process) (Bad of rows) = (of ≡ process) × IsBad events process rows.items
-IsAnswerOver events (asked.Leaks process) (Leaks of rows) = (of ≡ process) × IsLeaks (Contains events) process rows.items
-IsAnswerOver events (asked.Stacks object tag) (Stacks of under rows) =
+IsAnswerOver events (questions.Outstanding process) (Outstanding of rows) =
+    (of ≡ process) × IsOutstanding (Contains events) process rows.items
+IsAnswerOver events (questions.Diff process since) (Diff of from rows) = (of ≡ process) × IsDiffSince events process since from rows.items
+IsAnswerOver events (questions.Tags object) (Tags of rows) = (of ≡ object) × IsTags events object rows.items
+IsAnswerOver events (questions.Bad process) (Bad of rows) = (of ≡ process) × IsBad events process rows.items
+IsAnswerOver events (questions.Leaks process) (Leaks of rows) = (of ≡ process) × IsLeaks (Contains events) process rows.items
+IsAnswerOver events (questions.Stacks object tag) (Stacks of under rows) =
     (of ≡ object) × (under ≡ tag) × IsStacks events object tag rows.items
-IsAnswerOver events (asked.Trace process handle) (Listing of under rows) =
+IsAnswerOver events (questions.Trace process handle) (Listing of under rows) =
     (of ≡ process) × (under ≡ handle) × IsListing (Contains events) process handle rows.items
 IsAnswerOver events question answer = ⊥
 
 -- The answer to a question over a trace. A summary alone is about its segments too.
 abbrev pub IsAnswer : Trace → Question → Answer → Type 0
-IsAnswer T asked.Summary (Summary totals gaps processes objects) = IsSummary T totals gaps.items processes.items objects.items
+IsAnswer T questions.Summary (Summary totals gaps processes objects) = IsSummary T totals gaps.items processes.items objects.items
 IsAnswer T question answer = IsAnswerOver (all_events T.segments) question answer
 
 abbrev pub has_rows : {R : Type 0} → List R → Bool

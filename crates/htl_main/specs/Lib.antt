@@ -12,7 +12,7 @@ pub mod Readings
 pub mod Dumps
 pub mod Encodings
 pub mod Origins
-pub mod Standings
+pub mod Loading
 pub mod Picked
 pub mod Statuses
 -- What only private contracts cite.

@@ -5,7 +5,7 @@ use Rattle.htl_event.specs.declared.interest.Interest.TheVariants.{Process, Obje
 use Rattle.htl_segment.specs.Content.{Content}
 use Rattle.htl_case.specs.Picked.{NeedsWhole}
 use Rattle.htl_command.specs.declared.question.Question.{Question}
-use Rattle.htl_command.specs.declared.question.Question.TheVariants as asked
+use Rattle.htl_command.specs.declared.question.Question.TheVariants as questions
 use Rattle.htl_main.specs.Answers.{Finds}
 use Rattle.htl_main.specs.Coverages.{Covers}
 use Rattle.htl_main.specs.Inputs.{DecodeAll}
@@ -14,14 +14,14 @@ use Rattle.htl_main.specs.declared.completed.Completed.{Completed}
 
 -- the process or the object that a question is about
 abbrev pub interest_of : Question → Option Interest
-interest_of asked.Summary = None
-interest_of (asked.Outstanding process) = Some (Process process)
-interest_of (asked.Diff process since) = Some (Process process)
-interest_of (asked.Bad process) = Some (Process process)
-interest_of (asked.Leaks process) = Some (Process process)
-interest_of (asked.Trace process handle) = Some (Process process)
-interest_of (asked.Tags object) = Some (Object object)
-interest_of (asked.Stacks object tag) = Some (Object object)
+interest_of questions.Summary = None
+interest_of (questions.Outstanding process) = Some (Process process)
+interest_of (questions.Diff process since) = Some (Process process)
+interest_of (questions.Bad process) = Some (Process process)
+interest_of (questions.Leaks process) = Some (Process process)
+interest_of (questions.Trace process handle) = Some (Process process)
+interest_of (questions.Tags object) = Some (Object object)
+interest_of (questions.Stacks object tag) = Some (Object object)
 
 -- what a job asks about, where its inputs are bytes
 abbrev pub asks_about : Bool → Question → Option Interest

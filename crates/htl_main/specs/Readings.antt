@@ -1,21 +1,32 @@
 -- How a run reads its sources (this project's own): one after another, each to its end, and no further than a fault.
-use Rattle.std.specs.Prelude.{◌≡◌, ◌⊎◌, ℕ, Bool, true, List, All, map, slice_get, Option, Result, Err, IfErr, OnOk}
-use Rattle.htl_main.specs.Sources.{AreReadInOrder, AreReadWithin, EndsBefore, IsEndless, IsTrueAt, ReportsFailed}
+use Rattle.std.specs.Prelude.{◌≡◌, ◌⊎◌, ℕ, Bool, true, false, List, All, map, slice_get, Option, Result, Err, IfErr, OnOk}
+use Rattle.htl_reading.specs.Sources.{read_ahead}
+use Rattle.htl_reading.specs.declared.reading.TheConstants.{BLOCK_LEN}
+use Rattle.htl_main.specs.Sources.{AreReadInOrder, AreReadToFault, AreReadWithin, EndsBefore, IsEndless, IsTrueAt, ReadsNoFault}
+use Rattle.htl_main.specs.Sources.{ReportsFailed}
 use Rattle.htl_main.specs.declared.fault.RunFault.{RunFault}
 use Rattle.htl_main.specs.declared.fault.RunFault.TheVariants.{Read}
 
--- Sources before and after a run with this result. Which of them has failed or ended, how many reads of it gave bytes
--- and which bytes it has left, is said by the functions. One worker finds each fault of bytes before it reads on; several may not.
-pub record AreRead {R S : Type 0} (hex : Bool) (workers : ℕ) (has_failed has_ended : R → Bool) (good_reads : R → ℕ)
+-- Sources before and after a run by so many workers that ends with this result. Each source gives a text, which is gathered whole before
+-- it is looked at, or bytes, which are decoded as they come. Which sources have failed or ended, how many reads of each gave bytes, and
+-- which bytes each has left, is said by the functions.
+pub record AreRead {R S : Type 0} (is_text : Bool) (workers : ℕ) (has_failed has_ended : R → Bool) (good_reads : R → ℕ)
     (remaining : R → Option (List ℕ)) (old new : List R) (result : Result S RunFault) : Type 0 where
-  -- each is read to its end before the next
+  -- A run that ends well has read each source to its end.
   pub ended : OnOk result (All (λ source. has_ended source ≡ true) new)
+  -- A source is read only after those before it have ended.
   pub in_order : AreReadInOrder has_ended old new
-  -- a read that failed is reported, or a fault before it; and it is reported only then or after too many reads
-  pub reported : ReportsFailed hex workers (map has_failed new) (map remaining old) (map remaining new) result
+  -- A read that failed is reported. Several workers may find a fault of the bytes before it first, and report that.
+  pub reported : ReportsFailed is_text workers (map has_failed new) (map remaining old) (map remaining new) result
+  -- A failed read is reported only where a read failed, or after too many reads.
   pub read :
       (place : ℕ) → result ≡ Err (Read place)
       → IsTrueAt (map has_failed new) place ⊎ IsEndless (map good_reads new) (map remaining old) place
+  -- And only where the bytes before it have no fault.
+  pub no_fault : (place : ℕ) → result ≡ Err (Read place) → is_text ≡ false → ReadsNoFault (map remaining old) (map remaining new) place
+  -- No source gives bytes to more than 2^32 reads.
   pub bounded : AreReadWithin (map good_reads old) (map good_reads new)
-  -- a fault ends the reading
+  -- A source after the one that has the fault isn't read.
   pub unread : IfErr result (λ fault. (place : ℕ) → EndsBefore fault place → slice_get new place ≡ slice_get old place)
+  -- Of bytes that have a fault no more is read after it than what is read ahead: one read by one worker, two blocks by several.
+  pub to_fault : is_text ≡ false → AreReadToFault (read_ahead workers BLOCK_LEN) (map remaining old) (map remaining new)

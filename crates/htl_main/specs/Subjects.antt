@@ -9,7 +9,7 @@ use Rattle.htl_event.specs.declared.kind.Kind.TheVariants.{Opened, Closed, BadRe
 use Rattle.htl_segment.specs.Content.{Content}
 use Rattle.htl_segment.specs.Traces.{all_events}
 use Rattle.htl_command.specs.declared.question.Question.{Question}
-use Rattle.htl_command.specs.declared.question.Question.TheVariants as asked
+use Rattle.htl_command.specs.declared.question.Question.TheVariants as questions
 use Rattle.htl_main.specs.Inputs.{DecodeAll}
 
 -- the kinds of events that name a handle
@@ -28,14 +28,14 @@ names_object other = false
 -- The event is of the process, the object, the object's tag or the handle that the question is about. (Events of each kind are of
 -- the process in which they came.) A summary is about all.
 abbrev pub is_about : Question → Event → Bool
-is_about asked.Summary e = true
-is_about (asked.Outstanding process) e = e.process == process
-is_about (asked.Diff process since) e = e.process == process
-is_about (asked.Bad process) e = e.process == process
-is_about (asked.Leaks process) e = e.process == process
-is_about (asked.Tags object) e = names_object e.kind && (e.object == object)
-is_about (asked.Stacks object tag) e = names_object e.kind && ((e.object == object) && pointwise nat_eq e.tag tag)
-is_about (asked.Trace process handle) e = names_handle e.kind && ((e.process == process) && (base_of e.handle == base_of handle))
+is_about questions.Summary e = true
+is_about (questions.Outstanding process) e = e.process == process
+is_about (questions.Diff process since) e = e.process == process
+is_about (questions.Bad process) e = e.process == process
+is_about (questions.Leaks process) e = e.process == process
+is_about (questions.Tags object) e = names_object e.kind && (e.object == object)
+is_about (questions.Stacks object tag) e = names_object e.kind && ((e.object == object) && pointwise nat_eq e.tag tag)
+is_about (questions.Trace process handle) e = names_handle e.kind && ((e.process == process) && (base_of e.handle == base_of handle))
 
 -- some event of the segments is
 abbrev pub has_subject : Question → List Content → Bool

@@ -7,11 +7,10 @@ ghost use Rattle.htl_event.specs.Handles.{HaveOwnSequences, IsMark};
 ghost use Rattle.htl_segment.specs.Traces.{all_events};
 ghost use Rattle.htl_answers.specs.Parts.{AreEventsOf, size_of_all};
 ghost use Rattle.htl_main.specs.Answers.{IsAnswer, IsAnswerOver};
-ghost use Rattle.htl_main.specs.CaseOutlines.{AreOutlinesOf};
-ghost use Rattle.htl_main.specs.Coverages.{IsCoverage};
+ghost use Rattle.htl_main.specs.CaseOutlines.{IsMissed};
 ghost use Rattle.htl_main.specs.Questions.{IsOfParts};
 
-use crate::coverage::Coverage;
+use crate::coverage::Missed;
 use crate::summarizing::summary;
 use crate::unfolded::Unfolded;
 use htl_answers::{Part, bad, diff, leaks, mark, outstanding, stacks, tags};
@@ -19,20 +18,17 @@ use htl_case::Case;
 use htl_command::Question;
 use htl_event::NoMemory;
 use htl_report::Answer;
-use htl_segment::Outline;
 use std::alloc::Global;
 
-/// The answer to a question, over a case with these outlines and of this coverage: from the segments
-/// as they lie there, without folding any.
+/// The answer to a question over a case that misses this: from the segments as they lie there,
+/// without folding any.
 pub(crate) fn answer(
     alloc: Global,
     question: Question,
     case: &Case,
-    outlines: &[Outline],
-    coverage: Coverage,
+    missed: Missed,
 ) -> Result<Answer, NoMemory>
-    requires outlines { AreOutlinesOf case.now.processors outlines.now case.now }
-    requires coverage { IsCoverage case.now coverage }
+    requires { IsMissed case.now missed }
     ensures { IfOk result (IsAnswer case.now question) }
 {
     match question {
@@ -42,7 +38,7 @@ pub(crate) fn answer(
             rows: case.trace(alloc, process, handle)?,
         }),
         Question::Summary => {
-            let answer = summary(alloc, case, outlines, coverage)?;
+            let answer = summary(alloc, case, missed)?;
             Ok(answer)
         }
         question => {

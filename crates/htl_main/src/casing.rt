@@ -1,4 +1,4 @@
-//! The case of decoded segments, or which two of them are against it.
+//! The case of decoded segments, or which two of them break a rule of a case.
 
 ghost use Rattle.std.specs.Prelude.{◌≡◌, ℕ, Bool, List, Option, IfOk, IfErr, IfNone, IfSome};
 ghost use Rattle.std.specs.Prelude.{Some, slice_get};
@@ -59,7 +59,7 @@ fn copies(alloc: Global, segments: &[Segment]) -> Result<Vec<Segment>, NoMemory>
     Ok(copies)
 }
 
-/// The two segments that a fault of all is about.
+/// The origins of the two segments that break the rule of the fault.
 fn between(segments: &[Segment], parts: &[Part], fault: CaseFault) -> Between
     requires { IsRefusal segments.now fault }
     ensures { (hex : Bool) (inputs : List (List ℕ)) → AreParts hex inputs segments.now parts.now
@@ -77,7 +77,7 @@ fn between(segments: &[Segment], parts: &[Part], fault: CaseFault) -> Between
     }
 }
 
-/// What is known of the two segments that a fault is about, where none were kept.
+/// What is said of the two segments where no copies of them were kept.
 fn unknown(fault: CaseFault) -> Between
     ensures { (hex : Bool) (inputs : List (List ℕ)) (segments : List Content)
         → IsBetweenOf hex inputs segments fault result }

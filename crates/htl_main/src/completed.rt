@@ -75,7 +75,7 @@ pub fn has_subject(question: Question, case: &Case) -> bool
     any_about(question, case.segments())
 }
 
-/// Whether one of the segments has such an event.
+/// Whether a segment has an event of what the question is about.
 fn any_about(question: Question, segments: &[Segment]) -> bool
     ensures { result ≡ list_any (λ s. list_any (is_about question) s.events) segments.now }
 {
@@ -84,7 +84,7 @@ fn any_about(question: Question, segments: &[Segment]) -> bool
         .any(|segment| has_event_about(question, segment.events()))
 }
 
-/// Whether one of the events is such.
+/// Whether one of the events is of what the question is about.
 pub(crate) fn has_event_about(question: Question, events: &[SharedEvent]) -> bool
     ensures { result ≡ list_any (is_about question) events.now }
 {

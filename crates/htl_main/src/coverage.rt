@@ -1,16 +1,13 @@
-//! How much of its trace a case has, by the outlines of its segments. Once these are there, only the
-//! list of gaps takes memory.
+//! How much of its trace a case has, by the outlines of its segments.
 
-ghost use Rattle.std.specs.Prelude.{◌≡◌, ◌<◌, ◌≤◌, ◌+◌, ◌++◌, ◌^◌, ℕ, [], length, take, All};
-ghost use Rattle.std.specs.Prelude.{IfNone, IfOk, IfSome, MatchOption, OnOk};
+ghost use Rattle.std.specs.Prelude.{◌≡◌, ◌<◌, ◌≤◌, ◌++◌, take, All, OnOk};
 ghost use Rattle.std.specs.List.Sorted.{IsNonDecreasingBy};
-ghost use Rattle.htl_segment.specs.Traces.{Trace, HasKey};
-ghost use Rattle.htl_taken.specs.Gaps.{IsGaps};
+ghost use Rattle.htl_taken.specs.Gaps.{first_of, processor_of};
 ghost use Rattle.htl_taken.specs.GapLists.{gaps_from, gaps_of};
-ghost use Rattle.htl_taken.specs.Rising.{Rises, reach_from};
-ghost use Rattle.htl_main.specs.CaseOutlines.{AreOutlinesOf, greatest_from, numbers_of};
-ghost use Rattle.htl_main.specs.Completeness.{IsComplete, IsLeastMissing};
+ghost use Rattle.htl_taken.specs.Rising.{reach_from};
+ghost use Rattle.htl_main.specs.CaseOutlines.{greatest_from, numbers_of};
 
+use htl_case::Case;
 use htl_event::NoMemory;
 use htl_segment::Outline;
 use htl_taken::Gap;
@@ -27,65 +24,84 @@ pub struct Coverage {
     pub complete_to: u64,
 }
 
-impl Coverage {
+/// What a case misses of its trace.
+#[derive(Drop)]
+pub(crate) struct Missed {
+    /// The gaps: for each processor, in order, the longest unbroken runs of numbers that are missing
+    /// below one that is there; or that it has no segment.
+    pub gaps: Vec<Gap>,
+    /// The sequence up to which no segment is missing.
+    pub complete_to: u64,
+}
+
+impl Missed {
+    ghost use Rattle.std.specs.Prelude.{IfNone, IfOk, IfSome};
     ghost use Rattle.htl_segment.specs.Traces.{Trace};
-    ghost use Rattle.htl_main.specs.CaseOutlines.{AreOutlinesOf};
+    ghost use Rattle.htl_main.specs.CaseOutlines.{AreOutlinesOf, IsMissed};
+    ghost use Rattle.htl_main.specs.Completeness.{IsComplete, IsLeastMissing};
     ghost use Rattle.htl_main.specs.Coverages.{IsCoverage};
 
-    /// That of the case with these outlines.
-    pub(crate) fn of(processors: u16, outlines: &[Outline]) -> Coverage
-        ensures { (T : Trace) → AreOutlinesOf processors outlines.now T → IsCoverage T result }
+    /// What the case misses, by the outlines of its segments.
+    pub fn of_case(alloc: Global, case: &Case) -> Result<Missed, NoMemory>
+        ensures { IfOk result (IsMissed case.now) }
     {
-        let mut gaps = 0;
+        let outlines = case.outlines(alloc)?;
+        let missed = Missed::of(alloc, case.processors(), &outlines)?;
+        Ok(missed)
+    }
+
+    /// What the case with these outlines misses.
+    pub fn of(alloc: Global, processors: u16, outlines: &[Outline]) -> Result<Missed, NoMemory>
+        ensures { IfOk result (λ missed. (T : Trace) → AreOutlinesOf processors outlines.now T
+            → IsMissed T missed) }
+    {
+        let mut gaps = Vec::new(alloc);
         let mut complete_to = u64::MAX;
         let mut rest = outlines;
         for processor in 0..processors {
             let (own, after) = split_at_processor(rest, processor);
-            gaps += gap_count(own);
+            add_gaps(&mut gaps, processor, own)?;
             complete_to = greatest_last(unbroken(own)).min(complete_to);
             rest = after;
         }
-        Coverage { gaps, complete_to }
+        Ok(Missed { gaps, complete_to })
     }
-}
 
-/// The processor and the number of the least key that the case with these outlines misses: of the
-/// first processor that has a gap the first missing number.
-pub(crate) fn first_missing(processors: u16, outlines: &[Outline]) -> Option<(u16, u32)>
-    ensures some { IfSome result (λ key. (T : Trace) → AreOutlinesOf processors outlines.now T
-        → IsLeastMissing T key.0 key.1) }
-    ensures none { IfNone result ((T : Trace) → AreOutlinesOf processors outlines.now T
-        → IsComplete T) }
-{
-    let mut rest = outlines;
-    for processor in 0..processors {
-        let (own, after) = split_at_processor(rest, processor);
-        if let Some(number) = first_gap(own) {
-            return Some((processor, number));
+    /// How much of its trace the case has.
+    pub fn coverage(&self) -> Coverage
+        ensures { (T : Trace) → IsMissed T self.now → IsCoverage T result }
+    {
+        Coverage {
+            gaps: self.gaps.len() as u64,
+            complete_to: self.complete_to,
         }
-        rest = after;
     }
-    None
+
+    /// The processor and the number of the least key that is missing: of the first processor that has
+    /// a gap the first missing number.
+    #[tactic(auto, using(crate::proofs::Missing::complete))]
+    pub fn first(&self) -> Option<(u16, u32)>
+        ensures some { IfSome result (λ key. (T : Trace) → IsMissed T self.now
+            → IsLeastMissing T key.0 key.1) }
+        ensures none { IfNone result ((T : Trace) → IsMissed T self.now → IsComplete T) }
+    {
+        let gap = self.gaps.first()?;
+        Some(first_key(*gap))
+    }
 }
 
-/// The gaps of the case with these outlines: for each processor, in order, the longest unbroken runs
-/// of numbers that are missing below one that is there; or that it has no segment.
-pub(crate) fn gaps(
-    alloc: Global,
-    processors: u16,
-    outlines: &[Outline],
-) -> Result<Vec<Gap>, NoMemory>
-    ensures { IfOk result (λ gaps. (T : Trace) → AreOutlinesOf processors outlines.now T
-        → IsGaps (HasKey T) T.processors gaps.items) }
+/// The first key of a gap.
+fn first_key(gap: Gap) -> (u16, u32)
+    ensures { result ≡ (processor_of gap, first_of gap) }
 {
-    let mut gaps = Vec::new(alloc);
-    let mut rest = outlines;
-    for processor in 0..processors {
-        let (own, after) = split_at_processor(rest, processor);
-        add_gaps(&mut gaps, processor, own)?;
-        rest = after;
+    match gap {
+        Gap::Between {
+            processor,
+            from,
+            ..
+        } => (processor, from),
+        Gap::Absent { processor } => (processor, 0),
     }
-    Ok(gaps)
 }
 
 /// Adds the gaps of a processor with these outlines.
@@ -131,44 +147,6 @@ fn split_at_processor(outlines: &[Outline], processor: u16) -> (&[Outline], &[Ou
         → All (λ o. processor < o.processor) result.1.now }
 {
     outlines.split_at(outlines.partition_point(|outline| outline.processor <= processor))
-}
-
-/// How many gaps a processor with these outlines has.
-fn gap_count(own: &[Outline]) -> u64
-    ensures value { (p : ℕ) → result ≡ length (gaps_of p 0 (numbers_of own.now)) }
-    ensures few { result ≤ length own.now + 1 }
-{
-    if own.is_empty() {
-        return 1;
-    }
-    let mut next = 0;
-    let mut gaps = 0;
-    for outline in own {
-        let number = u64::from(outline.number);
-        if next < number {
-            gaps += 1;
-        }
-        next = number + 1;
-    }
-    gaps
-}
-
-/// The first number that is missing of a processor with these outlines, where it has a gap.
-fn first_gap(own: &[Outline]) -> Option<u32>
-    ensures { Rises 0 (2 ^ 32) (numbers_of own.now) → (p : ℕ) → MatchOption result
-        (gaps_of p 0 (numbers_of own.now) ≡ [])
-        (λ number. (0 < length (gaps_of p 0 (numbers_of own.now)))
-        × (number ≡ reach_from 0 (numbers_of own.now))) }
-{
-    if own.is_empty() {
-        return Some(0);
-    }
-    for (place, outline) in own.iter().enumerate() {
-        if place < outline.number as usize {
-            return Some(place as u32);
-        }
-    }
-    None
 }
 
 /// The outlines of a processor before the first that is missing.

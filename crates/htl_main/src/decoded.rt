@@ -16,8 +16,7 @@ pub(crate) struct Part {
     pub end: usize,
 }
 
-/// The segments of inputs, those of the first input first, and the parts of which each is one
-/// input's.
+/// The segments of inputs, those of the first input first, and which part of them each input has.
 #[derive(Drop)]
 pub(crate) struct Decoded {
     pub segments: Vec<Segment>,
@@ -25,7 +24,7 @@ pub(crate) struct Decoded {
 }
 
 impl Decoded {
-    /// Those of no input.
+    /// The segments of no input.
     #[tactic(auto, using(crate::proofs::PartLaws::no_parts))]
     pub fn new(alloc: Global) -> Decoded
         ensures segments { result.segments.items ≡ [] }
@@ -38,7 +37,7 @@ impl Decoded {
         }
     }
 
-    /// Adds those of one input more.
+    /// Adds the segments of one more input.
     pub fn add(&mut self, input: u64, mut more: Vec<Segment>) -> Result<(), NoMemory>
         ensures segments { OnOk result
             (self.new.segments.items ≡ self.old.segments.items ++ more.items) }

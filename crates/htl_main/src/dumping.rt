@@ -1,7 +1,7 @@
 //! The run that dumps the segments of sources as text.
 
 ghost use Rattle.std.specs.Prelude.{◌≡◌, ◌⊎◌, ◌+◌, ◌*◌, ◌-◌, ◌<◌, ◌≤◌, ◌^◌};
-ghost use Rattle.std.specs.Prelude.{ℕ, Bool, List, Option, [], All, Some, false, true, drop};
+ghost use Rattle.std.specs.Prelude.{ℕ, Bool, List, Option, [], All, Some, Err, false, true, drop};
 ghost use Rattle.std.specs.Prelude.{length, map, IfErr, IfSome, MatchResult, OnOk};
 ghost use Rattle.std.specs.Io.KnownBytes.{Appends};
 ghost use Rattle.htl_device.specs.Devices.{AppendsPrefix};
@@ -10,13 +10,12 @@ ghost use Rattle.htl_segment.specs.Content.{Content};
 ghost use Rattle.htl_segment.specs.Faults.{first_fault};
 ghost use Rattle.htl_segment.specs.declared.fault.Fault.{Fault};
 ghost use Rattle.htl_text.specs.Texts.{segment_text};
+ghost use Rattle.htl_reading.specs.Sources.{IsReadToFault};
 ghost use Rattle.htl_main.specs.Dumping.{FrontDumped, FrontStops, WholeStops};
 ghost use Rattle.htl_main.specs.Dumps.{Dumps, DumpsInput, DumpStops, InputStops};
 ghost use Rattle.htl_main.specs.Dumps.{is_failed_write};
-ghost use Rattle.htl_main.specs.Reads.{FailsOnly, NamesOnly, NeverRead, ReportsFailure};
+ghost use Rattle.htl_main.specs.Reads.{FailsOnly, IsRead, NamesOnly, NeverRead};
 ghost use Rattle.htl_main.specs.Readings.{AreRead};
-ghost use Rattle.htl_main.specs.Sources.{AreReadToFault};
-ghost use Rattle.htl_reading.specs.Sources.{IsReadToFault};
 
 use crate::fault::RunFault;
 use crate::printing::write_lines;
@@ -48,10 +47,8 @@ pub fn dump_from<R: Source, W: Sink>(
         → IfErr result (λ fault. DumpStops hex texts (map R.remaining inputs.new)
         (map R.has_ended inputs.new) (W.contents out.old) (W.contents out.new) fault) }
     ensures failed { W.has_failed out.new ≡ is_failed_write result }
-    ensures reading { AreRead false 1 R.has_failed R.has_ended R.good_reads R.remaining
+    ensures reading { AreRead hex 1 R.has_failed R.has_ended R.good_reads R.remaining
         inputs.old inputs.new result }
-    ensures to_fault { hex ≡ false
-        → AreReadToFault MAX_READ_LEN (map R.remaining inputs.old) (map R.remaining inputs.new) }
 {
     for (place, source) in inputs.iter_mut().enumerate() {
         dump_input(alloc, hex, place as u64, source, out)?;
@@ -76,14 +73,8 @@ fn dump_input<R: Source, W: Sink>(
         InputStops hex (R.remaining source.new) (R.has_ended source.new) place bytes
         (W.contents out.old) (W.contents out.new) fault)) }
     ensures failed { W.has_failed out.new ≡ is_failed_write result }
-    ensures ended { OnOk result (R.has_ended source.new ≡ true) }
-    ensures reported { ReportsFailure place (R.has_failed source.new) result }
-    ensures read { FailsOnly place (R.has_failed source.new) (R.good_reads source.new)
-        (R.remaining source.old) MAX_READS result }
-    ensures bounded { R.good_reads source.new ≤ R.good_reads source.old + MAX_READS }
-    ensures named { NamesOnly place result }
-    ensures to_fault { hex ≡ false
-        → IsReadToFault MAX_READ_LEN (R.remaining source.old) (R.remaining source.new) }
+    ensures reading { IsRead hex 1 MAX_READS R.has_failed R.has_ended R.good_reads R.remaining
+        place source.old source.new result }
 {
     if hex {
         dump_digits(alloc, place, source, out)
@@ -108,12 +99,8 @@ fn dump_digits<R: Source, W: Sink>(
         InputStops true (R.remaining source.new) (R.has_ended source.new) place text
         (W.contents out.old) (W.contents out.new) fault)) }
     ensures failed { W.has_failed out.new ≡ is_failed_write result }
-    ensures ended { OnOk result (R.has_ended source.new ≡ true) }
-    ensures reported { ReportsFailure place (R.has_failed source.new) result }
-    ensures read { FailsOnly place (R.has_failed source.new) (R.good_reads source.new)
-        (R.remaining source.old) MAX_READS result }
-    ensures bounded { R.good_reads source.new ≤ R.good_reads source.old + MAX_READS }
-    ensures named { NamesOnly place result }
+    ensures reading { IsRead true 1 MAX_READS R.has_failed R.has_ended R.good_reads R.remaining
+        place source.old source.new result }
 {
     match read_whole(alloc, source) {
         Ok(text) => dump_text(alloc, place, &text, out),
@@ -167,19 +154,14 @@ fn dump_bundle<R: Source, W: Sink>(
         InputStops false (R.remaining source.new) (R.has_ended source.new) place bytes
         (W.contents out.old) (W.contents out.new) fault)) }
     ensures failed { W.has_failed out.new ≡ is_failed_write result }
-    ensures ended { OnOk result (R.has_ended source.new ≡ true) }
-    ensures reported { ReportsFailure place (R.has_failed source.new) result }
-    ensures read { FailsOnly place (R.has_failed source.new) (R.good_reads source.new)
-        (R.remaining source.old) MAX_READS result }
-    ensures bounded { R.good_reads source.new ≤ R.good_reads source.old + MAX_READS }
-    ensures named { NamesOnly place result }
-    ensures to_fault { IsReadToFault MAX_READ_LEN (R.remaining source.old) (R.remaining source.new) }
+    ensures reading { IsRead false 1 MAX_READS R.has_failed R.has_ended R.good_reads R.remaining
+        place source.old source.new result }
 {
     let mut buffer = [0u8; MIN_READ_LEN];
     dump_within(alloc, place, source, &mut buffer, MAX_READS, out)
 }
 
-/// The same in reads of the buffer's length, of which at most `most` give bytes.
+/// Dumps the source at a place in reads of the buffer's length, of which at most `most` give bytes.
 fn dump_within<R: Source, W: Sink>(
     alloc: Global,
     place: u64,
@@ -200,9 +182,11 @@ fn dump_within<R: Source, W: Sink>(
         (W.contents out.old) (W.contents out.new) fault)) }
     ensures failed { W.has_failed out.new ≡ is_failed_write result }
     ensures ended { OnOk result (R.has_ended source.new ≡ true) }
-    ensures reported { ReportsFailure place (R.has_failed source.new) result }
+    ensures reported { R.has_failed source.new ≡ true → result ≡ Err (RunFault.Read place) }
     ensures read { FailsOnly place (R.has_failed source.new) (R.good_reads source.new)
         (R.remaining source.old) most result }
+    ensures no_fault { (at : ℕ) → result ≡ Err (RunFault.Read at)
+        → IsReadToFault 0 (R.remaining source.old) (R.remaining source.new) }
     ensures bounded { R.good_reads source.new ≤ R.good_reads source.old + most }
     ensures named { NamesOnly place result }
     ensures to_fault { IsReadToFault MAX_READ_LEN (R.remaining source.old) (R.remaining source.new) }

@@ -1,6 +1,6 @@
 //! The run that encodes texts of segments.
 
-ghost use Rattle.std.specs.Prelude.{◌≡◌, ◌≢◌, ◌+◌, ◌<◌, ◌≤◌, ◌++◌, ◌∷◌};
+ghost use Rattle.std.specs.Prelude.{◌≡◌, ◌≢◌, ◌<◌, ◌≤◌, ◌++◌, ◌∷◌};
 ghost use Rattle.std.specs.Prelude.{ℕ, Bool, List, Option, [], All, Some, false, true, length};
 ghost use Rattle.std.specs.Prelude.{map, IfErr, IfOk, IfSome, OnOk};
 ghost use Rattle.std.specs.Io.KnownBytes.{Appends};
@@ -12,8 +12,7 @@ ghost use Rattle.htl_text.specs.Encoded.{Encodes};
 ghost use Rattle.htl_main.specs.Dumps.{is_failed_write};
 ghost use Rattle.htl_main.specs.Encodings.{EncodeAll, EncodesInto, EncodesPart, EncodingStops};
 ghost use Rattle.htl_main.specs.Encodings.{IsReportedOfText, written_as};
-ghost use Rattle.htl_main.specs.Reads.{FailsOnly, NamesOnly, NeverRead, NeverWrite};
-ghost use Rattle.htl_main.specs.Reads.{ReportsFailure};
+ghost use Rattle.htl_main.specs.Reads.{IsRead, NamesOnly, NeverRead, NeverWrite};
 ghost use Rattle.htl_main.specs.Readings.{AreRead};
 
 use crate::fault::RunFault;
@@ -46,7 +45,7 @@ pub fn encode_from<R: Source, W: Sink>(
         → result ≡ Err RunFault.Write
         → EncodesPart hex texts (W.contents out.old) (W.contents out.new) }
     ensures failed { W.has_failed out.new ≡ is_failed_write result }
-    ensures reading { AreRead false 1 R.has_failed R.has_ended R.good_reads R.remaining
+    ensures reading { AreRead true 1 R.has_failed R.has_ended R.good_reads R.remaining
         inputs.old inputs.new result }
     ensures untouched { IfErr result (λ fault. fault ≢ RunFault.Write → out.new ≡ out.old) }
 {
@@ -64,7 +63,7 @@ fn encode_all<R: Source>(alloc: Global, sources: &mut [R]) -> Result<Vec<u8>, Ru
     ensures stops { (texts : List (List ℕ)) → map R.remaining sources.old ≡ map Some texts
         → IfErr result (λ fault. EncodingStops texts (map R.remaining sources.new)
         (map R.has_ended sources.new) fault) }
-    ensures reading { AreRead false 1 R.has_failed R.has_ended R.good_reads R.remaining
+    ensures reading { AreRead true 1 R.has_failed R.has_ended R.good_reads R.remaining
         sources.old sources.new result }
     ensures no_write { NeverWrite result }
 {
@@ -84,12 +83,8 @@ fn encode_input<R: Source>(alloc: Global, place: u64, source: &mut R) -> Result<
         (segments : List Content) × Encodes text segments × (bytes.items ≡ bundle segments))) }
     ensures stops { IfErr result (λ fault. IfSome (R.remaining source.old) (λ text.
         IsReportedOfText (R.remaining source.new) (R.has_ended source.new) place text fault)) }
-    ensures ended { OnOk result (R.has_ended source.new ≡ true) }
-    ensures reported { ReportsFailure place (R.has_failed source.new) result }
-    ensures read { FailsOnly place (R.has_failed source.new) (R.good_reads source.new)
-        (R.remaining source.old) MAX_READS result }
-    ensures bounded { R.good_reads source.new ≤ R.good_reads source.old + MAX_READS }
-    ensures named { NamesOnly place result }
+    ensures reading { IsRead true 1 MAX_READS R.has_failed R.has_ended R.good_reads R.remaining
+        place source.old source.new result }
     ensures no_write { NeverWrite result }
 {
     match read_whole(alloc, source) {
@@ -108,13 +103,10 @@ fn encode_text(alloc: Global, place: u64, text: &[u8]) -> Result<Vec<u8>, RunFau
     ensures named { NamesOnly place result }
     ensures no_write { NeverWrite result }
 {
-    match encode(alloc, text) {
-        Ok(bytes) => Ok(bytes),
-        Err(fault) => Err(RunFault::of_text(place, text, fault)),
-    }
+    encode(alloc, text).map_err(|fault| RunFault::of_text(place, text, fault))
 }
 
-/// Writes bytes, as themselves or in hexadecimal.
+/// Writes the bytes as they are, or their hexadecimal digits and a line feed.
 fn write_bundle<W: Sink>(hex: bool, bytes: &[u8], out: &mut W) -> Result<(), RunFault>
     requires { W.has_failed out.old ≡ false }
     ensures ok { OnOk result
@@ -152,7 +144,7 @@ fn write_digits<W: Sink>(bytes: &[u8], out: &mut W) -> Result<(), RunFault>
     Ok(())
 }
 
-/// The same of at most 2,048 bytes.
+/// Writes the hexadecimal digits of at most 2,048 bytes.
 fn write_step<W: Sink>(bytes: &[u8], out: &mut W) -> Result<(), RunFault>
     requires few { length bytes.now ≤ STEP }
     requires out { W.has_failed out.old ≡ false }

@@ -39,10 +39,8 @@ pub(crate) fn decode_input(
     if !hex {
         return decode_bytes(alloc, place, input);
     }
-    match from_hex(alloc, input) {
-        Ok(bytes) => decode_bytes(alloc, place, &bytes),
-        Err(fault) => Err(RunFault::of_hex(place, fault)),
-    }
+    let bytes = from_hex(alloc, input).map_err(|fault| RunFault::of_hex(place, fault))?;
+    decode_bytes(alloc, place, &bytes)
 }
 
 /// The segments that the bytes of the input at a place encode.
@@ -51,8 +49,7 @@ fn decode_bytes(alloc: Global, place: u64, bytes: &[u8]) -> Result<Vec<Segment>,
     ensures ok { IfOk result (λ segments. Decodes false bytes.now segments.items) }
     ensures err { IfErr result (IsReported false place bytes.now) }
 {
-    match decode_bundle(alloc, bytes) {
-        Ok(segments) => Ok(segments),
-        Err((offset, fault)) => Err(RunFault::of_segment(place, offset, fault)),
-    }
+    decode_bundle(alloc, bytes).map_err(|(offset, fault)| RunFault::of_segment(
+        place, offset, fault,
+    ))
 }

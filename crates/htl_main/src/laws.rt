@@ -1,14 +1,22 @@
 //! Laws of what a run comes to. Each function's contract is the law; none does anything when it
 //! runs.
 
-ghost use Rattle.std.specs.Prelude.{◌≡◌, ℕ, Bool, List, Option, Result, length};
+ghost use Rattle.std.specs.Prelude.{◌≡◌, ◌↔◌, ℕ, Bool, List, Option, Some, Result, length};
+ghost use Rattle.std.specs.Global.{Vec};
+ghost use Rattle.htl_event.specs.Events.{Event};
+ghost use Rattle.htl_event.specs.declared.slot.Count.{Count};
 ghost use Rattle.htl_segment.specs.Traces.{Trace, HasKey};
 ghost use Rattle.htl_taken.specs.Gaps.{IsGaps};
 ghost use Rattle.htl_taken.specs.declared.gap.Gap.{Gap};
+ghost use Rattle.htl_case.specs.Answers.{IsAnswerOver as IsAnalystsOver};
+ghost use Rattle.htl_case.specs.declared.question.AnalystAnswer.TheVariants as found;
+ghost use Rattle.htl_case.specs.declared.question.AnalystQuestion.TheVariants as analysts;
+ghost use Rattle.htl_report.specs.declared.answer.Answer.TheVariants as answers;
 ghost use Rattle.htl_report.specs.declared.summary.Totals.{Totals};
 ghost use Rattle.htl_command.specs.declared.question.Job.{Job};
 ghost use Rattle.htl_command.specs.declared.question.Question.{Question};
-ghost use Rattle.htl_main.specs.Answers.{Finds};
+ghost use Rattle.htl_command.specs.declared.question.Question.TheVariants as questions;
+ghost use Rattle.htl_main.specs.Answers.{Finds, IsAnswerOver};
 ghost use Rattle.htl_main.specs.Coverages.{Covers, IsCoverage};
 ghost use Rattle.htl_main.specs.Printed.{Printed, WorkersFit};
 ghost use Rattle.htl_main.specs.Summaries.{AreTotals};
@@ -33,6 +41,30 @@ pub fn one_outcome()
 pub fn one_finding()
     ensures { (hex : Bool) (inputs : List (List ℕ)) (question : Question) (a b : Bool)
         → Finds hex inputs question a → Finds hex inputs question b → a ≡ b }
+{}
+
+/// An answer over events has the rows that an analyst's answer over them to the same question has. (A
+/// listing is no question to an analyst, and a difference without a moment is one since the mark.)
+pub fn analysts_agree()
+    ensures outstanding { (events : List Event) (process : ℕ) (rows : Vec Event)
+        → IsAnswerOver events (questions.Outstanding process) (answers.Outstanding process rows)
+        ↔ IsAnalystsOver events (analysts.Outstanding process) (found.Outstanding rows) }
+    ensures diff { (events : List Event) (process since : ℕ) (rows : Vec Event)
+        → IsAnswerOver events (questions.Diff process (Some since)) (answers.Diff process since rows)
+        ↔ IsAnalystsOver events (analysts.Diff process since) (found.Diff rows) }
+    ensures tags { (events : List Event) (object : ℕ) (rows : Vec (List ℕ × Count))
+        → IsAnswerOver events (questions.Tags object) (answers.Tags object rows)
+        ↔ IsAnalystsOver events (analysts.Tags object) (found.Tags rows) }
+    ensures bad { (events : List Event) (process : ℕ) (rows : Vec (ℕ × List ℕ × ℕ))
+        → IsAnswerOver events (questions.Bad process) (answers.Bad process rows)
+        ↔ IsAnalystsOver events (analysts.Bad process) (found.Bad rows) }
+    ensures leaks { (events : List Event) (process : ℕ) (rows : Vec (List ℕ × ℕ))
+        → IsAnswerOver events (questions.Leaks process) (answers.Leaks process rows)
+        ↔ IsAnalystsOver events (analysts.Leaks process) (found.Leaks rows) }
+    ensures stacks { (events : List Event) (object : ℕ) (tag : List ℕ)
+        (rows : Vec (List ℕ × Count))
+        → IsAnswerOver events (questions.Stacks object tag) (answers.Stacks object tag rows)
+        ↔ IsAnalystsOver events (analysts.Stacks object tag) (found.Stacks rows) }
 {}
 
 /// Inputs have one coverage, and a summary reports the same.

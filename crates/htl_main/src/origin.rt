@@ -18,7 +18,7 @@ impl Origin {
     ghost use Rattle.std.specs.Prelude.{◌≡◌};
     ghost use Rattle.htl_main.specs.Origins.{IsHeaderOf};
 
-    /// That of a segment of this input.
+    /// The origin of a segment of this input.
     pub(crate) fn of(input: u64, segment: &Segment) -> Origin
         ensures input { result.input ≡ input }
         ensures header { IsHeaderOf segment.now result }

@@ -1,4 +1,4 @@
-//! The two segments that a fault of all is about.
+//! Which two segments break the rule that a fault names.
 
 ghost use Rattle.std.specs.Prelude.{◌≡◌, ◌==◌, [], MatchOption, false, nat_le};
 ghost use Rattle.std.specs.List.{list_any};
@@ -10,7 +10,7 @@ ghost use Rattle.htl_main.specs.Pairs.{NonePasses, PassesAt, has_shared, is_key,
 use htl_case::CaseFault;
 use htl_segment::Segment;
 
-/// The places of the two segments that a fault of all is about.
+/// The places of the two segments that break the rule that the fault names.
 #[tactic(auto, using(crate::proofs::PairLaws::contents_pair, crate::proofs::PairLaws::falling_pair))]
 pub(crate) fn pair(segments: &[Segment], fault: CaseFault) -> Option<(usize, usize)>
     requires { IsRefusal segments.now fault }
@@ -30,7 +30,7 @@ pub(crate) fn pair(segments: &[Segment], fault: CaseFault) -> Option<(usize, usi
     }
 }
 
-/// What two segments may not both have.
+/// What two different segments may not have in common.
 #[derive(Clone, Copy)]
 pub(crate) enum Shared {
     Key { processor: u16, number: u32 },
@@ -66,7 +66,7 @@ fn has_sequence(segment: &Segment, sequence: u64) -> bool
         .any(|event| event.sequence == sequence)
 }
 
-/// The first two different segments that have the same.
+/// The places of the first two different segments that have it in common.
 #[tactic(auto, using(crate::proofs::PairLaws::are_one))]
 fn two_of(segments: &[Segment], shared: Shared) -> Option<(usize, usize)>
     ensures { MatchOption result (AreOne shared segments.now)
@@ -85,7 +85,7 @@ fn first_with(segments: &[Segment], shared: Shared) -> Option<usize>
     segments.iter().position(|segment| shared.is_of(segment))
 }
 
-/// The first segment that has it too, and is another one.
+/// The place of the first segment that has it too and differs from this one.
 fn other_with(segments: &[Segment], shared: Shared, one: &Segment) -> Option<usize>
     ensures { MatchOption result (HaveOne shared segments.now one.now)
         (IsOtherAt shared segments.now one.now) }
@@ -98,8 +98,8 @@ fn other_with(segments: &[Segment], shared: Shared, one: &Segment) -> Option<usi
     None
 }
 
-/// The segment of this key, and the first one of a lower number with an event that isn't below all of
-/// its own.
+/// The places of the segment of this key, and of the first one of a lower number with an event that
+/// isn't below all events of that segment.
 #[tactic(auto, using(crate::proofs::PairLaws::no_key))]
 fn falling(segments: &[Segment], processor: u16, number: u32) -> Option<(usize, usize)>
     requires { HaveOneContent segments.now }
@@ -121,8 +121,8 @@ fn least_sequence(segment: &Segment) -> Option<u64>
     Some(first.sequence)
 }
 
-/// The first segment of the processor with a number below this one and an event that reaches the
-/// floor.
+/// The place of the first segment of the processor with a number below this one and an event whose
+/// sequence is the floor or above.
 #[tactic(auto, using(crate::proofs::PairLaws::first_passing))]
 fn lower_reaching(segments: &[Segment], processor: u16, number: u32, floor: u64) -> Option<usize>
     ensures { MatchOption result (NonePasses (reaches processor number floor) segments.now)

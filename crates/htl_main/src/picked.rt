@@ -1,4 +1,4 @@
-//! The answer over what was picked of a case.
+//! The answer over what was picked from a case.
 
 ghost use Rattle.std.specs.Prelude.{◌≡◌, List, IfErr, IfOk, is_some, true};
 ghost use Rattle.std.specs.Option.{option_copied};
@@ -11,7 +11,7 @@ ghost use Rattle.htl_main.specs.Printed.{AreAnswerLines};
 
 use crate::answering::answer_of;
 use crate::completed::{Completed, has_event_about, has_finding};
-use crate::coverage::Coverage;
+use crate::coverage::Missed;
 use crate::fault::RunFault;
 use crate::printing::{check_gaps, lines, read_symbols};
 use crate::unfolded::unfolded_list;
@@ -41,14 +41,15 @@ pub(crate) fn answered_of_picks(
         → IsCauseAfter segments (option_copied symbols.entry) job.now fault) }
     ensures after { IfErr result EndsAnswer }
 {
-    check_gaps(job.complete, case.processors(), case.outlines())?;
+    let missed = Missed::of(alloc, case.processors(), case.outlines())?;
+    check_gaps(job.complete, &missed)?;
     let symbols = read_symbols(alloc, symbols)?;
     let answer = answer_of_picks(alloc, job.question, case)?;
     let lines = lines(alloc, job, &answer, &symbols)?;
     Ok((
         lines,
         Completed {
-            coverage: Coverage::of(case.processors(), case.outlines()),
+            coverage: missed.coverage(),
             has_subject: has_event_about(job.question, case.events()),
             has_finding: has_finding(&answer),
         },

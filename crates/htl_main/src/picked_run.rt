@@ -6,15 +6,13 @@ ghost use Rattle.std.specs.Prelude.{IfErr, IfNone, IfOk, IfSome, OnOk, Err, is_s
 ghost use Rattle.std.specs.Option.{option_copied};
 ghost use Rattle.std.specs.Io.KnownBytes.{Appends};
 ghost use Rattle.htl_device.specs.Devices.{AppendsPrefix};
-ghost use Rattle.htl_reading.specs.Sources.{read_ahead};
-ghost use Rattle.htl_reading.specs.declared.reading.TheConstants.{BLOCK_LEN};
 ghost use Rattle.htl_segment.specs.Content.{Content};
 ghost use Rattle.htl_case.specs.Picked.{NeedsWhole};
 ghost use Rattle.htl_main.specs.Causes.{IsCauseAfter, Prints, PrintsPart};
 ghost use Rattle.htl_main.specs.Picked.{AskForWhole, Reports, asks_about, interest_of};
 ghost use Rattle.htl_main.specs.Picking.{ArePickedFor, EndsPrinting, PrintsOf, ReportsOf};
 ghost use Rattle.htl_main.specs.Readings.{AreRead};
-ghost use Rattle.htl_main.specs.Sources.{AreReadToFault, IsSourcesCause, ReadsNoFault};
+ghost use Rattle.htl_main.specs.Sources.{IsSourcesCause};
 
 use crate::completed::Completed;
 use crate::fault::RunFault;
@@ -25,7 +23,6 @@ use htl_case::PickedCase;
 use htl_command::{Job, Question};
 use htl_device::{Sink, Source};
 use htl_event::Interest;
-use htl_reading::BLOCK_LEN;
 use htl_segment::Picks;
 use std::alloc::Global;
 use std::thread::Threads;
@@ -89,10 +86,6 @@ pub fn pick_from<Rt: Threads + Sync, R: Source, W: Sink>(
     ensures untouched { IfErr result (λ fault. fault ≢ RunFault.Write → out.new ≡ out.old) }
     ensures reading { AreRead false job.now.workers R.has_failed R.has_ended R.good_reads R.remaining
         inputs.old inputs.new result }
-    ensures no_fault { (place : ℕ) → result ≡ Err (RunFault.Read place)
-        → ReadsNoFault (map R.remaining inputs.old) (map R.remaining inputs.new) place }
-    ensures to_fault { AreReadToFault (read_ahead job.now.workers BLOCK_LEN)
-        (map R.remaining inputs.old) (map R.remaining inputs.new) }
 {
     check_workers(job.workers)?;
     let picks = pick_all(rt, alloc, interest, job.workers, inputs)?;

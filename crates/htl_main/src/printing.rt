@@ -8,7 +8,7 @@ ghost use Rattle.htl_segment.specs.Content.{Content};
 ghost use Rattle.htl_segment.specs.Traces.{Trace};
 ghost use Rattle.htl_case.specs.Cases.{IsCaseOf};
 ghost use Rattle.htl_main.specs.Answers.{Finds, FindsIn};
-ghost use Rattle.htl_main.specs.CaseOutlines.{AreOutlinesOf};
+ghost use Rattle.htl_main.specs.CaseOutlines.{IsMissed};
 ghost use Rattle.htl_main.specs.Completeness.{IsComplete, ReportsMissing};
 ghost use Rattle.htl_main.specs.Coverages.{Covers, CoversSegments};
 ghost use Rattle.htl_main.specs.Printed.{AreAnswerLines, HasSymbols, HasSymbolFault, WorkersFit};
@@ -21,7 +21,7 @@ ghost use Rattle.htl_main.specs.Subjects.{ReportsSubject, has_subject as has_sub
 use crate::answering::answer;
 use crate::casing::case_of;
 use crate::completed::{Completed, has_finding, has_subject};
-use crate::coverage::{Coverage, first_missing};
+use crate::coverage::Missed;
 use crate::fault::RunFault;
 use crate::inputs::decode_all;
 use crate::refused::Refused;
@@ -31,7 +31,6 @@ use htl_device::{Sink, write_whole};
 use htl_event::NoMemory;
 use htl_json::json_lines;
 use htl_report::{Answer, folded, text};
-use htl_segment::Outline;
 use htl_symbols::{SymbolFault, Symbols};
 use std::alloc::Global;
 use std::thread::Threads;
@@ -96,7 +95,6 @@ pub(crate) fn check_workers(workers: u32) -> Result<(), RunFault>
 
 /// The lines of the answer to the job's question over a case, and what is reported beside them. A case
 /// with a gap is refused where the job asks for a complete one.
-#[tactic(auto, using(crate::proofs::Missing::missing_cause))]
 pub(crate) fn answered(
     alloc: Global,
     job: &Job,
@@ -118,11 +116,11 @@ pub(crate) fn answered(
     ensures err { IfErr result (λ fault. (segments : List Content) → IsCaseOf segments case.now
         → IsCauseAfter segments (option_copied symbols.entry) job.now fault) }
 {
-    let outlines = case.outlines(alloc)?;
-    check_gaps(job.complete, case.processors(), &outlines)?;
+    let missed = Missed::of_case(alloc, case)?;
+    check_gaps(job.complete, &missed)?;
     let symbols = read_symbols(alloc, symbols)?;
-    let coverage = Coverage::of(case.processors(), &outlines);
-    let answer = answer(alloc, job.question, case, &outlines, coverage)?;
+    let coverage = missed.coverage();
+    let answer = answer(alloc, job.question, case, missed)?;
     let lines = lines(alloc, job, &answer, &symbols)?;
     let has_subject = has_subject(job.question, case);
     Ok((
@@ -152,23 +150,18 @@ pub fn lines(
     }
 }
 
-/// Refuses the case with these outlines where it has a gap and a complete one is asked for. Takes no
-/// memory.
-pub(crate) fn check_gaps(
-    complete: bool,
-    processors: u16,
-    outlines: &[Outline],
-) -> Result<(), RunFault>
+/// Refuses the case that misses this where it has a gap and a complete one is asked for.
+pub(crate) fn check_gaps(complete: bool, missed: &Missed) -> Result<(), RunFault>
     ensures ok { OnOk result (complete ≡ true
-        → (T : Trace) → AreOutlinesOf processors outlines.now T → IsComplete T) }
+        → (T : Trace) → IsMissed T missed.now → IsComplete T) }
     ensures err { IfErr result (λ fault. (complete ≡ true)
-        × ((T : Trace) → AreOutlinesOf processors outlines.now T → ReportsMissing T fault)) }
+        × ((T : Trace) → IsMissed T missed.now → ReportsMissing T fault)) }
     ensures after { IfErr result EndsAnswer }
 {
     if !complete {
         return Ok(());
     }
-    match first_missing(processors, outlines) {
+    match missed.first() {
         Some((processor, number)) => Err(RunFault::Incomplete { processor, number }),
         None => Ok(()),
     }
@@ -194,8 +187,5 @@ pub(crate) fn write_lines<W: Sink>(out: &mut W, lines: &[u8]) -> Result<(), RunF
     ensures err { IfErr result (λ fault. (fault ≡ RunFault.Write) × (W.has_failed out.new ≡ true)
         × AppendsPrefix (W.contents out.old) (W.contents out.new) lines.now) }
 {
-    match write_whole(out, lines) {
-        Ok(()) => Ok(()),
-        Err(_) => Err(RunFault::Write),
-    }
+    write_whole(out, lines).map_err(|_| RunFault::Write)
 }

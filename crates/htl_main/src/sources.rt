@@ -1,19 +1,13 @@
 //! The segments that sources give, each read to its end.
 
-ghost use Rattle.std.specs.Prelude.{◌≡◌, ◌⊎◌, ◌+◌, ◌*◌, ◌<◌, ◌≤◌, ◌^◌, ◌++◌};
-ghost use Rattle.std.specs.Prelude.{ℕ, List, [], All, None, Some, false, true};
-ghost use Rattle.std.specs.Prelude.{length, map, slice_get, IfOk, IfErr, IfSome, OnOk};
+ghost use Rattle.std.specs.Prelude.{◌≡◌, ℕ, List, [], All, Some, false, true};
+ghost use Rattle.std.specs.Prelude.{map, IfOk, IfErr, IfSome};
 ghost use Rattle.htl_segment.specs.Bundles.{Splits};
-ghost use Rattle.htl_reading.specs.Sources.{IsReadToFault, read_ahead};
-ghost use Rattle.htl_reading.specs.declared.reading.TheConstants.{BLOCK_LEN};
 ghost use Rattle.htl_main.specs.Inputs.{Decodes, DecodeAll, IsReported, StopsAt};
 ghost use Rattle.htl_main.specs.Parts.{AreParts};
-ghost use Rattle.htl_main.specs.Reads.{FailsOnly, NamesOnly, NeverWrite};
-ghost use Rattle.htl_main.specs.Reads.{ReportsFailure};
-ghost use Rattle.htl_main.specs.Sources.{AreReadInOrder, AreReadToFault, AreReadWithin};
-ghost use Rattle.htl_main.specs.Sources.{EndsBefore, IsEndless, ReadsNoFault, ReportsFailed};
-ghost use Rattle.htl_main.specs.Sources.{StandsBefore};
-ghost use Rattle.htl_main.specs.Sources.{IsReportedAt, IsReportedOfSource, IsTrueAt};
+ghost use Rattle.htl_main.specs.Reads.{IsRead, NamesOnly, NeverRead, NeverWrite};
+ghost use Rattle.htl_main.specs.Readings.{AreRead};
+ghost use Rattle.htl_main.specs.Sources.{IsReportedAt, IsReportedOfSource};
 
 use crate::decoded::Decoded;
 use crate::fault::RunFault;
@@ -42,21 +36,8 @@ pub(crate) fn read_all<Rt: Threads + Sync, R: Source>(
     ensures err { (inputs : List (List ℕ)) → map R.remaining sources.old ≡ map Some inputs
         → IfErr result (StopsAt hex (IsReportedAt hex (map R.remaining sources.new)
         (map R.has_ended sources.new)) inputs) }
-    ensures ended { OnOk result (All (λ source. R.has_ended source ≡ true) sources.new) }
-    ensures in_order { AreReadInOrder R.has_ended sources.old sources.new }
-    ensures reported { ReportsFailed hex workers (map R.has_failed sources.new)
-        (map R.remaining sources.old) (map R.remaining sources.new) result }
-    ensures read { (place : ℕ) → result ≡ Err (RunFault.Read place)
-        → IsTrueAt (map R.has_failed sources.new) place
-        ⊎ IsEndless (map R.good_reads sources.new) (map R.remaining sources.old) place }
-    ensures no_fault { (place : ℕ) → result ≡ Err (RunFault.Read place) → hex ≡ false
-        → ReadsNoFault (map R.remaining sources.old) (map R.remaining sources.new) place }
-    ensures bounded { AreReadWithin (map R.good_reads sources.old) (map R.good_reads sources.new) }
-    ensures unread { IfErr result (λ fault. (place : ℕ) → EndsBefore fault place
-        → slice_get sources.new place ≡ slice_get sources.old place) }
-    ensures to_fault { hex ≡ false
-        → AreReadToFault (read_ahead workers BLOCK_LEN) (map R.remaining sources.old)
-        (map R.remaining sources.new) }
+    ensures reading { AreRead hex workers R.has_failed R.has_ended R.good_reads R.remaining
+        sources.old sources.new result }
     ensures no_write { NeverWrite result }
 {
     let mut decoded = Decoded::new(alloc);
@@ -82,18 +63,8 @@ fn read_input<Rt: Threads + Sync, R: Source>(
         (λ bytes. Decodes hex bytes segments.items)) }
     ensures err { IfErr result (λ fault. IfSome (R.remaining source.old) (λ bytes.
         IsReportedOfSource hex (R.remaining source.new) (R.has_ended source.new) place bytes fault)) }
-    ensures ended { OnOk result (R.has_ended source.new ≡ true) }
-    ensures reported { R.has_failed source.new ≡ true → (result ≡ Err (RunFault.Read place))
-        ⊎ StandsBefore hex workers place (R.remaining source.old) (R.remaining source.new) result }
-    ensures read { FailsOnly place (R.has_failed source.new) (R.good_reads source.new)
-        (R.remaining source.old) MAX_READS result }
-    ensures no_fault { (at : ℕ) → result ≡ Err (RunFault.Read at) → hex ≡ false
-        → IsReadToFault 0 (R.remaining source.old) (R.remaining source.new) }
-    ensures bounded { R.good_reads source.new ≤ R.good_reads source.old + MAX_READS }
-    ensures named { NamesOnly place result }
-    ensures to_fault { hex ≡ false
-        → IsReadToFault (read_ahead workers BLOCK_LEN) (R.remaining source.old)
-        (R.remaining source.new) }
+    ensures reading { IsRead hex workers MAX_READS R.has_failed R.has_ended R.good_reads R.remaining
+        place source.old source.new result }
     ensures no_write { NeverWrite result }
 {
     if hex {
@@ -118,12 +89,8 @@ fn read_digits<Rt: Threads + Sync, R: Source>(
         (λ text. Decodes true text segments.items)) }
     ensures err { IfErr result (λ fault. IfSome (R.remaining source.old) (λ text.
         IsReportedOfSource true (R.remaining source.new) (R.has_ended source.new) place text fault)) }
-    ensures ended { OnOk result (R.has_ended source.new ≡ true) }
-    ensures reported { ReportsFailure place (R.has_failed source.new) result }
-    ensures read { FailsOnly place (R.has_failed source.new) (R.good_reads source.new)
-        (R.remaining source.old) MAX_READS result }
-    ensures bounded { R.good_reads source.new ≤ R.good_reads source.old + MAX_READS }
-    ensures named { NamesOnly place result }
+    ensures reading { IsRead true workers MAX_READS R.has_failed R.has_ended R.good_reads R.remaining
+        place source.old source.new result }
     ensures no_write { NeverWrite result }
 {
     match read_whole(alloc, source) {
@@ -142,11 +109,11 @@ fn decode_digits<Rt: Threads + Sync>(
 ) -> Result<Vec<Segment>, RunFault>
     ensures ok { IfOk result (λ segments. Decodes true text.now segments.items) }
     ensures err { IfErr result (IsReported true place text.now) }
+    ensures no_read { NeverRead result }
+    ensures named { NamesOnly place result }
 {
-    match from_hex(alloc, text) {
-        Ok(bytes) => decode_bytes_by(rt, alloc, workers, place, &bytes),
-        Err(fault) => Err(RunFault::of_hex(place, fault)),
-    }
+    let bytes = from_hex(alloc, text).map_err(|fault| RunFault::of_hex(place, fault))?;
+    decode_bytes_by(rt, alloc, workers, place, &bytes)
 }
 
 /// The segments that the bytes of the input at a place encode, by so many workers.
@@ -161,10 +128,9 @@ fn decode_bytes_by<Rt: Threads + Sync>(
     ensures ok { IfOk result (λ segments. Decodes false bytes.now segments.items) }
     ensures err { IfErr result (IsReported false place bytes.now) }
 {
-    match decode_bundle_by(rt, alloc, workers, bytes) {
-        Ok(segments) => Ok(segments),
-        Err((offset, fault)) => Err(RunFault::of_segment(place, offset, fault)),
-    }
+    decode_bundle_by(rt, alloc, workers, bytes).map_err(|(offset, fault)| RunFault::of_segment(
+        place, offset, fault,
+    ))
 }
 
 /// The segments whose bytes the source at a place gives, by so many workers.
@@ -181,17 +147,8 @@ fn read_bundle_at<Rt: Threads + Sync, R: Source>(
         (λ bytes. Splits bytes segments.items [])) }
     ensures err { IfErr result (λ fault. IfSome (R.remaining source.old) (λ bytes.
         IsReportedOfSource false (R.remaining source.new) (R.has_ended source.new) place bytes fault)) }
-    ensures ended { OnOk result (R.has_ended source.new ≡ true) }
-    ensures reported { R.has_failed source.new ≡ true → (result ≡ Err (RunFault.Read place))
-        ⊎ StandsBefore false workers place (R.remaining source.old) (R.remaining source.new) result }
-    ensures read { FailsOnly place (R.has_failed source.new) (R.good_reads source.new)
-        (R.remaining source.old) MAX_READS result }
-    ensures no_fault { (at : ℕ) → result ≡ Err (RunFault.Read at)
-        → IsReadToFault 0 (R.remaining source.old) (R.remaining source.new) }
-    ensures bounded { R.good_reads source.new ≤ R.good_reads source.old + MAX_READS }
-    ensures named { NamesOnly place result }
-    ensures to_fault { IsReadToFault (read_ahead workers BLOCK_LEN) (R.remaining source.old)
-        (R.remaining source.new) }
+    ensures reading { IsRead false workers MAX_READS R.has_failed R.has_ended R.good_reads
+        R.remaining place source.old source.new result }
     ensures no_write { NeverWrite result }
 {
     match read_bundle(rt, alloc, workers, BLOCK_LEN, source) {

@@ -1,17 +1,14 @@
 //! The run over sources, which are read as it goes on.
 
-ghost use Rattle.std.specs.Prelude.{◌≡◌, ◌≢◌, ◌⊎◌, ℕ, List, All, Some};
-ghost use Rattle.std.specs.Prelude.{false, true, map, slice_get, IfErr, IfOk, OnOk};
+ghost use Rattle.std.specs.Prelude.{◌≡◌, ◌≢◌, ℕ, List, All, Some, Err, false, true, map};
+ghost use Rattle.std.specs.Prelude.{IfErr, IfOk, OnOk};
 ghost use Rattle.std.specs.Option.{option_copied};
-ghost use Rattle.htl_reading.specs.Sources.{read_ahead};
-ghost use Rattle.htl_reading.specs.declared.reading.TheConstants.{BLOCK_LEN};
 ghost use Rattle.htl_main.specs.Answers.{Finds};
 ghost use Rattle.htl_main.specs.Causes.{Prints, PrintsPart};
 ghost use Rattle.htl_main.specs.Coverages.{Covers};
 ghost use Rattle.htl_main.specs.Origins.{IsBetween, by_fault};
-ghost use Rattle.htl_main.specs.Sources.{AreReadInOrder, AreReadToFault, AreReadWithin};
-ghost use Rattle.htl_main.specs.Sources.{EndsBefore, IsEndless, IsSourcesCause, IsTrueAt};
-ghost use Rattle.htl_main.specs.Sources.{ReadsNoFault, ReportsFailed};
+ghost use Rattle.htl_main.specs.Readings.{AreRead};
+ghost use Rattle.htl_main.specs.Sources.{IsSourcesCause};
 ghost use Rattle.htl_main.specs.Subjects.{ReportsSubject};
 
 use crate::casing::case_of;
@@ -30,9 +27,9 @@ use std::thread::Threads;
 ///
 /// A fault of a source ends the run: no later source is read, and of its own bytes, which are
 /// decoded as they come, none after the read that gave the fault, or after the block of reads that
-/// several workers decode together and the next one, which is read meanwhile. They report the same
-/// fault as one worker, and a read that failed where none stands before it. A text in hexadecimal is
-/// gathered whole first.
+/// several workers decode together and the next one, which is read meanwhile. They report the
+/// fault that one worker reports, and a read that failed only where no fault comes before it. A text in
+/// hexadecimal is gathered whole first.
 pub fn run_from<Rt: Threads + Sync, R: Source, W: Sink>(
     rt: &Rt,
     alloc: Global,
@@ -68,25 +65,8 @@ pub fn run_from<Rt: Threads + Sync, R: Source, W: Sink>(
         → IfErr result (λ refused.
         IsBetween job.now.hex texts refused.fault refused.between) }
     ensures failed { by_fault result ≡ Err RunFault.Write → W.has_failed out.new ≡ true }
-    // Each source is read to its end before the next.
-    ensures ended { OnOk result (All (λ source. R.has_ended source ≡ true) inputs.new) }
-    ensures in_order { AreReadInOrder R.has_ended inputs.old inputs.new }
-    // A read that failed is reported, and reported only then or after too many reads. Several workers
-    // may find a fault of the bytes before it first, and report that.
-    ensures reported { ReportsFailed job.now.hex job.now.workers (map R.has_failed inputs.new)
-        (map R.remaining inputs.old) (map R.remaining inputs.new) (by_fault result) }
-    ensures read { (place : ℕ) → by_fault result ≡ Err (RunFault.Read place)
-        → IsTrueAt (map R.has_failed inputs.new) place
-        ⊎ IsEndless (map R.good_reads inputs.new) (map R.remaining inputs.old) place }
-    ensures no_fault { (place : ℕ) → by_fault result ≡ Err (RunFault.Read place) → job.now.hex ≡ false
-        → ReadsNoFault (map R.remaining inputs.old) (map R.remaining inputs.new) place }
-    ensures bounded { AreReadWithin (map R.good_reads inputs.old) (map R.good_reads inputs.new) }
-    // A fault ends the reading.
-    ensures unread { IfErr (by_fault result) (λ fault. (place : ℕ) → EndsBefore fault place
-        → slice_get inputs.new place ≡ slice_get inputs.old place) }
-    ensures to_fault { job.now.hex ≡ false
-        → AreReadToFault (read_ahead job.now.workers BLOCK_LEN) (map R.remaining inputs.old)
-        (map R.remaining inputs.new) }
+    ensures reading { AreRead job.now.hex job.now.workers R.has_failed R.has_ended R.good_reads
+        R.remaining inputs.old inputs.new (by_fault result) }
     ensures untouched { IfErr (by_fault result) (λ fault. fault ≢ RunFault.Write → out.new ≡ out.old) }
 {
     check_workers(job.workers)?;

@@ -1,4 +1,4 @@
-//! Lists of events as a part of an answer, of which nothing was folded.
+//! Lists of events that weren't folded, as a part over which answers are made.
 
 ghost use Rattle.std.specs.Prelude.{◌≡◌};
 ghost use Rattle.htl_main.specs.Unfolded.{unfolded};
@@ -71,7 +71,7 @@ impl<'a, E: EventList> Part for Unfolded<'a, E> {
     }
 }
 
-/// One list of events as such a part.
+/// One list of events that wasn't folded, as a part.
 pub(crate) fn unfolded_list<'a>(
     alloc: Global,
     events: &'a Vec<SharedEvent>,

@@ -1,39 +1,29 @@
 -- A text of digits that `from_str_radix` refuses.
-use Rattle.std.proofs.Common.{◌≡◌, ◌<◌, ◌≤◌, ◌^◌, ◌≢◌, ℕ, Bool, true, false, List, [], ◌∷◌, length, refl, arith, get_or, ltb, leb}
+use Rattle.std.proofs.Common.{◌≡◌, ◌<◌, ◌≤◌, ◌^◌, ◌≢◌, ℕ, Bool, true, List, [], ◌∷◌, length, refl, arith, get_or, ltb, leb}
 use Rattle.std.specs.Prelude.{Err, Some, None, ◌&&◌, if◌then◌else◌}
 use Rattle.std.specs.List.{list_all}
 use Rattle.std.specs.Char.{digit_value, is_digit}
 use Rattle.std.specs.Str.Parse.{AllDigits, IsNumeral, ParsesUnsigned, digits_value, without_leading_plus}
 use Rattle.std.proofs.lemmas.Str.Parse.{without_leading_plus_none}
-use Rattle.std.proofs.lemmas.Bool.{lt-ltb, ltb-true}
-use Rattle.std.proofs.lemmas.Bool.Decides.{nat_tests}
+use Rattle.std.proofs.lemmas.Bool.{lt-ltb, ltb-true, and_parts, lt-leb}
 use Rattle.htl_numbers.specs.Numbers.{number_of}
 
 -- each byte of the text is a digit of the radix
 abbrev pub all_digits : ℕ → List ℕ → Bool
 all_digits radix text = list_all (λ c. is_digit c radix) text
 
--- both parts of a conjunction that holds
-pub both : (a b : Bool) → (a && b) ≡ true → (a ≡ true) × (b ≡ true)
-both true b h = (refl, h)
-both false b h = cc
-
--- a number is not at most a lower one
-above-leb : (a b : ℕ) → b < a → leb a b ≡ false
-above-leb a b l = grind (arith, nat_tests)
-
 -- the test of each byte as a fact of each
 AllDigits-from_test : (radix : ℕ) (text : List ℕ) → all_digits radix text ≡ true → AllDigits radix text
 AllDigits-from_test radix [] h = tt
 AllDigits-from_test radix (c ∷ cs) h =
-    let parts = both (is_digit c radix) (all_digits radix cs) h in
+    let parts = and_parts (is_digit c radix) (all_digits radix cs) h in
     (ltb-true (digit_value c) radix parts.0, AllDigits-from_test radix cs parts.1)
 
 -- a plus sign is no digit
 no-plus : (radix : ℕ) (text : List ℕ) → radix ≤ 16 → all_digits radix text ≡ true → get_or text 0 0 ≢ 43
 no-plus radix [] low h e = cc
 no-plus radix (c ∷ cs) low h e =
-    let parts = both (is_digit c radix) (all_digits radix cs) h in
+    let parts = and_parts (is_digit c radix) (all_digits radix cs) h in
     let at : c ≡ 43 = e in
     let past : 36 < radix = rw at at (ltb-true (digit_value c) radix parts.0) in
     omega arith
@@ -56,4 +46,4 @@ number-refused radix most e text low small h refused =
     nothing (c ∷ cs) h none =
         let some : 0 < length (c ∷ cs) = omega arith in
         let large : ¬ (digits_value radix (c ∷ cs) < 2 ^ 64) = λ less. none ((some, AllDigits-from_test radix (c ∷ cs) h), less) in
-        rw (lt-ltb 0 (length (c ∷ cs)) some, above-leb (digits_value radix (c ∷ cs)) most (omega arith)) refl
+        rw (lt-ltb 0 (length (c ∷ cs)) some, lt-leb (digits_value radix (c ∷ cs)) most (omega arith)) refl

@@ -1,8 +1,8 @@
 //! Numbers as they stand in a text: the arguments of a command line and the fields of a symbol
 //! table.
 //!
-//! `specs/Numbers` says which texts are numbers and which number each one is: digits and nothing
-//! else, so no sign, no blank and no separator.
+//! `specs/Numbers` defines the texts that are numbers, and the number of each. They have digits and
+//! nothing else: no sign, no blank and no separator.
 #![tactic(auto)]
 
 ghost use Rattle.std.specs.Prelude.{◌≡◌, ◌≤◌, ◌⊎◌, IfSome};
@@ -11,11 +11,11 @@ ghost use Rattle.std.specs.Char.{is_digit};
 ghost use Rattle.htl_numbers.specs.Numbers.{decimal_number, hexadecimal_number};
 ghost use Rattle.htl_numbers.specs.Numbers.{number_of, without_0x};
 
-/// How many digits a hexadecimal number has at most.
+/// The most digits of a hexadecimal number.
 const MAX_HEX_DIGITS: usize = 16;
 
-/// The number of a text of decimal digits, of any length, if it is at most `most`. None for any
-/// other text: an empty one, a sign, a blank, a digit of another radix, a greater number.
+/// The number of a text of decimal digits, of any length, if it is at most `most`. There is none for
+/// any other text: one that is empty, or has a sign, a blank, another character or a greater number.
 pub fn decimal(text: &str, most: u64) -> Option<u64>
     ensures value { result ≡ decimal_number most text.now }
     ensures bound { IfSome result (λ n. n ≤ most) }
@@ -24,8 +24,8 @@ pub fn decimal(text: &str, most: u64) -> Option<u64>
 }
 
 /// The number of a text of 1 to 16 hexadecimal digits of either case, with or without `0x` before
-/// them, if it is at most `most`. None for any other text: `0x` alone, `0X`, a seventeenth digit, a
-/// sign, a blank, a greater number.
+/// them, if it is at most `most`. There is none for any other text: `0x` alone, or one that has `0X`, a
+/// seventeenth digit, a sign, a blank or a greater number.
 #[tactic(auto, unfolding(crate::specs::Numbers::hexadecimal_number))]
 pub fn hexadecimal(text: &str, most: u64) -> Option<u64>
     ensures value { result ≡ hexadecimal_number most text.now }

@@ -1,4 +1,4 @@
-//! A block that a source is read into, and in which segments are checked.
+//! Blocks: a source is read into a block, and segments are checked in it.
 
 ghost use Rattle.std.specs.Prelude.{◌≡◌, ◌≤◌, OnOk, length, take};
 
@@ -6,10 +6,10 @@ use htl_device::{Failed, MAX_READ_LEN, Source};
 use std::alloc::{AllocError, Global};
 use std::marker::Model;
 
-/// A block has at least so many bytes once it has room for a read.
+/// The least size in bytes of a block that has room for a read.
 const LEAST_LEN: usize = 1_048_576;
 
-/// Bytes that were read of a source and not taken yet, and room for more behind them.
+/// Bytes that were read from a source and not taken yet, and room for more behind them.
 #[derive(Drop)]
 pub struct Block {
     bytes: Vec<u8>,
@@ -49,7 +49,7 @@ impl Block {
         })
     }
 
-    /// A block that holds nothing.
+    /// An empty block.
     pub fn empty(alloc: Global) -> Block
         ensures { result.held ≡ [] }
     {
@@ -60,7 +60,7 @@ impl Block {
         }
     }
 
-    /// Holds these bytes in place of those it held.
+    /// Replaces the bytes held by these.
     pub fn restart(&mut self, held: &[u8]) -> Result<(), AllocError>
         ensures { OnOk result (self.new.held ≡ held.now) }
     {
@@ -77,7 +77,7 @@ impl Block {
         &self.bytes[self.start..self.end]
     }
 
-    /// Takes so many bytes off the front of those held.
+    /// Takes this many bytes off the front of those held.
     pub fn consume(&mut self, len: usize)
         requires { len ≤ length self.old.held }
         ensures { self.new.held ≡ drop len self.old.held }
@@ -85,8 +85,8 @@ impl Block {
         self.start += len;
     }
 
-    /// Makes room for a read behind the bytes held. These are moved to the front where it takes that,
-    /// and the block grows where that isn't enough.
+    /// Makes room for a read behind the bytes held. They are moved to the front if there is no room, and
+    /// the block grows if that isn't enough.
     pub fn make_room(&mut self) -> Result<(), AllocError>
         requires { length self.old.held + MAX_READ_LEN < 2 ^ 64 }
         ensures held { self.new.held ≡ self.old.held }
@@ -95,9 +95,9 @@ impl Block {
         if self.bytes.len() - self.end >= MAX_READ_LEN {
             return Ok(());
         }
-        self.bytes.copy_within(self.start..self.end, 0);
-        self.end -= self.start;
-        self.start = 0;
+        if self.start > 0 {
+            self.move_to_front();
+        }
         let least = self.end + MAX_READ_LEN;
         if self.bytes.len() < least {
             self.bytes.resize(least.max(LEAST_LEN), 0)?;
@@ -105,7 +105,15 @@ impl Block {
         Ok(())
     }
 
-    /// Reads what comes next behind the bytes held, and says how many bytes that is.
+    fn move_to_front(&mut self)
+        ensures { self.new.held ≡ self.old.held }
+    {
+        self.bytes.copy_within(self.start..self.end, 0);
+        self.end -= self.start;
+        self.start = 0;
+    }
+
+    /// Reads the next bytes behind those held, and gives their number.
     pub fn read<R: Source>(&mut self, source: &mut R) -> Result<usize, Failed>
         requires fresh { R.has_failed source.old ≡ false }
         requires inside { R.has_ended source.old ≡ false }
@@ -125,7 +133,7 @@ impl Block {
     }
 }
 
-/// Puts the piece over the first bytes, of which there are as many afterwards.
+/// Writes the piece over the first bytes. Their number stays the same.
 fn put_in_front(bytes: &mut Vec<u8>, piece: &[u8]) -> Result<(), AllocError>
     ensures grown { length bytes.old.items ≤ length bytes.new.items }
     ensures room { OnOk result (length piece.now ≤ length bytes.new.items) }

@@ -1,12 +1,12 @@
-//! Where bytes can be cut between segments, as their headers say.
+//! Cutting: places between segments, found by their headers.
 
 ghost use Rattle.std.specs.Prelude.{◌≤◌, ◌⊎◌, length, drop, take};
 ghost use Rattle.htl_reading.specs.Cuts.{BeginsNoWhole, IsCut};
 
 use htl_segment::whole_len;
 
-/// Where the first segment ends that ends at `least` or after it, as the headers say; or where
-/// they say no more.
+/// The end of the first segment that ends at `least` or after it, as the headers state it; or the place
+/// where no header follows.
 pub fn cut(bytes: &[u8], least: usize) -> usize
     ensures inside { result ≤ length bytes.now }
     ensures cut { IsCut (take result bytes.now) }

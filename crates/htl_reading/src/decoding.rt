@@ -8,8 +8,8 @@ use htl_segment::{Fault, Segment, Segments, cut_off};
 use std::alloc::Global;
 use std::thread::Threads;
 
-/// What `decode_bundle` gives, by the workers. A worker for which no thread can be made works in this
-/// one.
+/// Decodes a bundle as `decode_bundle` does, by several workers. A worker for which no thread can be
+/// made works in this one.
 pub fn decode_bundle_by<T: Threads + Sync>(
     rt: &T,
     alloc: Global,

@@ -1,4 +1,4 @@
-//! A block that reads of a source fill.
+//! Filling a block by reads of a source.
 
 ghost use Rattle.std.specs.Prelude.{◌≡◌, ◌+◌, ◌-◌, ◌*◌, ◌<◌, ◌≤◌, ◌^◌, false, length, IfOk, IfErr};
 ghost use Rattle.htl_reading.specs.Blocks.{IsFilled, IsStopped, reads_at};
@@ -11,25 +11,25 @@ use std::alloc::AllocError;
 #[derive(Clone, Copy)]
 pub struct Limits {
     pub workers: u32,
-    /// A block is full once so many bytes were read for it.
+    /// A block is full once this many bytes were read for it.
     pub block_len: usize,
-    /// How many reads may give bytes.
+    /// The most reads that may give bytes.
     pub reads: u64,
 }
 
 /// Why the reading of a block ended.
 #[derive(Clone, Copy)]
 pub enum Stop {
-    /// The block is full, and so many reads gave bytes.
+    /// The block is full. This many reads gave bytes.
     Full(u64),
     /// The source has ended.
     End,
-    /// A read failed, or as many gave bytes as may.
+    /// A read failed, or the most reads that may gave bytes.
     Failed,
 }
 
-/// Reads on after `before` reads that gave bytes, and puts what comes behind the bytes of the block,
-/// until it is full.
+/// Reads on after `before` reads that gave bytes, and puts the bytes behind those of the block, until it
+/// is full.
 pub fn fill<R: Source>(
     limits: Limits,
     before: u64,

@@ -1,5 +1,5 @@
-//! What was read of a source, and reading on: by one worker, who takes the segments of each read
-//! before the next, or by several, who take those of a block while the next one is read.
+//! What was gathered from a source, and how it is read on: by one worker, who takes the segments of each
+//! read before the next, or by several, who take those of a block while the next one is read.
 
 ghost use Rattle.std.specs.Prelude.{◌≡◌, ◌≢◌, ◌⊎◌, ◌+◌, ◌-◌, ◌*◌, ◌<◌, ◌≤◌, ◌^◌, ℕ, List, [], Option};
 ghost use Rattle.std.specs.Prelude.{Err, IfOk, IfErr, IfSome, OnOk, false, true, length};
@@ -23,17 +23,18 @@ use std::alloc::{AllocError, Global};
 use std::mem;
 use std::thread::{Threads, join_mut};
 
-/// What was read of a source: what keepers took of it, and the bytes behind that.
+/// What was gathered from a source: the keepers with the segments that they took, and the bytes after
+/// these.
 #[derive(Drop)]
 pub struct Gathered<K> {
     pub keepers: Keepers<K>,
-    /// Where the block begins among all bytes.
+    /// The offset of the block among all bytes.
     pub offset: u64,
     pub block: Block,
 }
 
 impl<K: Keeper + Drop + Send> Gathered<K> {
-    /// Takes the segments that the block begins with.
+    /// Takes the segments at the front of the block.
     fn take<T: Threads + Sync>(&mut self, rt: &T, alloc: Global) -> Result<(), SourceFault>
         requires { self.old.offset + length self.old.block.held < 2 ^ 64 }
         ensures ok { OnOk result (IsTakenIn (AreKept K.gathers) self.old.keepers self.new.keepers
@@ -49,7 +50,7 @@ impl<K: Keeper + Drop + Send> Gathered<K> {
         Ok(())
     }
 
-    /// What the keepers have where a source has ended.
+    /// Ends the gathering where a source has ended, and gives the first keeper, which has all segments.
     fn finish(self) -> Result<Keepers<K>, SourceFault>
         ensures ok { IfOk result (λ keepers. (keepers ≡ self.keepers) × (self.block.held ≡ [])) }
         ensures err { IfErr result (λ fault. (0 < length self.block.held)
@@ -183,8 +184,9 @@ impl<K: Keeper + Drop + Send> Gathered<K> {
         }
     }
 
-    /// Takes the block while the next one is read: what is left of this one, and what the source gives
-    /// after it. The block's fault is reported, whatever came of that.
+    /// Takes the block while the next one is read. That one has the bytes that are left of this one,
+    /// and those that the source gives after them. A fault of the block is reported, whatever the reads
+    /// gave.
     fn advance<T: Threads + Sync, R: Source>(
         &mut self,
         rt: &T,

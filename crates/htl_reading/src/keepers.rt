@@ -1,4 +1,4 @@
-//! A keeper for each worker, and the bytes that they share.
+//! Keepers: one for each worker, and the bytes that they share.
 
 ghost use Rattle.std.specs.Prelude.{◌≡◌, ◌≢◌, ◌+◌, ◌<◌, ◌≤◌, ◌^◌, ◌++◌, ◌∷◌, [], List, true};
 ghost use Rattle.std.specs.Prelude.{Err, Ok, IfOk, IfErr, MatchResult, OnOk, is_ok, length};
@@ -14,14 +14,15 @@ ghost use Rattle.htl_reading.specs.declared.fault.SourceFault.TheVariants.{Read}
 use crate::cutting::cut;
 use crate::fault::SourceFault;
 use htl_event::NoMemory;
-use htl_segment::{Fault, Keeper, split_into};
+use htl_segment::{Fault, Keeper, split};
 use std::alloc::Global;
 use std::thread::{Threads, join_mut};
 
-/// The bytes of which more may make a segment, or why the segment at an offset is refused.
+/// The bytes that are left, which more bytes may make a segment of, or why the segment at an offset is
+/// refused.
 type Outcome<'a> = Result<&'a [u8], (u64, Fault)>;
 
-/// Bytes that are fewer are taken by one worker.
+/// Where there are fewer bytes, one worker takes them.
 const MIN_SHARED_LEN: usize = 65_536;
 
 /// A keeper for each worker. What a worker takes goes over to the first keeper, so that the others
@@ -47,7 +48,7 @@ impl<K: Keeper + Drop + Send> Keepers<K> {
         Keepers { first, others }
     }
 
-    /// Takes the segments that the bytes at an offset begin with, and says how many bytes these are.
+    /// Takes the segments at the front of the bytes at an offset, and gives the number of their bytes.
     pub fn take<T: Threads + Sync>(
         &mut self,
         rt: &T,
@@ -68,8 +69,8 @@ impl<K: Keeper + Drop + Send> Keepers<K> {
     }
 }
 
-/// Takes the whole segments at the front of some bytes, and leaves those of which more bytes may make
-/// one. A refusal names the offset of the refused segment.
+/// Takes the whole segments at the front of some bytes, and leaves the bytes after them, which more
+/// bytes may make a segment of. A refusal names the offset of the refused segment.
 ///
 /// Each keeper serves one worker, but for bytes that are few. A worker for which no thread can be made
 /// works in this one.
@@ -89,11 +90,11 @@ pub fn take_shared<'a, T: Threads + Sync, K: Keeper + Drop + Send>(
         × (vec_capacity others.new ≡ vec_capacity others.old) }
 {
     if bytes.len() < MIN_SHARED_LEN {
-        return split_into(alloc, first, bytes);
+        return split(alloc, first, bytes);
     }
     let share = bytes.len() / (others.len() + 1);
     let Some(mut second) = others.pop() else {
-        return split_into(alloc, first, bytes);
+        return split(alloc, first, bytes);
     };
     let (front, back) = bytes.split_at(cut(bytes, share));
     let outcome = take_both(rt, alloc, first, &mut second, others, front, back);
@@ -101,8 +102,8 @@ pub fn take_shared<'a, T: Threads + Sync, K: Keeper + Drop + Send>(
     outcome
 }
 
-/// Does so with two parts of the bytes, of which the first keeper takes the one in front, and all
-/// others share that behind it.
+/// Takes the segments of two parts of the bytes: the first keeper those of the part in front, and the
+/// other keepers those of the part behind it.
 #[cycle(sharing)]
 fn take_both<'a, T: Threads + Sync, K: Keeper + Drop + Send>(
     rt: &T,
@@ -126,7 +127,7 @@ fn take_both<'a, T: Threads + Sync, K: Keeper + Drop + Send>(
 {
     let (ahead, behind) = join_mut(
         rt,
-        &mut || split_into(alloc, first, front),
+        &mut || split(alloc, first, front),
         &mut ||
             requires { IsSync T.row }
             ensures ok { IfOk result (λ rest. TookFront (AreShared K.gathers)
@@ -142,8 +143,8 @@ fn take_both<'a, T: Threads + Sync, K: Keeper + Drop + Send>(
     in_order(first, second, front, back, ahead, behind)
 }
 
-/// Puts what the second keeper took of the bytes behind after what the first one took of those in
-/// front. Of two faults that in front is reported.
+/// Puts the segments of the part behind, which the second keeper took, after those that the first one
+/// took of the part in front. Of two faults the one in front is reported.
 fn in_order<'a, K: Keeper>(
     first: &mut K,
     second: &mut K,

@@ -11,8 +11,9 @@
 //! are cut), `decoding.rt` (bytes in memory, decoded by several workers).
 //!
 //! `specs/Sources` says what is reported and how far a source is read. In `proofs/`, `TakenLaws` and
-//! `BlockLaws` show what reads come to, `FaultLaws` what is reported of them, `CutLaws` that what
-//! headers cut leaves no rest, and `JoinLaws` that two parts come to what their bytes come to.
+//! `BlockLaws` show which segments reads give, `FaultLaws` which faults are reported, `CutLaws` that
+//! bytes which are cut by headers leave no rest, and `JoinLaws` that two parts give the segments of
+//! their bytes.
 #![tactic(auto)]
 
 mod block;

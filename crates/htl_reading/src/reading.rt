@@ -19,17 +19,17 @@ use htl_segment::{Keeper, Segment, Segments};
 use std::alloc::Global;
 use std::thread::Threads;
 
-/// Several workers take so many bytes of a source at once, or a read more.
+/// The bytes of a source that several workers take at once, or a read more.
 pub const BLOCK_LEN: usize = 4_194_304;
 
-/// Gathers the segments of a source, which is read to its end by the workers, in reads of 65,536
-/// bytes, but for the first, of 4,096. What is gathered is the same for every number of workers, and the
-/// first fault of the bytes is reported wherever it was found. A read that fails is reported where no
-/// fault stands before it.
+/// Gathers the segments of a source. The workers read it to its end, in reads of 65,536 bytes, but for
+/// the first, of 4,096. The segments are the same for every number of workers, and the first fault of
+/// the bytes is reported wherever it was found. A failed read is reported only where the bytes before
+/// it have no fault.
 ///
-/// One worker takes the segments of each read before the next. Several begin so, and take what comes
+/// One worker takes the segments of each read before the next. Several begin so, and take the bytes
 /// after the first segments in blocks of `block_len` bytes or a read more, while this thread reads the
-/// next one. A source without bytes needs no memory.
+/// next block. A source without bytes needs no memory.
 pub fn gather_bundle<T: Threads + Sync, R: Source, K: Keeper + Drop + Send>(
     rt: &T,
     alloc: Global,
@@ -67,7 +67,7 @@ pub fn gather_bundle<T: Threads + Sync, R: Source, K: Keeper + Drop + Send>(
     Ok(kept.first)
 }
 
-/// The segments of a source, gathered so.
+/// The segments of a source, as `gather_bundle` gathers them.
 pub fn read_bundle<T: Threads + Sync, R: Source>(
     rt: &T,
     alloc: Global,
@@ -97,10 +97,9 @@ pub fn read_bundle<T: Threads + Sync, R: Source>(
     Ok(gathered.list)
 }
 
-/// What keepers have of a source once it is read to its end.
+/// Reads a source to its end, and gives the first keeper, which has all segments.
 ///
-/// The first read goes into a short buffer. Where it gives bytes a block is made, into which all others
-/// go.
+/// The first read goes into a short buffer. If it gives bytes, a block is made for all other reads.
 fn read_source<T: Threads + Sync, R: Source, K: Keeper + Drop + Send>(
     rt: &T,
     alloc: Global,

@@ -1,20 +1,11 @@
 -- How an address is printed, as bytes: by its symbol as the debugger does, and else by its digits.
-use Rattle.std.specs.Prelude.{false, ◌-◌, ◌++◌, ◌∷◌, [], ◌==◌, ℕ, List, Option, Some, None, codes, flat_map}
-use Rattle.std.specs.Prelude.{if◌then◌else◌, length, replicate}
-use Rattle.std.specs.Fmt.{digits}
+use Rattle.std.specs.Prelude.{◌++◌, ◌∷◌, [], ◌==◌, ℕ, List, Option, Some, None, codes, flat_map, if◌then◌else◌}
+use Rattle.htl_numbers.specs.Written.{hex, padded}
 use Rattle.htl_symbols.specs.Ranges.{Range, resolved}
 
 -- what ends every line
 abbrev pub line_feed : List ℕ
 line_feed = 10 ∷ []
-
--- lower-case hexadecimal without leading zeros
-abbrev pub hex : ℕ → List ℕ
-hex n = digits 16 false n
-
--- 16 lower-case hexadecimal digits
-abbrev pub hex16 : ℕ → List ℕ
-hex16 n = replicate (16 - length (hex n)) 48 ++ hex n
 
 -- nothing at a range's start, and the offset inside it
 abbrev pub after_start : ℕ → List ℕ
@@ -22,7 +13,7 @@ after_start offset = if offset == 0 then [] else codes "+0x" ++ hex offset
 
 -- an address by its module, name and offset, where it has them
 abbrev pub named : ℕ → Option (List ℕ × List ℕ × ℕ) → List ℕ
-named address None = codes "0x" ++ hex16 address
+named address None = codes "0x" ++ padded 16 address
 named address (Some s) = s.0 ++ (codes "!" ++ (s.1 ++ after_start s.2))
 
 -- the line of a frame

@@ -2,7 +2,8 @@
 use Rattle.std.specs.Prelude.{◌++◌, ℕ, List, Option, codes, flat_map, length}
 use Rattle.std.specs.Fmt.{decimal}
 use Rattle.htl_symbols.specs.Ranges.{Range}
-use Rattle.htl_report.specs.Addresses.{hex, line_feed, stack_lines}
+use Rattle.htl_numbers.specs.Written.{hex}
+use Rattle.htl_report.specs.Addresses.{line_feed, stack_lines}
 use Rattle.htl_report.specs.Parts.{process_head}
 use Rattle.htl_report.specs.Rows.{first_rows}
 

@@ -3,24 +3,14 @@ use Rattle.std.specs.Prelude.{◌++◌, ℕ, List, Option, codes, flat_map, leng
 use Rattle.std.specs.Fmt.{decimal}
 use Rattle.htl_event.specs.Events.{Event}
 use Rattle.htl_event.specs.Slots.{base_of}
-use Rattle.htl_event.specs.declared.kind.Kind.{Kind}
-use Rattle.htl_event.specs.declared.kind.Kind.TheVariants.{Opened, Closed, BadRef, Snapshot, Ref, Deref, Exited}
+use Rattle.htl_event.specs.Words.{word_of}
 use Rattle.htl_symbols.specs.Ranges.{Range}
-use Rattle.htl_report.specs.Addresses.{hex, line_feed, stack_lines}
+use Rattle.htl_numbers.specs.Written.{hex}
+use Rattle.htl_report.specs.Addresses.{line_feed, stack_lines}
 use Rattle.htl_report.specs.Parts.{event_line}
 use Rattle.htl_report.specs.Rows.{first_rows}
 
--- `!htrace` prints the first three; a listing has no other kind, but any event can be printed
-abbrev pub word_of : Kind → List ℕ
-word_of Opened = codes "OPEN"
-word_of Closed = codes "CLOSE"
-word_of BadRef = codes "BAD REF"
-word_of Snapshot = codes "SNAPSHOT"
-word_of Ref = codes "REF"
-word_of Deref = codes "DEREF"
-word_of Exited = codes "EXIT"
-
--- an event, its handle as it was written
+-- an event, its handle as it was written (`!htrace` prints opens, closes and bad references, and a listing has no other kind)
 abbrev pub listed_lines : List Range → Event → List ℕ
 listed_lines symbols e = event_line (word_of e.kind) e.handle e ++ stack_lines symbols e.stack
 

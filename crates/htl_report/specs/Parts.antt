@@ -3,7 +3,8 @@ use Rattle.std.specs.Prelude.{◌++◌, ◌&&◌, ℕ, List, codes, if◌then◌
 use Rattle.std.specs.Fmt.{decimal}
 use Rattle.htl_event.specs.Events.{Event}
 use Rattle.htl_event.specs.declared.slot.Count.{Count}
-use Rattle.htl_report.specs.Addresses.{hex, hex16, line_feed}
+use Rattle.htl_numbers.specs.Written.{hex, padded}
+use Rattle.htl_report.specs.Addresses.{line_feed}
 
 -- the first line of an answer about a process, by its word
 unfoldable pub process_head : List ℕ → ℕ → ℕ → List ℕ
@@ -12,7 +13,7 @@ process_head word process count =
 
 -- the start of the first line of one about an object
 unfoldable pub object_part : List ℕ → ℕ → List ℕ
-object_part word object = word ++ (codes " object=0x" ++ hex16 object)
+object_part word object = word ++ (codes " object=0x" ++ padded 16 object)
 
 -- its end: the number of rows
 unfoldable pub count_part : ℕ → List ℕ

@@ -1,13 +1,14 @@
-//! The lines of stacks: addresses by name where the symbols have them.
+//! The lines of stacks. Addresses are printed by name where the symbols have them.
 
 ghost use Rattle.std.specs.Prelude.{◌≡◌, ◌++◌, codes, OnOk, string_bytes};
 ghost use Rattle.htl_symbols.specs.Ranges.{resolved};
-ghost use Rattle.htl_report.specs.Addresses.{frame_line, hex16, named, stack_lines};
+ghost use Rattle.htl_numbers.specs.Written.{padded};
+ghost use Rattle.htl_report.specs.Addresses.{frame_line, named, stack_lines};
 
 use htl_symbols::Symbols;
 use std::alloc::AllocError;
 
-/// The lines of a stack, the innermost frame first.
+/// Writes the lines of a stack, the innermost frame first.
 pub(crate) fn write_stack(
     out: &mut String,
     symbols: &Symbols,
@@ -31,7 +32,7 @@ fn write_frame(out: &mut String, symbols: &Symbols, address: u64) -> Result<(), 
     out.push('\n')
 }
 
-/// An address by its symbol where it has one, and else by its digits.
+/// Writes an address by its symbol where it has one, or else by its digits.
 pub(crate) fn write_named(
     out: &mut String,
     symbols: &Symbols,
@@ -47,19 +48,19 @@ pub(crate) fn write_named(
     }
 }
 
-/// An address by its digits.
+/// Writes an address by its digits.
 pub fn write_address(out: &mut String, address: u64) -> Result<(), AllocError>
     ensures { OnOk result (string_bytes out.new
-        ≡ string_bytes out.old ++ (codes "0x" ++ hex16 address)) }
+        ≡ string_bytes out.old ++ (codes "0x" ++ padded 16 address)) }
 {
     out.push_str("0x")?;
     write_padded(out, address)
 }
 
-/// 16 hexadecimal digits.
-#[tactic(auto, using(crate::proofs::Padding::padded_16))]
+/// Writes the address in 16 hexadecimal digits.
+#[tactic(auto, using(htl_lemmas::proofs::Padding::padded_to))]
 pub(crate) fn write_padded(out: &mut String, address: u64) -> Result<(), AllocError>
-    ensures { OnOk result (string_bytes out.new ≡ string_bytes out.old ++ hex16 address) }
+    ensures { OnOk result (string_bytes out.new ≡ string_bytes out.old ++ padded 16 address) }
 {
     write!(out, "{address:016x}")
 }

@@ -15,8 +15,7 @@ use htl_symbols::Symbols;
 use htl_taken::Gap;
 use std::alloc::{AllocError, Global};
 
-/// The answer to a question, with what was asked. Rows are printed in the order in which they
-/// stand.
+/// The answer to a question, with what was asked. Rows are printed in the order that they have here.
 #[derive(Debug, Drop)]
 pub enum Answer {
     /// The handles of a process that are open, each by the event that opened it.
@@ -24,7 +23,8 @@ pub enum Answer {
         process: u32,
         rows: Vec<SharedEvent>,
     },
-    /// Those among them that were opened after a sequence.
+    /// The handles of a process that are open and were opened after a sequence, each by the event that
+    /// opened it.
     Diff {
         process: u32,
         since: u64,
@@ -35,12 +35,12 @@ pub enum Answer {
         object: u64,
         rows: Vec<([u8; 4], Count)>,
     },
-    /// The bad references of a process: the handle as written, the stack, and how often.
+    /// The bad references of a process: the handle as written, the stack, and how often they came.
     Bad {
         process: u32,
         rows: Vec<(u32, SharedStack, u64)>,
     },
-    /// The stacks that opened outstanding handles of a process, and how many each.
+    /// The stacks that opened outstanding handles of a process, each with the number of these handles.
     Leaks {
         process: u32,
         rows: Vec<(SharedStack, u64)>,
@@ -57,8 +57,7 @@ pub enum Answer {
         handle: u32,
         rows: Vec<SharedEvent>,
     },
-    /// What leaks at all: the segments that are missing, each process, and the objects with an
-    /// unbalanced tag.
+    /// A summary: the segments that are missing, each process, and the objects with an unbalanced tag.
     Summary {
         totals: Totals,
         gaps: Vec<Gap>,
@@ -70,8 +69,8 @@ pub enum Answer {
 /// The lines of an answer, each ended by a line feed, with the addresses of its stacks by name
 /// where the symbols have them. Names are printed as they are.
 ///
-/// Of the rows at most `top` are printed, the first ones, where it is given; of a summary so many
-/// processes and so many objects, and all gaps. The first line counts all rows.
+/// Where `top` is given, at most the first `top` rows are printed; of a summary this many processes and
+/// this many objects, and all gaps. The first line counts all rows.
 pub fn text(
     alloc: Global,
     answer: &Answer,

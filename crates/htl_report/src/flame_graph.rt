@@ -11,8 +11,8 @@ use htl_symbols::Symbols;
 use std::alloc::{AllocError, Global};
 
 /// The stacks of an answer `Leaks` in the form of flame graph programs, a line for each: its
-/// frames, the outermost first, parted by `;`, a space, and the number of handles. Of the rows at
-/// most `top` are printed, the first ones, where it is given.
+/// frames, the outermost first, separated by `;`, a space, and the number of handles. Where `top` is
+/// given, at most the first `top` rows are printed.
 ///
 /// Frames are printed as in `text`, but a `;` within a name as `:`, and a line feed or carriage
 /// return as a space. An empty stack is `(no stack)`.
@@ -64,7 +64,7 @@ fn write_stack(
     }
 }
 
-/// Each after a `;`.
+/// Writes the frames, each after a `;`.
 fn write_inner(
     out: &mut Vec<u8>,
     room: &mut String,

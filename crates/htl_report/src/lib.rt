@@ -6,7 +6,7 @@
 //! Files, in reading order: `answer.rt` (the eight answers and their text); one file for each kind
 //! of answer, here and in `specs/`, with its first line, the line of a row, and the whole:
 //! `opens.rt`, `tags.rt`, `bad.rt`, `leaks.rt`, `stacks.rt`, `listing.rt`, `summary.rt`; what
-//! several kinds print: `address.rt`, `parts.rt`, and how many rows (`rows.rt`); and the leaking
+//! several kinds print: `address.rt`, `parts.rt`, and the number of rows (`rows.rt`); and the leaking
 //! stacks once more, for flame graph programs (`flame_graph.rt`).
 #![tactic(auto)]
 
@@ -26,7 +26,6 @@ mod tags;
 pub use address::write_address;
 pub use answer::{Answer, text};
 pub use flame_graph::folded;
-pub use listing::event_word;
 pub use parts::write_tag;
 pub use rows::first_rows;
 pub use summary::Totals;

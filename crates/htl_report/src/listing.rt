@@ -1,12 +1,12 @@
 //! Listings of the events of a handle.
 
 ghost use Rattle.std.specs.Prelude.{◌≡◌, ◌++◌, OnOk, flat_map, string_bytes};
-ghost use Rattle.htl_report.specs.Listings.{listed_lines, trace_head, trace_text, word_of};
+ghost use Rattle.htl_report.specs.Listings.{listed_lines, trace_head, trace_text};
 
 use crate::address::write_stack;
 use crate::parts::write_event;
 use crate::rows::first_rows;
-use htl_event::{Kind, SharedEvent, base};
+use htl_event::{SharedEvent, base};
 use htl_symbols::Symbols;
 use std::alloc::AllocError;
 
@@ -60,22 +60,6 @@ fn write_listed(out: &mut String, symbols: &Symbols, event: &SharedEvent) -> Res
     ensures { OnOk result (string_bytes out.new
         ≡ string_bytes out.old ++ listed_lines symbols.now event.now) }
 {
-    write_event(out, event_word(event.kind), event.handle, event)?;
+    write_event(out, event.kind.word(), event.handle, event)?;
     write_stack(out, symbols, event.stack.frames())
-}
-
-/// The word of an event of this kind. A listing has the first three alone, but any event can be
-/// printed.
-pub fn event_word(kind: Kind) -> &'static str
-    ensures { result.now ≡ word_of kind }
-{
-    match kind {
-        Kind::Opened => "OPEN",
-        Kind::Closed => "CLOSE",
-        Kind::BadRef => "BAD REF",
-        Kind::Snapshot => "SNAPSHOT",
-        Kind::Ref => "REF",
-        Kind::Deref => "DEREF",
-        Kind::Exited => "EXIT",
-    }
 }

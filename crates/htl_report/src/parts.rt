@@ -8,7 +8,7 @@ use crate::address::write_padded;
 use htl_event::{Count, SharedEvent};
 use std::alloc::AllocError;
 
-/// A first line of an answer about a process.
+/// Writes the first line of an answer about a process.
 #[tactic(auto, unfolding(crate::specs::Parts::process_head))]
 pub(crate) fn write_process_head(
     out: &mut String,
@@ -22,7 +22,7 @@ pub(crate) fn write_process_head(
     writeln!(out, "{word} process={process} count={count}")
 }
 
-/// The start of a first line of an answer about an object.
+/// Writes the start of the first line of an answer about an object.
 #[tactic(auto, unfolding(crate::specs::Parts::object_part))]
 pub(crate) fn write_object(out: &mut String, word: &str, object: u64) -> Result<(), AllocError>
     ensures { OnOk result (string_bytes out.new
@@ -33,7 +33,7 @@ pub(crate) fn write_object(out: &mut String, word: &str, object: u64) -> Result<
     write_padded(out, object)
 }
 
-/// The end of a first line: the number of rows.
+/// Writes the end of a first line: the number of rows.
 #[tactic(auto, unfolding(crate::specs::Parts::count_part))]
 pub(crate) fn write_count(out: &mut String, count: usize) -> Result<(), AllocError>
     ensures { OnOk result (string_bytes out.new
@@ -42,7 +42,7 @@ pub(crate) fn write_count(out: &mut String, count: usize) -> Result<(), AllocErr
     writeln!(out, " count={count}")
 }
 
-/// The line of an event, by this word and this handle.
+/// Writes the line of an event, with this word and this handle.
 #[tactic(auto, unfolding(crate::specs::Parts::event_line))]
 pub(crate) fn write_event(
     out: &mut String,
@@ -61,7 +61,7 @@ pub(crate) fn write_event(
     )
 }
 
-/// References and dereferences.
+/// Writes the numbers of references and dereferences.
 #[tactic(auto, unfolding(crate::specs::Parts::counts))]
 pub(crate) fn write_counts(out: &mut String, count: Count) -> Result<(), AllocError>
     ensures { OnOk result (string_bytes out.new
@@ -72,7 +72,7 @@ pub(crate) fn write_counts(out: &mut String, count: Count) -> Result<(), AllocEr
     write!(out, "refs={plus} derefs={minus}")
 }
 
-/// A tag in display order.
+/// Writes a tag in display order.
 pub fn write_tag(out: &mut String, tag: &[u8]) -> Result<(), AllocError>
     ensures { OnOk result (string_bytes out.new
         ≡ string_bytes out.old ++ shown_tag tag.now) }

@@ -1,9 +1,9 @@
-//! How many rows of an answer are printed.
+//! The rows of an answer that are printed.
 
 ghost use Rattle.std.specs.Prelude.{◌≡◌};
 ghost use Rattle.htl_report.specs.Rows.{first_rows as first_rows_of};
 
-/// The first rows: all, or at most `top`.
+/// All rows, or at most the first `top`.
 pub fn first_rows<R>(top: Option<u32>, rows: &[R]) -> &[R]
     ensures { result.now ≡ first_rows_of top rows.now }
 {

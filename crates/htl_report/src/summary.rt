@@ -1,4 +1,4 @@
-//! Summaries: what leaks at all, and which segments are missing.
+//! Summaries: everything that leaks, and the segments that are missing.
 
 ghost use Rattle.std.specs.Prelude.{◌≡◌, ◌++◌, OnOk, flat_map, string_bytes};
 ghost use Rattle.htl_report.specs.Summaries.{absent_line, between_line, events_part};
@@ -12,7 +12,7 @@ use htl_event::{ObjectRow, ProcessRow};
 use htl_taken::Gap;
 use std::alloc::AllocError;
 
-/// What there is: numbers of processors, of segments, of events and of objects with an event.
+/// The numbers of a summary: of processors, of segments, of events and of objects with an event.
 #[derive(Clone, Copy, Debug, PartialEq, Eq)]
 pub struct Totals {
     pub processors: u16,

@@ -1,4 +1,4 @@
-//! Made-up traces of any size.
+//! Generated traces of any size.
 
 use crate::SampleFault;
 use crate::trace::TRACE;

@@ -5,7 +5,7 @@ use Rattle.std.proofs.Common.{arith, inl, inr, ◌⊎◌}
 use Rattle.std.specs.Prelude.{codes, MatchOption}
 use Rattle.std.specs.List.{starts_with}
 use Rattle.std.proofs.lemmas.Bool.{cases_lt, lt-ltb, le-ltb}
-use Rattle.std.proofs.lemmas.List.{append_cancel_left, length-append, length-take, take-append-drop, flat_map_more}
+use Rattle.std.proofs.lemmas.List.{append_cancel_left, length-append, take-append-drop, flat_map_more}
 use Rattle.std.proofs.lemmas.List.Elements.{All-push, All-head, All-tail}
 use Rattle.htl_segment.specs.declared.version.Version.{Version}
 use Rattle.htl_segment.specs.declared.fault.Fault.{Fault}
@@ -13,14 +13,13 @@ use Rattle.htl_segment.specs.declared.fault.Fault.TheVariants as faults
 use Rattle.htl_segment.specs.Versions.{limits_of}
 use Rattle.htl_segment.specs.Numbers.{number}
 use Rattle.htl_segment.specs.Content.{Content, Fits}
-use Rattle.htl_segment.specs.Encoding.{records, header_bytes, encoding, BeginsWith}
+use Rattle.htl_segment.specs.Encoding.{encoding, BeginsWith}
 use Rattle.htl_segment.specs.Reading.{version_of, frames_in, after_record, version_in, length_in, body_in}
 use Rattle.htl_segment.specs.Faults.{or_else, header_fault, record_fault, records_fault, first_fault}
 use Rattle.htl_segment.specs.Bundles.{bundle, Splits, BundleFault, SegmentAt, IsBoundary, cut_off, IsRest, IsRefused, is_early_end}
 use Rattle.htl_segment.specs.Feeding.{SplitsMore}
 use Rattle.htl_segment.specs.Pieces.{is_memory}
 use Rattle.htl_segment.proofs.PassedTests.{some_is}
-use Rattle.htl_segment.proofs.HeaderLaws.{length-header_bytes}
 use Rattle.htl_segment.proofs.SegmentLaws.{first_fault-header, first_fault-cut, first_fault-records, segment_again, one_encoding}
 use Rattle.htl_segment.proofs.MoreBytes.{header_fault-append, first_fault-append}
 
@@ -159,17 +158,6 @@ first_fault-no_memory b fault is =
 
 -- ---- splitting one segment after the other
 
-pub begins_long : (b : List ℕ) (n : ℕ) (s : Content) → BeginsWith b n s → 32 ≤ n
-begins_long b n s front =
-    omega (
-      arith,
-      ap length front.encodes.bytes,
-      length-take n b,
-      front.inside,
-      length-append (header_bytes s (length (records s.events))) (records s.events),
-      length-header_bytes s (length (records s.events)),
-    )
-
 pub splits_one : (b : List ℕ) (old new : List Content) (rest : List ℕ) (n : ℕ) (s : Content) → SplitsMore b old new rest
     → BeginsWith rest n s → SplitsMore b old (new ++ s ∷ []) (drop n rest)
 splits_one b old new rest n s so_far front = record {
@@ -184,7 +172,7 @@ splits_one b old new rest n s so_far front = record {
   };
 }
 
-some_left : (rest : List ℕ) (fault : Fault) → first_fault rest ≡ Some fault → is_early_end fault ≡ false → 0 < length rest
+pub some_left : (rest : List ℕ) (fault : Fault) → first_fault rest ≡ Some fault → is_early_end fault ≡ false → 0 < length rest
 some_left [] fault is late = absurd (let same = some_is faults.Short fault (sym (short_end [] (omega arith))
     ∙ is) in cc (ap is_early_end same ∙ late))
 some_left (x ∷ rest) fault is late = omega arith
@@ -257,22 +245,15 @@ refused_bundle b offset fault refused =
       | inr asked ↦ inr asked
     ]
 
--- ---- what `decode` answers
-
-pub told_early : (first : Option Fault) (fault : Fault) → MatchOption first (fault ≡ faults.NoMemory) (λ other. fault ≡ other)
-    → is_early_end fault ≡ true → first ≡ Some fault
-told_early None fault memory early = absurd (cc (sym early ∙ ap is_early_end memory))
-told_early (Some other) fault same early = ap Some (sym same)
-
 -- ---- a whole bundle
 
-pub bundle_cut : (b : List ℕ) (old new : List Content) (rest : List ℕ) → SplitsMore b old new rest → IsRest rest → 0 < length rest
+pub bundle_cut : (b : List ℕ) (ss : List Content) (rest : List ℕ) → Splits b ss rest → IsRest rest → 0 < length rest
     → BundleFault b (length b - length rest) (cut_off rest)
-bundle_cut b old new rest split is_rest some = record {
-  before = split.more;
+bundle_cut b ss rest splits is_rest some = record {
+  before = ss;
   rest = rest;
-  splits = split.splits;
-  offset_is = omega (arith, ap length split.splits.parts, length-append (bundle split.more) rest);
+  splits = splits;
+  offset_is = omega (arith, ap length splits.parts, length-append (bundle ss) rest);
   some = some;
   fault_is = first_fault-rest rest is_rest;
 }

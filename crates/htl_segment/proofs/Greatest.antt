@@ -28,7 +28,7 @@ greatest_joined xs ys new a b e x y =
 pub greatest_none : IsGreatestSequence (Contains []) 0
 greatest_none = record { bound = λ x h. absurd (Contains-nil x h); reached = inl refl }
 
-all_events-more : (ss : List Content) (i : ℕ) (s : Content) → i < length ss → s ≡ get_or ss i s
+pub all_events-more : (ss : List Content) (i : ℕ) (s : Content) → i < length ss → s ≡ get_or ss i s
     → all_events (take (i + 1) ss) ≡ all_events (take i ss) ++ s.events
 all_events-more ss i s lt is =
     let more : take (i + 1) ss ≡ take i ss ++ s ∷ [] = take_more ss i s lt ∙ ap (λ (x : Content). take i ss ++ x ∷ []) (sym is) in

@@ -3,7 +3,8 @@ use Rattle.std.proofs.Common.{◌≡◌, ℕ, zero, suc, ◌+◌, ◌^◌, ◌<�
 use Rattle.std.proofs.Common.{take, drop, Option, Some, None, is_none, unwrap_or, refl, sym, ap, ◌∙◌, append_assoc, arith}
 use Rattle.std.specs.Prelude.{codes}
 use Rattle.std.specs.List.{starts_with}
-use Rattle.std.proofs.lemmas.Bool.{ltb-false, leb-false, le-ltb, lt-leb, eq-eqb, eqb-true, eqb-false, ne_eqb}
+use Rattle.std.proofs.lemmas.Slice.Eq.{bytes_eq-Decides}
+use Rattle.std.proofs.lemmas.Bool.{ltb-false, leb-false, le-ltb, lt-leb, eq-eqb, eqb-true, eqb-false, ne_eqb, or_parts, not-false, or_from, not_from_true}
 use Rattle.std.proofs.lemmas.List.{length-append, take_at, take-append-drop}
 use Rattle.htl_segment.specs.declared.version.Version.{Version}
 use Rattle.htl_segment.specs.declared.version.Version.TheVariants.{V1, V2}
@@ -15,11 +16,11 @@ use Rattle.htl_segment.specs.Encoding.{header_bytes}
 use Rattle.htl_segment.specs.Reading.{version_of, version_in, length_in}
 use Rattle.htl_segment.specs.Faults.{header_fault}
 use Rattle.htl_segment.proofs.Bytes.{field, after, number_here, after_number, length-bytes_of}
-use Rattle.htl_segment.proofs.PassedTests.{passed, or_false, not_false, no_or, no_not, same_list}
+use Rattle.htl_segment.proofs.PassedTests.{passed}
 
 -- ---- versions and their numbers
 
-version_of-version_number : (v : Version) → version_of (version_number v) ≡ Some v
+pub version_of-version_number : (v : Version) → version_of (version_number v) ≡ Some v
 version_of-version_number V1 = refl
 version_of-version_number V2 = refl
 
@@ -33,7 +34,7 @@ version_number≤2 : (v : Version) → version_number v ≤ 2
 version_number≤2 V1 = omega arith
 version_number≤2 V2 = omega arith
 
-processors≤256 : (v : Version) → (limits_of v).processors ≤ 256
+pub processors≤256 : (v : Version) → (limits_of v).processors ≤ 256
 processors≤256 V1 = omega arith
 processors≤256 V2 = omega arith
 
@@ -67,17 +68,17 @@ keeps_from_none b none =
     let t7 = passed (nat_lt 0xFFFFFFFE (number 12 4 b)) faults.Number _ t6.1 in
     let t8 = passed (nat_lt 4096 (number 24 4 b)) faults.Count _ t7.1 in
     let t9 = passed (nat_lt (length_in b) 32 || nat_lt (limits_of (version_in b)).len (length_in b)) faults.Length None t8.1 in
-    let some : number 6 2 b ≡ 0 → ⊥ = eqb-false _ _ (or_false _ _ t4.0).0 in
+    let some : number 6 2 b ≡ 0 → ⊥ = eqb-false _ _ (or_parts _ _ t4.0).0 in
     record {
       long = ltb-false _ _ t1.0;
-      magic = same_list (codes "HLS1") (take 4 b) (not_false _ t2.0);
+      magic = (bytes_eq-Decides (codes "HLS1") (take 4 b)).0 (not-false _ t2.0);
       version = t3.0;
-      processors = (omega arith, ltb-false _ _ (or_false _ _ t4.0).1);
+      processors = (omega arith, ltb-false _ _ (or_parts _ _ t4.0).1);
       processor = leb-false _ _ t5.0;
-      reserved = eqb-true _ _ (not_false _ t6.0);
+      reserved = eqb-true _ _ (not-false _ t6.0);
       number_is = ltb-false _ _ t7.0;
       count = ltb-false _ _ t8.0;
-      len = (ltb-false _ _ (or_false _ _ t9.0).0, ltb-false _ _ (or_false _ _ t9.0).1);
+      len = (ltb-false _ _ (or_parts _ _ t9.0).0, ltb-false _ _ (or_parts _ _ t9.0).1);
     }
 
 pub none_from_keeps : (b : List ℕ) → Keeps b → header_fault b ≡ None
@@ -88,13 +89,13 @@ none_from_keeps b k =
     let t3 = k.version in
     let some : number 6 2 b ≡ 0 → ⊥ = λ z. omega (arith, k.processors.0) in
     let t4 : (eqb (number 6 2 b) 0 || nat_lt (limits_of (version_in b)).processors (number 6 2 b)) ≡ false =
-    no_or _ _ (ne_eqb (number 6 2 b) 0 some) (le-ltb (limits_of (version_in b)).processors (number 6 2 b) k.processors.1) in
+    or_from _ _ (ne_eqb (number 6 2 b) 0 some) (le-ltb (limits_of (version_in b)).processors (number 6 2 b) k.processors.1) in
     let t5 : nat_le (number 6 2 b) (number 8 2 b) ≡ false = lt-leb _ _ k.processor in
-    let t6 : not (eqb (number 10 2 b) 0) ≡ false = no_not _ (eq-eqb _ _ k.reserved) in
+    let t6 : not (eqb (number 10 2 b) 0) ≡ false = not_from_true _ (eq-eqb _ _ k.reserved) in
     let t7 : nat_lt 0xFFFFFFFE (number 12 4 b) ≡ false = le-ltb _ _ k.number_is in
     let t8 : nat_lt 4096 (number 24 4 b) ≡ false = le-ltb _ _ k.count in
     let t9 : (nat_lt (length_in b) 32 || nat_lt (limits_of (version_in b)).len (length_in b)) ≡ false =
-    no_or _ _ (le-ltb (length_in b) 32 k.len.0) (le-ltb (limits_of (version_in b)).len (length_in b) k.len.1) in
+    or_from _ _ (le-ltb (length_in b) 32 k.len.0) (le-ltb (limits_of (version_in b)).len (length_in b) k.len.1) in
     rw (t1, t2, t3, t4, t5, t6, t7, t8, t9) refl
 
 -- ---- the fields of a header

@@ -7,12 +7,14 @@ use Rattle.htl_segment.specs.Reading.{length_in, body_in}
 use Rattle.htl_segment.specs.Faults.{header_fault, first_fault}
 use Rattle.htl_segment.proofs.Frames.{number-part}
 
+-- a number is the same where more bytes follow
 pub number-append : (place n : ℕ) (b more : List ℕ) → place + n ≤ length b → number place n (b ++ more) ≡ number place n b
 number-append place n b more inside =
     let here : 0 + place ≡ place = omega arith in
     let part = number-part place n (length b) 0 (b ++ more) inside in
     sym (ap (λ (b : List ℕ). number place n b) (sym (take_at b more (length b) refl)) ∙ part ∙ ap (λ (k : ℕ). number k n (b ++ more)) here)
 
+-- a header has the same fault where more bytes follow
 pub header_fault-append : (b more : List ℕ) → 32 ≤ length b → header_fault (b ++ more) ≡ header_fault b
 unfolding header_fault
 header_fault-append b more long =
@@ -32,6 +34,7 @@ header_fault-append b more long =
       number-append 28 4 b more (omega arith),
     ) refl
 
+-- a whole segment has the same first fault where more bytes follow
 pub first_fault-append : (b more : List ℕ) → 32 ≤ length b → length_in b ≤ length b → first_fault (b ++ more) ≡ first_fault b
 unfolding first_fault
 first_fault-append b more long whole =

@@ -21,17 +21,20 @@ wanted_more : (interest : Interest) (segments : List Content) (s : Content)
 wanted_more interest segments s =
     ap (wanted interest) (one_more_segment segments s) ∙ filter-append (wants interest) (all_events segments) s.events
 
+-- the sequences of one more segment come last
 pub sequences_more : (segments : List Content) (s : Content)
     → sequences_of (all_events (segments ++ s ∷ [])) ≡ sequences_of (all_events segments) ++ sequences_of s.events
 sequences_more segments s =
     ap sequences_of (one_more_segment segments s) ∙ map-append sequence_of (all_events segments) s.events
 
+-- so does its outline
 pub outlines_more : (outlines next : List Outline) (o : Outline) (segments : List Content) (s : Content) → outlines ≡ map outline_of segments
     → o ≡ outline_of s → next ≡ outlines ++ o ∷ [] → next ≡ map outline_of (segments ++ s ∷ [])
 outlines_more outlines next o segments s so_far is pushed =
     pushed ∙ ap (λ before. before ++ o ∷ []) so_far ∙ ap (λ one. map outline_of segments ++ one ∷ []) is
     ∙ sym (map-append outline_of segments (s ∷ []))
 
+-- and so do its events that are asked about
 pub events_more : (interest asked : Interest) (events next : List Event) (segments : List Content) (s : Content) → asked ≡ interest
     → events ≡ wanted interest (all_events segments) → next ≡ events ++ wanted asked s.events
     → next ≡ wanted interest (all_events (segments ++ s ∷ []))
@@ -44,12 +47,14 @@ events_more interest asked events next segments s same so_far pushed =
 two_lists : (segments more : List Content) → all_events (segments ++ more) ≡ all_events segments ++ all_events more
 two_lists segments more = flat_map-append (λ (t : Content). t.events) segments more
 
+-- the outlines of two lists, one after the other
 pub both_outlines : (outlines others next : List Outline) (segments more : List Content) → outlines ≡ map outline_of segments
     → others ≡ map outline_of more → next ≡ outlines ++ others → next ≡ map outline_of (segments ++ more)
 both_outlines outlines others next segments more so_far also appended =
     appended ∙ ap (λ before. before ++ others) so_far ∙ ap (λ after. map outline_of segments ++ after) also
     ∙ sym (map-append outline_of segments more)
 
+-- the events of two lists that are asked about, one after the other
 pub both_events : (interest : Interest) (events others next : List Event) (segments more : List Content)
     → events ≡ wanted interest (all_events segments) → others ≡ wanted interest (all_events more) → next ≡ events ++ others
     → next ≡ wanted interest (all_events (segments ++ more))
@@ -57,6 +62,7 @@ both_events interest events others next segments more so_far also appended =
     appended ∙ ap (λ before. before ++ others) so_far ∙ ap (λ after. wanted interest (all_events segments) ++ after) also
     ∙ sym (ap (wanted interest) (two_lists segments more) ∙ filter-append (wants interest) (all_events segments) (all_events more))
 
+-- the sequences of two lists, one after the other
 pub both_sequences : (segments more : List Content)
     → sequences_of (all_events (segments ++ more)) ≡ sequences_of (all_events segments) ++ sequences_of (all_events more)
 both_sequences segments more =

@@ -21,7 +21,7 @@ use Rattle.htl_segment.proofs.SegmentLaws.{segment_again, begins}
 use Rattle.htl_segment.proofs.MoreBytes.{number-append, header_fault-append, first_fault-append}
 use Rattle.htl_segment.proofs.BundleLaws.{early_end, refused_boundary, late_stays, no_fault_stays, whole_fault, first_fault-rest}
 
-bundle-append : (ss ts : List Content) → bundle (ss ++ ts) ≡ bundle ss ++ bundle ts
+pub bundle-append : (ss ts : List Content) → bundle (ss ++ ts) ≡ bundle ss ++ bundle ts
 bundle-append ss ts = flat_map-append encoding ss ts
 
 pub splits_after : (a b rest : List ℕ) (ss ts : List Content) → Splits a ss [] → Splits b ts rest → Splits (a ++ b) (ss ++ ts) rest

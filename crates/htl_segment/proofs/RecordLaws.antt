@@ -1,7 +1,7 @@
 -- A record without a fault is encoded as its event, and an event's encoding is a record without a fault.
 use Rattle.std.proofs.Common.{◌≡◌, ℕ, zero, suc, ◌+◌, ◌-◌, ◌*◌, ◌<◌, ◌≤◌, true, false, not, ◌||◌, eqb, nat_lt, nat_le, List, [], ◌∷◌}
 use Rattle.std.proofs.Common.{◌++◌, length, slice_index, take, drop, None, refl, sym, ap, ◌∙◌, append_assoc, arith, drop-cons}
-use Rattle.std.proofs.lemmas.Bool.{ltb-false, leb-false, le-ltb, lt-leb, eqb-true, eqb-false, eq-eqb, ne_eqb}
+use Rattle.std.proofs.lemmas.Bool.{ltb-false, leb-false, le-ltb, lt-leb, eqb-true, eqb-false, eq-eqb, ne_eqb, or_parts, not-false, or_from, not_from_true}
 use Rattle.std.proofs.lemmas.List.{length-append, length-take, length-drop, take_at}
 use Rattle.std.specs.List.{flat_map, AllByRecursion}
 use Rattle.htl_event.specs.Events.{Event}
@@ -20,7 +20,7 @@ use Rattle.htl_segment.specs.Faults.{record_fault}
 use Rattle.htl_segment.specs.InPlace.{HasRecord}
 use Rattle.htl_segment.proofs.Bytes.{IsBytes-drop, field, part, number-lt, numbers_take, numbers-fit, length-numbers, after, number_here}
 use Rattle.htl_segment.proofs.Bytes.{after_number, byte_here, numbers_here, length-frames, length-bytes_of}
-use Rattle.htl_segment.proofs.PassedTests.{passed, or_false, not_false, no_or, no_not}
+use Rattle.htl_segment.proofs.PassedTests.{passed}
 
 -- ---- kinds and their codes
 
@@ -57,7 +57,7 @@ kinds≤7 : (v : Version) → (limits_of v).kinds ≤ 7
 kinds≤7 V1 = omega arith
 kinds≤7 V2 = omega arith
 
-frames≤64 : (v : Version) → (limits_of v).frames ≤ 64
+pub frames≤64 : (v : Version) → (limits_of v).frames ≤ 64
 frames≤64 V1 = omega arith
 frames≤64 V2 = omega arith
 
@@ -82,15 +82,15 @@ keeps_from_none v i last b none =
     let t4 = passed (nat_lt (limits_of v).frames (frames_in b) || nat_lt (length b - 36) (8 * frames_in b)) (faults.Frames i) _ t3.1 in
     let t5 = passed (not (eqb (number 10 2 b) 0) || not
     (fields_fit (kind_of (slice_index b 8)) (number 20 4 b) (number 24 8 b) (take 4 (drop 32 b)))) (faults.Field i) None t4.1 in
-    let some : slice_index b 8 ≡ 0 → ⊥ = eqb-false _ _ (or_false _ _ t3.0).0 in
+    let some : slice_index b 8 ≡ 0 → ⊥ = eqb-false _ _ (or_parts _ _ t3.0).0 in
     record {
       long = ltb-false _ _ t1.0;
       above = leb-false _ _ t2.0;
-      known = (omega arith, ltb-false _ _ (or_false _ _ t3.0).1);
-      few = ltb-false _ _ (or_false _ _ t4.0).0;
-      held = ltb-false _ _ (or_false _ _ t4.0).1;
-      reserved = eqb-true _ _ (not_false _ (or_false _ _ t5.0).0);
-      fields = not_false _ (or_false _ _ t5.0).1;
+      known = (omega arith, ltb-false _ _ (or_parts _ _ t3.0).1);
+      few = ltb-false _ _ (or_parts _ _ t4.0).0;
+      held = ltb-false _ _ (or_parts _ _ t4.0).1;
+      reserved = eqb-true _ _ (not-false _ (or_parts _ _ t5.0).0);
+      fields = not-false _ (or_parts _ _ t5.0).1;
     }
 
 none_from_keeps : (v : Version) (i last : ℕ) (b : List ℕ) → Keeps v last b → record_fault v i last b ≡ None
@@ -100,12 +100,12 @@ none_from_keeps v i last b k =
     let t2 : nat_le (number 0 8 b) last ≡ false = lt-leb _ _ k.above in
     let some : slice_index b 8 ≡ 0 → ⊥ = λ z. omega (arith, k.known.0) in
     let t3 : (eqb (slice_index b 8) 0 || nat_lt (limits_of v).kinds (slice_index b 8)) ≡ false =
-    no_or _ _ (ne_eqb (slice_index b 8) 0 some) (le-ltb (limits_of v).kinds (slice_index b 8) k.known.1) in
+    or_from _ _ (ne_eqb (slice_index b 8) 0 some) (le-ltb (limits_of v).kinds (slice_index b 8) k.known.1) in
     let t4 : (nat_lt (limits_of v).frames (frames_in b) || nat_lt (length b - 36) (8 * frames_in b)) ≡ false =
-    no_or _ _ (le-ltb (limits_of v).frames (frames_in b) k.few) (le-ltb (length b - 36) (8 * frames_in b) k.held) in
+    or_from _ _ (le-ltb (limits_of v).frames (frames_in b) k.few) (le-ltb (length b - 36) (8 * frames_in b) k.held) in
     let t5 : (not (eqb (number 10 2 b) 0) || not
     (fields_fit (kind_of (slice_index b 8)) (number 20 4 b) (number 24 8 b) (take 4 (drop 32 b)))) ≡ false =
-    no_or _ _ (no_not _ (eq-eqb _ _ k.reserved)) (no_not _ k.fields) in
+    or_from _ _ (not_from_true _ (eq-eqb _ _ k.reserved)) (not_from_true _ k.fields) in
     rw (t1, t2, t3, t4, t5) refl
 
 pub has_record : (v : Version) (i last : ℕ) (b : List ℕ) → record_fault v i last b ≡ None → HasRecord v b
@@ -113,7 +113,7 @@ has_record v i last b none =
     let k = keeps_from_none v i last b none in
     let some : slice_index b 8 ≡ 0 → ⊥ = λ z. omega (arith, k.known.0) in
     let known : (eqb (slice_index b 8) 0 || nat_lt (limits_of v).kinds (slice_index b 8)) ≡ false =
-    no_or _ _ (ne_eqb (slice_index b 8) 0 some) (le-ltb (limits_of v).kinds (slice_index b 8) k.known.1) in
+    or_from _ _ (ne_eqb (slice_index b 8) 0 some) (le-ltb (limits_of v).kinds (slice_index b 8) k.known.1) in
     record { whole = omega (arith, k.long, k.held); few = omega (arith, k.few, frames≤64 v); kind = rw known refl }
 
 -- ---- from bytes to their event

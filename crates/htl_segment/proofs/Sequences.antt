@@ -18,6 +18,7 @@ above_last : (version : Version) (last : ℕ) (es : List Event) → EventsFit ve
 above_last version last [] fits = tt
 above_last version last (e ∷ es) fits = (fits.1, all_above version e.sequence last es fits.1 fits.2)
 
+-- events that rise have sequences of their own
 pub own_sequences : (version : Version) (last : ℕ) (es : List Event) → EventsFit version last es → HaveOwnSequences es
 own_sequences version last [] fits = tt
 own_sequences version last (e ∷ es) fits = (

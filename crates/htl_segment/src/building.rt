@@ -1,4 +1,4 @@
-//! A segment from its parts.
+//! Building: a segment made of its parts.
 ghost use Rattle.std.specs.Prelude.{◌≡◌, ℕ, All, None, Some, IfOk, OnOk, MatchOption, MatchResult};
 ghost use Rattle.std.specs.Arc.{arc_value};
 ghost use Rattle.htl_event.specs.Ranges.{InRange};
@@ -21,9 +21,10 @@ impl Segment {
     ghost use Rattle.htl_segment.specs.Content.{content};
     ghost use Rattle.htl_segment.specs.Building.{Builds};
 
-    /// A version 1 segment of these parts, or their first fault: of the processors, the processor,
-    /// the number, more than 4,096 events; then event by event of its sequence, its kind, its
-    /// frames and its other fields; and last `NoMemory`. Every refusal hands the events back.
+    /// A version 1 segment of these parts, or their first fault. The processors are tested first, then
+    /// the processor, the number, and that there are at most 4,096 events. Then each event is tested:
+    /// its sequence, its kind, its frames and its other fields. `NoMemory` comes last. Every refusal
+    /// hands the events back.
     pub fn build(
         alloc: Global,
         trace_id: u64,
@@ -46,8 +47,8 @@ impl Segment {
         )
     }
 
-    /// A version 2 segment of these parts, or their first fault by that version's limits, in the
-    /// same order. Every refusal hands the events back.
+    /// A version 2 segment of these parts, or their first fault: in the same order, by the limits of
+    /// that version. Every refusal hands the events back.
     pub fn build2(
         alloc: Global,
         trace_id: u64,
@@ -94,7 +95,7 @@ fn build_as(
     }
 }
 
-/// The events with shared stacks.
+/// The same events, with stacks that can be shared.
 fn share(alloc: Global, events: &[Event]) -> Result<Arc<Vec<SharedEvent>>, NoMemory>
     ensures { IfOk result (λ shared. (arc_value shared).items ≡ events.now) }
 {

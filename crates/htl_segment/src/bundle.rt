@@ -1,17 +1,14 @@
-//! Segments one after another.
+//! Bundles: the bytes of segments one after another.
 ghost use Rattle.std.specs.Prelude.{◌≡◌, ◌⊎◌, ◌++◌, List, [], IfOk, IfErr, MatchResult};
 ghost use Rattle.htl_segment.specs.Content.{Content};
 ghost use Rattle.htl_segment.specs.Bundles.{Splits, IsBoundary, IsRest, IsRefused};
-ghost use Rattle.htl_segment.specs.Feeding.{SplitsMore};
 ghost use Rattle.htl_segment.specs.Bundles.{BundleFault, SegmentAt, cut_off};
 
-use crate::decoding::decode_with;
 use crate::fault::Fault;
 use crate::header::HEADER_LEN;
-use crate::keeper::Keeper;
+use crate::keeper::{Keeper, Segments};
 use crate::segment::Segment;
 use crate::segment_bytes::SegmentBytes;
-use crate::stack_cache::StackCache;
 use htl_event::NoMemory;
 use std::alloc::Global;
 
@@ -25,16 +22,16 @@ pub fn decode_bundle(alloc: Global, bytes: &[u8]) -> Result<Vec<Segment>, (u64, 
         BundleFault bytes.now refused.0 refused.1
         ⊎ ((refused.1 ≡ Fault.NoMemory) × SegmentAt bytes.now refused.0)) }
 {
-    let mut segments = Vec::new(alloc);
-    let rest = split(alloc, &mut StackCache::new(alloc), &mut segments, bytes)?;
+    let mut kept = Segments::new(alloc);
+    let rest = split(alloc, &mut kept, bytes)?;
     if rest.is_empty() {
-        return Ok(segments);
+        return Ok(kept.list);
     }
     let offset = (bytes.len() - rest.len()) as u64;
     Err((offset, cut_off(rest)))
 }
 
-/// The fault of bytes that end too early.
+/// The fault of bytes that end inside a segment, or before its header is whole.
 pub fn cut_off(rest: &[u8]) -> Fault
     ensures { result ≡ cut_off rest.now }
 {
@@ -45,40 +42,10 @@ pub fn cut_off(rest: &[u8]) -> Fault
     }
 }
 
-/// Takes whole segments off the front of `bytes` and puts them after `segments`, up to bytes that
-/// more bytes may make a segment of. Those are left. A refusal reports the offset of the refused
-/// segment.
-pub fn split<'a>(
-    alloc: Global,
-    cache: &mut StackCache,
-    segments: &mut Vec<Segment>,
-    bytes: &'a [u8],
-) -> Result<&'a [u8], (u64, Fault)>
-    ensures { MatchResult result
-        (λ rest. SplitsMore bytes.now segments.old.items segments.new.items rest.now
-        × IsRest rest.now)
-        (λ refused. IsRefused bytes.now refused.0 refused.1) }
-{
-    let mut rest = bytes;
-    loop {
-        let offset = (bytes.len() - rest.len()) as u64;
-        match decode_with(alloc, cache, rest) {
-            Ok((segment, len)) => {
-                segments
-                    .push(segment)
-                    .map_err(|_| (offset, Fault::NoMemory))?;
-                rest = &rest[len..];
-            }
-            Err(fault) if fault.is_early_end() => return Ok(rest),
-            Err(fault) => return Err((offset, fault)),
-        }
-    }
-}
-
-/// Takes whole segments off the front of `bytes`, up to bytes that more bytes may make a segment of.
-/// Those are left. A refusal reports the offset of the refused segment; what was taken before it
-/// stays.
-pub fn split_into<'a, K: Keeper>(
+/// Hands the keeper each whole segment at the front of `bytes`, and gives the bytes after them, which
+/// more bytes may make a segment of. A refusal reports the offset of the refused segment, and the
+/// keeper still has the segments before it.
+pub fn split<'a, K: Keeper>(
     alloc: Global,
     keeper: &mut K,
     bytes: &'a [u8],

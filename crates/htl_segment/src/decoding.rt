@@ -1,4 +1,4 @@
-//! A segment from bytes.
+//! Decoding: the segment that bytes encode.
 ghost use Rattle.std.specs.Prelude.{◌≡◌, ℕ, None, IfOk, MatchOption, MatchResult};
 ghost use Rattle.htl_segment.specs.Content.{Content};
 ghost use Rattle.htl_segment.specs.Encoding.{BeginsWith};
@@ -10,9 +10,9 @@ use crate::segment_bytes::SegmentBytes;
 use crate::stack_cache::StackCache;
 use std::alloc::Global;
 
-/// The segment that `bytes` begin with, and how many bytes it has.
+/// The segment that `bytes` begin with, and its length in bytes.
 ///
-/// Of bytes that begin with none it reports the first rule that they break, before it asks for
+/// Where they begin with no segment, it reports the first rule that they break, before it asks for
 /// memory. Faults come in this order: those of the header from left to right, `Cut`, then those of
 /// one record after the other, each in the order of their codes, `Excess`, and last `NoMemory`.
 pub fn decode(alloc: Global, bytes: &[u8]) -> Result<(Segment, usize), Fault>
@@ -31,7 +31,7 @@ pub fn decode(alloc: Global, bytes: &[u8]) -> Result<(Segment, usize), Fault>
     decode_with(alloc, &mut StackCache::new(alloc), bytes)
 }
 
-/// The same, its stacks shared through a cache.
+/// As `decode`, but equal stacks are shared by a cache.
 pub fn decode_with(
     alloc: Global,
     cache: &mut StackCache,

@@ -1,4 +1,4 @@
-//! A segment as bytes.
+//! Encoding: the bytes of a segment.
 ghost use Rattle.std.specs.Prelude.{◌≡◌, ◌≤◌, ◌+◌, ◌*◌, ◌++◌, length, sum_by, IfOk, OnOk};
 ghost use Rattle.std.specs.List.{flat_map};
 ghost use Rattle.htl_segment.specs.Numbers.{bytes_of};
@@ -23,7 +23,7 @@ pub fn encode(alloc: Global, segment: &Segment) -> Result<Vec<u8>, NoMemory>
     Ok(out)
 }
 
-/// How many frames all the stacks have.
+/// The number of frames of all stacks together.
 fn frame_count(events: &[SharedEvent]) -> usize
     requires { length events.now ≤ 4096 }
     ensures value { result ≡ sum_by (λ event. length event.stack) events.now }

@@ -8,7 +8,7 @@ use thiserror::Error;
 
 /// Why bytes are no segment: the first rule of the format that they break.
 ///
-/// A number is the place of a record, counted from 0. The text is the fault's code.
+/// A number is the place of a record, counted from 0. The `Display` text is the fault's code.
 #[derive(Clone, Copy, Debug, PartialEq, Eq, Error)]
 pub enum Fault {
     /// Fewer bytes than a header has.
@@ -68,7 +68,7 @@ impl Fault {
     ghost use Rattle.std.specs.Prelude.{◌≡◌};
     ghost use Rattle.htl_segment.specs.Bundles.{is_early_end};
 
-    /// Whether more bytes may make a segment of those that have this fault.
+    /// Whether the bytes only end too early, so that with more bytes they may be a segment.
     pub(crate) fn is_early_end(self) -> bool
         ensures { result ≡ is_early_end self }
     {

@@ -1,8 +1,8 @@
-//! Fingerprints of stacks: numbers that equal stacks share, and others seldom do.
+//! Fingerprints of stacks: equal stacks have one, and different stacks seldom have the same.
 
 use crate::fields::u64_at;
 
-/// The fingerprint of a stack whose addresses these are, eight bytes each.
+/// The fingerprint of a stack with these addresses, eight bytes each.
 pub fn fingerprint_of(frames: &[u8]) -> u64 {
     let mut mixed = frames.len() as u64;
     for place in 0..frames.len() / 8 {

@@ -1,4 +1,4 @@
-//! The header of a segment: where its fields lie, and what they may say.
+//! The header of a segment: the places of its fields, and the values that are allowed.
 ghost use Rattle.std.specs.Prelude.{◌≡◌, ◌≤◌, length, None, Some, OnOk, IfOk, IfSome, IfNone};
 ghost use Rattle.std.specs.Prelude.{◌<◌, MatchResult};
 ghost use Rattle.htl_segment.specs.Reading.{length_in};
@@ -9,13 +9,13 @@ use crate::fault::Fault;
 use crate::fields::{u16_at, u32_at, u64_at};
 use crate::version::Version;
 
-/// The bytes of a header.
+/// The length of a header in bytes.
 pub const HEADER_LEN: usize = 32;
 
 /// The greatest number of a segment.
 pub const MAX_NUMBER: u32 = 0xFFFF_FFFE;
 
-/// How many events a segment has at most.
+/// The greatest number of events in a segment.
 pub const MAX_EVENTS: u32 = 4096;
 
 // Where the fields lie after the magic.
@@ -43,13 +43,13 @@ pub struct Header {
     pub processor: u16,
     pub number: u32,
     pub trace_id: u64,
-    /// How many records follow.
+    /// The number of records that follow.
     pub count: u32,
-    /// The bytes of the segment with its header.
+    /// The length of the segment in bytes, its header included.
     pub len: u32,
 }
 
-/// The header at the front of `bytes`, its rules tested from left to right.
+/// Reads the header at the front of `bytes`, and tests its rules from left to right.
 #[tactic(auto, unfolding(crate::specs::Faults::header_fault, crate::specs::InPlace::header_in))]
 pub fn read_header(bytes: &[u8]) -> Result<Header, Fault>
     ensures fault { MatchResult result
@@ -106,8 +106,8 @@ pub fn len_at(bytes: &[u8]) -> usize
     u32_at(bytes, LEN) as usize
 }
 
-/// How many bytes the segment has that `bytes` begin with, as its header says. None: the header
-/// has a fault, or the bytes end too early.
+/// The length of the segment that `bytes` begin with, as its header states it. It is none where the
+/// header has a fault, or the bytes end before its end.
 #[tactic(auto, unfolding(crate::specs::InPlace::header_in))]
 pub fn whole_len(bytes: &[u8]) -> Option<usize>
     ensures header { IfSome result (λ len. (header_fault bytes.now ≡ None)

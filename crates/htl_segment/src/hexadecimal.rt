@@ -1,4 +1,4 @@
-//! Bytes from a text of hexadecimal digits.
+//! Bytes read from hexadecimal digits.
 ghost use Rattle.std.specs.Prelude.{◌≡◌, ◌%◌, length, position, Ok, Err, Some, None, MatchResult};
 ghost use Rattle.std.specs.List.{AllPass};
 ghost use Rattle.hex.specs.Hex.{decode_of, is_hex_digit};
@@ -9,13 +9,13 @@ use hex::FromHexError;
 use std::alloc::{AllocError, AllocFailed, Global};
 use thiserror::Error;
 
-/// Why a text is no bytes in hexadecimal. The text is the fault's code.
+/// Why a text is not valid hexadecimal. The `Display` text is the fault's code.
 #[derive(Clone, Copy, Debug, PartialEq, Eq, Error)]
 pub enum HexFault {
-    /// The first byte, at this place of the text, that is neither a digit nor a blank.
+    /// The byte at this place of the text is the first that is neither a digit nor white space.
     #[error("H1({0})")]
     BadDigit(u64),
-    /// An odd number of digits.
+    /// The number of digits is odd.
     #[error("H2")]
     Odd,
     /// An allocation was refused.
@@ -39,9 +39,9 @@ impl<T: Drop> From<AllocFailed<T>> for HexFault {
     }
 }
 
-/// The bytes that a text's hexadecimal digits write, two digits of either case for each. Spaces,
-/// carriage returns and line feeds are ignored wherever they stand. The first foreign byte is reported
-/// before an odd number of digits, and both before memory is asked for.
+/// The bytes that the hexadecimal digits of a text write. Two digits make a byte, in lower or upper
+/// case. Spaces, carriage returns and line feeds are ignored. The first other byte is reported before
+/// an odd number of digits, and both before memory is asked for.
 pub fn from_hex(alloc: Global, text: &[u8]) -> Result<Vec<u8>, HexFault>
     ensures refused { (fault : HexFault) → hex_fault text.now ≡ Some fault → result ≡ Err fault }
     ensures read { hex_fault text.now ≡ None → MatchResult result
@@ -80,7 +80,7 @@ fn digit_count(text: &[u8]) -> usize
     text.iter().filter(|byte| is_digit(**byte)).count()
 }
 
-/// The digits without the blanks, of which there are `count`.
+/// The digits without the white space. There are `count` of them.
 fn gather_digits(alloc: Global, text: &[u8], count: usize) -> Result<Vec<u8>, HexFault>
     ensures { MatchResult result
         (λ digits. digits.items ≡ digits_of text.now)

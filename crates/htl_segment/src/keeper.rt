@@ -1,4 +1,4 @@
-//! What is made of the segments that are read.
+//! Keepers: they take segments as these are read, and make something of them.
 
 use crate::segment::Segment;
 use crate::segment_bytes::SegmentBytes;
@@ -6,12 +6,12 @@ use crate::stack_cache::StackCache;
 use htl_event::NoMemory;
 use std::alloc::Global;
 
-/// What is made of the segments that are read, one after the other.
+/// Takes segments one after the other, as they are read, and makes something of them.
 pub trait Keeper {
     ghost use Rattle.std.specs.Prelude.{◌++◌, ◌∷◌, List, [], OnOk};
     ghost use Rattle.htl_segment.specs.Content.{Content};
 
-    // Which segments a keeper took, where it is one of the same kind as the first.
+    // The second keeper is of the first one's kind, and took these segments.
     ghost gathers: { Self → Self → List Content → Type 0 };
 
     /// Takes the next segment.
@@ -19,12 +19,12 @@ pub trait Keeper {
         ensures { (kind : Self) (segments : List Content) → gathers kind self.old segments
             → OnOk result (gathers kind self.new (segments ++ found.now ∷ [])) };
 
-    /// One more keeper of this kind, which took nothing yet.
+    /// A new keeper of this kind. It took no segment yet.
     fn another(&self, alloc: Global) -> Self
         ensures { (kind : Self) (segments : List Content) → gathers kind self.now segments
             → gathers kind result [] };
 
-    /// Takes over what another keeper took, after what this one did. The other then has nothing.
+    /// Takes over the segments that another keeper took, behind its own. The other one has none then.
     fn append(&mut self, other: &mut Self) -> Result<(), NoMemory>
         ensures taken { (kind : Self) (segments more : List Content) → gathers kind self.old segments
             → gathers kind other.old more → OnOk result (gathers kind self.new (segments ++ more)) }
@@ -42,7 +42,7 @@ pub struct Segments {
 impl Segments {
     ghost use Rattle.std.specs.Prelude.{◌≡◌, []};
 
-    /// None.
+    /// A keeper that took no segment yet.
     pub fn new(alloc: Global) -> Segments
         ensures { result.list.items ≡ [] }
     {

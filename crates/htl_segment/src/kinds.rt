@@ -9,7 +9,7 @@ impl Version {
     ghost use Rattle.std.specs.Prelude.{◌≡◌};
     ghost use Rattle.htl_segment.specs.Reading.{kind_in};
 
-    /// The kind of this code, if this version has one.
+    /// The kind that has this code, if the version has such a kind.
     pub fn kind(self, code: u8) -> Option<Kind>
         ensures { result ≡ kind_in self code }
     {
@@ -29,7 +29,7 @@ impl Version {
     }
 }
 
-/// The code of a kind in each version that has it.
+/// The code of a kind, the same in each version that has the kind.
 pub fn code_of(kind: Kind) -> u8
     ensures { result ≡ kind_code kind }
 {

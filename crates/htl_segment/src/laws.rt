@@ -12,8 +12,8 @@ ghost use Rattle.htl_segment.specs.TraceLaws.{LaterOfBothSets, SequencesStayApar
 ghost use Rattle.htl_segment.specs.declared.fault.Fault.{Fault};
 ghost use Rattle.htl_segment.specs.declared.fault.Fault.TheVariants.{NoMemory};
 
-/// What was written is read again, whatever follows it: `decode` answers a segment that the bytes
-/// begin with, and that is the one that was written.
+/// A written segment is read again, whatever bytes follow it: `decode` gives a segment that the bytes
+/// begin with, and they begin with the written one and with no other.
 pub fn written_is_read_again()
     ensures read { (bytes rest : List ℕ) (s : Content) → Encodes bytes s
         → BeginsWith (bytes ++ rest) (length bytes) s }
@@ -29,7 +29,7 @@ pub fn no_encoding_begins_another()
         → rest ≡ [] }
 {}
 
-/// What the format can encode has one encoding, and no other segment has the same.
+/// Each segment that the format can encode has one encoding, and no two segments have the same.
 pub fn one_encoding()
     ensures some { (s : Content) → Fits s → Encodes (encoding s) s }
     ensures one { (a b : List ℕ) (s : Content) → Encodes a s → Encodes b s → a ≡ b }
@@ -42,7 +42,7 @@ pub fn faults_where_nothing_is_encoded()
         → (first_fault bytes ≡ None) ↔ ((n : ℕ) × (s : Content) × BeginsWith bytes n s) }
 {}
 
-/// Out of memory is no fault of bytes, so whoever gets it knows that no rule was broken.
+/// Out of memory is never the first fault of bytes: whoever gets it knows that no rule was broken.
 pub fn want_of_memory_breaks_no_rule()
     ensures { (bytes : List ℕ) → first_fault bytes ≢ Some NoMemory }
 {}
@@ -67,12 +67,13 @@ pub fn a_bundle_is_read_in_one_way()
         → (ss ≡ ts) × (rest ≡ left) }
 {}
 
-/// The events of a processor's run up to a segment are those below it, and then the segment's.
+/// The events of a processor's segments up to one are those of the segments below it, and then those
+/// of that segment.
 pub fn runs_grow()
     ensures { RunsGrow }
 {}
 
-/// The events of a key set are the same as a list and as a set.
+/// An event is in the list of a key set's events exactly where a segment with such a key has it.
 pub fn members_agree()
     ensures { MembersAgree }
 {}

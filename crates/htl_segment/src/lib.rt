@@ -5,15 +5,15 @@
 //! the first rule that they break. `laws` has what follows for readers and writers of the format.
 //!
 //! Files, in reading order: `version.rt` and `kinds.rt` (the limits of both versions, the codes of
-//! kinds), `fields.rt` (numbers at their places), `header.rt` and `record.rt` (the fields and
-//! their rules), `fault.rt`, `records.rt` and `segment_bytes.rt` (records and a checked segment
-//! where they lie in bytes), `stack_cache.rt`, `fingerprints.rt` and `sharing.rt` (stacks that were
-//! met lately, so that equal ones are kept once), `segment.rt`, `decoding.rt`, `encoding.rt` and
-//! `building.rt` (a segment in memory, from bytes, to bytes, from its parts), `rising.rt` (the
-//! greatest sequence of segments), `bundle.rt`, `splitter.rt` and `feeding.rt` (segments one after
-//! another, whole and in pieces), `keeper.rt` (what is made of segments as they are read),
-//! `outline.rt`, `seen.rt`, `repeated.rt` and `picks.rt` (what a question about a process or an
-//! object needs of them), `hexadecimal.rt`, `laws.rt`.
+//! kinds), `fields.rt` (numbers in bytes), `header.rt` and `record.rt` (the fields and their
+//! rules), `fault.rt`, `records.rt` and `segment_bytes.rt` (records and a checked segment, read in
+//! place), `stack_cache.rt`, `fingerprints.rt` and `sharing.rt` (stacks that were met lately, so
+//! that equal ones are kept once), `segment.rt`, `decoding.rt`, `encoding.rt` and `building.rt` (a
+//! segment in memory, from bytes, to bytes, from its parts), `rising.rt` (the greatest sequence of
+//! segments), `keeper.rt` (what takes segments as they are read), `bundle.rt`, `splitter.rt` and
+//! `feeding.rt` (segments one after another, whole and in pieces), `outline.rt`, `seen.rt`,
+//! `repeated.rt` and `picks.rt` (what a question about a process or an object needs of them),
+//! `hexadecimal.rt`, `laws.rt`.
 //!
 //! `specs/Lib` names the definitions in the order in which they are read. In `proofs/`,
 //! `RecordLaws`, `HeaderLaws` and `SegmentLaws` show both directions between bytes and segments,
@@ -48,7 +48,7 @@ mod splitter;
 mod stack_cache;
 mod version;
 
-pub use bundle::{cut_off, decode_bundle, split, split_into};
+pub use bundle::{cut_off, decode_bundle, split};
 pub use decoding::decode;
 pub use encoding::encode;
 pub use fault::Fault;

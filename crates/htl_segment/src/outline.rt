@@ -1,4 +1,4 @@
-//! What is kept of a segment beside its events.
+//! Outlines: what is kept of a segment beside its events.
 
 ghost use Rattle.std.specs.Prelude.{◌≡◌};
 ghost use Rattle.htl_segment.specs.Outlines.{first_sequence, last_sequence};
@@ -13,9 +13,9 @@ pub struct Outline {
     pub processors: u16,
     pub processor: u16,
     pub number: u32,
-    /// The sequence of the first event, 0 where there is none.
+    /// The sequence of the first event, or 0 where the segment has no event.
     pub first: u64,
-    /// The sequence of the last event, 0 where there is none.
+    /// The sequence of the last event, or 0 where the segment has no event.
     pub last: u64,
 }
 
@@ -23,7 +23,7 @@ impl Segment {
     ghost use Rattle.std.specs.Prelude.{◌≡◌};
     ghost use Rattle.htl_segment.specs.Outlines.{outline_of};
 
-    /// What is kept of the segment beside its events.
+    /// The outline of the segment.
     pub fn outline(&self) -> Outline
         ensures { result ≡ outline_of self.now }
     {

@@ -1,4 +1,4 @@
-//! What a question about a process or an object needs of segments.
+//! Picks: what a question about a process or an object needs of segments.
 
 use crate::keeper::Keeper;
 use crate::outline::Outline;
@@ -8,15 +8,15 @@ use crate::stack_cache::StackCache;
 use htl_event::{Interest, NoMemory, SharedEvent};
 use std::alloc::Global;
 
-/// What a question about a process or an object needs of segments: of each an outline, the events
-/// that it asks about, and which sequences there were.
+/// What a question about a process or an object needs of segments: their outlines, the events that it
+/// asks about, and the sequences of all events.
 #[derive(Debug, Drop)]
 pub struct Picks {
     interest: Interest,
     cache: StackCache,
-    /// Those of the segments, in the order in which they were read.
+    /// The outlines of the segments, in the order in which they were read.
     pub outlines: Vec<Outline>,
-    /// The events that are asked about, in the order in which they were read.
+    /// The events that the question asks about, in the order in which they were read.
     pub events: Vec<SharedEvent>,
     /// The sequences of all events.
     pub seen: Seen,
@@ -26,7 +26,7 @@ impl Picks {
     ghost use Rattle.std.specs.Prelude.{[]};
     ghost use Rattle.htl_segment.specs.Picks.{ArePicksOf};
 
-    /// Those of no segments.
+    /// Picks of no segment.
     pub fn new(alloc: Global, interest: Interest) -> Picks
         ensures { ArePicksOf interest result [] }
     {

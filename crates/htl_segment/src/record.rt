@@ -1,4 +1,4 @@
-//! One record: its rules, and its fields where they lie in the bytes.
+//! One record: its rules, and its fields, read in place.
 ghost use Rattle.std.specs.Prelude.{◌≡◌, ◌≤◌, ◌*◌, ◌/◌, [], length, None, Some, MatchResult};
 ghost use Rattle.htl_segment.specs.Numbers.{numbers};
 ghost use Rattle.htl_segment.specs.Content.{fields_fit};
@@ -11,7 +11,7 @@ use crate::version::Version;
 use htl_event::{Event, Interest, Kind, MAX_FRAMES, NoMemory, SharedEvent, Stack, base};
 use std::alloc::Global;
 
-/// The bytes of a record without its frames.
+/// The length in bytes of a record that has no frame.
 pub const RECORD_LEN: usize = 36;
 
 /// An event in place: the fields of a record, and its frames in the bytes that it was read from.
@@ -38,7 +38,7 @@ impl<'a> Record<'a> {
     ghost use Rattle.htl_segment.specs.Records.{event_of};
     ghost use Rattle.htl_segment.specs.InPlace.{HasRecord};
 
-    /// The record at the front of `bytes`, and what follows it.
+    /// The record at the front of `bytes`, and the bytes after it.
     #[tactic(auto, unfolding(crate::specs::Reading::event_in))]
     pub(crate) fn split(version: Version, bytes: &'a [u8]) -> (Record<'a>, &'a [u8])
         requires { HasRecord version bytes.now }
@@ -89,7 +89,7 @@ impl Record<'_> {
     ghost use Rattle.htl_event.specs.Interests.{wants};
     ghost use Rattle.htl_segment.specs.Records.{event_of};
 
-    /// Whether the event is one of those that are asked about.
+    /// Whether the question asks about this event.
     pub(crate) fn is_wanted(&self, interest: Interest) -> bool
         ensures { result ≡ wants interest (event_of self.now) }
     {
@@ -121,8 +121,8 @@ impl Record<'_> {
     }
 }
 
-/// Tests the record at the front of `bytes`, which has this place in its segment and follows a
-/// record with the sequence `last`.
+/// Tests the record at the front of `bytes`. It has this place in its segment, and the record before
+/// it has the sequence `last`.
 #[tactic(auto, unfolding(crate::specs::Faults::record_fault))]
 pub fn check_record(version: Version, place: u64, last: u64, bytes: &[u8]) -> Result<(), Fault>
     ensures { MatchResult result
@@ -151,7 +151,7 @@ pub fn check_record(version: Version, place: u64, last: u64, bytes: &[u8]) -> Re
     Ok(())
 }
 
-/// Whether handle, object and tag are as the kind asks.
+/// Whether handle, object and tag are those that an event of this kind may have.
 pub fn fields_fit(kind: Kind, handle: u32, object: u64, tag: [u8; 4]) -> bool
     ensures { result ≡ fields_fit kind handle object tag }
 {

@@ -1,9 +1,9 @@
-//! Records one after the other.
+//! The records of a segment, one after the other.
 use crate::record::Record;
 use crate::version::Version;
 use std::marker::Model;
 
-/// The records of a segment in place, from the first on: an iterator that takes no memory.
+/// An iterator over the records of a segment. It reads each in place, and takes no memory.
 #[derive(Debug, Drop)]
 pub struct Records<'a> {
     version: Version,

@@ -1,11 +1,11 @@
-//! Whether a number comes twice.
+//! The least number that comes twice in a list.
 
 ghost use Rattle.std.specs.Prelude.{◌≡◌, ℕ, ◌<◌, ◌≤◌, MatchOption};
 ghost use Rattle.std.specs.List.Sorted.{IsNonDecreasing};
 ghost use Rattle.htl_event.specs.Members.{IsLeastSuch};
 ghost use Rattle.htl_segment.specs.Repeated.{times};
 
-/// The least number that comes twice, among numbers in rising order.
+/// The least number that comes twice. The numbers must not fall.
 pub fn first_repeated(numbers: &[u64]) -> Option<u64>
     requires { IsNonDecreasing numbers.now }
     ensures { MatchOption result

@@ -1,4 +1,4 @@
-//! The greatest sequence of segments: sequences rise in each.
+//! The greatest sequence of segments. In each segment the sequences rise.
 
 ghost use Rattle.std.specs.Prelude.{Contains};
 ghost use Rattle.htl_event.specs.Handles.{IsGreatestSequence};
@@ -6,7 +6,7 @@ ghost use Rattle.htl_segment.specs.Traces.{all_events};
 
 use crate::segment::Segment;
 
-/// The greatest sequence of the segments' events, 0 where there are none.
+/// The greatest sequence of the segments' events, or 0 where they have no event.
 pub fn greatest_sequence(segments: &[Segment]) -> u64
     ensures { IsGreatestSequence (Contains (all_events segments.now)) result }
 {
@@ -17,7 +17,7 @@ pub fn greatest_sequence(segments: &[Segment]) -> u64
     greatest
 }
 
-/// The greatest sequence of a segment, which its last event has.
+/// The greatest sequence of a segment. Its last event has it.
 fn last_sequence(segment: &Segment) -> u64
     ensures { IsGreatestSequence (Contains segment.now.events) result }
 {

@@ -1,4 +1,4 @@
-//! Which sequences were seen.
+//! The set of sequences that were seen, and whether one came twice.
 
 ghost use Rattle.std.specs.Prelude.{◌≡◌, ◌<◌, ◌≤◌, ◌++◌, ◌∷◌, ℕ, List, [], IfOk, IsTrue, OnOk, vec_len};
 ghost use Rattle.std.specs.Prelude.{true, false};
@@ -11,24 +11,24 @@ use crate::repeated::first_repeated;
 use htl_event::NoMemory;
 use std::alloc::Global;
 
-/// How many marks there may be for each sequence that was seen. A mark takes a byte, and a sequence
-/// that stands apart eight.
+/// The most marks for each sequence that was seen. A mark takes one byte, and a sequence that is
+/// listed takes eight.
 const MARKS_PER_SEQUENCE: usize = 8;
 
-/// How many marks there may be however few sequences were seen.
+/// The most marks while few sequences were seen.
 const MARKS_AT_FIRST: usize = 1 << 20;
 
-/// The sequences that were seen. Each has a mark at its place, or where sequences are so sparse that
-/// its place is far off, it stands apart.
+/// The sequences that were seen. A sequence has a mark at its place. One whose mark would lie too far
+/// beyond the others is listed instead.
 #[derive(Debug, Drop)]
 pub struct Seen {
     marks: Vec<bool>,
     apart: Vec<u64>,
-    /// Whether each stands apart.
+    /// Whether every sequence is listed, and none is marked.
     is_list: bool,
-    /// How many were seen.
+    /// The number of sequences that were seen.
     count: usize,
-    /// Whether one is known to have come twice. Then nothing more is noted.
+    /// Whether a sequence is known to have come twice. Then nothing more is noted.
     comes_twice: bool,
 }
 
@@ -37,7 +37,7 @@ impl Seen {
     ghost use Rattle.htl_segment.specs.Repeated.{times};
     ghost use Rattle.htl_segment.specs.Seen.{Saw, SawMarked};
 
-    /// None.
+    /// A set in which no sequence was seen yet.
     pub fn new(alloc: Global) -> Seen
         ensures { Saw result [] }
     {
@@ -50,7 +50,7 @@ impl Seen {
         }
     }
 
-    /// None, for a few that are appended to others soon. Each stands apart.
+    /// An empty set for a few sequences that are appended to another set soon. It lists each of them.
     pub fn list(alloc: Global) -> Seen
         ensures { Saw result [] }
     {
@@ -63,7 +63,7 @@ impl Seen {
         }
     }
 
-    /// Notes one sequence more.
+    /// Notes one more sequence.
     pub fn note(&mut self, sequence: u64) -> Result<(), NoMemory>
         ensures { (numbers : List ℕ) → Saw self.old numbers
             → OnOk result (Saw self.new (numbers ++ sequence ∷ [])) }
@@ -87,7 +87,7 @@ impl Seen {
         Ok(())
     }
 
-    /// Takes over the sequences that another saw, which then has none.
+    /// Takes over the sequences of another set, which is empty then.
     pub fn append(&mut self, other: &mut Seen) -> Result<(), NoMemory>
         ensures seen { (numbers more : List ℕ) → Saw self.old numbers → Saw other.old more
             → OnOk result (Saw self.new (numbers ++ more)) }
@@ -113,7 +113,7 @@ impl Seen {
         Ok(())
     }
 
-    /// Notes each sequence that has a mark among these.
+    /// Notes each sequence that has a mark in this list.
     fn note_marked(&mut self, marks: &[bool]) -> Result<(), NoMemory>
         ensures { (numbers : List ℕ) → Saw self.old numbers
             → OnOk result (SawMarked self.new numbers marks.now) }
@@ -160,7 +160,7 @@ fn sort(numbers: &mut Vec<u64>)
     numbers.sort_unstable();
 }
 
-/// Whether one of the sequences has a mark.
+/// Whether one of these sequences has a mark.
 fn any_marked(marks: &[bool], sequences: &[u64]) -> bool
     ensures { result ≡ list_any (is_marked marks.now) sequences.now }
 {
@@ -184,7 +184,7 @@ fn make_room(marks: &mut Vec<bool>, place: usize, count: usize) -> Result<bool, 
     grow(marks, place, count)
 }
 
-/// Does so where there is none.
+/// Makes room for a mark that has none yet.
 fn grow(marks: &mut Vec<bool>, place: usize, count: usize) -> Result<bool, NoMemory>
     requires { vec_len marks.old ≤ place }
     ensures kept { (n : ℕ) → is_marked marks.new.items n ≡ is_marked marks.old.items n }

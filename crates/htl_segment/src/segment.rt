@@ -1,4 +1,4 @@
-//! A segment in memory.
+//! Segments in memory.
 ghost use Rattle.std.specs.Prelude.{◌≡◌, IfOk};
 
 use crate::version::Version;
@@ -73,7 +73,7 @@ impl Segment {
         self.trace_id
     }
 
-    /// How many processors the trace has.
+    /// The number of processors of the trace.
     pub fn processors(&self) -> u16
         ensures { result ≡ self.now.processors }
     {
@@ -118,7 +118,7 @@ impl Segment {
         })
     }
 
-    /// Whether two segments say the same, in the same version.
+    /// Whether two segments have the same version, the same header and the same events.
     pub fn same(&self, other: &Segment) -> bool
         ensures { IsTrue result ↔ (self.now ≡ other.now) }
     {

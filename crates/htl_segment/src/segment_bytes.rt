@@ -1,4 +1,4 @@
-//! A segment where it lies in bytes.
+//! Segments in place: their bytes, checked.
 ghost use Rattle.std.specs.Prelude.{◌≡◌, ◌++◌, ℕ, List, None, Some, IfOk, OnOk, MatchResult};
 ghost use Rattle.htl_event.specs.Interests.{wanted};
 ghost use Rattle.htl_segment.specs.Faults.{records_fault};
@@ -21,11 +21,11 @@ use std::alloc::Global;
 use std::marker::Model;
 use std::sync::Arc;
 
-/// The bytes of one segment, checked: what `decode` reads, without memory.
+/// The bytes of one segment, checked. It has what `decode` reads, and takes no memory.
 #[derive(Debug, Drop)]
 pub struct SegmentBytes<'a> {
     header: Header,
-    /// The records.
+    /// The bytes of the records.
     body: &'a [u8],
 }
 
@@ -61,7 +61,7 @@ impl<'a> SegmentBytes<'a> {
         SegmentBytes::check_parts(header, rest)
     }
 
-    /// The segment that a header and what follows it begin with.
+    /// The segment that a header and the bytes after it begin with.
     pub(crate) fn check_parts(head: &[u8], rest: &'a [u8]) -> Result<SegmentBytes<'a>, Fault>
         requires { length head.now ≡ HEADER_LEN }
         ensures found { IfOk result (λ s.
@@ -80,7 +80,7 @@ impl<'a> SegmentBytes<'a> {
         Ok(SegmentBytes { header, body })
     }
 
-    /// How many bytes the segment has with its header.
+    /// The length of the segment in bytes, its header included.
     pub fn byte_len(&self) -> usize
         ensures value { result ≡ length (encoding self.now) }
         ensures long { HEADER_LEN ≤ result }
@@ -88,7 +88,7 @@ impl<'a> SegmentBytes<'a> {
         HEADER_LEN + self.body.len()
     }
 
-    /// The records in order, each where it lies.
+    /// The records in order, each read in place.
     pub fn records(&self) -> Records<'a>
         ensures value { result ≡ self.now.events }
         // What every segment keeps, so that callers have it too.
@@ -97,14 +97,14 @@ impl<'a> SegmentBytes<'a> {
         Records::new(self.header.version, self.header.count, self.body)
     }
 
-    /// The segment in memory of its own.
+    /// The segment, in memory of its own.
     pub fn to_segment(&self, alloc: Global) -> Result<Segment, NoMemory>
         ensures { IfOk result (λ segment. segment ≡ self.now) }
     {
         self.to_segment_with(alloc, &mut StackCache::new(alloc))
     }
 
-    /// The same, its stacks shared through a cache.
+    /// As `to_segment`, but equal stacks are shared by a cache.
     pub(crate) fn to_segment_with(
         &self,
         alloc: Global,
@@ -132,8 +132,8 @@ impl SegmentBytes<'_> {
     ghost use Rattle.htl_segment.specs.Repeated.{sequences_of};
     ghost use Rattle.htl_segment.specs.Seen.{Saw};
 
-    /// Puts the events that are asked about after others, notes the sequences of all, and gives the
-    /// last sequence, 0 where there is none.
+    /// Puts the events that the question asks about behind `events`, notes the sequences of all events,
+    /// and gives the last sequence, or 0 where the segment has no event.
     pub(crate) fn pick_with(
         &self,
         alloc: Global,
@@ -151,7 +151,7 @@ impl SegmentBytes<'_> {
         pick(alloc, cache, interest, seen, events, self.records())
     }
 
-    /// What is kept of the segment beside its events, of which the last has this sequence.
+    /// The outline of the segment, whose last event has this sequence.
     pub(crate) fn outline(&self, last: u64) -> Outline
         requires { last ≡ last_sequence 0 self.now.events }
         ensures { result ≡ outline_of self.now }
@@ -166,7 +166,7 @@ impl SegmentBytes<'_> {
         }
     }
 
-    /// The sequence of the first event, 0 where there is none.
+    /// The sequence of the first event, or 0 where the segment has no event.
     fn first_sequence(&self) -> u64
         ensures { result ≡ first_sequence self.now.events }
     {
@@ -195,7 +195,7 @@ impl SegmentBytes<'_> {
         self.header.trace_id
     }
 
-    /// How many processors the trace has.
+    /// The number of processors of the trace.
     pub fn processors(&self) -> u16
         ensures { result ≡ self.now.processors }
     {
@@ -236,8 +236,8 @@ fn gather(
     Ok(events)
 }
 
-/// Puts the events of records that are asked about after others, notes the sequences of all, and gives
-/// the last sequence, 0 where there is none.
+/// Puts the events that the question asks about behind `events`, notes the sequences of all records,
+/// and gives the last sequence, or 0 where there is no record.
 fn pick(
     alloc: Global,
     cache: &mut StackCache,
@@ -265,7 +265,7 @@ fn pick(
     Ok(last)
 }
 
-/// Tests this many records, which have to fill `body`.
+/// Tests this many records. They have to fill `body`.
 fn check_records(version: Version, count: u32, body: &[u8]) -> Result<(), Fault>
     ensures { MatchResult result
         (λ _. records_fault version count 0 0 body.now ≡ None)

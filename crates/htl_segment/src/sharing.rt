@@ -1,4 +1,4 @@
-//! Events of records, whose stacks are looked for together.
+//! The events of records. Their stacks are looked up in batches.
 ghost use Rattle.std.specs.Prelude.{◌≡◌, ◌++◌, ◌∷◌, [], map, OnOk};
 ghost use Rattle.htl_segment.specs.Records.{event_of};
 
@@ -8,10 +8,10 @@ use crate::stack_cache::StackCache;
 use htl_event::{NoMemory, SharedEvent};
 use std::alloc::Global;
 
-/// How many stacks are looked for together.
+/// The number of stacks that are looked up together.
 pub const BATCH: usize = 32;
 
-/// Puts a record behind those that wait in a batch. Of a full batch the events are made first.
+/// Adds a record to a batch. Where the batch is full, its events are made first.
 pub fn put<'a>(
     alloc: Global,
     cache: &mut StackCache,
@@ -30,8 +30,8 @@ pub fn put<'a>(
     Ok(())
 }
 
-/// Puts the events of a batch after others. The cells of a cache where their stacks may be are looked at
-/// together, so that their memory is near when the stacks are shared.
+/// Puts the events of a batch behind `events`. The cells of the cache that may have their stacks are
+/// all looked at first, so that their memory is near when the stacks are shared.
 pub fn share_all(
     alloc: Global,
     cache: &mut StackCache,

@@ -1,4 +1,4 @@
-//! A bundle that comes in pieces.
+//! The splitter: a bundle that comes in pieces.
 ghost use Rattle.std.specs.Prelude.{◌≡◌, ◌⊎◌, ◌<◌, ◌^◌, [], length, IfOk, IfErr};
 ghost use Rattle.htl_segment.specs.Bundles.{Splits, BundleFault, IsBoundary};
 ghost use Rattle.htl_segment.specs.Pieces.{joined, AsksMemory};
@@ -6,22 +6,24 @@ ghost use Rattle.htl_segment.specs.Pieces.{joined, AsksMemory};
 use crate::bundle::cut_off;
 use crate::fault::Fault;
 use crate::feeding::absorb;
+use crate::keeper::Segments;
 use crate::segment::Segment;
-use crate::stack_cache::StackCache;
 use std::alloc::{AllocError, Global};
 use std::marker::Model;
+use std::mem;
 
 /// Splits a bundle into its segments while its bytes come, however they are cut into pieces.
 #[derive(Debug, Drop)]
 pub struct Splitter {
     rest: Vec<u8>,
     fed: u64,
-    cache: StackCache,
+    /// The stacks that were met lately. Its list is empty between two calls.
+    kept: Segments,
     fault: Option<(u64, Fault)>,
 }
 
 impl Model for Splitter {
-    ghost use Rattle.std.specs.Prelude.{◌≤◌, length, vec_capacity};
+    ghost use Rattle.std.specs.Prelude.{◌≡◌, ◌≤◌, [], length, vec_capacity};
     ghost use Rattle.htl_segment.specs.Bundles.{IsRest};
     ghost use Rattle.htl_segment.specs.Pieces.{SplitterState};
     ghost use Rattle.htl_segment.specs.Feeding.{HasRoom};
@@ -31,7 +33,8 @@ impl Model for Splitter {
     ghost view = { λ s. record { fed = s.fed; rest = s.rest.items; fault = s.fault } };
 
     ghost invariant = { λ s. IsRest s.rest.items
-        × (HasRoom s.rest.items (vec_capacity s.rest) × (length s.rest.items ≤ s.fed)) };
+        × (HasRoom s.rest.items (vec_capacity s.rest) × ((length s.rest.items ≤ s.fed)
+        × (s.kept.list.items ≡ []))) };
 }
 
 impl Splitter {
@@ -48,12 +51,12 @@ impl Splitter {
         Splitter {
             rest: Vec::new(alloc),
             fed: 0,
-            cache: StackCache::new(alloc),
+            kept: Segments::new(alloc),
             fault: None,
         }
     }
 
-    /// How many bytes were fed, without those of a refused piece.
+    /// The number of bytes that were fed, without those of a refused piece.
     pub fn fed(&self) -> u64
         ensures value { result ≡ self.now.fed }
         // What every splitter keeps, so that callers have it too.
@@ -80,10 +83,10 @@ impl Splitter {
     /// The segments that this piece completes.
     ///
     /// A fault of the header is reported by the call that completes the header, and one of the records
-    /// by the call that completes the segment; its offset is that at which the segment begins. It
-    /// is reported again by each later call, and segments that the same piece completed before it are
-    /// not handed out. After out of memory the splitter is as before; that is reported only where no
-    /// fault stands at its offset.
+    /// by the call that completes the segment. Its offset is where the segment begins. It is reported
+    /// again by each later call, and segments that the same piece completed before it are not handed
+    /// out. After out of memory the splitter is as before; that is reported only where the bytes at
+    /// its offset have no fault.
     pub fn feed(&mut self, alloc: Global, piece: &[u8]) -> Result<Vec<Segment>, (u64, Fault)>
         requires { self.old.fed + length piece.now < 2 ^ 64 }
         ensures again { (fault : ℕ × Fault) → self.old.fault ≡ Some fault
@@ -103,13 +106,14 @@ impl Splitter {
             return Err(fault);
         }
         let held = self.rest.len();
-        match absorb(alloc, &mut self.cache, &mut self.rest, piece) {
-            Ok(segments) => {
+        match absorb(alloc, &mut self.kept, &mut self.rest, piece) {
+            Ok(()) => {
                 self.fed += piece.len() as u64;
-                Ok(segments)
+                Ok(mem::replace(&mut self.kept.list, Vec::new(alloc)))
             }
             Err((offset, fault)) => {
                 self.rest.truncate(held);
+                self.kept.list.clear();
                 let refused = (self.fed - held as u64 + offset, fault);
                 if fault != Fault::NoMemory {
                     self.fault = Some(refused);

@@ -1,4 +1,4 @@
-//! Stacks that were met lately.
+//! The stack cache: stacks that were met lately.
 ghost use Rattle.std.specs.Prelude.{◌≡◌, ◌≤◌, ◌<◌, ◌^◌, ◌*◌, ◌/◌, length, IsTrue, IfOk};
 ghost use Rattle.std.specs.List.{AllByRecursion};
 ghost use Rattle.htl_segment.specs.Numbers.{numbers};
@@ -10,13 +10,13 @@ use htl_event::{MAX_FRAMES, NoMemory, SharedStack};
 use std::alloc::Global;
 use std::mem;
 
-/// How many cells a cache begins with.
+/// The number of cells that a cache begins with.
 const FEWEST_CELLS: usize = 64;
 
-/// How many cells a cache has at most.
+/// The greatest number of cells.
 const MOST_CELLS: usize = 1 << 18;
 
-/// How many times as many cells a cache has after it grew.
+/// The factor by which a cache grows.
 const GROWTH: usize = 4;
 
 /// One stack, with its fingerprint at hand.
@@ -28,17 +28,17 @@ struct Cell {
 
 /// Stacks that were met lately, so that equal ones share their memory.
 ///
-/// What it has only saves memory and time: a stack that it gives has the asked addresses, whichever
-/// it kept. Two cells side by side may have a stack, which its fingerprint shows; where more stacks
-/// meet, the one that was met first goes. It begins small and grows with the number of stacks that
-/// it met, and where it is refused memory it stays as small as it is.
+/// A cache saves memory and time, and changes no answer: the stack that it gives has the addresses
+/// that were asked for. The fingerprint of a stack leads to two cells side by side. Where both have
+/// other stacks, the older of these is forgotten. A cache begins small and grows with the number of
+/// stacks that it met. Where it is refused memory, it stays as small as it is.
 #[derive(Debug, Drop)]
 pub struct StackCache {
     cells: Vec<Cell>,
-    /// How many stacks came in since it grew.
+    /// The number of stacks that were added since the cache grew.
     met: usize,
     most_cells: usize,
-    /// What `look_at` saw. It is kept so that the looks are taken.
+    /// What `look_at` saw. It is kept so that no compiler leaves the looks out.
     seen: u64,
 }
 
@@ -46,12 +46,12 @@ impl StackCache {
     ghost use Rattle.std.specs.Prelude.{◌≡◌, ◌≤◌, ◌*◌, ◌/◌, length, IfOk, IfSome};
     ghost use Rattle.htl_segment.specs.Numbers.{numbers};
 
-    /// A cache that has no stack. It takes no memory before the first one.
+    /// A cache without a stack. It takes no memory before the first one.
     pub fn new(alloc: Global) -> StackCache {
         StackCache::with_most(alloc, MOST_CELLS)
     }
 
-    /// One of at most so many cells.
+    /// A cache that grows to this many cells at most.
     pub(crate) fn with_most(alloc: Global, most_cells: usize) -> StackCache {
         StackCache {
             cells: Vec::new(alloc),
@@ -109,7 +109,7 @@ impl StackCache {
         self.seen ^= seen;
     }
 
-    /// A stack that has this fingerprint.
+    /// A stack of the cache that has this fingerprint.
     fn stack_of(&self, fingerprint: u64) -> Option<&SharedStack> {
         let place = self.place_of(fingerprint);
         match self.stack_at(place, fingerprint) {
@@ -140,7 +140,7 @@ impl StackCache {
         (fingerprint >> 20) as usize & self.cells.len().wrapping_sub(1) & !1
     }
 
-    /// Puts a stack into the first of its cells, and what was there into the other.
+    /// Puts a stack into the first of its cells, and the stack that was there into the second.
     fn keep(&mut self, alloc: Global, fingerprint: u64, stack: SharedStack) {
         self.met = self.met.saturating_add(1);
         if self.met > self.cells.len() / 2 && self.cells.len() < self.most_cells {

@@ -3,19 +3,19 @@
 #[derive(Clone, Copy, Debug, PartialEq, Eq)]
 pub enum Version {
     V1,
-    /// Adds process exits, more processors and deeper stacks.
+    /// The second version: it adds process exits, more processors and deeper stacks.
     V2,
 }
 
-/// What a version allows at most.
+/// The limits of a version.
 #[derive(Clone, Copy, Debug, PartialEq, Eq)]
 pub struct Limits {
     pub processors: u16,
-    /// Addresses of one stack.
+    /// The most addresses of a stack.
     pub frames: u8,
     /// The greatest code of a kind.
     pub kinds: u8,
-    /// Bytes of one segment with its header.
+    /// The most bytes of a segment, its header included.
     pub len: u32,
 }
 
@@ -59,7 +59,7 @@ impl Version {
         }
     }
 
-    /// How large the parts of a segment of this version may be.
+    /// The limits of this version.
     pub fn limits(self) -> Limits
         ensures { result ≡ limits_of self }
     {

@@ -6,7 +6,7 @@ use Rattle.std.specs.Cmp.{IsTotalOrder, tied_itself}
 use Rattle.std.specs.FinMap.Entries.{find, put, below_all, by_order, find-put}
 use Rattle.std.specs.declared.cmp.Ordering.{Ordering}
 use Rattle.htl_sorted.specs.Entries.{Each}
-use Rattle.htl_sorted.proofs.Bools.{both, both_left, both_right, less}
+use Rattle.htl_lemmas.proofs.Tests.{both, both_left, both_right, less}
 
 module _ {K X : Type 0} (R : K → K → Ordering) where
   pub put_some : (k : K) (v : X) (es : List (K × X)) → put R k v es ≢ []

@@ -1,5 +1,3 @@
-pub mod Members
-pub mod Bools
 pub mod Places
 pub mod Finds
 pub mod SideBySide

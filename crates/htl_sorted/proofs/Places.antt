@@ -9,7 +9,7 @@ use Rattle.std.specs.Cmp.{IsTotalOrder}
 use Rattle.std.specs.FinMap.Entries.{find, below_all}
 use Rattle.std.proofs.lemmas.Bool.{cases_lt}
 use Rattle.htl_sorted.specs.Entries.{IsSorted, IsPlace, IsGap, entries}
-use Rattle.htl_sorted.proofs.Bools.{both_left, both_right, less}
+use Rattle.htl_lemmas.proofs.Tests.{both_left, both_right, less}
 
 pub turn : {K : Type 0} {R : K → K → Ordering} → IsTotalOrder R → (x y : K) (r : Ordering) → R x y ≡ r → R y x ≡ ordering_reverse r
 turn o x y r e = o.antisymm y x ∙ ap ordering_reverse e

@@ -10,7 +10,7 @@ use Rattle.std.proofs.lemmas.Bool.{cases_lt}
 use Rattle.std.proofs.lemmas.List.{drop_more, drop_all}
 use Rattle.htl_sorted.specs.Entries.{IsSorted}
 use Rattle.htl_sorted.specs.Made.{Made}
-use Rattle.htl_sorted.proofs.Bools.{both, both_left, both_right}
+use Rattle.htl_lemmas.proofs.Tests.{both, both_left, both_right}
 use Rattle.htl_sorted.proofs.Places.{turn}
 use Rattle.htl_sorted.proofs.Finds.{find_below_all, below_lower, below_tied}
 

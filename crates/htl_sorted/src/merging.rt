@@ -1,4 +1,4 @@
-//! Two lists in order made one.
+//! The merge of two lists in order.
 
 ghost use Rattle.std.specs.Prelude.{◌≡◌, ◌+◌, ◌≤◌, ◌++◌, length, Some, IfOk, OnOk};
 ghost use Rattle.std.specs.FinMap.Entries.{find};
@@ -8,7 +8,7 @@ use crate::searching::Keyed;
 use std::alloc::{AllocError, Allocator};
 use std::cmp::Ordering;
 
-/// How two lists of rows become one.
+/// Rows that can be merged: two rows of one key become one row.
 pub trait Joined: Keyed<Row: Drop> {
     ghost can_join: { Self.Value → Self.Value → Type 0 };
 
@@ -17,7 +17,7 @@ pub trait Joined: Keyed<Row: Drop> {
     fn copy(row: &Self::Row) -> Result<Self::Row, AllocError>
         ensures { IfOk result (λ copy. copy ≡ row.now) };
 
-    /// One row of two that have one key.
+    /// One row made of two that have the same key.
     fn join(left: &Self::Row, right: &Self::Row) -> Result<Self::Row, AllocError>
         requires same_key { Self.key_of left.now ≡ Self.key_of right.now }
         requires fits { can_join (Self.value_of left.now) (Self.value_of right.now) }
@@ -71,10 +71,10 @@ pub fn merge<L: Joined, A: Allocator>(
     Ok(rows)
 }
 
-/// Room for the merged list, so that it grows once: how many keys two sorted lists have.
+/// How many keys both lists have together, so that the merged list is given its memory at once.
 ///
 /// It only sets a capacity, so the contract bounds it and doesn't say that it is exact.
-pub fn merged_len<L: Keyed>(left: &[L::Row], right: &[L::Row]) -> usize
+fn merged_len<L: Keyed>(left: &[L::Row], right: &[L::Row]) -> usize
     ensures left { length left.now ≤ result }
     ensures right { length right.now ≤ result }
     ensures both { result ≤ length left.now + length right.now }

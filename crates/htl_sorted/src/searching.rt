@@ -1,4 +1,4 @@
-//! Where a key is or would go in a list in order.
+//! The search for a key in a list in order: where it is, or where it would go.
 
 ghost use Rattle.std.specs.Prelude.{◌≡◌, IfOk, IfErr};
 ghost use Rattle.std.specs.declared.cmp.Ordering.TheVariants.{Equal};
@@ -6,12 +6,12 @@ ghost use Rattle.htl_sorted.specs.Entries.{IsSorted, IsPlace, IsGap, entries};
 
 use std::cmp::Ordering;
 
-/// How the rows of a list are keyed.
+/// Rows that have a key each.
 pub trait Keyed {
     type Row;
 
     type Key: Ord + Copy;
-    /// What a row has at its key. Only contracts name it.
+    /// The rest of a row beside its key. Only contracts name it.
     type Value;
 
     ghost key_of: { Self.Row → Self.Key };
@@ -25,8 +25,8 @@ pub trait Keyed {
     ghost proper: { (x y : Self.Key) → Self.Key.cmp x y ≡ Equal → x ≡ y };
 }
 
-/// The place of the key's row, or else the place where it would go. A key at or above the last
-/// row's is placed without a search, as each key is where rows come in order.
+/// The place of the key's row, or else the place where such a row would go. A key at or above the
+/// last one needs no search, so rows that come in order are added fast.
 pub fn search<L: Keyed>(rows: &[L::Row], key: L::Key) -> Result<usize, usize>
     requires { IsSorted L.Key.cmp (entries L.key_of L.value_of rows.now) }
     ensures found { IfOk result (IsPlace L.Key.cmp (entries L.key_of L.value_of rows.now) key) }

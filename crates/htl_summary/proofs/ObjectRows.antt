@@ -28,7 +28,7 @@ use Rattle.htl_event.proofs.Members.{Contains-here, Contains-there, Contains-map
 use Rattle.htl_event.proofs.Members.{Contains-filter, Contains-from_filter}
 use Rattle.htl_event.proofs.Counts.{counts_are_determined}
 use Rattle.htl_sorted.specs.Entries.{IsSorted}
-use Rattle.htl_sorted.proofs.Bools.{both_left, both_right, less}
+use Rattle.htl_lemmas.proofs.Tests.{both_left, both_right, less, lower}
 use Rattle.htl_tree.specs.Trees.{BySlot}
 use Rattle.htl_answers.specs.Tags.{tag_row}
 use Rattle.htl_answers.proofs.FilterMaps.{Contains-filter_map, Contains-from_filter_map, IsRising-filter_map}
@@ -39,7 +39,6 @@ use Rattle.htl_summary.specs.ObjectTags.{one_if_unbalanced, tag_of, both_objects
 use Rattle.htl_answers.proofs.NumberSums.{amount, sum_same, sum_filter_map}
 use Rattle.htl_summary.proofs.Totals.{found_row, row_there, total-amount, total-keeps, number_at}
 use Rattle.htl_summary.proofs.SlotSums.{came}
-use Rattle.htl_summary.proofs.Sorted.{below}
 
 abbrev Sum : Type 0
 Sum = Slot × Count
@@ -277,7 +276,7 @@ module _ (events : List Event) (sums : List Sum) (rows : List ObjectRow) (listed
 
   rising_from : (k : ℕ) (rs : List ObjectRow) → T (below_all nat_cmp k (by_object rs)) → AllByRecursion (λ o. k < o) (map key rs)
   rising_from k [] h = tt
-  rising_from k (r ∷ rs) h = (below k r.object (less (nat_cmp k r.object) (both_left _ _ h)), rising_from k rs (both_right _ _ h))
+  rising_from k (r ∷ rs) h = (lower k r.object (less (nat_cmp k r.object) (both_left _ _ h)), rising_from k rs (both_right _ _ h))
 
   rising : (rs : List ObjectRow) → IsSorted nat_cmp (by_object rs) → IsRising (λ a b. a < b) (map key rs)
   rising [] sorted = tt

@@ -1,5 +1,5 @@
 -- Rows that a sort by a key put in order rise strictly, where their keys differ.
-use Rattle.std.proofs.Common.{◌≡◌, ◌≢◌, ℕ, suc, ◌+◌, ◌<◌, get_or, Bool, false, List, []}
+use Rattle.std.proofs.Common.{◌≡◌, ◌≢◌, ℕ, suc, ◌+◌, get_or, Bool, false, List, []}
 use Rattle.std.proofs.Common.{◌∷◌, map, T, refl, sym, ap, subst, ◌∙◌, arith, inl, inr, nat_eq}
 use Rattle.std.specs.Prelude.{Contains, ◌↔◌, filter}
 use Rattle.std.specs.List.{IsDistinct, AllByRecursion}
@@ -12,28 +12,24 @@ use Rattle.std.specs.declared.cmp.Ordering.{Ordering}
 use Rattle.std.specs.declared.cmp.Ordering.TheVariants.{Less, Equal, Greater}
 use Rattle.std.specs.declared.cmp.Reverse.{Reverse}
 use Rattle.std.proofs.lemmas.Bool.{cases_Bool, false≢true, ne_eqb, eq-eqb, both_ways}
-use Rattle.std.proofs.lemmas.Bool.Decides.{nat_tests}
 use Rattle.std.proofs.lemmas.Cmp.{nat_eq_equiv, nat_cmp_total, on_total, then_total, back_total}
 use Rattle.std.proofs.lemmas.Map.Keys.{IsDistinct-IsPermutation}
 use Rattle.std.proofs.lemmas.List.Sorted.{ranks_by, sorted_far, IsPermutation-map, IsPermutation-sym, Contains-permutation}
 use Rattle.htl_event.specs.Members.{IsRising}
 use Rattle.htl_event.proofs.Members.{Contains-map, Contains-from_map, Contains-from_filter, each_member, at_member, filter-pass, filter-skip}
 use Rattle.htl_sorted.specs.Entries.{IsSorted, entries}
-use Rattle.htl_sorted.proofs.Bools.{both_left, both_right, less}
+use Rattle.htl_lemmas.proofs.Tests.{both_left, both_right, less, lower}
 use Rattle.htl_sorted.proofs.Places.{turn}
 use Rattle.htl_answers.proofs.Opens.{both_tied}
 
 -- ---- keys that differ
-
-pub below : (x y : ℕ) → nat_cmp x y ≡ Less → x < y
-below x y e = grind (arith, nat_tests)
 
 module _ {Row X : Type 0} (key : Row → ℕ) (value : Row → X) where
   apart_from : (k : ℕ) (rows : List Row) → T (below_all nat_cmp k (entries key value rows))
       → AllByRecursion (λ y. nat_eq k y ≡ false) (map key rows)
   apart_from k [] h = tt
   apart_from k (row ∷ rows) h =
-      let lt = below k (key row) (less (nat_cmp k (key row)) (both_left _ _ h)) in
+      let lt = lower k (key row) (less (nat_cmp k (key row)) (both_left _ _ h)) in
       (ne_eqb k (key row) (λ e. omega (arith, lt, e)), apart_from k rows (both_right _ _ h))
 
   -- the keys of a table differ

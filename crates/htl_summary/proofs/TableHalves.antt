@@ -4,6 +4,7 @@ use Rattle.htl_event.specs.Events.{Event}
 use Rattle.htl_answers.specs.Parts.{Contents, AreEventsOf, AreTablesOf}
 use Rattle.htl_answers.proofs.PartLemmas.{split_parts}
 
+-- tables of the events of both halves are those of the events of all parts
 pub tables_halves : (latest : List Event) (marks exits : List (ℕ × ℕ)) (front back : List Contents) (events : List Event)
     → ((xs ys : List Event) → AreEventsOf front xs → AreEventsOf back ys → AreTablesOf (xs ++ ys) latest marks exits)
     → AreEventsOf (front ++ back) events → AreTablesOf events latest marks exits

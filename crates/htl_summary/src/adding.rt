@@ -1,4 +1,4 @@
-//! Rows of one key made one.
+//! Adds up the rows of each key.
 
 ghost use Rattle.std.specs.Prelude.{◌≡◌, false, true};
 ghost use Rattle.std.specs.Prelude.{Some, IfOk, IfSome, IfNone, OnOk};
@@ -12,8 +12,8 @@ use htl_sorted::{Joined, merge};
 use std::alloc::Global;
 use std::cmp::Ordering;
 
-/// The rows in the order of their keys, those of one key joined. Where one pass doesn't do, halves
-/// are put in order and merged.
+/// Joins the rows of each key, and gives the sums in the order of their keys. Where one pass can't do
+/// that, halves are added up and merged.
 pub(crate) fn add_up<L: Joined>(alloc: Global, rows: &[L::Row]) -> Result<Vec<L::Row>, NoMemory>
     requires associative { (x y z : L.Value)
         → L.joined (L.joined x y) z ≡ L.joined x (L.joined y z) }
@@ -34,8 +34,8 @@ pub(crate) fn add_up<L: Joined>(alloc: Global, rows: &[L::Row]) -> Result<Vec<L:
     Ok(sums)
 }
 
-/// The same in one pass, as long as no new key has to go before one that is there: rows that come
-/// in the order of slots have that order for long stretches. None: a key falls.
+/// Joins the rows of each key in one pass, or answers none where a key falls. Rows in the order of
+/// slots have their keys in order for long stretches.
 fn add_up_in_order<L: Joined>(
     alloc: Global,
     rows: &[L::Row],
@@ -59,8 +59,8 @@ fn add_up_in_order<L: Joined>(
     Ok(Some(sums))
 }
 
-/// Joins a row to the last sum, if that has its key, or puts it after a sum of a lesser key.
-/// False: the last sum has a greater key.
+/// Joins a row to the last sum, if that has its key, or puts it after a sum of a lesser key. Where the
+/// last sum has a greater key, it answers false.
 fn add_row<L: Joined>(sums: &mut Vec<L::Row>, row: &L::Row) -> Result<bool, NoMemory>
     requires sorted { IsSorted L.Key.cmp (entries L.key_of L.value_of sums.old.items) }
     requires fits { (x : L.Value)

@@ -1,4 +1,4 @@
-//! Whether the references of objects balance.
+//! Objects, and whether their references balance.
 
 ghost use Rattle.std.specs.Prelude.{◌≡◌, ◌<◌, ◌^◌, ◌↔◌, List, Contains, filter};
 ghost use Rattle.std.specs.Prelude.{length, map, nat_eq, nat_lt, IfOk};
@@ -18,16 +18,17 @@ use htl_event::{Count, NoMemory, ObjectRow, Slot};
 use std::alloc::Global;
 use std::cmp::Reverse;
 
-/// What a summary says of objects.
+/// The objects of a summary.
 #[derive(Drop)]
 pub struct Objects {
-    /// How many objects have an event.
+    /// The number of objects with an event.
     pub number: u64,
-    /// Those with an unbalanced tag, the most unbalanced tags first and then by object.
+    /// The rows of objects with an unbalanced tag, those with the most unbalanced tags first, and then
+    /// by object.
     pub unbalanced: Vec<ObjectRow>,
 }
 
-/// Which objects were referenced or dereferenced, and whether their tags balance.
+/// The objects that were referenced or dereferenced, and whether their tags balance.
 pub fn balances<P: Part>(alloc: Global, parts: &[P]) -> Result<Objects, NoMemory>
     requires { size_of_all (map P.contents parts.now) < 2 ^ 64 }
     ensures number { IfOk result (λ objects. (events : List Event)
@@ -41,7 +42,7 @@ pub fn balances<P: Part>(alloc: Global, parts: &[P]) -> Result<Objects, NoMemory
     balances_of_slots(alloc, &sums)
 }
 
-/// The same of the objects of these slots.
+/// As `balances`, of the objects of these slots.
 pub(crate) fn balances_of_slots(alloc: Global, sums: &[(Slot, Count)]) -> Result<Objects, NoMemory>
     requires positive { (sum : Slot × Count) → Contains sums.now sum → IsPositive sum.1 }
     requires fits { sum_by (λ sum. total_of sum.1) sums.now < 2 ^ 64 }

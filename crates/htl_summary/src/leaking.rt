@@ -1,4 +1,4 @@
-//! What processes did with handles.
+//! Processes, and what they did with handles.
 
 ghost use Rattle.std.specs.Prelude.{◌≡◌, ◌<◌, ◌^◌, ◌↔◌, List, Contains};
 ghost use Rattle.std.specs.Prelude.{filter, length, map, nat_eq, IfOk};
@@ -38,7 +38,7 @@ pub fn processes<P: Part>(
     processes_of_slots(alloc, tree_alloc, parts, &sums)
 }
 
-/// The same from the sums of the parts' slots.
+/// As `processes`, from the sums of the parts' slots.
 pub(crate) fn processes_of_slots<P: Part>(
     alloc: Global,
     tree_alloc: &P::Alloc,
@@ -96,7 +96,7 @@ fn process_row<A: Allocator>(usage: Usage, tables: &Tables<A>) -> ProcessRow
     }
 }
 
-/// How many of the events are opens that came after a moment.
+/// The number of opens among the events that came after a moment.
 fn opened_after(latest: &[SharedEvent], moment: u64) -> u64
     ensures { result ≡ length (filter (is_opened_after moment) latest.now) }
 {

@@ -1,15 +1,15 @@
-//! What a summary says of processes and objects, over several parts (`htl_answers::Part`): what
-//! each part folded, and the lists of events that it still holds.
+//! The processes and objects of a summary, over several parts (`htl_answers::Part`): what each part
+//! folded, and the lists of events that it still holds.
 //!
 //! The parts' tables become one table of each kind. One list says how often each slot came
-//! (`htl_answers::slot_sums`); what these sums say of one process or one object is added up. So no
-//! process and no object is asked for alone.
+//! (`htl_answers::slot_sums`), and its sums are added up for each process and each object. So no
+//! process and no object needs a pass of its own.
 //!
 //! Files, in reading order: `summarizing.rt`, `leaking.rt` and `balancing.rt` (the answers: both,
 //! about processes and about objects), `tables.rt` (the tables of all parts), `usage.rt` and
-//! `tags.rt` (what a slot says of a process and of an object), `rows.rt` (the rows that all slots
-//! give), `adding.rt` (rows of one key made one). In `proofs/`, `ProcessRows` and `ObjectRows` show
-//! that rows are those of the definitions.
+//! `tags.rt` (the rows of a process and of an object that a slot gives), `rows.rt` (the rows that all
+//! slots give), `adding.rt` (adds up the rows of each key). In `proofs/`, `ProcessRows` and
+//! `ObjectRows` show that rows are those of the definitions.
 #![tactic(auto)]
 
 mod adding;

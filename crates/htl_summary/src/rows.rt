@@ -13,7 +13,7 @@ use std::alloc::Global;
 pub(crate) trait FromSum: Joined {
     ghost row_of_sum: { Slot → Count → Option Self.Row };
 
-    /// The row of a slot that came so often, if it has one.
+    /// The row of a slot that came this often, if the slot has one.
     fn from_sum(slot: Slot, count: Count) -> Option<Self::Row>
         ensures { result ≡ row_of_sum slot count };
 }

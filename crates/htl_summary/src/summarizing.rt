@@ -1,4 +1,4 @@
-//! What a summary says of processes and of objects, from slots that are counted once for both.
+//! The processes and the objects of a summary, from slots that are counted once for both.
 
 ghost use Rattle.std.specs.Prelude.{◌<◌, ◌^◌, List, map, IfOk};
 ghost use Rattle.htl_event.specs.Events.{Event};
@@ -12,7 +12,7 @@ use htl_answers::{Part, slot_sums};
 use htl_event::{NoMemory, ProcessRow};
 use std::alloc::Global;
 
-/// What a summary says of objects and of processes.
+/// The objects and the processes of a summary.
 #[derive(Drop)]
 pub struct Summary {
     pub objects: Objects,
@@ -20,7 +20,7 @@ pub struct Summary {
     pub processes: Vec<ProcessRow>,
 }
 
-/// What `balances` and `processes` answer, in less time than both.
+/// The answers of `balances` and `processes`, in less time than both calls take.
 pub fn summarize<P: Part>(
     alloc: Global,
     tree_alloc: &P::Alloc,

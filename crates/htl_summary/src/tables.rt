@@ -17,7 +17,7 @@ pub(crate) struct Tables<A: Allocator> {
     pub exits: Exits<A>,
 }
 
-/// The tables of all parts. They are joined in pairs, and those in pairs again.
+/// The tables of all parts. They are joined in pairs, and the results in pairs again.
 pub(crate) fn tables_of<P: Part>(
     alloc: &P::Alloc,
     parts: &[P],
@@ -49,7 +49,7 @@ fn no_tables<A: Allocator + Clone>(alloc: &A) -> Result<Tables<A>, NoMemory>
     })
 }
 
-/// The tables of one part: what it folded and what it holds.
+/// The tables of one part, over its folded and its held events.
 fn tables_of_part<P: Part>(alloc: &P::Alloc, part: &P) -> Result<Tables<P::Alloc>, NoMemory>
     ensures { IfOk result (λ tables. (folded : List Event) → IsFoldOf (P.contents part.now) folded
         → AreTablesOf (folded ++ (P.contents part.now).held)
@@ -66,7 +66,7 @@ fn tables_of_part<P: Part>(alloc: &P::Alloc, part: &P) -> Result<Tables<P::Alloc
     })
 }
 
-/// Whether a part's own tables are empty, as they are where it has folded nothing.
+/// Whether the tables of a part are empty, as they are before it has folded anything.
 fn has_no_tables<P: Part>(part: &P) -> bool
     ensures { result ≡ true → ((P.contents part.now).latest ≡ [])
         × ((P.contents part.now).marks ≡ []) × ((P.contents part.now).exits ≡ []) }
@@ -91,7 +91,7 @@ fn tables_of_lists<A: Allocator + Clone, E: EventList>(
     })
 }
 
-/// The tables of the events of both sides.
+/// The tables of the events of both tables.
 fn joined<A: Allocator + Clone>(left: &Tables<A>, right: &Tables<A>) -> Result<Tables<A>, NoMemory>
     ensures { IfOk result (λ tables. (events more : List Event)
         → AreTablesOf events left.now.latest left.now.marks left.now.exits

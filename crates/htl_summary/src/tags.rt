@@ -1,4 +1,4 @@
-//! What the tags of objects come to.
+//! The rows of objects, made of their tags.
 
 ghost use Rattle.std.specs.Prelude.{◌≡◌, ◌<◌, ◌^◌, ℕ, Contains, IfOk};
 ghost use Rattle.std.specs.List.{sum_by};

@@ -16,7 +16,7 @@ use htl_event::{Count, NoMemory, Slot};
 use htl_sorted::{Joined, Keyed};
 use std::alloc::{AllocError, Global};
 
-/// How often a process opened and closed handles, and used ones that weren't open.
+/// How often a process opened handles, closed them, and used handles that weren't open.
 #[derive(Clone, Copy, Debug, PartialEq, Eq)]
 pub(crate) struct Usage {
     pub process: u32,
@@ -37,7 +37,7 @@ pub(crate) fn used_by_process(alloc: Global, sums: &[(Slot, Count)]) -> Result<V
     add_up::<ByProcess>(alloc, &rows)
 }
 
-/// Usages by process, which are added up.
+/// Usages by process. They are added up.
 struct ByProcess;
 
 impl Keyed for ByProcess {

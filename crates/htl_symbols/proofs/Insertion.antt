@@ -15,7 +15,7 @@ use Rattle.std.proofs.lemmas.Map.Keys.{below_from_sorted}
 use Rattle.htl_symbols.specs.Ranges.{IsTable, Range, meets}
 use Rattle.htl_symbols.specs.Symbols.{range_of, ranges_of}
 use Rattle.htl_symbols.specs.declared.symbols.Symbol.{Symbol}
-use Rattle.htl_sorted.proofs.Members.{Contains-cases, Contains-here, Contains-map, Contains-there}
+use Rattle.htl_event.proofs.Members.{Contains-cases, Contains-here, Contains-map, Contains-there}
 use Rattle.htl_symbols.proofs.LastBegun.{apart}
 use Rattle.htl_symbols.proofs.Overlaps.{not-met}
 

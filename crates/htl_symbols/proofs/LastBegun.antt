@@ -15,7 +15,7 @@ use Rattle.std.proofs.lemmas.Option.{none-some, same_Some}
 use Rattle.htl_symbols.specs.Ranges.{IsTable, Range}
 use Rattle.htl_symbols.specs.Symbols.{IsLastBegun, range_of, ranges_of}
 use Rattle.htl_symbols.specs.declared.symbols.Symbol.{Symbol}
-use Rattle.htl_sorted.proofs.Members.{Contains-map, Contains-from_map}
+use Rattle.htl_event.proofs.Members.{Contains-map, Contains-from_map}
 
 -- the other ranges of a table whose last range that begins by the address is r
 pub cases_begun : (table : List Range) (address : ℕ) (r q : Range) → IsLastBegun table address r → Contains table q

@@ -3,7 +3,7 @@ use Rattle.std.proofs.Common.{◌≡◌, Bool, true, false, List, [], ◌∷◌,
 use Rattle.std.specs.List.{Contains, find, list_any}
 use Rattle.std.proofs.lemmas.Bool.{cases_Bool}
 use Rattle.std.proofs.lemmas.List.Folds.{list_any_at}
-use Rattle.htl_sorted.proofs.Members.{Contains-here, Contains-there, Contains-cases}
+use Rattle.htl_event.proofs.Members.{Contains-here, Contains-there, Contains-cases}
 
 -- the only element that passes is what a search finds
 pub find-only : {X : Type 0} (p : X → Bool) (xs : List X) (x : X) → Contains xs x → p x ≡ true

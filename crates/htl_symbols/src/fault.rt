@@ -6,26 +6,26 @@ ghost use Rattle.htl_symbols.specs.declared.fault.SymbolFault.TheVariants as fau
 use std::alloc::AllocError;
 use thiserror::Error;
 
-/// Why a symbol table is refused. A number is that of the record, the header's being 0; the text is
-/// the fault's code.
+/// Why a symbol table is refused. A number is that of the record, and the header has number 0. The
+/// `Display` text is the fault's code.
 #[derive(Clone, Copy, Debug, PartialEq, Eq, Error)]
 pub enum SymbolFault {
-    /// The first record isn't `start,end,module,name`, or there is none.
+    /// The first record isn't `start,end,module,name`, or there is no record.
     #[error("Y1")]
     Header,
-    /// A row hasn't four fields.
+    /// A row doesn't have four fields.
     #[error("Y2({0})")]
     Fields(u64),
-    /// A row's start or end is no hexadecimal number of at most 16 digits.
+    /// A row's start or end isn't a hexadecimal number of 1 to 16 digits.
     #[error("Y3({0})")]
     Number(u64),
-    /// A row's start is its end or above it.
+    /// A row's end isn't above its start.
     #[error("Y4({0})")]
     EmptyRange(u64),
-    /// A row's range has an address of the range of an earlier row.
+    /// A row's range has an address in common with that of an earlier row.
     #[error("Y5({0})")]
     Overlap(u64),
-    /// `csv` refuses a record, as one that isn't UTF-8.
+    /// `csv` refuses a record: it isn't UTF-8.
     #[error("Y6({0})")]
     Csv(u64),
     /// An allocation was refused.

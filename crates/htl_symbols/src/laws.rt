@@ -7,8 +7,8 @@ ghost use Rattle.htl_symbols.specs.Rows.{Record};
 ghost use Rattle.htl_symbols.specs.declared.fault.SymbolFault.{SymbolFault};
 ghost use Rattle.htl_symbols.specs.declared.fault.SymbolFault.TheVariants.{NoMemory};
 
-/// Records come to one table, or to one first fault, and never to both. (A refused allocation is no
-/// fault of theirs.)
+/// Records give one table or have one first fault, and never both. (A refused allocation is no fault of
+/// records.)
 pub fn one_reading()
     ensures { (records : List Record) (a b : Result (List Range) SymbolFault)
         → a ≢ Err NoMemory → b ≢ Err NoMemory → Reads records a → Reads records b → a ≡ b }

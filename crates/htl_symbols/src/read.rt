@@ -20,9 +20,9 @@ impl Symbols {
     /// module and a name, which are any texts. Rows stand in any order.
     ///
     /// The first record with a fault ends the reading, and is reported with its number: 0 for the
-    /// header, 1 for the first row; blank lines are no records. Of one record's faults the first of
-    /// these is reported: it is no text, it hasn't four fields, its start or its end is no number, its
-    /// range is empty, its range overlaps that of an earlier row. Out of memory can come at any
+    /// header, 1 for the first row; blank lines are not counted. Of one record's faults the first of
+    /// these is reported: it is not UTF-8, it hasn't four fields, its start or its end is no number,
+    /// its range is empty, its range overlaps that of an earlier row. Out of memory can come at any
     /// row.
     pub fn read(alloc: Global, bytes: &[u8]) -> Result<Symbols, SymbolFault>
         ensures { Reads (records_of bytes.now) result }
@@ -34,7 +34,7 @@ impl Symbols {
     }
 }
 
-/// A reader to which the header is a record as any other and a row may have any number of fields.
+/// A reader that treats the header as any other record, and takes rows with any number of fields.
 fn reader_of(alloc: Global, bytes: &[u8]) -> Reader<&[u8]>
     ensures at { IsAtRecord result }
     ensures records { records_left result ≡ records_of bytes.entry.now }
@@ -109,9 +109,9 @@ fn symbol_of(alloc: Global, row: &Row<'_>) -> Result<Symbol, AllocError>
     })
 }
 
-/// Reads record number `number`, or answers false where there is none. Reading a slice never fails,
-/// but the contract of `csv` doesn't say so: such an error would pass for out of memory, so that
-/// `Csv` comes where a record is refused and nowhere else.
+/// Reads record number `number`, or answers false where there is no more record. Reading a slice never
+/// fails, but the contract of `csv` doesn't say so. Such an error is reported as out of memory, so that
+/// `Csv` is reported only where a record is refused.
 fn read_record(
     reader: &mut Reader<&[u8]>,
     fields: &mut StringRecord,

@@ -1,4 +1,4 @@
-//! What the records of a table write.
+//! Rows: what the records of a table write.
 
 ghost use Rattle.std.specs.Prelude.{◌≡◌, ◌≢◌, ◌∷◌, [], ◌↔◌, ◌<◌, Err, IfOk, IsTrue};
 ghost use Rattle.std.specs.Prelude.{MatchOption, MatchResult, Ok, length};
@@ -11,7 +11,7 @@ use crate::fault::SymbolFault;
 use csv::StringRecord;
 use htl_numbers::hexadecimal;
 
-/// A row, its texts in their record.
+/// A row, whose texts lie in their record.
 #[derive(Clone, Copy)]
 pub(crate) struct Row<'r> {
     pub(crate) start: u64,
@@ -20,7 +20,7 @@ pub(crate) struct Row<'r> {
     pub(crate) name: &'r str,
 }
 
-/// The row that record number `number` writes.
+/// The row that this record writes. The record has number `number`.
 pub(crate) fn row_of(fields: &StringRecord, number: u64) -> Result<Row<'_>, SymbolFault>
     ensures filled { IfOk result (λ row. row.start < row.end) }
     ensures row { MatchResult result

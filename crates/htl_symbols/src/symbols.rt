@@ -1,4 +1,4 @@
-//! A symbol table in memory.
+//! Symbol tables in memory.
 
 ghost use Rattle.std.specs.Prelude.{◌≡◌, ◌<◌, ◌≤◌, ◌∷◌, [], All, false, IsPermutation};
 ghost use Rattle.std.specs.Prelude.{MatchOption, OnErr, OnOk, option_map};
@@ -10,16 +10,16 @@ use std::alloc::{AllocError, Global};
 use std::collections::BTreeMap;
 use std::marker::Model;
 
-/// What is known of a range beside its start.
+/// The end of a range, and its module and name.
 #[derive(Debug, Drop)]
 pub(crate) struct Symbol {
-    /// After the last address.
+    /// The address after the last one.
     pub(crate) end: u64,
     pub(crate) module: String,
     pub(crate) name: String,
 }
 
-/// A symbol table: ranges of addresses with their names, of which no two have an address in common.
+/// A symbol table: ranges of addresses with their names. No two ranges have an address in common.
 #[derive(Debug, Drop)]
 pub struct Symbols {
     by_start: BTreeMap<u64, Symbol>,
@@ -38,7 +38,7 @@ impl Model for Symbols {
 }
 
 impl Symbols {
-    /// A table with no range.
+    /// An empty table.
     pub fn none(alloc: Global) -> Symbols
         ensures { result ≡ [] }
     {
@@ -48,7 +48,7 @@ impl Symbols {
     }
 
     /// The module and the name of the range that has the address, and how many bytes after the
-    /// range's start the address is. None where no range has it.
+    /// range's start the address is. It is none where no range has the address.
     pub fn resolve(&self, address: u64) -> Option<(&str, &str, u64)>
         ensures value { option_map (λ s. (s.0.now, s.1.now, s.2)) result
             ≡ resolved self.now address }
@@ -88,7 +88,7 @@ impl Symbols {
         }
     }
 
-    /// Adds a range that overlaps none.
+    /// Adds a range that overlaps no other.
     pub(crate) fn insert(&mut self, start: u64, symbol: Symbol) -> Result<(), AllocError>
         requires filled { start < symbol.end }
         requires apart { list_any (meets start symbol.end) self.old ≡ false }

@@ -1,12 +1,10 @@
 -- What a table has at its keys once an event was noted.
 use Rattle.std.proofs.Common.{◌≡◌, ℕ, ◌==◌, ◌&&◌, Bool, true, ◌<◌, ◌≤◌, List, [], ◌∷◌}
 use Rattle.std.proofs.Common.{Option, Some, None, refl, sym, ap, ◌∙◌, inl, inr, cond}
-use Rattle.std.specs.Ordering.{eq_by_cmp, is_eq}
-use Rattle.std.specs.declared.cmp.Ordering.{Ordering}
-use Rattle.std.specs.declared.cmp.Ordering.TheVariants.{Less, Equal, Greater}
+use Rattle.std.specs.Ordering.{eq_by_cmp}
 use Rattle.std.proofs.lemmas.Option.{same_Some}
 use Rattle.std.specs.FinMap.Entries.{find, put, find-put, is_sorted-put}
-use Rattle.std.proofs.lemmas.Bool.{cases_Bool, false≢true, lt-ltb, le-ltb, and_parts, eqb-true}
+use Rattle.std.proofs.lemmas.Bool.{cases_Bool, lt-ltb, le-ltb, and_parts, eqb-true}
 use Rattle.htl_event.specs.Events.{Event}
 use Rattle.htl_event.specs.Slots.{base_of}
 use Rattle.htl_event.specs.Handles.{later}
@@ -17,6 +15,7 @@ use Rattle.htl_tables.specs.Latest.{event_at, with_event}
 use Rattle.htl_event.specs.Handles.{opens_or_closes}
 use Rattle.htl_event.proofs.EventTests.{opens_or_closes_base}
 use Rattle.htl_tables.proofs.KeyOrder.{key_total, key_test}
+use Rattle.htl_lemmas.proofs.Tests.{equal}
 
 -- the event is later than what is there
 abbrev pub IsLater : Event → Option Event → Type 0
@@ -29,11 +28,6 @@ later-newer (Some x) e h = rw (lt-ltb x.sequence e.sequence h) refl
 
 later-older : (x e : Event) → e.sequence ≤ x.sequence → later (Some x) (Some e) ≡ Some x
 later-older x e le = rw (le-ltb x.sequence e.sequence le) refl
-
-is_equal : (o : Ordering) → is_eq o ≡ true → o ≡ Equal
-is_equal Less t = absurd (false≢true t)
-is_equal Equal t = refl
-is_equal Greater t = absurd (false≢true t)
 
 module _ (rows : List Event) (e : Event) (opens : opens_or_closes e.kind ≡ true) (process base : ℕ) where
   here : Bool
@@ -86,7 +80,7 @@ event_at-key (row ∷ rows) process base x found =
       | inl t ↦
           let same : row ≡ x = same_Some row x (rw t at found) in
           let tied : (process, base) ≡ key_of row =
-          key_cmp-equal (process, base) (key_of row) (is_equal (key_cmp (process, base) (key_of row)) t) in
+          key_cmp-equal (process, base) (key_of row) (equal (key_cmp (process, base) (key_of row)) t) in
           sym (tied ∙ ap key_of same)
       | inr f ↦ event_at-key rows process base x (rw f at found)
     ]

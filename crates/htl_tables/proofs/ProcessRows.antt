@@ -55,6 +55,7 @@ less_le a b order =
     let order' = order in
     grind (arith, nat_tests)
 
+-- rows in order of their keys are in order of their processes
 pub by_process : (rows : List Event) → IsSorted key_cmp (keyed rows) → AreByProcess rows
 by_process rows sorted i j d le lt =
     elim (cases_lt i j) [
@@ -128,6 +129,7 @@ by_base process (row ∷ rows) r =
       | inr ne ↦ rw (filter-skip (is_there process) row rows (ne_eqb row.process process ne)) (by_base process rows r.1)
     ]
 
+-- the rows of a process list its events by base handle
 pub process_listed : (rows : List Event) (process : ℕ) → IsSorted key_cmp (keyed rows)
     → Lists ByBase (HasEventOf rows process) (filter (is_there process) rows)
 process_listed rows process sorted =

@@ -9,7 +9,7 @@ use Rattle.htl_event.specs.Slots.{base_of}
 use Rattle.htl_event.proofs.Members.{filter-pass, filter-skip}
 use Rattle.htl_event.specs.Handles.{later}
 use Rattle.htl_sorted.specs.Entries.{IsSorted}
-use Rattle.htl_sorted.proofs.Bools.{both, both_left, both_right}
+use Rattle.htl_lemmas.proofs.Tests.{both, both_left, both_right}
 use Rattle.htl_tables.specs.Keys.{key_cmp, key_of, keyed}
 use Rattle.htl_tables.specs.Latest.{event_at}
 use Rattle.htl_tables.proofs.KeyOrder.{key_test}

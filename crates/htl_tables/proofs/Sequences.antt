@@ -1,30 +1,22 @@
 -- Tables of the greatest sequence of each process.
-use Rattle.std.proofs.Common.{◌≡◌, ◌≢◌, ℕ, suc, true, ◌<◌, max, List, [], ◌∷◌, length, get_or, set}
+use Rattle.std.proofs.Common.{◌≡◌, ◌≢◌, ℕ, suc, ◌<◌, max, List, [], ◌∷◌, length, get_or, set}
 use Rattle.std.proofs.Common.{insert, Option, Some, None, refl, sym, ap, ◌∙◌, inl, inr, arith, T}
 use Rattle.std.specs.Prelude.{Contains}
 use Rattle.std.specs.Option.{unwrap_or}
 use Rattle.std.specs.List.{AllByRecursion}
-use Rattle.std.specs.Ordering.{nat_cmp, eq_by_cmp, is_eq}
+use Rattle.std.specs.Ordering.{nat_cmp, eq_by_cmp}
 use Rattle.std.specs.Cmp.{nat_cmp_total}
 use Rattle.std.specs.FinMap.{nat_cmp-IsAntisymmetric}
 use Rattle.std.specs.FinMap.Entries.{find, put, is_sorted-put, below_all}
-use Rattle.std.proofs.lemmas.Bool.{cases_Bool, false≢true}
-use Rattle.std.proofs.lemmas.Bool.Decides.{nat_tests}
-use Rattle.std.specs.declared.cmp.Ordering.{Ordering}
-use Rattle.std.specs.declared.cmp.Ordering.TheVariants.{Less, Equal, Greater}
+use Rattle.std.proofs.lemmas.Bool.{cases_Bool}
 use Rattle.std.proofs.lemmas.Option.{same_Some, none-some}
 use Rattle.htl_event.specs.Members.{Lists, IsRising, IsStrictOrder}
 use Rattle.htl_sorted.specs.Entries.{IsSorted, IsPlace, IsGap, Each, joined_at}
-use Rattle.htl_sorted.proofs.Bools.{both_left, both_right, less}
+use Rattle.htl_lemmas.proofs.Tests.{both_left, both_right, less, equal, lower}
 use Rattle.htl_sorted.proofs.Finds.{find_put_same, find_put_other, each_put, each_found}
 use Rattle.htl_sorted.proofs.Rows.{placed_row, set_row, insert_row, row_found}
 use Rattle.htl_tables.specs.Greatest.{sequences, sequence_at, HasLowerProcess, HasSequence}
 use Rattle.htl_tables.specs.Moments.{IsTable}
-
-is_equal : (o : Ordering) → is_eq o ≡ true → o ≡ Equal
-is_equal Less t = absurd (false≢true t)
-is_equal Equal t = refl
-is_equal Greater t = absurd (false≢true t)
 
 -- ---- a sequence put at a process
 
@@ -104,14 +96,11 @@ IsTable-joined rows left right sorted tl tr values = record {
 pub HasLowerProcess-strict : IsStrictOrder HasLowerProcess
 HasLowerProcess-strict = record { irreflexive = λ a lt. omega (arith, lt); transitive = λ a b c lt lu. omega (arith, lt, lu) }
 
-below : (x y : ℕ) → nat_cmp x y ≡ Less → x < y
-below x y e = grind (arith, nat_tests)
-
 below_rising : (row : ℕ × ℕ) (rows : List (ℕ × ℕ)) → T (below_all nat_cmp row.0 (sequences rows))
     → AllByRecursion (HasLowerProcess row) rows
 below_rising row [] h = tt
 below_rising row (next ∷ rows) h =
-    (below row.0 next.0 (less (nat_cmp row.0 next.0) (both_left _ _ h)), below_rising row rows (both_right _ _ h))
+    (lower row.0 next.0 (less (nat_cmp row.0 next.0) (both_left _ _ h)), below_rising row rows (both_right _ _ h))
 
 rows_rising : (rows : List (ℕ × ℕ)) → IsSorted nat_cmp (sequences rows) → IsRising HasLowerProcess rows
 rows_rising [] sorted = tt
@@ -128,7 +117,7 @@ found_row [] process sequence found = absurd (none-some sequence found)
 found_row (row ∷ rows) process sequence found =
     elim (cases_Bool (eq_by_cmp nat_cmp process row.0)) [
       | inl t ↦
-          let key : row.0 ≡ process = sym (nat_cmp-IsAntisymmetric process row.0 (is_equal (nat_cmp process row.0) t)) in
+          let key : row.0 ≡ process = sym (nat_cmp-IsAntisymmetric process row.0 (equal (nat_cmp process row.0) t)) in
           let value : row.1 ≡ sequence = same_Some row.1 sequence (rw t at found) in
           (0, omega arith, ap (λ (p : ℕ). (p, row.1)) key ∙ ap (λ (s : ℕ). (process, s)) value)
       | inr f ↦ let there = found_row rows process sequence (rw f at found) in (suc there.0, omega (arith, there.1), there.2)

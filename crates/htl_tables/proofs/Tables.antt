@@ -11,7 +11,7 @@ use Rattle.htl_event.specs.Slots.{base_of}
 use Rattle.htl_event.specs.Handles.{later}
 use Rattle.htl_event.specs.Members.{Lists, IsRising}
 use Rattle.htl_sorted.specs.Entries.{IsSorted, joined_at}
-use Rattle.htl_sorted.proofs.Bools.{both_left, both_right, less}
+use Rattle.htl_lemmas.proofs.Tests.{both_left, both_right, less}
 use Rattle.htl_sorted.proofs.Rows.{row_found}
 use Rattle.htl_tables.specs.Keys.{key_cmp, key_of, keyed, ByKey}
 use Rattle.htl_tables.specs.Latest.{event_at, later_of, HasEvent}

@@ -9,7 +9,7 @@ use htl_event::{SharedEvent, base};
 use htl_sorted::{Joined, Keyed};
 use std::alloc::AllocError;
 
-/// Events by process and base handle, of which the later stays.
+/// Events by process and base handle. Of two for one handle the later stays.
 pub(crate) struct ByHandle;
 
 impl Keyed for ByHandle {

@@ -3,7 +3,7 @@
 use htl_sorted::{Joined, Keyed};
 use std::alloc::AllocError;
 
-/// Sequences by process, of which the greater stays.
+/// Sequences by process. Of two for one process the greater stays.
 pub(crate) struct ByProcess;
 
 impl Keyed for ByProcess {

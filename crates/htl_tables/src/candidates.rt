@@ -1,23 +1,23 @@
-//! The events that may be the latest of their handles, gathered from lists in one pass.
+//! Candidates: the events that may be the latest of their handles, gathered from lists in one pass.
 
 ghost use Rattle.std.specs.Prelude.{◌≡◌, IfOk, IsSorted};
 ghost use Rattle.htl_tables.specs.Asked.{touches};
 ghost use Rattle.htl_tables.specs.SortKeys.{sort_key_cmp, AreCandidates};
 
-use crate::hints::{Hints, WAYS};
+use crate::hints::{KeyHints, WAYS};
 use crate::sort_key::{SortKey, place_of};
-use htl_event::{EventList, NoMemory, SharedEvent};
+use htl_event::{EventList, NoMemory, SharedEvent, number_of_events};
 use std::alloc::{AllocError, Allocator};
 
-/// Sort keys of opens and closes, mostly one for each handle, and hints where they stand.
+/// The sort keys of opens and closes, mostly one for each handle, and hints where they are.
 #[derive(Drop)]
 struct Candidates<A: Allocator> {
     keys: Vec<SortKey, A>,
-    hints: Hints<A>,
+    hints: KeyHints<A>,
 }
 
-/// Sort keys of the lists' opens and closes, in order: of one process, or of all where none is
-/// named. The latest event of each handle is among them.
+/// The sort keys of the lists' opens and closes in order: those of one process, or of all processes
+/// where none is named. The latest event of each handle is among them.
 pub(crate) fn candidates_in<R: EventList, A: Allocator + Clone>(
     alloc: A,
     lists: &[R],
@@ -27,22 +27,13 @@ pub(crate) fn candidates_in<R: EventList, A: Allocator + Clone>(
         AreCandidates R.events_of lists.now (touches asked) keys.items) }
     ensures sorted { IfOk result (λ keys. IsSorted sort_key_cmp keys.items) }
 {
-    let mut candidates = Candidates::new(alloc, events_in(lists))?;
+    let mut candidates = Candidates::new(alloc, number_of_events(lists).unwrap_or(usize::MAX))?;
     for (list, events) in lists.iter().enumerate() {
         candidates.gather(place_of(list)?, events.events(), asked)?;
     }
     let mut keys = candidates.keys;
     keys.sort_unstable();
     Ok(keys)
-}
-
-/// About how many events the lists have.
-fn events_in<R: EventList>(lists: &[R]) -> usize {
-    let mut events: usize = 0;
-    for list in lists {
-        events = events.saturating_add(list.events().len());
-    }
-    events
 }
 
 /// Whether the event opens or closes a handle of the process that is asked for.
@@ -55,12 +46,12 @@ fn touches(event: &SharedEvent, asked: Option<u32>) -> bool
 impl<A: Allocator + Clone> Candidates<A> {
     ghost use Rattle.std.specs.Prelude.{◌≡◌, [], IfOk};
 
-    /// No key yet, and room for hints on this many events.
+    /// No key yet, and hints for this many events.
     fn new(alloc: A, events: usize) -> Result<Candidates<A>, AllocError>
         ensures { IfOk result (λ candidates. candidates.keys.items ≡ []) }
     {
         Ok(Candidates {
-            hints: Hints::new(alloc.clone()?, events)?,
+            hints: KeyHints::new(alloc.clone()?, events)?,
             keys: Vec::new(alloc),
         })
     }
@@ -71,7 +62,7 @@ impl<A: Allocator> Candidates<A> {
     ghost use Rattle.htl_tables.specs.Asked.{touches};
     ghost use Rattle.htl_tables.specs.SortKeys.{IsPlaceOf, Gathers, Offers};
 
-    /// Offers the key of each open and close of one list that is asked for.
+    /// Offers the keys of the opens and closes of one list that are asked for.
     fn gather(
         &mut self,
         list: u32,
@@ -90,8 +81,8 @@ impl<A: Allocator> Candidates<A> {
         Ok(())
     }
 
-    /// Puts the key in the place of its handle's that comes later, which is likely to be this one,
-    /// or adds it where none is found.
+    /// Puts the key where its handle has a key that comes later, likely at this place. A handle whose
+    /// key isn't found gets one more.
     fn offer(&mut self, key: SortKey, likely: usize) -> Result<(), AllocError>
         ensures { OnOk result (Offers key self.old.keys.items self.new.keys.items) }
     {
@@ -103,15 +94,15 @@ impl<A: Allocator> Candidates<A> {
                 }
             }
             Err(cell) => {
-                self.hints.set(cell, self.keys.len());
+                self.hints.put(cell, self.keys.len());
                 self.keys.push(key)?;
             }
         }
         Ok(())
     }
 
-    /// The place of a key of the same handle, where a hint has it, or else a cell for a hint. It is
-    /// likely to be this place.
+    /// The place of a key of the same handle where a hint has it, likely this place, or else a cell
+    /// for a hint.
     fn find(&self, key: &SortKey, likely: usize) -> Result<usize, usize>
         ensures { IfOk result (IsPlaceOf self.now.keys.items key.now) }
     {

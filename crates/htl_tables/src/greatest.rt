@@ -76,7 +76,7 @@ impl<K: EventKind, A: Allocator> Greatest<K, A> {
     ghost use Rattle.htl_event.specs.Handles.{IsOf};
     ghost use Rattle.htl_tables.specs.Greatest.{sequence_at, HasLowerProcess, HasSequence};
 
-    /// A table of nothing. It takes no memory.
+    /// An empty table. It takes no memory.
     pub fn new(alloc: A) -> Greatest<K, A>
         ensures { result ≡ [] }
     {
@@ -86,7 +86,7 @@ impl<K: EventKind, A: Allocator> Greatest<K, A> {
         }
     }
 
-    /// The greatest sequence that was noted for the process, 0 where none was.
+    /// The greatest sequence that was noted for the process, or 0 where none was.
     pub fn get(&self, process: u32) -> u64
         ensures { result ≡ sequence_at self.now process }
     {
@@ -132,7 +132,7 @@ impl<K: EventKind, A: Allocator> Greatest<K, A> {
         Ok(())
     }
 
-    /// Each process of which something was noted, in order, with its greatest sequence.
+    /// Each process for which a sequence was noted, in order, with the greatest one.
     pub fn rows(&self) -> &[(u32, u64)]
         ensures value { result.now ≡ self.now }
         ensures listed { Lists HasLowerProcess (HasSequence self.now) result.now }
@@ -140,7 +140,7 @@ impl<K: EventKind, A: Allocator> Greatest<K, A> {
         self.rows.as_slice()
     }
 
-    /// Whether both tables have the same sequence for each process. Then they are one value.
+    /// Whether both tables have the same sequence for each process. Then they are equal.
     pub fn same(&self, other: &Greatest<K, A>) -> bool
         ensures sequences { IsTrue result ↔ ((process : ℕ)
             → sequence_at self.now process ≡ sequence_at other.now process) }

@@ -9,7 +9,7 @@ use htl_sorted::{merge, search};
 use std::alloc::Allocator;
 use std::marker::Model;
 
-/// How many events are looked at together.
+/// The number of events that are read together.
 const BLOCK: usize = 32;
 
 /// The latest open or close of each base handle of each process.
@@ -41,7 +41,7 @@ impl<A: Allocator> Latest<A> {
     ghost use Rattle.htl_tables.specs.Keys.{ByKey};
     ghost use Rattle.htl_tables.specs.Latest.{event_at, with_event, HasEvent, HasEventOf};
 
-    /// A table of nothing. It takes no memory.
+    /// An empty table. It takes no memory.
     pub fn new(alloc: A) -> Latest<A>
         ensures { result ≡ [] }
     {
@@ -50,9 +50,9 @@ impl<A: Allocator> Latest<A> {
         }
     }
 
-    /// Puts the event in its handle's row, where it opens or closes a handle and none with its
-    /// sequence or a greater one is there. An event of base handle 0, which no segment has, gets a
-    /// row like any other.
+    /// Puts the event into the row of its handle, if it opens or closes one, and the row has no event
+    /// with this or a greater sequence. An event of base handle 0, which no segment has, gets a row
+    /// like any other.
     pub fn note(&mut self, event: &SharedEvent) -> Result<(), NoMemory>
         ensures ok { OnOk result ((process base : ℕ) → event_at self.new process base
             ≡ with_event process base (event_at self.old process base) event.now) }
@@ -74,8 +74,8 @@ impl<A: Allocator> Latest<A> {
         Ok(())
     }
 
-    /// The event at the handle's base in the process. Base 0 names no entry of a handle table, so
-    /// there is none for it, whatever was noted.
+    /// The latest event of the handle's base in the process. Base 0 names no entry of a handle table,
+    /// so it has no event, whatever was noted.
     pub fn get(&self, process: u32, handle: u32) -> Option<&SharedEvent>
         ensures value { base_of handle ≢ 0
             → option_copied result ≡ event_at self.now process (base_of handle) }
@@ -107,7 +107,7 @@ impl<A: Allocator> Latest<A> {
         of_process(&self.rows, process)
     }
 
-    /// Whether both tables have the same event of each handle. Then they are one value.
+    /// Whether both tables have the same event for each handle. Then they are equal.
     pub fn same(&self, other: &Latest<A>) -> bool
         ensures events { IsTrue result ↔ ((process base : ℕ)
             → event_at self.now process base ≡ event_at other.now process base) }
@@ -138,8 +138,9 @@ impl<A: Allocator + Clone> Latest<A> {
         })
     }
 
-    /// This table with what the other has of one process: the later event of both for each handle,
-    /// this table's where their sequences are equal. It takes no memory where that has none.
+    /// This table joined with the rows that the other has of one process: each of its handles gets the
+    /// later event of both, or this table's where their sequences are equal. Where the other has no
+    /// such row, it takes no memory.
     pub fn join_process<B: Allocator>(
         self,
         other: &Latest<B>,
@@ -186,7 +187,7 @@ impl<A: Allocator + Clone> Latest<A> {
         Latest::of_asked(alloc, lists, None)
     }
 
-    /// The same of one process alone: the table has no event of another.
+    /// As `of`, but of one process alone: the table has no event of another.
     pub fn of_process<R: EventList>(
         alloc: A,
         lists: &[R],
@@ -219,8 +220,8 @@ impl<A: Allocator + Clone> Latest<A> {
         Ok(latest)
     }
 
-    /// Notes the events of candidates' sort keys. Each half of the keys that are left is dropped once
-    /// it is noted, and its memory is given back while the rows take more.
+    /// Notes the events of these sort keys, half of those that are left at a time. Each half is dropped
+    /// once it is noted, so that its memory is free while the rows take more.
     fn note_all<R: EventList>(
         &mut self,
         keys: Vec<SortKey, A>,
@@ -242,7 +243,7 @@ impl<A: Allocator + Clone> Latest<A> {
         Ok(())
     }
 
-    /// Notes the events of candidates' sort keys that come next.
+    /// Notes the events of these sort keys, block by block.
     fn note_keys<R: EventList>(
         &mut self,
         keys: &[SortKey],
@@ -262,7 +263,7 @@ impl<A: Allocator + Clone> Latest<A> {
         Ok(())
     }
 
-    /// Notes the events of a few such keys, which are looked at together.
+    /// Notes the events of one block of sort keys, which are read together.
     fn note_block<R: EventList>(
         &mut self,
         keys: &[SortKey],

@@ -1,4 +1,4 @@
-//! Laws of tables. Each function's contract is the law.
+//! Laws of tables. Each function's contract is the law; none does anything when it runs.
 
 ghost use Rattle.std.specs.Prelude.{ℕ, List, IfOk, Contains, flat_map};
 ghost use Rattle.htl_event.specs.Events.{Event};
@@ -10,19 +10,18 @@ use crate::greatest::{Exits, Marks};
 use htl_event::{EventList, NoMemory};
 use std::alloc::Allocator;
 
-/// What `Latest::note` makes of the latest events of a list are those of the list with the noted
-/// event.
+/// `Latest::note` turns the latest events of a list into those of the list with the noted event.
 pub fn noting_keeps_the_latest()
     ensures { (events : List Event) (e : Event) → KeepsLatest events e }
 {}
 
-/// What `Greatest::note` makes of the greatest sequences of a list are those of the list with the
-/// noted event.
+/// `Greatest::note` turns the greatest sequences of a list into those of the list with the noted
+/// event.
 pub fn noting_keeps_the_greatest()
     ensures { (events : List Event) (e : Event) → KeepsGreatest events e }
 {}
 
-/// What `Marks::of` gives are the snapshot marks of the lists' events.
+/// `Marks::of` gives the snapshot marks of the lists' events.
 pub fn marks_are_snapshot_marks<A: Allocator + Clone, R: EventList>(
     alloc: A,
     lists: &[R],
@@ -33,7 +32,7 @@ pub fn marks_are_snapshot_marks<A: Allocator + Clone, R: EventList>(
     Marks::of(alloc, lists)
 }
 
-/// What `Exits::of` gives are the last exits among the lists' events.
+/// `Exits::of` gives the last exits among the lists' events.
 pub fn exits_are_last_exits<A: Allocator + Clone, R: EventList>(
     alloc: A,
     lists: &[R],

@@ -4,11 +4,11 @@
 //! Files, in reading order: `latest.rt` and `greatest.rt` (the tables), `by_handle.rt` and
 //! `by_process.rt` (the two kinds of row), `of_process.rt` (the rows of one process),
 //! `candidates.rt`, `hints.rt` and `sort_key.rt` (the events of a list that may be the latest of
-//! their handles), `laws.rt` (one noted event more).
+//! their handles), `laws.rt` (what follows from the contracts).
 //!
-//! `specs/` says what a table has at a key (`Latest`, `Greatest`), in which order its rows stand
-//! (`Keys`) and what noting one more event keeps (`Laws`). What the latest event, the mark and the
-//! last exit of a set of events are is said in htl_event's `Handles`.
+//! `specs/` defines what a table has at a key (`Latest`, `Greatest`), the order of its rows (`Keys`)
+//! and what noting one more event keeps (`Laws`). htl_event's `Handles` defines the latest event, the
+//! mark and the last exit of a set of events.
 #![tactic(auto)]
 
 mod by_handle;

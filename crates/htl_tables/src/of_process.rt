@@ -5,7 +5,7 @@ ghost use Rattle.htl_tables.specs.RowOrder.{AreByProcess};
 
 use htl_event::SharedEvent;
 
-/// The rows of the process, which stand together.
+/// The rows of the process. They are neighbours in the table.
 pub(crate) fn of_process(rows: &[SharedEvent], process: u32) -> &[SharedEvent]
     requires { AreByProcess rows.now }
     ensures { result.now ≡ filter (λ e. e.process == process) rows.now }

@@ -1,5 +1,5 @@
-//! Small keys of events, by which the latest of a handle are found: they are sorted in place of the
-//! events.
+//! Sort keys: small keys of events, which are sorted in place of the events to find the latest event
+//! of each handle.
 
 ghost use Rattle.std.specs.Prelude.{◌≡◌, ◌≤◌, length, drop, true, IfOk};
 ghost use Rattle.htl_event.specs.Handles.{opens_or_closes};
@@ -11,8 +11,8 @@ use htl_event::{EventList, NoMemory, SharedEvent, base};
 use std::alloc::{AllocError, Allocator};
 use std::cmp::Reverse;
 
-/// The sort key of an event that opens or closes a handle: by handle, of one handle the latest
-/// first, and of one sequence the first of the list.
+/// The sort key of an event that opens or closes a handle. Keys are in the order of their handles.
+/// For one handle the latest event comes first, and for one sequence the first of the list.
 #[derive(Clone, Copy, PartialEq, Eq, PartialOrd, Ord)]
 pub(crate) struct SortKey {
     pub process: u32,
@@ -57,23 +57,23 @@ impl SortKey {
     }
 }
 
-/// A place as sort keys have it, in half the memory. More lists than that, or a longer one, are
-/// refused as out of memory, of which their events alone would take hundreds of gigabytes.
+/// A place in half the memory, as sort keys have it. A greater place is refused as out of memory: the
+/// events before it alone would take hundreds of gigabytes.
 pub(crate) fn place_of(index: usize) -> Result<u32, AllocError>
     ensures { IfOk result (λ place. place ≡ index) }
 {
     u32::try_from(index).map_err(|_| AllocError)
 }
 
-/// How many handles the keys have.
+/// The number of handles that the keys have.
 pub(crate) fn handles_in(keys: &[SortKey]) -> usize
     ensures { result ≤ length keys.now }
 {
     keys.chunk_by(|one, next| one.is_of_handle_of(next)).count()
 }
 
-/// The events of the keys. All of them are looked at before one is used, so that the memory of many
-/// is fetched at once.
+/// The events of the keys. All are read before one is used, so that the memory of many is fetched at
+/// once.
 pub(crate) fn events_of<'a, R: EventList, A: Allocator>(
     alloc: A,
     keys: &[SortKey],
@@ -104,8 +104,8 @@ pub(crate) fn drop_first<A: Allocator>(keys: &mut Vec<SortKey, A>, count: usize)
     keys.shrink_to_fit();
 }
 
-/// True of an event that opens or closes a handle. Both ends of the event are looked at, since both
-/// are needed next.
+/// True of an event that opens or closes a handle. Both ends of the event are read, since both are
+/// needed next.
 fn opens_or_closes(event: &SharedEvent) -> bool
     ensures { opens_or_closes event.now.kind ≡ true → result ≡ true }
 {

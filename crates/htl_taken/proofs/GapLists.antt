@@ -23,13 +23,6 @@ gaps-before p least n ns lt = rw (lt-ltb least n lt) refl
 pub gaps-next : (p least n : ℕ) (ns : List ℕ) → n ≤ least → gaps_from p least (n ∷ ns) ≡ gaps_from p (n + 1) ns
 gaps-next p least n ns le = rw (le-ltb least n le) refl
 
--- where some number is there
-pub gaps-some : (p front : ℕ) (loose : List ℕ) → (front ≡ 0 → loose ≡ [] → ⊥) → gaps_of p front loose ≡ gaps_from p front loose
-gaps-some p zero [] some = absurd (some refl refl)
-gaps-some p zero (n ∷ ns) some = refl
-gaps-some p (suc front) [] some = refl
-gaps-some p (suc front) (n ∷ ns) some = refl
-
 -- ---- runs from a least number on
 
 -- an unbroken run of missing numbers of the processor, from a least one on

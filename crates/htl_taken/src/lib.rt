@@ -1,13 +1,13 @@
-//! Sets of segments that were taken: numbers of each processor.
+//! Sets of taken segments. A segment is named by its processor and its number there.
 //!
-//! Of one processor all numbers below a *front* are taken, and *loose* ones at or above it.
+//! For each processor all numbers below a *front* are taken, and *loose* numbers at or above it.
 //!
 //! Files, in reading order: `taken.rt` (the set over all processors), `number_set.rt` (one
 //! processor's front and loose numbers), `sorted_numbers.rt` (rising lists of numbers), `gap.rt`
 //! and `missing.rt` (the gaps of a set), `laws.rt` (the laws of sets).
 //!
-//! `specs/` says what these numbers are and which keys they stand for (`Numbers`, over the rising
-//! lists of `Rising`), which gaps they leave (`Gaps`), and which laws sets of them have (`Laws`).
+//! `specs/` defines these numbers and the keys that they stand for (`Numbers`, over the rising lists
+//! of `Rising`), the gaps that they leave (`Gaps`), and the laws of sets of them (`Laws`).
 #![tactic(auto)]
 
 mod gap;

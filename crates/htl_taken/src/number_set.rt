@@ -8,7 +8,7 @@ use crate::sorted_numbers::{is_within, merge_into, position_of, reach_over, skip
 use htl_event::NoMemory;
 use std::alloc::Allocator;
 
-/// What is taken of one processor: all numbers below the front, and loose ones at or above it.
+/// The taken numbers of one processor: all numbers below the front, and loose ones at or above it.
 #[derive(Drop)]
 pub(crate) struct NumberSet<A: Allocator> {
     pub front: u32,
@@ -26,7 +26,7 @@ impl<A: Allocator> NumberSet<A> {
     ghost use Rattle.htl_taken.specs.NumberSets.{Has};
     ghost use Rattle.htl_taken.specs.NumberSets.{numbers_of};
 
-    /// Nothing taken.
+    /// A set of no numbers.
     pub fn new(alloc: A) -> NumberSet<A>
         ensures { numbers_of result ≡ no_numbers }
     {
@@ -36,7 +36,7 @@ impl<A: Allocator> NumberSet<A> {
         }
     }
 
-    /// Where a number stands among the loose ones, or the gap where it would stand.
+    /// The place of a number among the loose ones, or else the place where it would go.
     pub fn search(&self, number: u32) -> Result<usize, usize>
         ensures found { IfOk result (λ i. (i < length self.now.loose.items)
             × (slice_index self.now.loose.items i ≡ number)) }
@@ -55,7 +55,7 @@ impl<A: Allocator> NumberSet<A> {
         number < self.front || self.search(number).is_ok()
     }
 
-    /// How many numbers are taken.
+    /// The number of taken numbers.
     pub fn len(&self) -> u64
         ensures size { result ≡ size_of (numbers_of self.now) }
         ensures fits { result ≤ MAX_FRONT }
@@ -101,7 +101,7 @@ impl<A: Allocator> NumberSet<A> {
         self.front = reach;
     }
 
-    /// Whether each number that the other has is here.
+    /// Whether each number of the other set is in this one.
     pub fn covers(&self, other: &NumberSet<A>) -> bool
         ensures { IsTrue result
             ↔ ((n : ℕ) → Has (numbers_of other.now) n → Has (numbers_of self.now) n) }
@@ -131,7 +131,7 @@ impl<A: Allocator + Clone> NumberSet<A> {
         })
     }
 
-    /// The greater front, and the loose numbers of both at or above it.
+    /// The union of both sets: the greater front, and the loose numbers of both at or above it.
     pub fn union(&self, other: &NumberSet<A>) -> Result<NumberSet<A>, NoMemory>
         ensures { IfOk result (λ numbers.
             IsUnion (numbers_of self.now) (numbers_of other.now) (numbers_of numbers)) }

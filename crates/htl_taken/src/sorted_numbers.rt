@@ -9,8 +9,8 @@ use crate::MAX_FRONT;
 use htl_event::NoMemory;
 use std::alloc::Allocator;
 
-/// Where a number stands in a rising list, or the gap where it would stand. One above all others
-/// is known without a search.
+/// The place of a number in a rising list, or else the place where it would go. A number above all
+/// others needs no search.
 pub(crate) fn position_of(numbers: &[u32], number: u32) -> Result<usize, usize>
     requires { Rises 0 MAX_FRONT numbers.now }
     ensures found { IfOk result (λ i. (i < length numbers.now)
@@ -57,7 +57,7 @@ pub(crate) fn reach_over(numbers: &[u32], start: u32) -> u32
     reach
 }
 
-/// Whether each number of the one rising list is in the other.
+/// Whether each number of one rising list is in the other.
 pub(crate) fn is_within(numbers: &[u32], all: &[u32]) -> bool
     requires numbers { Rises 0 MAX_FRONT numbers.now }
     requires all { Rises 0 MAX_FRONT all.now }
@@ -70,7 +70,7 @@ pub(crate) fn is_within(numbers: &[u32], all: &[u32]) -> bool
     left.is_empty()
 }
 
-/// The numbers after `head`, where that is the first of them, and else all.
+/// The numbers without the first, where that is `head`, or else all numbers.
 fn after_head(numbers: &[u32], head: u32) -> &[u32]
     ensures { result.now ≡ without_head head numbers.now }
 {

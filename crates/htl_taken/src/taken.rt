@@ -37,7 +37,7 @@ impl<A: Allocator> Taken<A> {
     ghost use Rattle.htl_taken.specs.Numbers.{size_of, reach_of, with_loose, settled};
     ghost use Rattle.htl_taken.specs.NumberSets.{numbers_of, Has};
 
-    /// How many processors there are.
+    /// The number of processors.
     pub fn processors(&self) -> u16
         ensures len { result ≡ length self.now }
         ensures proper { (p : ℕ) → IsProper (numbers_at self.now p) }
@@ -45,7 +45,7 @@ impl<A: Allocator> Taken<A> {
         self.sets.len() as u16
     }
 
-    /// Whether the segment was taken. None of a processor that isn't there was.
+    /// Whether the segment was taken. No segment of a processor that isn't there was.
     pub fn has(&self, processor: u16, number: u32) -> bool
         ensures { result ≡ has_key self.now processor number }
     {
@@ -68,7 +68,7 @@ impl<A: Allocator> Taken<A> {
     }
 
     /// The processor's loose numbers in rising order: those that are taken, at or above the front.
-    /// There are none of a processor that isn't there.
+    /// A processor that isn't there has none.
     pub fn loose(&self, processor: u16) -> &[u32]
         ensures value { result.now ≡ loose_at self.now processor }
         ensures proper { IsProper (numbers_at self.now processor) }
@@ -79,8 +79,7 @@ impl<A: Allocator> Taken<A> {
         }
     }
 
-    /// Where a number stands among the processor's loose ones, or else the gap where it would
-    /// stand.
+    /// The place of a number among the processor's loose ones, or else the place where it would go.
     pub fn search(&self, processor: u16, number: u32) -> Result<usize, usize>
         ensures found { IfOk result (λ i. (i < length (loose_at self.now processor))
             × (slice_index (loose_at self.now processor) i ≡ number)) }
@@ -96,7 +95,7 @@ impl<A: Allocator> Taken<A> {
         }
     }
 
-    /// How many segments there are.
+    /// The number of segments.
     pub fn len(&self) -> u64
         ensures { result ≡ sum_by size_of self.now }
     {
@@ -201,7 +200,7 @@ impl<A: Allocator + Clone> Taken<A> {
     ghost use Rattle.std.specs.Prelude.{◌≡◌, ◌||◌, ℕ, false, length, replicate, IfOk};
     ghost use Rattle.htl_taken.specs.Numbers.{numbers_at, no_numbers, has_key, IsUnion};
 
-    /// No segment of this many processors.
+    /// An empty set, for this many processors.
     pub fn new(alloc: A, processors: u16) -> Result<Taken<A>, NoMemory>
         ensures { IfOk result (λ t. t ≡ replicate processors no_numbers) }
     {

@@ -13,7 +13,7 @@ use Rattle.htl_text.specs.declared.item.Head.{Head}
 use Rattle.htl_text.specs.declared.item.Item.{Item}
 use Rattle.htl_text.specs.declared.item.Item.TheVariants as item
 use Rattle.htl_text.specs.Encoded.{begins, begins_segment, is_header, kept}
-use Rattle.htl_text.specs.Lines.{is_passed_over, item_in, lines_of, words_of}
+use Rattle.htl_text.specs.Lines.{is_skipped, item_in, lines_of, words_of}
 use Rattle.htl_text.specs.Steps.{Held, Progress, after_event, after_form, after_frame, after_frame_of, after_item}
 use Rattle.htl_text.specs.Steps.{after_words, begun, closed, progress, reopened, with_event}
 use Rattle.htl_text.specs.Steps.{HasCause, NeedsSegment, with_frame_of}
@@ -67,9 +67,9 @@ by_item line (Ok i) p q h = let is = started line i p.bytes p.draft q h in (is.1
 pub starts_step : (line : ℕ) (l : List ℕ) (ls : List (List ℕ)) (p q : Progress) → after_words line (words_of l) p ≡ Ok q
     → starts p (l ∷ ls) ≡ starts q ls
 unfolding after_words
-starts_step line l ls p q h = by_passed (is_passed_over (words_of l)) refl h
+starts_step line l ls p q h = by_passed (is_skipped (words_of l)) refl h
   where
-    by_passed : (b : Bool) → is_passed_over (words_of l) ≡ b → (if b then Ok p else after_form line (item_in (words_of l)) p) ≡ Ok q
+    by_passed : (b : Bool) → is_skipped (words_of l) ≡ b → (if b then Ok p else after_form line (item_in (words_of l)) p) ≡ Ok q
         → starts p (l ∷ ls) ≡ starts q ls
     by_passed true e h = let same : p ≡ q = same_progress (Ok p) p q refl h in rw (kept_passed l ls e, same) refl
     by_passed false e h = let is = by_item line (item_in (words_of l)) p q h in rw (kept_one l ls e, is.0, is.1) refl

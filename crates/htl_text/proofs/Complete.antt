@@ -7,12 +7,8 @@ use Rattle.std.proofs.lemmas.List.{append_assoc, append-nil}
 use Rattle.std.proofs.lemmas.List.Elements.{All-head, All-tail}
 use Rattle.htl_event.specs.Events.{Event}
 use Rattle.htl_segment.specs.Content.{Content, Fits}
-use Rattle.htl_segment.specs.Reading.{version_of}
-use Rattle.htl_segment.specs.Versions.{version_number}
 use Rattle.htl_segment.proofs.BuildingLaws.{parts_pass}
 use Rattle.htl_segment.specs.declared.fault.Fault.{Fault}
-use Rattle.htl_segment.specs.declared.version.Version.{Version}
-use Rattle.htl_segment.specs.declared.version.Version.TheVariants.{V1, V2}
 use Rattle.htl_text.specs.declared.item.Head.{Head}
 use Rattle.htl_text.specs.declared.item.Item.{Item}
 use Rattle.htl_text.specs.declared.item.Item.TheVariants as item
@@ -20,12 +16,13 @@ use Rattle.htl_text.specs.declared.fault.FormFault.{FormFault}
 use Rattle.htl_text.specs.declared.fault.LineFault.{LineFault}
 use Rattle.htl_text.specs.declared.fault.LineFault.TheVariants.{Form, Order, Segment}
 use Rattle.htl_text.specs.Items.{Draft, with_stack, without_stack, event_items, draft_items, draft_of, segments_items}
-use Rattle.htl_text.specs.Lines.{words_of, is_passed_over, item_in}
+use Rattle.htl_text.specs.Lines.{words_of, is_skipped, item_in}
 use Rattle.htl_text.specs.Encoded.{draft, draft_fault, Write, kept, Written, written_items, WrittenFits, IsBad, LinesEncode, LinesFault, IsLineFault}
 use Rattle.htl_text.specs.Encoded.{IsSegmentFault, ends_before, begins_segment, is_misplaced, is_none_yet}
 use Rattle.htl_text.proofs.Holding.{Open, opened, all_of, draft_in, checked, ended, renewed, framed, with_frame_in, item_read, words_read, goes_on}
 use Rattle.htl_text.proofs.Holding.{lines_read}
 use Rattle.htl_text.proofs.Writing.{kept_one, kept_passed, kept_nil}
+use Rattle.htl_segment.proofs.HeaderLaws.{version_of-version_number}
 
 -- Reading these lines leads from one state to another, whatever follows.
 abbrev Leads : List (List ℕ) → ℕ → Option Open → ℕ → Option Open → Type 0
@@ -39,36 +36,36 @@ leads_step l ls n m o q p step rest more = rw step (rest more)
 leads_on : (a b : List (List ℕ)) (n m k : ℕ) (o q p : Option Open) → Leads a n o m q → Leads b m q k p → Leads (a ++ b) n o k p
 leads_on a b n m k o q p first next more = rw (append_assoc a b more) (first (b ++ more) ∙ next more)
 
-passed : (n : ℕ) (l : List ℕ) (o : Option Open) → is_passed_over (words_of l) ≡ true → words_read n (words_of l) o ≡ Ok o
+passed : (n : ℕ) (l : List ℕ) (o : Option Open) → is_skipped (words_of l) ≡ true → words_read n (words_of l) o ≡ Ok o
 passed n l o e = rw e refl
 
-taken : (n : ℕ) (l : List ℕ) (o : Option Open) (i : Item) → is_passed_over (words_of l) ≡ false → item_in (words_of l) ≡ Ok i
+taken : (n : ℕ) (l : List ℕ) (o : Option Open) (i : Item) → is_skipped (words_of l) ≡ false → item_in (words_of l) ≡ Ok i
     → words_read n (words_of l) o ≡ item_read n i o
 taken n l o i e found = rw (e, found) refl
 
--- a line that isn't passed over has the first of the items
+-- a line that isn't skipped has the first of the items
 pub record First (l : List ℕ) (ls : List (List ℕ)) (i : Item) (is : List Item) : Type 0 where
   pub found : item_in (words_of l) ≡ Ok i
   pub rest : Write ls is
 
-pub first_of : (l : List ℕ) (ls : List (List ℕ)) (i : Item) (is : List Item) → is_passed_over (words_of l) ≡ false → Write (l ∷ ls) (i ∷ is)
+pub first_of : (l : List ℕ) (ls : List (List ℕ)) (i : Item) (is : List Item) → is_skipped (words_of l) ≡ false → Write (l ∷ ls) (i ∷ is)
     → First l ls i is
 first_of l ls i is e h =
     let both : item_in (words_of l) ∷ map item_in (kept ls) ≡ Ok i ∷ map Ok is = rw (kept_one l ls e) at h in
     record { found = cc; rest = cc }
 
-pub none_of : (l : List ℕ) (ls : List (List ℕ)) → is_passed_over (words_of l) ≡ false → Write (l ∷ ls) [] → ⊥
+pub none_of : (l : List ℕ) (ls : List (List ℕ)) → is_skipped (words_of l) ≡ false → Write (l ∷ ls) [] → ⊥
 none_of l ls e h = let both : item_in (words_of l) ∷ map item_in (kept ls) ≡ [] = rw (kept_one l ls e) at h in cc
 
-pub rest_of : (l : List ℕ) (ls : List (List ℕ)) (is : List Item) → is_passed_over (words_of l) ≡ true → Write (l ∷ ls) is → Write ls is
+pub rest_of : (l : List ℕ) (ls : List (List ℕ)) (is : List Item) → is_skipped (words_of l) ≡ true → Write (l ∷ ls) is → Write ls is
 rest_of l ls is e h = rw (kept_passed l ls e) at h
 
 -- lines that say nothing
 leads_nowhere : (ls : List (List ℕ)) (n : ℕ) (o : Option Open) → Write ls [] → Leads ls n o (n + length ls) o
 leads_nowhere [] n o h = λ more. rw add-zero refl
-leads_nowhere (l ∷ ls) n o h = by_case (is_passed_over (words_of l)) refl (leads_nowhere ls (n + 1) o)
+leads_nowhere (l ∷ ls) n o h = by_case (is_skipped (words_of l)) refl (leads_nowhere ls (n + 1) o)
   where
-    by_case : (b : Bool) → is_passed_over (words_of l) ≡ b → (Write ls [] → Leads ls (n + 1) o (n + 1 + length ls) o)
+    by_case : (b : Bool) → is_skipped (words_of l) ≡ b → (Write ls [] → Leads ls (n + 1) o (n + 1 + length ls) o)
         → Leads (l ∷ ls) n o (n + length (l ∷ ls)) o
     by_case true e more =
         let size : n + 1 + length ls ≡ n + length (l ∷ ls) = omega arith in
@@ -107,7 +104,7 @@ one_more_line : (n k : ℕ) → n + 1 + k ≡ n + suc k
 one_more_line n k = omega arith
 
 event_leads : (l : List ℕ) (ls : List (List ℕ)) (n : ℕ) (done : List Content) (line : ℕ) (head : Head)
-    → EventsLead ls (n + 1) done line head → (b : Bool) → is_passed_over (words_of l) ≡ b → EventsLead (l ∷ ls) n done line head
+    → EventsLead ls (n + 1) done line head → (b : Bool) → is_skipped (words_of l) ≡ b → EventsLead (l ∷ ls) n done line head
 event_leads l ls n done line head more true e events fs es h may =
     rw (← one_more_line n (length ls)) (leads_step l ls n (n + 1 + length ls) (Some (opened done line head events))
     (Some (opened done line head events)) (Some (opened done line head (with_events (with_frames events fs) es)))
@@ -133,7 +130,7 @@ leads_events [] n done line head events [] [] h may = λ more. rw (add-zero, no_
 leads_events [] n done line head events [] (g ∷ es) h may = let none = rw kept_nil at h in cc
 leads_events [] n done line head events (f ∷ fs) es h may = let none = rw kept_nil at h in cc
 leads_events (l ∷ ls) n done line head events fs es h may =
-    event_leads l ls n done line head (leads_events ls (n + 1) done line head) (is_passed_over (words_of l)) refl events fs es h may
+    event_leads l ls n done line head (leads_events ls (n + 1) done line head) (is_skipped (words_of l)) refl events fs es h may
 
 -- the lines of a draft
 record DraftLeads (ls : List (List ℕ)) (n : ℕ) (o : Option Open) (done : List Content) (d : Draft) : Type 0 where
@@ -143,7 +140,7 @@ record DraftLeads (ls : List (List ℕ)) (n : ℕ) (o : Option Open) (done : Lis
   leads : Leads ls n o (n + length ls) (Some (opened done line d.head events))
 
 begun_draft : (first : List ℕ) (body : List (List ℕ)) (n : ℕ) (o : Option Open) (done : List Content) (d : Draft) → ended o ≡ Ok done
-    → is_passed_over (words_of first) ≡ false → Write (first ∷ body) (draft_items d)
+    → is_skipped (words_of first) ≡ false → Write (first ∷ body) (draft_items d)
     → Leads (first ∷ body) n o (n + length (first ∷ body)) (Some (opened done (n + 1) d.head (with_events None d.events)))
 begun_draft first body n o done d closed e h =
     let one = first_of first body (item.Segment d.head) (flat_map event_items d.events) e h in
@@ -156,9 +153,9 @@ begun_draft first body n o done d closed e h =
 leads_draft : (ls : List (List ℕ)) (n : ℕ) (o : Option Open) (done : List Content) (d : Draft) → ended o ≡ Ok done → Write ls (draft_items d)
     → DraftLeads ls n o done d
 leads_draft [] n o done d closed h = let none = rw kept_nil at h in cc
-leads_draft (l ∷ ls) n o done d closed h = by_case (leads_draft ls (n + 1) o done d closed) (is_passed_over (words_of l)) refl
+leads_draft (l ∷ ls) n o done d closed h = by_case (leads_draft ls (n + 1) o done d closed) (is_skipped (words_of l)) refl
   where
-    by_case : (Write ls (draft_items d) → DraftLeads ls (n + 1) o done d) → (b : Bool) → is_passed_over (words_of l) ≡ b
+    by_case : (Write ls (draft_items d) → DraftLeads ls (n + 1) o done d) → (b : Bool) → is_skipped (words_of l) ≡ b
         → DraftLeads (l ∷ ls) n o done d
     by_case more true e =
         let m = more (rest_of l ls (draft_items d) e h) in
@@ -187,9 +184,9 @@ record Parted (ls : List (List ℕ)) (xs ys : List Item) : Type 0 where
 parted : (ls : List (List ℕ)) (xs ys : List Item) → Write ls (xs ++ ys) → Parted ls xs ys
 parted ls [] ys h = record { front = []; back = ls; cut = refl; first = rw kept_nil refl; next = h }
 parted [] (x ∷ xs) ys h = let none = rw kept_nil at h in cc
-parted (l ∷ ls) (x ∷ xs) ys h = by_case (parted ls) (is_passed_over (words_of l)) refl
+parted (l ∷ ls) (x ∷ xs) ys h = by_case (parted ls) (is_skipped (words_of l)) refl
   where
-    by_case : ((xs ys : List Item) → Write ls (xs ++ ys) → Parted ls xs ys) → (b : Bool) → is_passed_over (words_of l) ≡ b
+    by_case : ((xs ys : List Item) → Write ls (xs ++ ys) → Parted ls xs ys) → (b : Bool) → is_skipped (words_of l) ≡ b
         → Parted (l ∷ ls) (x ∷ xs) ys
     by_case more true e =
         let p = more (x ∷ xs) ys (rest_of l ls (x ∷ (xs ++ ys)) e h) in
@@ -208,19 +205,15 @@ parted (l ∷ ls) (x ∷ xs) ys h = by_case (parted ls) (is_passed_over (words_o
         }
 
 -- segments that fit are ended without a fault
-version_of_number : (v : Version) → version_of (version_number v) ≡ Some v
-version_of_number V1 = refl
-version_of_number V2 = refl
-
 clean : (s : Content) → Fits s → draft_fault (draft_of s) ≡ None
-clean s fits = rw (version_of_number s.version) (parts_pass s fits)
+clean s fits = rw (version_of-version_number s.version) (parts_pass s fits)
 
 ends_well : (done : List Content) (line : ℕ) (s : Content) (events : Option (List Event × Event)) → all_of events ≡ s.events → Fits s
     → ended (Some (opened done line (draft_of s).head events)) ≡ Ok (done ++ s ∷ [])
 ends_well done line s events all fits =
     let same : draft (draft_of s).head (all_of events) ≡ draft_of s = rw all refl in
     ap (λ d. checked done line d (draft_fault d)) same
-    ∙ (ap (checked done line (draft_of s)) (clean s fits) ∙ rw (version_of_number s.version) refl)
+    ∙ (ap (checked done line (draft_of s)) (clean s fits) ∙ rw (version_of-version_number s.version) refl)
 
 record SegmentsLead (ls : List (List ℕ)) (n : ℕ) (o : Option Open) (done : List Content) : Type 0 where
   state : Option Open
@@ -262,9 +255,9 @@ breaks : (later : List (List ℕ)) (m : ℕ) (o : Open) (f : Fault) → ends_bef
     → lines_read m later (Some o) ≡ Err (o.line, Segment f)
 unfolding lines_read
 breaks [] m o f end is = rw is refl
-breaks (l ∷ ls) m o f end is = by_case (breaks ls (m + 1) o f) (is_passed_over (words_of l)) refl
+breaks (l ∷ ls) m o f end is = by_case (breaks ls (m + 1) o f) (is_skipped (words_of l)) refl
   where
-    by_item : (r : Result Item FormFault) → begins_segment r ≡ true → item_in (words_of l) ≡ r → is_passed_over (words_of l) ≡ false
+    by_item : (r : Result Item FormFault) → begins_segment r ≡ true → item_in (words_of l) ≡ r → is_skipped (words_of l) ≡ false
         → lines_read m (l ∷ ls) (Some o) ≡ Err (o.line, Segment f)
     by_item (Err fault) begins found e = absurd (false≢true begins)
     by_item (Ok (item.Event event)) begins found e = absurd (false≢true begins)
@@ -272,7 +265,7 @@ breaks (l ∷ ls) m o f end is = by_case (breaks ls (m + 1) o f) (is_passed_over
     by_item (Ok (item.Segment head)) begins found e = rw (e, found, is) refl
 
     by_case : (ends_before (kept ls) ≡ true → draft_fault (draft_in o) ≡ Some f → lines_read (m + 1) ls (Some o) ≡ Err (o.line, Segment f))
-        → (b : Bool) → is_passed_over (words_of l) ≡ b → lines_read m (l ∷ ls) (Some o) ≡ Err (o.line, Segment f)
+        → (b : Bool) → is_skipped (words_of l) ≡ b → lines_read m (l ∷ ls) (Some o) ≡ Err (o.line, Segment f)
     by_case more true e = rw e (more (rw (kept_passed l ls e) at end) is)
     by_case more false e = by_item (item_in (words_of l)) (rw (kept_one l ls e) at end) refl e
 
@@ -336,7 +329,7 @@ misplaced_fails n (item.Frame address) (Some so_far) (Some o) is bad = by_events
         let all : events.0 ++ events.1 ∷ [] ≡ so_far.1.events = rw e at is in
         absurd (false≢true (sym (some_yet events.0 events.1) ∙ (ap is_none_yet all ∙ bad)))
 
-fails_there : (n : ℕ) (l : List ℕ) (written : Written) (o : Option Open) (fault : LineFault) → IsOf written o → is_passed_over (words_of l) ≡ false
+fails_there : (n : ℕ) (l : List ℕ) (written : Written) (o : Option Open) (fault : LineFault) → IsOf written o → is_skipped (words_of l) ≡ false
     → IsBad written (words_of l) fault → words_read n (words_of l) o ≡ Err (n, fault)
 fails_there n l written o (Form fault) is e bad = rw (e, bad) refl
 fails_there n l written o Order is e (i, found, misplaced) = rw (e, found) (misplaced_fails n i written o is misplaced)

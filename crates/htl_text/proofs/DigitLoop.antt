@@ -1,26 +1,21 @@
 -- Digits that are read one after another: the number so far, and texts that write none.
 use Rattle.std.proofs.Common.{◌≡◌, ◌≤◌, ◌<◌, ◌+◌, ◌*◌, ℕ, zero, suc, Bool, true, false, List}
-use Rattle.std.proofs.Common.{[], ◌∷◌, length, take, drop, get_or, refl, sym, ap, ◌∙◌, arith, leb}
+use Rattle.std.proofs.Common.{[], ◌∷◌, length, take, drop, get_or, refl, sym, ap, ◌∙◌, arith}
 use Rattle.std.proofs.Common.{◌++◌, take-append-drop, mul-le-mul, le_refl, le_trans}
 use Rattle.std.specs.Prelude.{Some, None, ◌&&◌, if◌then◌else◌}
 use Rattle.std.specs.List.{list_all}
 use Rattle.std.specs.Char.{digit_value, is_digit}
 use Rattle.std.specs.Str.Parse.{AllDigits, digits_value, digits_value_after}
-use Rattle.std.proofs.lemmas.Bool.{le-ltb}
-use Rattle.std.proofs.lemmas.Bool.Decides.{nat_tests}
+use Rattle.std.proofs.lemmas.Bool.{le-ltb, and_right, lt-leb}
 use Rattle.std.proofs.lemmas.Int.Digits.{digits_more, digits_value_more}
 use Rattle.htl_numbers.specs.Numbers.{number_of}
 use Rattle.htl_text.proofs.Numerals.{number_read}
-
-and_false : (a : Bool) → (a && false) ≡ false
-and_false true = refl
-and_false false = refl
 
 not_all : (radix : ℕ) (text : List ℕ) (i : ℕ) → i < length text → radix ≤ digit_value (get_or text i 0)
     → list_all (λ c. is_digit c radix) text ≡ false
 not_all radix [] i within other = absurd (omega arith)
 not_all radix (c ∷ cs) zero within other = rw (le-ltb (digit_value c) radix other) refl
-not_all radix (c ∷ cs) (suc i) within other = rw (not_all radix cs i (omega arith) other) (and_false (is_digit c radix))
+not_all radix (c ∷ cs) (suc i) within other = rw (not_all radix cs i (omega arith) other) (and_right (is_digit c radix) false refl)
 
 -- a byte is no digit
 pub other_byte : (radix most : ℕ) (text : List ℕ) (i : ℕ) → i < length text → radix ≤ digit_value (get_or text i 0)
@@ -45,12 +40,9 @@ front_value radix text i one =
     let whole = ap (digits_value radix) (sym (take-append-drop i text)) ∙ value_after radix 0 (take i text) (drop i text) in
     rw whole (value_grows radix (digits_value radix (take i text)) (drop i text) one)
 
-above : (a b : ℕ) → b < a → leb a b ≡ false
-above a b l = grind (arith, nat_tests)
-
 no_number : (a b : Bool) (n : ℕ) → None ≡ (if a && (b && false) then Some n else None)
-no_number a true n = rw (and_false a) refl
-no_number a false n = rw (and_false a) refl
+no_number a true n = rw (and_right a false refl) refl
+no_number a false n = rw (and_right a false refl) refl
 
 -- the first digits write too great a number
 pub too_great : (radix most : ℕ) (text : List ℕ) (i : ℕ) → 1 ≤ radix → most < digits_value radix (take i text)
@@ -58,7 +50,7 @@ pub too_great : (radix most : ℕ) (text : List ℕ) (i : ℕ) → 1 ≤ radix �
 unfolding number_of
 too_great radix most text i one great =
     let more = front_value radix text i one in
-    rw (above (digits_value radix text) most (omega (arith, great, more))) (no_number _ _ _)
+    rw (lt-leb (digits_value radix text) most (omega (arith, great, more))) (no_number _ _ _)
 
 -- one digit more
 pub digit_next : (radix : ℕ) (text : List ℕ) (i number digit : ℕ) → i < length text → AllDigits radix (take i text)

@@ -1,11 +1,10 @@
 -- The text of segments that the format can encode has the items of these segments: each line is read as its item.
 use Rattle.std.proofs.Common.{◌≡◌, ◌≤◌, ◌<◌, ◌-◌, ◌^◌, ℕ, zero, suc, Bool, true, false, List, [], ◌∷◌, ◌++◌, length, get_or, refl, arith, ap, sym, ◌∙◌}
-use Rattle.std.specs.Prelude.{◌==◌, ◌&&◌, All, Ok, Some, codes, nat_eq, not, map}
+use Rattle.std.specs.Prelude.{◌==◌, ◌&&◌, All, Ok, Some, codes, not, map}
 use Rattle.std.specs.List.{AllByRecursion, flat_map, list_all}
-use Rattle.std.specs.Cmp.Lexicographic.{pointwise}
 use Rattle.std.specs.Fmt.{decimal}
 use Rattle.std.specs.Int.{from_be_bytes, to_be_bytes, w32}
-use Rattle.std.proofs.lemmas.Bool.{eqb-true, eq-eqb}
+use Rattle.std.proofs.lemmas.Bool.{eqb-true, eq-eqb, and_parts}
 use Rattle.std.proofs.lemmas.List.{append_assoc, append-nil}
 use Rattle.std.proofs.lemmas.List.Elements.{All-head, All-tail}
 use Rattle.std.proofs.lemmas.Nat.{be_bytes_4}
@@ -14,7 +13,6 @@ use Rattle.htl_event.specs.Slots.{base_of}
 use Rattle.htl_event.specs.declared.kind.Kind.{Kind}
 use Rattle.htl_event.specs.declared.kind.Kind.TheVariants.{Opened, Closed, BadRef, Snapshot, Ref, Deref, Exited}
 use Rattle.htl_numbers.specs.Written.{hex, padded}
-use Rattle.htl_numbers.proofs.Digits.{both}
 use Rattle.htl_segment.specs.Content.{Content, EventFits, EventsFit, Fits, fields_fit, is_no_tag}
 use Rattle.htl_segment.specs.declared.version.Version.{Version}
 use Rattle.htl_segment.specs.declared.version.Version.TheVariants.{V1, V2}
@@ -23,17 +21,19 @@ use Rattle.htl_text.specs.declared.item.Item.{Item}
 use Rattle.htl_text.specs.declared.item.Item.TheVariants as item
 use Rattle.htl_text.specs.Items.{LoneEvent, without_stack, event_items, draft_items, draft_of, head_of, segments_items}
 use Rattle.htl_text.specs.Fields.{address_value, bare_value, handle_value, marked_value, no_tag, no_values, tag_value}
-use Rattle.htl_text.specs.Lines.{event_form, form_of, item_by, item_in, is_passed_over, lines_of, said_by, segment_form, values_in, without_mark, words_of}
+use Rattle.htl_text.specs.Lines.{event_form, form_of, item_by, item_in, is_skipped, lines_of, said_by, segment_form, values_in, without_mark, words_of}
 use Rattle.htl_text.specs.declared.field.Field.TheVariants.{Version as version_field, Trace, Processors, Processor, Number}
 use Rattle.htl_text.specs.declared.field.Field.TheVariants.{Handle, Object, Tag, Sequence, Process, Thread}
 use Rattle.htl_text.specs.Encoded.{Encodes, Write}
 use Rattle.htl_text.specs.Texts.{event_line, event_text, frame_line, handle_part, head_line, is_visible, line_feed, object_part, origin, place_part}
-use Rattle.htl_text.specs.Texts.{segment_text, subject, tag_text, version_part, word_of}
+use Rattle.htl_event.specs.Words.{word_of}
+use Rattle.htl_text.specs.Texts.{segment_text, subject, tag_text, version_part}
 use Rattle.htl_text.proofs.DumpedLines.{AllShown, IsShown, continued, is_plain, plain_spaced, words_after_blank, words_spaced}
 use Rattle.htl_text.proofs.Numerals.{hex_short, length_padded, marked_read, padded_writes}
 use Rattle.htl_text.proofs.Writing.{write_none}
 use Rattle.htl_text.proofs.DumpedFields.{Says, says_append, says_line, says_words, field_read, decimal_field, shown_decimal, shown_padded, shown_hex}
 use Rattle.htl_text.proofs.DumpedFields.{address_read, frame_read, handle_read}
+use Rattle.std.proofs.lemmas.Slice.Eq.{bytes_eq-Decides}
 
 -- frames
 
@@ -53,8 +53,8 @@ frame_words a low =
 frame_plain : (a : ℕ) → a < 2 ^ 64 → list_all is_plain (32 ∷ 32 ∷ (codes "0x" ++ padded 16 a)) ≡ true
 frame_plain a low = rw (← append-nil (padded 16 a)) (plain_spaced (codes "0x" ++ padded 16 a) [] (refl, shown_padded 16 a low) tt)
 
-not_passed : (a : ℕ) → is_passed_over ((codes "0x" ++ padded 16 a) ∷ []) ≡ false
-unfolding is_passed_over
+not_passed : (a : ℕ) → is_skipped ((codes "0x" ++ padded 16 a) ∷ []) ≡ false
+unfolding is_skipped
 not_passed a = refl
 
 says_frame : (a : ℕ) → a < 2 ^ 64 → Says (frame_line a) (item.Frame a ∷ [])
@@ -198,7 +198,7 @@ record IsLineOf (line : List ℕ) (i : Item) : Type 0 where
   text : line ≡ first ++ continued others line_feed
   first_shown : IsShown first
   others_shown : AllShown others
-  here : is_passed_over (first ∷ others) ≡ false
+  here : is_skipped (first ∷ others) ≡ false
   says : item_in (first ∷ others) ≡ Ok i
 
 says_line_of : (line : List ℕ) (i : Item) → IsLineOf line i → Says line (i ∷ [])
@@ -206,25 +206,15 @@ says_line_of line i h = rw h.text (says_words h.first h.others i h.first_shown h
 
 -- the parts of what a kind asks of its fields
 last_two : (a b c : Bool) → (a && b && c) ≡ true → (b ≡ true) × (c ≡ true)
-last_two true b c h = both b c h
+last_two true b c h = and_parts b c h
 last_two false b c h = cc
 
 all_three : (a b c : Bool) → (a && b && c) ≡ true → (a ≡ true) × (b ≡ true) × (c ≡ true)
-all_three true b c h = let parts = both b c h in (refl, parts.0, parts.1)
+all_three true b c h = let parts = and_parts b c h in (refl, parts.0, parts.1)
 all_three false b c h = cc
 
 is_zero : (n : ℕ) → (n == 0) ≡ true → n ≡ 0
 is_zero n h = eqb-true n 0 h
-
-same_when_equal : (bs cs : List ℕ) → pointwise nat_eq bs cs ≡ true → bs ≡ cs
-same_when_equal [] [] h = refl
-same_when_equal [] (c ∷ cs) h = cc
-same_when_equal (b ∷ bs) [] h = cc
-same_when_equal (b ∷ bs) (c ∷ cs) h =
-    let parts = both (nat_eq b c) (pointwise nat_eq bs cs) h in
-    let first = eqb-true b c parts.0 in
-    let others = same_when_equal bs cs parts.1 in
-    rw (first, others) refl
 
 -- An event's fields, its numbers in range.
 record InFields (handle object : ℕ) (tag : List ℕ) (sequence process thread : ℕ) : Type 0 where
@@ -264,7 +254,7 @@ module _ (handle object : ℕ) (tag : List ℕ) (s p t : ℕ) (low : InFields ha
   about_process kind = origin_read s p t low.sequence_low low.process_low low.thread_low kind 0 0 no_tag
 
   opened_line : (object ≡ 0) × (tag ≡ no_tag) → EventLine Opened handle object tag s p t
-  unfolding is_passed_over item_in form_of
+  unfolding is_skipped item_in form_of
   opened_line none = record {
     first = codes "OPEN";
     others = handle_words handle (origin_words s p t);
@@ -276,7 +266,7 @@ module _ (handle object : ℕ) (tag : List ℕ) (s p t : ℕ) (low : InFields ha
   }
 
   closed_line : (object ≡ 0) × (tag ≡ no_tag) → EventLine Closed handle object tag s p t
-  unfolding is_passed_over item_in form_of
+  unfolding is_skipped item_in form_of
   closed_line none = record {
     first = codes "CLOSE";
     others = handle_words handle (origin_words s p t);
@@ -288,7 +278,7 @@ module _ (handle object : ℕ) (tag : List ℕ) (s p t : ℕ) (low : InFields ha
   }
 
   bad_line : (object ≡ 0) × (tag ≡ no_tag) → EventLine BadRef handle object tag s p t
-  unfolding is_passed_over item_in form_of
+  unfolding is_skipped item_in form_of
   bad_line none = record {
     first = codes "BAD";
     others = codes "REF" ∷ handle_words handle (origin_words s p t);
@@ -300,7 +290,7 @@ module _ (handle object : ℕ) (tag : List ℕ) (s p t : ℕ) (low : InFields ha
   }
 
   snapshot_line : (handle ≡ 0) × (object ≡ 0) × (tag ≡ no_tag) → EventLine Snapshot handle object tag s p t
-  unfolding is_passed_over item_in form_of
+  unfolding is_skipped item_in form_of
   snapshot_line none = record {
     first = codes "SNAPSHOT";
     others = origin_words s p t;
@@ -312,7 +302,7 @@ module _ (handle object : ℕ) (tag : List ℕ) (s p t : ℕ) (low : InFields ha
   }
 
   exited_line : (handle ≡ 0) × (object ≡ 0) × (tag ≡ no_tag) → EventLine Exited handle object tag s p t
-  unfolding is_passed_over item_in form_of
+  unfolding is_skipped item_in form_of
   exited_line none = record {
     first = codes "EXIT";
     others = origin_words s p t;
@@ -324,7 +314,7 @@ module _ (handle object : ℕ) (tag : List ℕ) (s p t : ℕ) (low : InFields ha
   }
 
   ref_line : handle ≡ 0 → EventLine Ref handle object tag s p t
-  unfolding is_passed_over item_in form_of
+  unfolding is_skipped item_in form_of
   ref_line none = record {
     first = codes "REF";
     others = object_words object tag (origin_words s p t);
@@ -336,7 +326,7 @@ module _ (handle object : ℕ) (tag : List ℕ) (s p t : ℕ) (low : InFields ha
   }
 
   deref_line : handle ≡ 0 → EventLine Deref handle object tag s p t
-  unfolding is_passed_over item_in form_of
+  unfolding is_skipped item_in form_of
   deref_line none = record {
     first = codes "DEREF";
     others = object_words object tag (origin_words s p t);
@@ -348,14 +338,14 @@ module _ (handle object : ℕ) (tag : List ℕ) (s p t : ℕ) (low : InFields ha
   }
 
   no_object : (object == 0) ≡ true → is_no_tag tag ≡ true → (object ≡ 0) × (tag ≡ no_tag)
-  no_object o n = (is_zero object o, same_when_equal tag no_tag n)
+  no_object o n = (is_zero object o, (bytes_eq-Decides tag no_tag).0 n)
 
   event_line_is : (kind : Kind) → fields_fit kind handle object tag ≡ true → EventLine kind handle object tag s p t
   event_line_is Opened fit =
       let parts = last_two (not (base_of handle == 0)) (object == 0) (is_no_tag tag) fit in opened_line (no_object parts.0 parts.1)
   event_line_is Closed fit =
       let parts = last_two (not (base_of handle == 0)) (object == 0) (is_no_tag tag) fit in closed_line (no_object parts.0 parts.1)
-  event_line_is BadRef fit = let parts = both (object == 0) (is_no_tag tag) fit in bad_line (no_object parts.0 parts.1)
+  event_line_is BadRef fit = let parts = and_parts (object == 0) (is_no_tag tag) fit in bad_line (no_object parts.0 parts.1)
   event_line_is Snapshot fit =
       let parts = all_three (handle == 0) (object == 0) (is_no_tag tag) fit in
       let none = no_object parts.1 parts.2 in
@@ -364,8 +354,8 @@ module _ (handle object : ℕ) (tag : List ℕ) (s p t : ℕ) (low : InFields ha
       let parts = all_three (handle == 0) (object == 0) (is_no_tag tag) fit in
       let none = no_object parts.1 parts.2 in
       exited_line (is_zero handle parts.0, none.0, none.1)
-  event_line_is Ref fit = ref_line (is_zero handle (both (handle == 0) (not (object == 0)) fit).0)
-  event_line_is Deref fit = deref_line (is_zero handle (both (handle == 0) (not (object == 0)) fit).0)
+  event_line_is Ref fit = ref_line (is_zero handle (and_parts (handle == 0) (not (object == 0)) fit).0)
+  event_line_is Deref fit = deref_line (is_zero handle (and_parts (handle == 0) (not (object == 0)) fit).0)
 
 says_event : (v : Version) (e : Event) → EventFits v e → Says (event_text e) (event_items e)
 unfolding event_line
@@ -423,7 +413,7 @@ head_read h low =
     refl))))
 
 head_line_is : (h : Head) → HeadLow h → IsLineOf (head_line h) (item.Segment h)
-unfolding is_passed_over item_in form_of
+unfolding is_skipped item_in form_of
 head_line_is h low = record {
   first = codes "segment";
   others = (codes "version=" ++ decimal h.version) ∷ (codes "trace=" ++ (codes "0x" ++ padded 16 h.trace_id))
@@ -479,8 +469,8 @@ says_segments (s ∷ ss) h =
     (says_segments ss (All-tail Fits s ss h))
 
 -- an empty text says nothing
-empty_passed : is_passed_over (words_of []) ≡ true
-unfolding words_of is_passed_over
+empty_passed : is_skipped (words_of []) ≡ true
+unfolding words_of is_skipped
 empty_passed = refl
 
 nothing_said : Write (lines_of []) []

@@ -10,7 +10,7 @@ use Rattle.htl_numbers.specs.Numbers.{decimal_number}
 use Rattle.htl_numbers.specs.Written.{hex, padded}
 use Rattle.htl_text.specs.declared.item.Item.{Item}
 use Rattle.htl_text.specs.Fields.{address_value, after_bytes, field_name, first_text, first_value, frame_value, handle_value}
-use Rattle.htl_text.specs.Lines.{item_in, is_passed_over, lines_of, words_of}
+use Rattle.htl_text.specs.Lines.{item_in, is_skipped, lines_of, words_of}
 use Rattle.htl_text.specs.declared.field.Field.{Field}
 use Rattle.htl_text.specs.Encoded.{Write}
 use Rattle.htl_text.specs.Texts.{is_visible, line_feed}
@@ -28,14 +28,14 @@ pub says_append : (a b : List ℕ) (is js : List Item) → Says a is → Says b 
 says_append a b is js ha hb rest more h =
     rw (append_assoc a b rest, append_assoc is js more) (ha (b ++ rest) (js ++ more) (hb rest more h))
 
-pub says_line : (t : List ℕ) (i : Item) → list_all is_plain t ≡ true → is_passed_over (words_of t) ≡ false → item_in (words_of t) ≡ Ok i
+pub says_line : (t : List ℕ) (i : Item) → list_all is_plain t ≡ true → is_skipped (words_of t) ≡ false → item_in (words_of t) ≡ Ok i
     → Says (t ++ line_feed) (i ∷ [])
 says_line t i plain here is rest more h =
     rw (append_assoc t line_feed rest, line_first t rest plain)
     (write_append (t ∷ []) (lines_of rest) (i ∷ []) more (write_one t i here is) h)
 
 -- a line of words that have an item
-pub says_words : (w : List ℕ) (ws : List (List ℕ)) (i : Item) → IsShown w → AllShown ws → is_passed_over (w ∷ ws) ≡ false
+pub says_words : (w : List ℕ) (ws : List (List ℕ)) (i : Item) → IsShown w → AllShown ws → is_skipped (w ∷ ws) ≡ false
     → item_in (w ∷ ws) ≡ Ok i → Says (w ++ continued ws line_feed) (i ∷ [])
 says_words w ws i shown more here is =
     let words = words_spaced w ws shown more in

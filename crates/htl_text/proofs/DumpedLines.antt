@@ -6,10 +6,10 @@ use Rattle.std.specs.Str.Lines.{strip_carriage_return}
 use Rattle.std.proofs.lemmas.Bool.Decides.{nat_tests}
 use Rattle.std.proofs.lemmas.List.{append_assoc, append-nil}
 use Rattle.std.proofs.lemmas.List.Folds.{list_all-append}
-use Rattle.htl_numbers.proofs.Digits.{both}
 use Rattle.htl_text.specs.Texts.{is_visible}
 use Rattle.htl_text.specs.Lines.{is_blank, is_word, lines_of, words_of}
 use Rattle.htl_text.specs.Words.{is_feed}
+use Rattle.std.proofs.lemmas.Bool.{and_parts}
 
 abbrev pub IsShown : List ℕ → Type 0
 IsShown w = (is_word w ≡ true) × (list_all is_visible w ≡ true)
@@ -44,11 +44,11 @@ no_return b h = grind (arith, nat_tests)
 word_cut : (w rest : List ℕ) → list_all is_visible w ≡ true → slice_split is_blank (w ++ 32 ∷ rest) ≡ w ∷ slice_split is_blank rest
 word_cut [] rest h = refl
 word_cut (b ∷ bs) rest h =
-    let parts = both (is_visible b) (list_all is_visible bs) h in rw (no_blank b parts.0, word_cut bs rest parts.1) refl
+    let parts = and_parts (is_visible b) (list_all is_visible bs) h in rw (no_blank b parts.0, word_cut bs rest parts.1) refl
 
 word_alone : (w : List ℕ) → list_all is_visible w ≡ true → slice_split is_blank w ≡ w ∷ []
 word_alone [] h = refl
-word_alone (b ∷ bs) h = let parts = both (is_visible b) (list_all is_visible bs) h in rw (no_blank b parts.0, word_alone bs parts.1) refl
+word_alone (b ∷ bs) h = let parts = and_parts (is_visible b) (list_all is_visible bs) h in rw (no_blank b parts.0, word_alone bs parts.1) refl
 
 word_then : (w rest : List ℕ) → IsShown w → words_of (w ++ 32 ∷ rest) ≡ w ∷ words_of rest
 unfolding words_of
@@ -71,7 +71,7 @@ words_spaced w (v ∷ ws) h hs = word_then w (v ++ continued ws []) h ∙ ap (λ
 plain_word : (w : List ℕ) → list_all is_visible w ≡ true → list_all is_plain w ≡ true
 plain_word [] h = refl
 plain_word (b ∷ bs) h =
-    let parts = both (is_visible b) (list_all is_visible bs) h in rw (visible_plain b parts.0, plain_word bs parts.1) refl
+    let parts = and_parts (is_visible b) (list_all is_visible bs) h in rw (visible_plain b parts.0, plain_word bs parts.1) refl
 
 pub plain_spaced : (w : List ℕ) (ws : List (List ℕ)) → IsShown w → AllShown ws → list_all is_plain (w ++ continued ws []) ≡ true
 plain_spaced w [] h hs = rw (append-nil w) (plain_word w h.1)
@@ -86,11 +86,11 @@ continued_end (w ∷ ws) rest =
 line_cut : (t rest : List ℕ) → list_all is_plain t ≡ true → slice_split is_feed (t ++ 10 ∷ rest) ≡ t ∷ slice_split is_feed rest
 line_cut [] rest h = refl
 line_cut (b ∷ bs) rest h =
-    let parts = both (is_plain b) (list_all is_plain bs) h in rw (no_feed b parts.0, line_cut bs rest parts.1) refl
+    let parts = and_parts (is_plain b) (list_all is_plain bs) h in rw (no_feed b parts.0, line_cut bs rest parts.1) refl
 
 last_plain : (b : ℕ) (t : List ℕ) → list_all is_plain (b ∷ t) ≡ true → (get_or (b ∷ t) (length t) 0 == 13) ≡ false
-last_plain b [] h = no_return b (both (is_plain b) true h).0
-last_plain b (c ∷ t) h = last_plain c t (both (is_plain b) (list_all is_plain (c ∷ t)) h).1
+last_plain b [] h = no_return b (and_parts (is_plain b) true h).0
+last_plain b (c ∷ t) h = last_plain c t (and_parts (is_plain b) (list_all is_plain (c ∷ t)) h).1
 
 one_less : (n : ℕ) → suc n - 1 ≡ n
 one_less n = omega arith

@@ -2,9 +2,8 @@
 use Rattle.std.proofs.Common.{◌≡◌, ◌≤◌, ◌<◌, ◌+◌, ℕ, zero, suc, Bool, true, false, List, [], ◌∷◌, ◌++◌, length, refl, arith, ap, subst, ◌∙◌}
 use Rattle.std.specs.Prelude.{◌||◌, ◌==◌, Option, Some, None, Ok, Err, if◌then◌else◌, map, nat_eq, nat_le, nat_lt, not, slice_get}
 use Rattle.std.specs.List.{flat_map}
-use Rattle.std.proofs.lemmas.Bool.{eqb-true, false≢true}
+use Rattle.std.proofs.lemmas.Bool.{eqb-true, false≢true, and_parts}
 use Rattle.htl_event.specs.Events.{Event}
-use Rattle.htl_numbers.proofs.Digits.{both}
 use Rattle.htl_segment.specs.Building.{build_fault, event_fault, events_fault}
 use Rattle.htl_segment.specs.Content.{Content, fields_fit, kind_code}
 use Rattle.htl_segment.specs.Faults.{or_else}
@@ -18,7 +17,7 @@ use Rattle.htl_text.specs.declared.fault.LineFault.TheVariants.{Segment}
 use Rattle.htl_text.specs.declared.item.Item.TheVariants as item
 use Rattle.htl_text.specs.Items.{Draft, event_items, without_stack}
 use Rattle.htl_text.specs.Encoded.{HasEvent, IsSegmentFault, Write, content_of, draft_fault, event_line, fault_in, record_of}
-use Rattle.htl_text.specs.Lines.{form_of, is_passed_over, item_in, text_lines, words_of}
+use Rattle.htl_text.specs.Lines.{form_of, is_skipped, item_in, text_lines, words_of}
 use Rattle.htl_text.proofs.Complete.{first_of, none_of, rest_of}
 use Rattle.htl_text.proofs.EventLines.{at_event, at_frame, at_none, before_segment, past_event, place_in}
 use Rattle.htl_text.proofs.Writing.{kept_nil}
@@ -82,7 +81,7 @@ draft_place d f p = by_version (version_of d.head.version)
     by_version None is about = absurd (about_none f faults.Version p is refl about)
     by_version (Some v) is about = content_place (content_of v d) f p is about
 
--- a line that is passed over has no form
+-- a line that is skipped has no form
 
 remark : (bs : List ℕ) (ws : List (List ℕ)) → item_in ((35 ∷ bs) ∷ ws) ≡ Err no_form
 unfolding item_in form_of
@@ -92,11 +91,11 @@ nothing : item_in [] ≡ Err no_form
 unfolding item_in form_of
 nothing = refl
 
-passed_none : (ws : List (List ℕ)) → is_passed_over ws ≡ true → item_in ws ≡ Err no_form
-unfolding is_passed_over
+passed_none : (ws : List (List ℕ)) → is_skipped ws ≡ true → item_in ws ≡ Err no_form
+unfolding is_skipped
 passed_none [] e = nothing
 passed_none ([] ∷ ws) e = absurd (false≢true e)
-passed_none ((b ∷ bs) ∷ ws) e = let same : 35 ≡ b = eqb-true 35 b (both (nat_eq 35 b) true e).0 in rw (← same) (remark bs ws)
+passed_none ((b ∷ bs) ∷ ws) e = let same : 35 ≡ b = eqb-true 35 b (and_parts (nat_eq 35 b) true e).0 in rw (← same) (remark bs ws)
 
 -- The lines have the event at a place among these, in the line after so many others.
 record Finds (segment n place : ℕ) (es : List Event) (ls : List (List ℕ)) : Type 0 where
@@ -131,7 +130,7 @@ LinesFind segment n ls more = (fs : List ℕ) (es : List Event) (place : ℕ) �
     → Finds segment n place es (ls ++ more)
 
 line_finds : (segment n : ℕ) (l : List ℕ) (ls more : List (List ℕ)) → segment < n + 1 → LinesFind segment (n + 1) ls more
-    → (b : Bool) → is_passed_over (words_of l) ≡ b → LinesFind segment n (l ∷ ls) more
+    → (b : Bool) → is_skipped (words_of l) ≡ b → LinesFind segment n (l ∷ ls) more
 line_finds segment n l ls more high next true e fs es place h low =
     later segment n place place es es l (ls ++ more) (at_none segment n place l (ls ++ more) no_form high (passed_none (words_of l) e)) refl
     (next fs es place (rest_of l ls (map item.Frame fs ++ flat_map event_items es) e h) low)
@@ -162,7 +161,7 @@ lines_find segment n [] more high [] [] place h low = absurd (omega arith)
 lines_find segment n [] more high [] (g ∷ es) place h low = let none = rw kept_nil at h in cc
 lines_find segment n [] more high (f ∷ fs) es place h low = let none = rw kept_nil at h in cc
 lines_find segment n (l ∷ ls) more high fs es place h low =
-    line_finds segment n l ls more high (lines_find segment (n + 1) ls more (omega arith)) (is_passed_over (words_of l)) refl fs es place h low
+    line_finds segment n l ls more high (lines_find segment (n + 1) ls more (omega arith)) (is_skipped (words_of l)) refl fs es place h low
 
 -- the lines up to the segment's own have none of its events
 lines_before : (segment n place : ℕ) (es : List Event) (ls more : List (List ℕ)) → n + length ls ≤ segment

@@ -8,7 +8,7 @@ use Rattle.htl_text.specs.declared.fault.FormFault.{FormFault}
 use Rattle.htl_text.specs.declared.fault.LineFault.{LineFault}
 use Rattle.htl_text.specs.declared.item.Item.{Item}
 use Rattle.htl_text.specs.Encoded.{event_lines, event_lines_from, kept}
-use Rattle.htl_text.specs.Lines.{form_of, item_in, lines_of, words_of, is_passed_over}
+use Rattle.htl_text.specs.Lines.{form_of, item_in, lines_of, words_of, is_skipped}
 use Rattle.htl_text.specs.Steps.{Progress, closed, read, go_on, after_words, StartsWithLine}
 use Rattle.htl_text.specs.Words.{is_feed, line_end}
 use Rattle.htl_text.proofs.FirstWord.{one_more, position_or_length}
@@ -34,7 +34,7 @@ is_cut (x ∷ xs) = by_case x xs (is_cut xs) (is_feed x) refl
 
 -- an empty line after all others changes nothing
 read_empty : (n : ℕ) (p : Progress) → read n [] p ≡ read n (lines_of []) p
-unfolding read lines_of words_of is_passed_over after_words
+unfolding read lines_of words_of is_skipped after_words
 read_empty n p = refl
 
 go_on_so : (r : Result Progress (ℕ × LineFault)) (f g : Progress → Result (List ℕ) (ℕ × LineFault)) → ((p : Progress) → f p ≡ g p)
@@ -71,7 +71,7 @@ last_line text front back len line e f b none l =
     let empty = length_nil back none in
     rw (l, f, e, empty) (no_rest text (is_cut text) (ap (λ k. drop k text) (sym e) ∙ (sym b ∙ empty)))
 
--- the lines that aren't passed over, where a rest follows the first line feed, and where none follows
+-- the lines that aren't skipped, where a rest follows the first line feed, and where none follows
 
 kept_then_rest : (text : List ℕ) (y : ℕ) (ys : List ℕ) → IsCut text → drop (line_end text) text ≡ y ∷ ys
     → kept (lines_of text) ≡ kept (strip_carriage_return (take (line_end text) text) ∷ lines_of ys)
@@ -81,7 +81,7 @@ kept_then_rest text y ys (inr (z, zs, rest, parts)) is = let e : zs ≡ ys = cc 
 
 kept_no_rest : (text : List ℕ) → IsCut text → drop (line_end text) text ≡ []
     → kept (lines_of text) ≡ kept (strip_carriage_return (take (line_end text) text) ∷ lines_of [])
-unfolding lines_of kept words_of is_passed_over
+unfolding lines_of kept words_of is_skipped
 kept_no_rest text (inr (z, zs, rest, parts)) is = cc
 kept_no_rest text (inl (none, parts)) is = rw parts refl
 

@@ -47,7 +47,7 @@ start_here x xs e = rw e refl
 abbrev pub FirstIs : List ℕ → List ℕ → Type 0
 FirstIs line rest = words_of line ≡ take (word_end rest) rest ∷ words_of (drop (word_end rest) rest)
 
--- the blanks before the first word are passed over
+-- the blanks before the first word are skipped
 pub words_begin : (line rest : List ℕ) → rest ≡ drop (word_start line) line → 0 < length rest → FirstIs line rest
 words_begin [] rest is some = absurd (omega (arith, ap length is))
 words_begin (x ∷ xs) rest is some = by_case (words_begin xs) (is_blank x) refl

@@ -20,7 +20,7 @@ use Rattle.htl_text.specs.declared.fault.FormFault.{FormFault}
 use Rattle.htl_text.specs.declared.fault.LineFault.{LineFault}
 use Rattle.htl_text.specs.declared.fault.LineFault.TheVariants.{Form, Order, Segment}
 use Rattle.htl_text.specs.Items.{Draft, LoneEvent, with_stack}
-use Rattle.htl_text.specs.Lines.{words_of, is_passed_over, item_in}
+use Rattle.htl_text.specs.Lines.{words_of, is_skipped, item_in}
 use Rattle.htl_text.specs.Encoded.{draft, draft_fault, content_of}
 use Rattle.htl_text.specs.Steps.{Held, Progress, held, progress, nothing_read, begun, with_event, with_frame_of, settled, held_fault, bytes_or_fault, closed}
 use Rattle.htl_text.specs.Steps.{reopened, after_frame_of, after_item, after_form, after_words, go_on, read}
@@ -81,7 +81,7 @@ form_read line (Err fault) o = Err (line, Form fault)
 form_read line (Ok i) o = item_read line i o
 
 abbrev pub words_read : ℕ → List (List ℕ) → Option Open → Result (Option Open) (ℕ × LineFault)
-words_read line ws o = if is_passed_over ws then Ok o else form_read line (item_in ws) o
+words_read line ws o = if is_skipped ws then Ok o else form_read line (item_in ws) o
 
 abbrev pub goes_on : Result (Option Open) (ℕ × LineFault) → (Option Open → Result (List Content) (ℕ × LineFault)) → Result (List Content) (ℕ × LineFault)
 goes_on (Ok o) next = next o
@@ -229,7 +229,7 @@ item_held line (item.Frame address) (Some o) = by_events o.events
 
 words_held : (line : ℕ) (ws : List (List ℕ)) (o : Option Open) → after_words line ws (holding o) ≡ held_in (words_read line ws o)
 unfolding after_words
-words_held line ws o = by_case (is_passed_over ws)
+words_held line ws o = by_case (is_skipped ws)
   where
     by_form : (r : Result Item FormFault) → after_form line r (holding o) ≡ held_in (form_read line r o)
     by_form (Err fault) = refl

@@ -6,12 +6,11 @@ use Rattle.std.specs.Char.{is_digit}
 use Rattle.std.specs.Int.{to_be_bytes, w32}
 use Rattle.std.specs.Str.{bytes_eq}
 use Rattle.std.specs.Str.Parse.{digits_value}
-use Rattle.std.proofs.lemmas.Bool.{eqb-true, leb-true}
+use Rattle.std.proofs.lemmas.Bool.{eqb-true, leb-true, and_parts}
 use Rattle.htl_event.specs.declared.event.Event.{Event as EventWith}
 use Rattle.htl_event.specs.declared.kind.Kind.{Kind}
 use Rattle.htl_event.specs.declared.kind.Kind.TheVariants.{Opened, Closed, BadRef, Snapshot, Ref, Deref, Exited}
 use Rattle.htl_numbers.specs.Numbers.{number_of, decimal_number, hexadecimal_number, without_0x}
-use Rattle.htl_numbers.proofs.Digits.{both}
 use Rattle.htl_text.specs.Texts.{is_visible}
 use Rattle.htl_text.specs.Fields.{Values, bare_value, first_text, first_value, frame_value, marked_value, no_tag, no_values}
 use Rattle.htl_text.specs.Fields.{read_field, tag_value, value_of, with_value}
@@ -74,11 +73,11 @@ marked_on most text =
     if_on (λ n. n ≤ most) (starts_with nat_eq text (codes "0x")) (hexadecimal_number most text) None (hexadecimal_on most text) tt
 
 visible_low : (b : ℕ) → is_visible b ≡ true → b < 256
-visible_low b h = let last = both (nat_le 0x21 b) (nat_le b 0x7E) h in let low : b ≤ 0x7E = leb-true b 0x7E last.1 in omega arith
+visible_low b h = let last = and_parts (nat_le 0x21 b) (nat_le b 0x7E) h in let low : b ≤ 0x7E = leb-true b 0x7E last.1 in omega arith
 
 visible_bytes : (tag : List ℕ) → list_all is_visible tag ≡ true → AllByRecursion (λ b. b < 256) tag
 visible_bytes [] h = tt
-visible_bytes (b ∷ bs) h = let split = both (is_visible b) (list_all is_visible bs) h in (visible_low b split.0, visible_bytes bs split.1)
+visible_bytes (b ∷ bs) h = let split = and_parts (is_visible b) (list_all is_visible bs) h in (visible_low b split.0, visible_bytes bs split.1)
 
 four_bytes : (n : ℕ) → IsTag (to_be_bytes w32 n)
 four_bytes n = (refl, (omega arith, (omega arith, (omega arith, (omega arith, tt)))))

@@ -1,4 +1,3 @@
-pub mod Padding
 pub mod FirstWord
 pub mod FirstLine
 pub mod Refusals

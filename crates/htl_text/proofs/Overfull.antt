@@ -13,11 +13,11 @@ use Rattle.htl_segment.specs.Versions.{limits_of}
 use Rattle.htl_segment.specs.declared.fault.Fault.{Fault}
 use Rattle.htl_segment.specs.declared.fault.Fault.TheVariants as faults
 use Rattle.htl_segment.specs.declared.version.Version.{Version}
-use Rattle.htl_segment.specs.declared.version.Version.TheVariants.{V1, V2}
 use Rattle.htl_text.specs.declared.item.Head.{Head}
 use Rattle.htl_text.specs.Items.{Draft}
 use Rattle.htl_text.specs.Encoded.{draft, draft_fault, content_of}
 use Rattle.htl_text.specs.Steps.{overfull_fault, with_overfull}
+use Rattle.htl_segment.proofs.RecordLaws.{frames≤64}
 
 -- what is held of an event
 abbrev pub cut : Event → Event
@@ -130,12 +130,8 @@ shallow_one i false false false true None held rest h same = refl
 shallow_one i false false false true (Some j) held rest h same = rw (lt_yes i j (omega arith)) refl
 shallow_one i false false false false o held rest h same = same
 
-frames_few : (v : Version) → (limits_of v).frames ≤ 64
-frames_few V1 = omega arith
-frames_few V2 = omega arith
-
 deep_above : (v : Version) (e : Event) → is_deep e ≡ true → nat_lt (limits_of v).frames (length e.stack) ≡ true
-deep_above v e h = let few = frames_few v in grind (arith, nat_tests)
+deep_above v e h = let few = frames≤64 v in grind (arith, nat_tests)
 
 stack_whole : (e : Event) → is_deep e ≡ false → take 64 e.stack ≡ e.stack
 stack_whole e h = let low : length e.stack ≤ 64 = grind (arith, nat_tests) in take_all 64 e.stack low
@@ -220,7 +216,7 @@ no_four i false false false true rest h = cc
 no_four i false false false false rest h = (refl, h)
 
 not_deep : (v : Version) (e : Event) → nat_lt (limits_of v).frames (length e.stack) ≡ false → is_deep e ≡ false
-not_deep v e h = let few = frames_few v in grind (arith, nat_tests)
+not_deep v e h = let few = frames≤64 v in grind (arith, nat_tests)
 
 whole_events : (v : Version) (i last : ℕ) (es : List Event) → events_fault v i last es ≡ None → map cut es ≡ es
 unfolding events_fault event_fault

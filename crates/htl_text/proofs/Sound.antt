@@ -21,7 +21,7 @@ use Rattle.htl_text.specs.declared.fault.FormFault.{FormFault}
 use Rattle.htl_text.specs.declared.fault.LineFault.{LineFault}
 use Rattle.htl_text.specs.declared.fault.LineFault.TheVariants.{Form, Order}
 use Rattle.htl_text.specs.Items.{Draft, LoneEvent, with_stack, draft_items, draft_of, segments_items}
-use Rattle.htl_text.specs.Lines.{words_of, is_passed_over, item_in}
+use Rattle.htl_text.specs.Lines.{words_of, is_skipped, item_in}
 use Rattle.htl_text.specs.Encoded.{draft, draft_fault, content_of, Write, kept, Written, written_items, WrittenFits, IsBad, LinesEncode, LinesFault}
 use Rattle.htl_text.specs.Encoded.{IsLineFault, IsSegmentFault, ends_before}
 use Rattle.htl_text.proofs.Holding.{Open, opened, all_of, draft_in, contents, checked, ended, renewed, framed, with_frame_in, item_read, form_read}
@@ -81,7 +81,7 @@ pub record StandsIn (before : List (List ℕ)) (n : ℕ) (o : Open) : Type 0 whe
   line : o.line ≡ length earlier + 1
   fits : All Fits o.done
   written : Write earlier (segments_items o.done)
-  begun : is_passed_over (words_of first) ≡ false
+  begun : is_skipped (words_of first) ≡ false
   drafted : Write (first ∷ body) (draft_items (draft_in o))
   trace_id : o.head.trace_id < 2 ^ 64
   events : EventsAre o.events
@@ -153,7 +153,7 @@ longer_cut : (before earlier body : List (List ℕ)) (first l : List ℕ) → be
     → before ++ l ∷ [] ≡ earlier ++ (first ∷ (body ++ l ∷ []))
 longer_cut before earlier body first l e = ap (λ x. x ++ l ∷ []) e ∙ append_assoc earlier (first ∷ body) (l ∷ [])
 
-passes : (before : List (List ℕ)) (l : List ℕ) (n : ℕ) (o : Option Open) → StandsAt before n o → is_passed_over (words_of l) ≡ true
+passes : (before : List (List ℕ)) (l : List ℕ) (n : ℕ) (o : Option Open) → StandsAt before n o → is_skipped (words_of l) ≡ true
     → StandsAt (before ++ l ∷ []) (n + 1) o
 passes before l n None h e = (longer before l n h.0, write_passed before l [] h.1 e)
 passes before l n (Some o) h e = record {
@@ -173,7 +173,7 @@ passes before l n (Some o) h e = record {
 
 -- a header begins a draft
 begins : (before : List (List ℕ)) (l : List ℕ) (n : ℕ) (head : Head) (done : List Content) → length before ≡ n → Write before (segments_items done)
-    → All Fits done → is_passed_over (words_of l) ≡ false → item_in (words_of l) ≡ Ok (item.Segment head) → head.trace_id < 2 ^ 64
+    → All Fits done → is_skipped (words_of l) ≡ false → item_in (words_of l) ≡ Ok (item.Segment head) → head.trace_id < 2 ^ 64
     → StandsIn (before ++ l ∷ []) (n + 1) (opened done (n + 1) head None)
 begins before l n head done size written fits e found low = record {
   earlier = before;
@@ -192,7 +192,7 @@ begins before l n head done size written fits e found low = record {
 
 -- an event or a frame goes to the draft
 grows : (before : List (List ℕ)) (l : List ℕ) (n : ℕ) (o : Open) (events : Option (List Event × Event)) (i : Item) → StandsIn before n o
-    → is_passed_over (words_of l) ≡ false → item_in (words_of l) ≡ Ok i
+    → is_skipped (words_of l) ≡ false → item_in (words_of l) ≡ Ok i
     → draft_items (draft o.head (all_of events)) ≡ draft_items (draft_in o) ++ i ∷ [] → EventsAre events
     → StandsIn (before ++ l ∷ []) (n + 1) (opened o.done o.line o.head events)
 grows before l n o events i h e found items ranges = record {
@@ -232,7 +232,7 @@ breaks before n o later f h is end = record {
 
 -- the next line has a fault
 line_fails : (before : List (List ℕ)) (l : List ℕ) (ls : List (List ℕ)) (n : ℕ) (o : Option Open) (fault : LineFault) → StandsAt before n o
-    → is_passed_over (words_of l) ≡ false → IsBad (written_of o) (words_of l) fault → IsLineFault (before ++ l ∷ ls) (n + 1) fault
+    → is_skipped (words_of l) ≡ false → IsBad (written_of o) (words_of l) fault → IsLineFault (before ++ l ∷ ls) (n + 1) fault
 line_fails before l ls n o fault h e bad = record {
   before = before;
   bad = l;
@@ -246,12 +246,12 @@ line_fails before l ls n o fault h e bad = record {
   is_bad = bad;
 }
 
-next_begins : (l : List ℕ) (ls : List (List ℕ)) (head : Head) → is_passed_over (words_of l) ≡ false
+next_begins : (l : List ℕ) (ls : List (List ℕ)) (head : Head) → is_skipped (words_of l) ≡ false
     → item_in (words_of l) ≡ Ok (item.Segment head) → ends_before (kept (l ∷ ls)) ≡ true
 next_begins l ls head e found = rw (kept_one l ls e, found) refl
 
 header_advances : (before : List (List ℕ)) (l : List ℕ) (ls : List (List ℕ)) (n : ℕ) (o : Option Open) (head : Head) → StandsAt before n o
-    → is_passed_over (words_of l) ≡ false → item_in (words_of l) ≡ Ok (item.Segment head) → head.trace_id < 2 ^ 64
+    → is_skipped (words_of l) ≡ false → item_in (words_of l) ≡ Ok (item.Segment head) → head.trace_id < 2 ^ 64
     → Advances before l ls n (renewed (n + 1) head (ended o))
 header_advances before l ls n None head h e found low = begins before l n head [] h.0 h.1 (λ k d l. absurd (omega arith)) e found low
 header_advances before l ls n (Some o) head h e found low = by_fault (draft_fault (draft_in o)) refl
@@ -264,7 +264,7 @@ header_advances before l ls n (Some o) head h e found low = by_fault (draft_faul
         begins before l n head (o.done ++ contents (version_of o.head.version) (draft_in o)) h.size closed.written closed.fits e found low
 
 event_advances : (before : List (List ℕ)) (l : List ℕ) (ls : List (List ℕ)) (n : ℕ) (o : Option Open) (e : LoneEvent) → StandsAt before n o
-    → is_passed_over (words_of l) ≡ false → item_in (words_of l) ≡ Ok (item.Event e) → PartsInRange e
+    → is_skipped (words_of l) ≡ false → item_in (words_of l) ≡ Ok (item.Event e) → PartsInRange e
     → Advances before l ls n (item_read (n + 1) (item.Event e) o)
 event_advances before l ls n None e h seen found low = line_fails before l ls n None Order h seen (item.Event e, found, refl)
 event_advances before l ls n (Some o) e h seen found low =
@@ -284,7 +284,7 @@ event_advances before l ls n (Some o) e h seen found low =
     )
 
 frame_advances : (before : List (List ℕ)) (l : List ℕ) (ls : List (List ℕ)) (n : ℕ) (o : Option Open) (address : ℕ) → StandsAt before n o
-    → is_passed_over (words_of l) ≡ false → item_in (words_of l) ≡ Ok (item.Frame address) → address < 2 ^ 64
+    → is_skipped (words_of l) ≡ false → item_in (words_of l) ≡ Ok (item.Frame address) → address < 2 ^ 64
     → Advances before l ls n (item_read (n + 1) (item.Frame address) o)
 frame_advances before l ls n None address h seen found low = line_fails before l ls n None Order h seen (item.Frame address, found, refl)
 frame_advances before l ls n (Some o) address h seen found low = by_events o.events refl
@@ -312,20 +312,20 @@ frame_advances before l ls n (Some o) address h seen found low = by_events o.eve
 
 advances : (before : List (List ℕ)) (l : List ℕ) (ls : List (List ℕ)) (n : ℕ) (o : Option Open) → StandsAt before n o
     → Advances before l ls n (words_read (n + 1) (words_of l) o)
-advances before l ls n o h = by_case (is_passed_over (words_of l)) refl
+advances before l ls n o h = by_case (is_skipped (words_of l)) refl
   where
-    by_item : (i : Item) → is_passed_over (words_of l) ≡ false → item_in (words_of l) ≡ Ok i → ItemInRange i
+    by_item : (i : Item) → is_skipped (words_of l) ≡ false → item_in (words_of l) ≡ Ok i → ItemInRange i
         → Advances before l ls n (item_read (n + 1) i o)
     by_item (item.Segment head) e found low = header_advances before l ls n o head h e found low
     by_item (item.Event event) e found low = event_advances before l ls n o event h e found low
     by_item (item.Frame address) e found low = frame_advances before l ls n o address h e found low
 
-    by_form : (r : Result Item FormFault) → is_passed_over (words_of l) ≡ false → item_in (words_of l) ≡ r → IfOk r ItemInRange
+    by_form : (r : Result Item FormFault) → is_skipped (words_of l) ≡ false → item_in (words_of l) ≡ r → IfOk r ItemInRange
         → Advances before l ls n (form_read (n + 1) r o)
     by_form (Err fault) e found low = line_fails before l ls n o (Form fault) h e found
     by_form (Ok i) e found low = by_item i e found low
 
-    by_case : (b : Bool) → is_passed_over (words_of l) ≡ b
+    by_case : (b : Bool) → is_skipped (words_of l) ≡ b
         → Advances before l ls n (if b then Ok o else form_read (n + 1) (item_in (words_of l)) o)
     by_case true e = passes before l n o h e
     by_case false e = by_form (item_in (words_of l)) e refl (item_on (words_of l))

@@ -11,25 +11,25 @@ use Rattle.htl_text.specs.declared.item.Head.{Head}
 use Rattle.htl_text.specs.declared.item.Item.{Item}
 use Rattle.htl_text.specs.declared.item.Item.TheVariants as item
 use Rattle.htl_text.specs.Items.{LoneEvent, with_stack, without_stack, event_items, draft_items, draft_of, segments_items}
-use Rattle.htl_text.specs.Lines.{words_of, is_passed_over, item_in}
+use Rattle.htl_text.specs.Lines.{words_of, is_skipped, item_in}
 use Rattle.htl_text.specs.Encoded.{draft, kept, Write}
 use Rattle.htl_text.proofs.Holding.{framed}
 
 kept-append : (a b : List (List ℕ)) → kept (a ++ b) ≡ kept a ++ kept b
 unfolding kept
 kept-append a b =
-    ap (filter (λ ws. not (is_passed_over ws))) (map-append words_of a b)
-    ∙ filter-append (λ ws. not (is_passed_over ws)) (map words_of a) (map words_of b)
+    ap (filter (λ ws. not (is_skipped ws))) (map-append words_of a b)
+    ∙ filter-append (λ ws. not (is_skipped ws)) (map words_of a) (map words_of b)
 
 pub write_append : (a b : List (List ℕ)) (is js : List Item) → Write a is → Write b js → Write (a ++ b) (is ++ js)
 write_append a b is js ha hb =
     ap (map item_in) (kept-append a b) ∙ (map-append item_in (kept a) (kept b) ∙ (rw (ha, hb) (sym (map-append Ok is js))))
 
-pub kept_passed : (l : List ℕ) (ls : List (List ℕ)) → is_passed_over (words_of l) ≡ true → kept (l ∷ ls) ≡ kept ls
+pub kept_passed : (l : List ℕ) (ls : List (List ℕ)) → is_skipped (words_of l) ≡ true → kept (l ∷ ls) ≡ kept ls
 unfolding kept
 kept_passed l ls e = rw e refl
 
-pub kept_one : (l : List ℕ) (ls : List (List ℕ)) → is_passed_over (words_of l) ≡ false → kept (l ∷ ls) ≡ words_of l ∷ kept ls
+pub kept_one : (l : List ℕ) (ls : List (List ℕ)) → is_skipped (words_of l) ≡ false → kept (l ∷ ls) ≡ words_of l ∷ kept ls
 unfolding kept
 kept_one l ls e = rw e refl
 
@@ -37,18 +37,18 @@ pub kept_nil : kept [] ≡ []
 unfolding kept
 kept_nil = refl
 
-pub write_none : (l : List ℕ) → is_passed_over (words_of l) ≡ true → Write (l ∷ []) []
+pub write_none : (l : List ℕ) → is_skipped (words_of l) ≡ true → Write (l ∷ []) []
 write_none l e = rw (kept_passed l [] e, kept_nil) refl
 
-pub write_one : (l : List ℕ) (i : Item) → is_passed_over (words_of l) ≡ false → item_in (words_of l) ≡ Ok i → Write (l ∷ []) (i ∷ [])
+pub write_one : (l : List ℕ) (i : Item) → is_skipped (words_of l) ≡ false → item_in (words_of l) ≡ Ok i → Write (l ∷ []) (i ∷ [])
 write_one l i e is = rw (kept_one l [] e, kept_nil) (ap (λ o. o ∷ []) is)
 
 -- a line that says nothing more
-pub write_passed : (a : List (List ℕ)) (l : List ℕ) (is : List Item) → Write a is → is_passed_over (words_of l) ≡ true → Write (a ++ l ∷ []) is
+pub write_passed : (a : List (List ℕ)) (l : List ℕ) (is : List Item) → Write a is → is_skipped (words_of l) ≡ true → Write (a ++ l ∷ []) is
 write_passed a l is h e = rw (← append-nil is) (write_append a (l ∷ []) is [] h (write_none l e))
 
 -- a line more with its item
-pub write_more : (a : List (List ℕ)) (l : List ℕ) (is : List Item) (i : Item) → Write a is → is_passed_over (words_of l) ≡ false
+pub write_more : (a : List (List ℕ)) (l : List ℕ) (is : List Item) (i : Item) → Write a is → is_skipped (words_of l) ≡ false
     → item_in (words_of l) ≡ Ok i → Write (a ++ l ∷ []) (is ++ i ∷ [])
 write_more a l is i h e found = write_append a (l ∷ []) is (i ∷ []) h (write_one l i e found)
 

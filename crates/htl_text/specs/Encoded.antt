@@ -11,7 +11,7 @@ use Rattle.htl_segment.specs.declared.version.Version.{Version}
 use Rattle.htl_segment.specs.declared.fault.Fault.{Fault}
 use Rattle.htl_segment.specs.declared.fault.Fault.TheVariants as faults
 use Rattle.htl_text.specs.Items.{Draft, draft_items, segments_items, without_stack}
-use Rattle.htl_text.specs.Lines.{text_lines, words_of, is_passed_over, item_in}
+use Rattle.htl_text.specs.Lines.{text_lines, words_of, is_skipped, item_in}
 use Rattle.htl_text.specs.declared.item.Head.{Head}
 use Rattle.htl_text.specs.declared.item.Item.{Item}
 use Rattle.htl_text.specs.declared.item.Item.TheVariants as item
@@ -21,11 +21,11 @@ use Rattle.htl_text.specs.declared.fault.LineFault.TheVariants.{Form, Order, Seg
 use Rattle.htl_text.specs.declared.fault.TextFault.{TextFault}
 use Rattle.htl_text.specs.declared.fault.TextFault.TheVariants as text
 
--- the words of the lines that aren't passed over
+-- the words of the lines that aren't skipped
 unfoldable pub kept : List (List ℕ) → List (List (List ℕ))
-kept lines = filter (λ ws. not (is_passed_over ws)) (map words_of lines)
+kept lines = filter (λ ws. not (is_skipped ws)) (map words_of lines)
 
--- the lines that aren't passed over have these items
+-- the lines that aren't skipped have these items
 abbrev pub Write : List (List ℕ) → List Item → Type 0
 Write lines items = map item_in (kept lines) ≡ map Ok items
 
@@ -109,14 +109,14 @@ pub record IsLineFault (lines : List (List ℕ)) (line : ℕ) (fault : LineFault
   pub so_far : Written
   pub fits : WrittenFits so_far
   pub written : Write before (written_items so_far)
-  pub read : is_passed_over (words_of bad) ≡ false
+  pub read : is_skipped (words_of bad) ≡ false
   pub is_bad : IsBad so_far (words_of bad) fault
 
 abbrev pub begins_segment : Result Item FormFault → Bool
 begins_segment (Ok i) = is_header i
 begins_segment (Err fault) = false
 
--- a segment ends before these lines: no line is left that isn't passed over, or the first of them begins another
+-- a segment ends before these lines: no line is left that isn't skipped, or the first of them begins another
 abbrev pub ends_before : List (List (List ℕ)) → Bool
 ends_before [] = true
 ends_before (ws ∷ more) = begins_segment (item_in ws)
@@ -132,7 +132,7 @@ pub record IsSegmentFault (lines : List (List ℕ)) (line : ℕ) (fault : Fault)
   pub segments : List Content
   pub fits : All Fits segments
   pub written : Write before (segments_items segments)
-  pub begun : is_passed_over (words_of first) ≡ false
+  pub begun : is_skipped (words_of first) ≡ false
   pub draft : Draft
   pub drafted : Write (first ∷ body) (draft_items draft)
   pub ended : ends_before (kept later) ≡ true

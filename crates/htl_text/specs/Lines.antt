@@ -41,9 +41,9 @@ unfoldable pub words_of : List ℕ → List (List ℕ)
 words_of line = filter is_word (slice_split is_blank line)
 
 -- a line says nothing: it has no word, or `#` stands first
-unfoldable pub is_passed_over : List (List ℕ) → Bool
-is_passed_over [] = true
-is_passed_over (w ∷ ws) = starts_with nat_eq w (codes "#")
+unfoldable pub is_skipped : List (List ℕ) → Bool
+is_skipped [] = true
+is_skipped (w ∷ ws) = starts_with nat_eq w (codes "#")
 
 -- a form of lines: its fields, in their order, and the item that their values say
 pub record Form : Type 0 where

@@ -10,7 +10,7 @@ use Rattle.htl_segment.specs.declared.version.Version.{Version}
 use Rattle.htl_segment.specs.declared.fault.Fault.{Fault}
 use Rattle.htl_segment.specs.declared.fault.Fault.TheVariants as faults
 use Rattle.htl_text.specs.Items.{Draft, LoneEvent, with_stack}
-use Rattle.htl_text.specs.Lines.{lines_of, words_of, is_passed_over, item_in}
+use Rattle.htl_text.specs.Lines.{lines_of, words_of, is_skipped, item_in}
 use Rattle.htl_text.specs.Encoded.{begins, content_of, draft_fault, IsSegmentOf, kept}
 use Rattle.htl_text.specs.declared.item.Head.{Head}
 use Rattle.htl_text.specs.declared.item.Item.{Item}
@@ -142,7 +142,7 @@ after_form line (Ok i) p = after_item line i p
 
 -- what a line with these words does
 unfoldable pub after_words : ℕ → List (List ℕ) → Progress → Result Progress (ℕ × LineFault)
-after_words line ws p = if is_passed_over ws then Ok p else after_form line (item_in ws) p
+after_words line ws p = if is_skipped ws then Ok p else after_form line (item_in ws) p
 
 abbrev pub go_on : Result Progress (ℕ × LineFault) → (Progress → Result (List ℕ) (ℕ × LineFault)) → Result (List ℕ) (ℕ × LineFault)
 go_on (Ok p) next = next p

@@ -4,6 +4,7 @@ use Rattle.std.specs.List.{list_all}
 use Rattle.std.specs.Fmt.{decimal}
 use Rattle.std.specs.Int.{from_be_bytes, w32}
 use Rattle.htl_event.specs.Events.{Event}
+use Rattle.htl_event.specs.Words.{word_of}
 use Rattle.htl_event.specs.declared.event.Event.{Event as EventWith}
 use Rattle.htl_event.specs.declared.kind.Kind.{Kind}
 use Rattle.htl_event.specs.declared.kind.Kind.TheVariants.{Opened, Closed, BadRef, Snapshot, Ref, Deref, Exited}
@@ -34,16 +35,6 @@ is_visible b = nat_le 0x21 b && nat_le b 0x7E
 -- a tag's four bytes as themselves where all can be seen, and else in eight digits
 unfoldable pub tag_text : List ℕ → List ℕ
 tag_text tag = if list_all is_visible tag then tag else codes "0x" ++ padded 8 (from_be_bytes w32 tag)
-
--- the words of the debugger's `!htrace` and `!obtrace`
-abbrev pub word_of : Kind → List ℕ
-word_of Opened = codes "OPEN"
-word_of Closed = codes "CLOSE"
-word_of BadRef = codes "BAD REF"
-word_of Snapshot = codes "SNAPSHOT"
-word_of Ref = codes "REF"
-word_of Deref = codes "DEREF"
-word_of Exited = codes "EXIT"
 
 unfoldable pub handle_part : ℕ → List ℕ
 handle_part handle = codes " handle=0x" ++ hex handle

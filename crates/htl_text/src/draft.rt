@@ -1,4 +1,4 @@
-//! A segment whose lines are being read.
+//! Drafts: segments whose lines are being read.
 ghost use Rattle.std.specs.Prelude.{◌≡◌, [], None, Some, MatchOption, MatchResult};
 ghost use Rattle.htl_segment.specs.Building.{build_fault};
 ghost use Rattle.htl_segment.specs.Content.{Fits};
@@ -13,10 +13,10 @@ use htl_segment::{Fault, Segment, Version};
 use std::alloc::{AllocError, Global};
 use std::marker::Model;
 
-/// A segment whose lines are being read. Whether the format can encode it is asked at its end.
+/// A segment whose lines are being read. At its end it is tested whether the format can encode it.
 #[derive(Drop)]
 pub(crate) struct Draft {
-    /// The line at which it begins.
+    /// The line at which the segment begins.
     line: u64,
     head: Head,
     /// All events but the last one.
@@ -72,7 +72,7 @@ impl Draft {
         Ok(())
     }
 
-    /// Adds a frame to the last event. False where there is no event.
+    /// Adds a frame to the last event, or answers false where there is no event.
     pub fn add_frame(&mut self, address: u64) -> bool
         ensures { MatchOption self.old.event
             (result ≡ false)
@@ -191,8 +191,8 @@ fn build_as(
     }
 }
 
-/// How a fault is reported of a segment that begins at the line, and whose first event with too
-/// many frames is at the place.
+/// The reported fault of a segment that begins at the line, and whose first event with too many frames
+/// is at the place.
 fn refused(line: u64, overfull: Option<u64>, fault: Fault) -> TextFault
     ensures { result ≡ refused_of line overfull fault }
 {
@@ -205,8 +205,8 @@ fn refused(line: u64, overfull: Option<u64>, fault: Fault) -> TextFault
     }
 }
 
-/// The first fault of a segment whose event at this place has too many frames, by that which the
-/// segment has without these frames.
+/// The first fault of a segment whose event at this place has too many frames, made of the fault that
+/// the segment has without these frames.
 fn overfull_fault(place: u64, fault: Fault) -> Fault
     ensures { result ≡ overfull_fault place (Some fault) }
 {

@@ -1,4 +1,4 @@
-//! The text of a segment.
+//! Dumping: the text of a segment.
 ghost use Rattle.std.specs.Prelude.{◌≡◌, ◌++◌, IfOk, OnOk, flat_map, string_bytes, true};
 ghost use Rattle.std.specs.List.{list_all};
 ghost use Rattle.htl_numbers.specs.Written.{padded};
@@ -6,14 +6,14 @@ ghost use Rattle.htl_text.specs.Items.{head_of};
 ghost use Rattle.htl_text.specs.Texts.{event_line, event_text, frame_line, handle_part, head_line};
 ghost use Rattle.htl_text.specs.Texts.{is_visible, object_part, origin, place_part, segment_text};
 ghost use Rattle.htl_text.specs.Texts.{subject};
-ghost use Rattle.htl_text.specs.Texts.{tag_text, version_part, word_of};
+ghost use Rattle.htl_text.specs.Texts.{tag_text, version_part};
 
 use crate::item::Head;
 use htl_event::{Kind, NoMemory, SharedEvent};
 use htl_segment::Segment;
 use std::alloc::{AllocError, Global};
 
-/// The lines of a segment, each ended by a line feed.
+/// Writes the lines of a segment, each ended by a line feed.
 pub fn dump(alloc: Global, segment: &Segment) -> Result<Vec<u8>, NoMemory>
     ensures { IfOk result (λ bytes. bytes.items ≡ segment_text segment.now) }
 {
@@ -74,8 +74,8 @@ fn write_place(
     )
 }
 
-/// 16 hexadecimal digits.
-#[tactic(auto, using(crate::proofs::Padding::padded_16))]
+/// Writes a number in 16 hexadecimal digits.
+#[tactic(auto, using(htl_lemmas::proofs::Padding::padded_to))]
 fn write_padded(out: &mut String, number: u64) -> Result<(), AllocError>
     ensures { OnOk result (string_bytes out.new ≡ string_bytes out.old ++ padded 16 number) }
 {
@@ -103,26 +103,12 @@ fn write_event(out: &mut String, event: &SharedEvent) -> Result<(), AllocError>
 fn write_event_line(out: &mut String, event: &SharedEvent) -> Result<(), AllocError>
     ensures { OnOk result (string_bytes out.new ≡ string_bytes out.old ++ event_line event.now) }
 {
-    out.push_str(word(event.kind))?;
+    out.push_str(event.kind.word())?;
     write_subject(out, event)?;
     write_origin(out, event.sequence, event.process, event.thread)
 }
 
-fn word(kind: Kind) -> &'static str
-    ensures { result.now ≡ word_of kind }
-{
-    match kind {
-        Kind::Opened => "OPEN",
-        Kind::Closed => "CLOSE",
-        Kind::BadRef => "BAD REF",
-        Kind::Snapshot => "SNAPSHOT",
-        Kind::Ref => "REF",
-        Kind::Deref => "DEREF",
-        Kind::Exited => "EXIT",
-    }
-}
-
-/// What an event is about.
+/// Writes the fields of an event that its kind has.
 fn write_subject(out: &mut String, event: &SharedEvent) -> Result<(), AllocError>
     ensures { OnOk result (string_bytes out.new ≡ string_bytes out.old
         ++ subject event.now.kind event.now.handle event.now.object event.now.tag) }
@@ -152,7 +138,7 @@ fn write_object(out: &mut String, object: u64, tag: [u8; 4]) -> Result<(), Alloc
     write_tag(out, tag)
 }
 
-/// A tag's four bytes where all can be seen, and else in digits.
+/// Writes a tag by its four bytes where all can be seen, or else in digits.
 #[tactic(auto, unfolding(crate::specs::Texts::tag_text))]
 fn write_tag(out: &mut String, tag: [u8; 4]) -> Result<(), AllocError>
     ensures { OnOk result (string_bytes out.new ≡ string_bytes out.old ++ tag_text tag) }
@@ -164,15 +150,15 @@ fn write_tag(out: &mut String, tag: [u8; 4]) -> Result<(), AllocError>
     write_tag_digits(out, u32::from_be_bytes(tag))
 }
 
-/// Eight hexadecimal digits.
-#[tactic(auto, using(crate::proofs::Padding::padded_8))]
+/// Writes a number in eight hexadecimal digits.
+#[tactic(auto, using(htl_lemmas::proofs::Padding::padded_to))]
 fn write_tag_digits(out: &mut String, in_order: u32) -> Result<(), AllocError>
     ensures { OnOk result (string_bytes out.new ≡ string_bytes out.old ++ padded 8 in_order) }
 {
     write!(out, "{in_order:08x}")
 }
 
-/// Whether all bytes are printable and no blanks.
+/// Whether all bytes are printable, and none is a blank.
 pub(crate) fn all_visible(bytes: &[u8]) -> bool
     ensures { result ≡ list_all is_visible bytes.now }
 {

@@ -1,4 +1,4 @@
-//! The bytes that a text encodes.
+//! Encoding: the bytes that a text encodes.
 ghost use Rattle.std.specs.Prelude.{◌≡◌, ◌<◌, ◌≤◌, ◌∷◌, ℕ, List, Ok, length, position};
 ghost use Rattle.std.specs.Prelude.{IfErr, IfOk, MatchResult};
 ghost use Rattle.std.specs.Str.Lines.{strip_carriage_return};
@@ -16,7 +16,7 @@ use crate::draft::Draft;
 use crate::fault::{LineFault, TextFault};
 use crate::item::Item;
 use crate::lines::item;
-use crate::words::is_passed_over;
+use crate::words::is_skipped;
 use htl_event::Event;
 use std::alloc::Global;
 use std::marker::Model;
@@ -26,7 +26,7 @@ use std::marker::Model;
 /// Of a text that encodes none it reports the first fault. A line that can't be read is a fault at
 /// that line. A segment is tested where it ends, at the next one or at the end of the text, and its
 /// fault is reported at its own line; it is the one that `Segment::build` gives, or `S3`. Memory is
-/// taken only where the first line that isn't passed over begins a segment.
+/// taken only where the first line that isn't skipped begins a segment.
 pub fn encode(alloc: Global, text: &[u8]) -> Result<Vec<u8>, TextFault>
     // What comes out are the bytes of segments that the text encodes.
     ensures found { IfOk result (λ bytes. (segments : List Content)
@@ -54,7 +54,7 @@ pub(crate) fn without_mark(text: &[u8]) -> &[u8]
     text.strip_prefix(b"\xef\xbb\xbf").unwrap_or(text)
 }
 
-/// What the lines of a text come to, one after the other.
+/// Reads the lines of a text, one after the other.
 fn read_text(alloc: Global, text: &[u8]) -> Result<Vec<u8>, TextFault>
     ensures outcome { MatchResult result
         (λ bytes. read 0 (lines_of text.now) nothing_read ≡ Ok bytes.items)
@@ -73,7 +73,7 @@ fn read_text(alloc: Global, text: &[u8]) -> Result<Vec<u8>, TextFault>
     reader.finish()
 }
 
-/// The first line of a text, and what follows it.
+/// The first line of a text, and the text after it.
 pub(crate) fn split_line(text: &[u8]) -> (&[u8], &[u8])
     requires { 0 < length text.now }
     ensures line { StartsWithLine text.now result.0.now result.1.now }
@@ -110,7 +110,7 @@ fn without_return(line: &[u8]) -> &[u8]
     line.strip_suffix(b"\r").unwrap_or(line)
 }
 
-/// What the lines so far came to.
+/// The segments that the lines so far encode.
 #[derive(Drop)]
 struct Reader {
     alloc: Global,
@@ -143,7 +143,7 @@ impl Reader {
         }
     }
 
-    /// Takes in the line of this number.
+    /// Takes in the line that has this number.
     #[tactic(auto, unfolding(crate::specs::Steps::after_words))]
     fn read_line(&mut self, number: u64, line: &[u8]) -> Result<(), TextFault>
         ensures outcome { MatchResult result
@@ -151,7 +151,7 @@ impl Reader {
             (λ fault. Reports (after_words number (words_of line.now) self.old) fault) }
         ensures memory { IfErr result (λ fault. HasCause self.old fault) }
     {
-        if is_passed_over(line) {
+        if is_skipped(line) {
             return Ok(());
         }
         match item(line) {

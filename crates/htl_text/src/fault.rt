@@ -8,7 +8,7 @@ use htl_segment::Fault;
 use std::alloc::{AllocError, AllocFailed};
 use thiserror::Error;
 
-/// Why a line has none of the forms. The text is the fault's code.
+/// Why a line has none of the forms. The `Display` text is the fault's code.
 #[derive(Clone, Copy, Debug, PartialEq, Eq, Error)]
 pub enum FormFault {
     /// No form begins with the line's first words, or words follow its last field.
@@ -20,13 +20,13 @@ pub enum FormFault {
     Field(Field),
 }
 
-/// What is wrong with a line. The text is the fault's code.
+/// The fault of a line. The `Display` text is the fault's code.
 #[derive(Clone, Copy, Debug, PartialEq, Eq, Error)]
 pub enum LineFault {
     /// The line has none of the forms.
     #[error("{0}")]
     Form(FormFault),
-    /// An event or a frame before any segment, or a frame before any event of its segment.
+    /// There is an event or a frame before any segment, or a frame before any event of its segment.
     #[error("E2")]
     Order,
     /// The format can't encode the segment that begins at the line.

@@ -23,7 +23,7 @@ pub enum Field {
 }
 
 impl Field {
-    /// The name that the field has in a line, before the `=` of its value. A frame's stands nowhere.
+    /// The name of the field, which a line has before the `=` of its value. No line has that of a frame.
     pub fn name(self) -> &'static str
         ensures { result.now ≡ field_name self }
     {

@@ -1,8 +1,8 @@
-//! What the lines of a text say.
+//! Items: what the lines of a text say.
 
 use htl_event::Event;
 
-/// What a header says, whether or not it keeps the rules of the format.
+/// The fields of a header, whether or not they keep the rules of the format.
 #[derive(Clone, Copy, Debug, PartialEq, Eq)]
 pub(crate) struct Head {
     pub version: u16,
@@ -12,13 +12,13 @@ pub(crate) struct Head {
     pub number: u32,
 }
 
-/// What one line says.
+/// The item that one line says.
 #[derive(Debug, Drop)]
 pub(crate) enum Item {
-    /// A segment begins.
+    /// A segment begins here.
     Segment(Head),
-    /// An event of the segment, whose frames follow.
+    /// This is an event of the segment. Its frames follow.
     Event(Event<()>),
-    /// The next frame of the event's stack, from the innermost call outwards.
+    /// This is the next frame of the event's stack, from the innermost call outwards.
     Frame(u64),
 }

@@ -21,8 +21,8 @@ pub fn a_text_is_read_in_one_way()
         ⊎ ((n : ℕ) × (f : LineFault) × FirstFault text n f) }
 {}
 
-/// Where the fault of a segment is about an event, the line that is said of it is there, and has the
-/// event of that place of the segment.
+/// Where the fault of a segment is about an event, the line that is named for it exists, and has the
+/// event at that place of the segment.
 pub fn a_fault_of_an_event_has_its_line()
     ensures { (text : List ℕ) (line place : ℕ) (fault : Fault)
         → (found : IsSegmentFault (text_lines text) line fault) → record_of fault ≡ Some place
@@ -38,7 +38,7 @@ pub fn dumped_is_encoded_to_the_same_bytes()
 {}
 
 /// What was encoded is dumped to the same segments. They are those of the bytes, and their texts
-/// encode them too. What is passed over in a text, and how its words are parted, changes nothing.
+/// encode them too. What is skipped in a text, and how its words are separated, changes nothing.
 pub fn encoded_is_dumped_to_the_same_segments()
     ensures segments { (text : List ℕ) (ss ts : List Content) → Encodes text ss
         → Splits (bundle ss) ts [] → ts ≡ ss }

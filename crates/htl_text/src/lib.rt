@@ -5,8 +5,8 @@
 //! dumped is encoded to the same bytes, and what was encoded is dumped to the same segments.
 //!
 //! `specs/Lib` names the definitions in reading order: the items that lines write, the text of a
-//! segment (`Texts`), the fields of a line (`Fields`), which item a line has (`Lines`), and what a
-//! whole text encodes, or else its first fault (`Encoded`).
+//! segment (`Texts`), the fields of a line (`Fields`), the item of a line (`Lines`), and the segments
+//! that a whole text encodes, or else its first fault (`Encoded`).
 //!
 //! Files, in reading order: `item.rt` (what a line says), `dumping.rt` (segments to text),
 //! `field.rt`, `digits.rt`, `words.rt`, `values.rt` and `lines.rt` (from a line to its item),

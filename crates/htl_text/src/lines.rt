@@ -17,7 +17,7 @@ use htl_event::{Event, Kind};
 
 const NO_TAG: [u8; 4] = [0; 4];
 
-/// The item of a line that isn't passed over, if it has one of the forms.
+/// The item of a line that isn't skipped, if it has one of the forms.
 #[tactic(auto, unfolding(crate::specs::Lines::item_in, crate::specs::Lines::form_of))]
 pub(crate) fn item(line: &[u8]) -> Result<Item, FormFault>
     ensures { result ≡ item_in (words_of line.now) }

@@ -9,9 +9,8 @@ use crate::item::Item;
 use crate::lines::item;
 use htl_segment::Fault;
 
-/// The line of the event that a fault of a text is about, which is reported at a line: of the event
-/// at its place among those of the segment that begins there. Where the fault is about no event
-/// there is none.
+/// The line of the event that a fault of a text is about. The fault is reported at the line where the
+/// event's segment begins. A fault that is about no event has no such line.
 pub fn event_line(text: &[u8], line: u64, fault: LineFault) -> Option<u64>
     ensures { result ≡ event_line text.now line fault }
 {

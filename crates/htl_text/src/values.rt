@@ -13,7 +13,7 @@ use crate::fault::FormFault;
 use crate::field::Field;
 use crate::words::{after_bytes, first_word};
 
-/// How many digits a hexadecimal number has at most.
+/// The most digits of a hexadecimal number.
 const MAX_HEX_DIGITS: usize = 16;
 
 /// The number that decimal digits write, if it is at most `most`.
@@ -46,7 +46,7 @@ fn without_0x(text: &[u8]) -> &[u8]
     text.strip_prefix(b"0x").unwrap_or(text)
 }
 
-/// The same number, of digits that have `0x` before them.
+/// The number of hexadecimal digits that have `0x` before them.
 #[tactic(auto, unfolding(crate::specs::Fields::marked_value))]
 fn marked_value(text: &[u8], most: u64) -> Option<u64>
     ensures value { result ≡ marked_value most text.now }
@@ -59,7 +59,7 @@ fn marked_value(text: &[u8], most: u64) -> Option<u64>
     }
 }
 
-/// An object or a trace.
+/// The number of an object or a trace.
 fn address_value(text: &[u8]) -> Option<u64>
     ensures { result ≡ address_value text.now }
 {
@@ -95,7 +95,7 @@ fn tag_value(text: &[u8]) -> Option<[u8; 4]>
     None
 }
 
-/// What the first word has of a field, after its name and `=`, and the words that follow it.
+/// The value that the first word gives a field, after its name and `=`, and the words that follow it.
 #[tactic(auto, unfolding(crate::specs::Fields::first_text))]
 fn first_text<'a>(words: &'a [u8], field: Field) -> Option<(&'a [u8], &'a [u8])>
     ensures { MatchOption result
@@ -108,8 +108,8 @@ fn first_text<'a>(words: &'a [u8], field: Field) -> Option<(&'a [u8], &'a [u8])>
     Some((after_bytes(value, b"=")?, words))
 }
 
-/// The decimal number that the first word has of a field, at most `most`, and the words that
-/// follow; or the field that it doesn't have.
+/// The decimal number, at most `most`, that the first word gives a field, and the words that follow; or
+/// the field, if it has no such value.
 #[tactic(auto, unfolding(crate::specs::Fields::first_value))]
 pub(crate) fn number<'a>(
     words: &'a [u8],
@@ -128,7 +128,8 @@ pub(crate) fn number<'a>(
     Ok((decimal_value(text, most).ok_or(missing)?, words))
 }
 
-/// The same of a field that is an object or a trace.
+/// The value that the first word gives a field that is an object or a trace, and the words that follow;
+/// or the field, if it has no such value.
 #[tactic(auto, unfolding(crate::specs::Fields::first_value))]
 pub(crate) fn address<'a>(words: &'a [u8], field: Field) -> Result<(u64, &'a [u8]), FormFault>
     ensures { MatchResult result

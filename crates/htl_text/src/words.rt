@@ -3,10 +3,10 @@ ghost use Rattle.std.specs.Prelude.{◌≡◌, ◌≤◌, ◌∷◌, [], length,
 ghost use Rattle.std.specs.Prelude.{option_map};
 ghost use Rattle.std.specs.Str.{bytes_eq};
 ghost use Rattle.htl_text.specs.Fields.{after_bytes};
-ghost use Rattle.htl_text.specs.Lines.{is_blank, is_passed_over, words_of};
+ghost use Rattle.htl_text.specs.Lines.{is_blank, is_skipped, words_of};
 ghost use Rattle.htl_text.specs.Words.{word_end, word_start};
 
-/// The first word of a line and what follows it.
+/// The first word of a line, and the bytes after it.
 pub(crate) fn first_word(line: &[u8]) -> Option<(&[u8], &[u8])>
     ensures { MatchOption result
         (words_of line.now ≡ [])
@@ -19,7 +19,7 @@ pub(crate) fn first_word(line: &[u8]) -> Option<(&[u8], &[u8])>
     Some(rest.split_at(word_end(rest)))
 }
 
-/// How many blanks stand first.
+/// The number of blanks at the start.
 #[tactic(auto, using(crate::proofs::FirstWord::word_start_found))]
 fn word_start(line: &[u8]) -> usize
     ensures value { result ≡ word_start line.now }
@@ -49,7 +49,7 @@ fn first_blank(line: &[u8]) -> Option<usize>
     line.iter().position(|byte| is_blank(*byte))
 }
 
-/// Whether the byte parts words.
+/// Whether the byte separates words.
 fn is_blank(byte: u8) -> bool
     ensures { result ≡ is_blank byte }
 {
@@ -57,9 +57,9 @@ fn is_blank(byte: u8) -> bool
 }
 
 /// Whether a line says nothing.
-#[tactic(auto, unfolding(crate::specs::Lines::is_passed_over))]
-pub(crate) fn is_passed_over(line: &[u8]) -> bool
-    ensures { result ≡ is_passed_over (words_of line.now) }
+#[tactic(auto, unfolding(crate::specs::Lines::is_skipped))]
+pub(crate) fn is_skipped(line: &[u8]) -> bool
+    ensures { result ≡ is_skipped (words_of line.now) }
 {
     match first_word(line) {
         Some((word, _)) => word.starts_with(b"#"),
@@ -67,14 +67,14 @@ pub(crate) fn is_passed_over(line: &[u8]) -> bool
     }
 }
 
-/// Whether a word is the other.
+/// Whether two words are equal.
 pub(crate) fn is_word(word: &[u8], other: &[u8]) -> bool
     ensures { result ≡ bytes_eq word.now other.now }
 {
     word == other
 }
 
-/// What follows these bytes where a word begins with them.
+/// The bytes of a word after these, if it begins with them.
 #[tactic(auto, unfolding(crate::specs::Fields::after_bytes))]
 pub(crate) fn after_bytes<'a>(word: &'a [u8], bytes: &[u8]) -> Option<&'a [u8]>
     ensures { option_map (λ rest. rest.now) result ≡ after_bytes bytes.now word.entry.now }

@@ -17,7 +17,7 @@ use Rattle.htl_event.specs.Members.{IsRising}
 use Rattle.htl_event.specs.Tallies.{zero_count, plus_count, total_of, IsPositive}
 use Rattle.htl_event.proofs.Members.{Contains-here, Contains-there, Contains-cases, Contains-nil}
 use Rattle.htl_sorted.specs.Entries.{IsSorted, Each}
-use Rattle.htl_sorted.proofs.Bools.{both_left, both_right, less}
+use Rattle.htl_lemmas.proofs.Tests.{both_left, both_right, less}
 use Rattle.htl_sorted.proofs.Finds.{find_first, each_found}
 use Rattle.htl_tree.specs.Trees.{Tree, key_cmp, count_at, count_under, sum_where, total_count}
 use Rattle.htl_tree.specs.Trees.{IsTree, ByStackAndSlot, ListsRowsOf, BySlot, ListsSums}

@@ -12,19 +12,17 @@ use Rattle.htl_event.specs.declared.slot.Slot.{Slot}
 use Rattle.htl_event.specs.declared.slot.Count.{Count}
 use Rattle.htl_event.specs.Tallies.{zero_count, IsPositive}
 use Rattle.htl_sorted.specs.Entries.{IsSorted, Each}
-use Rattle.htl_sorted.proofs.Bools.{both_left, both_right}
+use Rattle.htl_lemmas.proofs.Tests.{both_left, both_right}
 use Rattle.htl_sorted.proofs.Finds.{find_below, find_below_all, find_first, find_skip}
 use Rattle.htl_event.specs.SlotOrder.{slot_cmp}
 use Rattle.htl_event.specs.OrderLaws.{slot_total, slot_same}
 use Rattle.htl_tree.specs.Nodes.{Position, tally, tally_of, counts, children, at_child, IsNonEmpty, IsNormal, IsSameTally}
 use Rattle.htl_tree.proofs.CountAdded.{normal_here, normal_child}
 use Rattle.htl_tree.proofs.Positions.{ind_position}
+use Rattle.htl_tree.proofs.FilterBits.{not_zero}
 
 abbrev or_zero : Option Count → Count
 or_zero o = unwrap_or o zero_count
-
-no_zero : IsPositive zero_count → ⊥
-no_zero h = omega arith
 
 -- a count somewhere
 pub record Witness {A : Type 0} (n : Position A) : Type 0 where
@@ -76,7 +74,7 @@ missing : {A : Type 0} (e : ℕ × Position A) (es fs : List (ℕ × Position A)
     → ((p : List ℕ) (s : Slot) → at_child (λ c. tally p s c) (find nat_cmp e.0 fs)
     ≡ at_child (λ c. tally p s c) (find nat_cmp e.0 (e ∷ es))) → ⊥
 missing e es fs w none same =
-    no_zero (subst IsPositive (sym (ap (at_child (λ c. tally w.path w.slot c)) (find_first nat_cmp nat_cmp_total e es))
+    not_zero (subst IsPositive (sym (ap (at_child (λ c. tally w.path w.slot c)) (find_first nat_cmp nat_cmp_total e es))
     ∙ sym (same w.path w.slot) ∙ ap (at_child (λ c. tally w.path w.slot c)) none) w.counts)
 
 abbrev Witnesses : {A : Type 0} → List (ℕ × Position A) → Type 0
@@ -144,8 +142,8 @@ found_positive R k (e ∷ es) h = elim (eq_by_cmp R k e.0) as (λ b. PositiveIfS
 -- counts that aren't zero are the same where they count the same
 pub same_option : (o p : Option Count) → PositiveIfSome o → PositiveIfSome p → unwrap_or p zero_count ≡ unwrap_or o zero_count → o ≡ p
 same_option None None h k e = refl
-same_option None (Some c) h k e = absurd (no_zero (subst IsPositive e k))
-same_option (Some c) None h k e = absurd (no_zero (subst IsPositive (sym e) h))
+same_option None (Some c) h k e = absurd (not_zero (subst IsPositive e k))
+same_option (Some c) None h k e = absurd (not_zero (subst IsPositive (sym e) h))
 same_option (Some c) (Some d) h k e = ap (λ (x : Count). Some x) (sym e)
 
 -- equal tallies have equal counts at the node

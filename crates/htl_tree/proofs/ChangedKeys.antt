@@ -9,7 +9,7 @@ use Rattle.std.specs.Cmp.{IsTotalOrder}
 use Rattle.std.specs.FinMap.Entries.{find, put, below_all, by_order}
 use Rattle.std.proofs.lemmas.List.Sums.{sum_by-cons}
 use Rattle.htl_sorted.specs.Entries.{IsSorted, Each}
-use Rattle.htl_sorted.proofs.Bools.{both, both_left, both_right}
+use Rattle.htl_lemmas.proofs.Tests.{both, both_left, both_right}
 use Rattle.htl_sorted.proofs.Finds.{find_first, find_below, below_lower, below_tied}
 
 module _ {K X : Type 0} (R : K → K → Ordering) where

@@ -10,6 +10,7 @@ use Rattle.htl_event.specs.declared.slot.Count.{Count}
 use Rattle.htl_event.specs.contracts.slot.SlotPartialEq.TheImpl as slot
 use Rattle.htl_event.specs.contracts.slot.CountPartialEq.TheImpl as count
 
+-- `==` of slots decides whether they are equal
 pub slot_Decides : (x y : Slot) → Decides (slot.ghosts.eq x y) (x ≡ y)
 slot_Decides (Tagged a b) (Tagged c d) = let tags = pointwise_decides unsigned_Decides b d in grind (arith, nat_tests, tags)
 slot_Decides (Handles a) (Handles b) = grind (arith, nat_tests)
@@ -24,5 +25,6 @@ slot_Decides (Bad a b) (Handles c) = (λ e. cc, λ e. cc)
 count_Decides : (x y : Count) → Decides (count.ghosts.eq x y) (x ≡ y)
 count_Decides x y = search rules
 
+-- and so does that of slots with their counts
 pub entry_Decides : (x y : Slot × Count) → Decides (slot.ghosts.eq x.0 y.0 && count.ghosts.eq x.1 y.1) (x ≡ y)
 entry_Decides x y = let a = slot_Decides x.0 y.0 in let b = count_Decides x.1 y.1 in grind (arith, a, b)

@@ -19,10 +19,10 @@ use Rattle.htl_event.specs.Stacks.{outer}
 use Rattle.htl_event.specs.Tallies.{zero_count, plus_count, count_where, has_stack, tally, under, IsPositive}
 use Rattle.htl_event.proofs.Counts.{count_where-append}
 use Rattle.htl_sorted.specs.Entries.{Each}
-use Rattle.htl_tree.specs.Trees.{Tree, key_cmp, add_one, sum_where, with_one, count_at, count_under, IsTree, HasTally}
+use Rattle.htl_tree.specs.Trees.{Tree, key_cmp, add_one, sum_where, count_under, IsTree, HasTally}
 use Rattle.htl_tree.proofs.CountAdded.{add_one_positive}
-use Rattle.htl_tree.proofs.TreesAsLists.{key_total, key_same, count_with_one, count_with_one-other}
-use Rattle.htl_tree.proofs.CopiesAndSums.{zero_left, zero_right}
+use Rattle.htl_tree.proofs.TreesAsLists.{key_total, key_same}
+use Rattle.htl_tree.proofs.CopiesAndSums.{zero_left}
 use Rattle.htl_tree.specs.Rows.{sum_at, one_at}
 use Rattle.htl_tree.proofs.SumsFromTally.{weigh, weigh_rows}
 use Rattle.htl_tree.proofs.Under.{same_slot_Decides}
@@ -222,10 +222,6 @@ under_events t h events tallied path slot =
 
 -- ---- one event more
 
-pub add_one_plus : (sign : Sign) (c : Count) → add_one sign c ≡ plus_count c (add_one sign zero_count)
-add_one_plus Plus c = let m : c.minus ≡ c.minus + 0 = omega arith in λ i. record { plus = c.plus + 1; minus = m i }
-add_one_plus Minus c = let p : c.plus ≡ c.plus + 0 = omega arith in λ i. record { plus = p i; minus = c.minus + 1 }
-
 tally_push : (events : List Event) (e : Event) (slot : Slot) (stack : List ℕ)
     → tally (events ++ e ∷ []) slot stack ≡ plus_count (tally events slot stack) (tally (e ∷ []) slot stack)
 tally_push events e slot stack = count_where-append (has_stack stack) events (e ∷ []) slot
@@ -236,28 +232,3 @@ pub tally_one_more : (events : List Event) (e : Event) (slot : Slot) (sign : Sig
 tally_one_more events e slot sign is s k =
     tally_push events e s k ∙ ap (plus_count (tally events s k))
     (one_event (has_stack k) e s (slot, sign) is ∙ ap (λ b. cond b (add_one sign zero_count) zero_count) (sym (here_is s slot k e.stack)))
-
--- an event that is counted adds one
-pub tally_with_one : (t : Tree) (events : List Event) (e : Event) (slot : Slot) (sign : Sign) → HasTally t events
-    → slot_of e ≡ Some (slot, sign) → HasTally (with_one t slot sign e.stack) (events ++ e ∷ [])
-tally_with_one t events e slot sign tallied is s k =
-    let whole = tally_push events e s k ∙ ap (plus_count (tally events s k)) (one_event (has_stack k) e s (slot, sign) is) in
-    (elim (same_slot s slot && pointwise nat_eq e.stack k) as (λ b. (same_slot s slot && pointwise nat_eq e.stack k) ≡ b
-    → count_at (with_one t slot sign e.stack) s k ≡ plus_count (tally events s k) (cond b (add_one sign zero_count) zero_count)) [
-      | true ↦ λ yes.
-          let here = (and_Decides _ _ _ _ (same_slot_Decides s slot) (pointwise_decides unsigned_Decides e.stack k)).0 yes in
-          ap (λ u. count_at (with_one t slot sign e.stack) u k) here.0
-          ∙ ap (λ l. count_at (with_one t slot sign e.stack) slot l) (sym here.1) ∙ count_with_one t slot sign e.stack
-          ∙ ap (λ l. add_one sign (count_at t slot l)) here.1 ∙ ap (λ u. add_one sign (count_at t u k)) (sym here.0)
-          ∙ ap (add_one sign) (tallied s k) ∙ add_one_plus sign (tally events s k)
-      | false ↦ λ differs.
-          let other : k ≡ e.stack → s ≡ slot → ⊥ = λ same_stack same. let yes =
-          (and_Decides _ _ _ _ (same_slot_Decides s slot) (pointwise_decides unsigned_Decides e.stack k)).1
-          (same, sym same_stack) in let never : false ≡ true = sym differs ∙ yes in cc in
-          count_with_one-other t slot sign e.stack s k other ∙ tallied s k ∙ zero_right (tally events s k)
-    ]) refl ∙ sym whole
-
--- an event that is counted nowhere changes nothing
-pub tally_same : (t : Tree) (events : List Event) (e : Event) → HasTally t events → slot_of e ≡ None → HasTally t (events ++ e ∷ [])
-tally_same t events e tallied is s k = tallied s k ∙ zero_right (tally events s k)
-    ∙ ap (plus_count (tally events s k)) (sym (no_event (has_stack k) e s is)) ∙ sym (tally_push events e s k)

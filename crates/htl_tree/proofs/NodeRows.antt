@@ -13,7 +13,7 @@ use Rattle.htl_event.specs.declared.slot.Slot.{Slot}
 use Rattle.htl_event.specs.declared.slot.Count.{Count}
 use Rattle.htl_event.specs.Tallies.{zero_count, IsPositive}
 use Rattle.htl_sorted.specs.Entries.{IsSorted, Each}
-use Rattle.htl_sorted.proofs.Bools.{both_left, both_right, less}
+use Rattle.htl_lemmas.proofs.Tests.{both_left, both_right, less}
 use Rattle.htl_sorted.proofs.Finds.{find_below, below_tied, each_found}
 use Rattle.htl_tree.specs.declared.node.Node.{Node}
 use Rattle.htl_tree.specs.declared.node.Node.TheFolds.{fold_out-Node}

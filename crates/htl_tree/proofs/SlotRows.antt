@@ -19,7 +19,7 @@ use Rattle.htl_event.specs.Members.{IsRising}
 use Rattle.htl_event.specs.Tallies.{zero_count, IsPositive, ByStack}
 use Rattle.htl_event.proofs.Members.{Contains-here, Contains-there, Contains-cases, Contains-nil}
 use Rattle.htl_sorted.specs.Entries.{IsSorted}
-use Rattle.htl_sorted.proofs.Bools.{both_left, both_right, less}
+use Rattle.htl_lemmas.proofs.Tests.{both_left, both_right, less}
 use Rattle.htl_sorted.proofs.Finds.{find_first, each_found}
 use Rattle.htl_event.specs.SlotOrder.{slot_cmp}
 use Rattle.htl_event.specs.OrderLaws.{slot_total}

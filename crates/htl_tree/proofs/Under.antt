@@ -8,7 +8,6 @@ use Rattle.std.specs.Cmp.{nat_cmp_total, tied_itself, unsigned_Decides}
 use Rattle.std.specs.Cmp.Lexicographic.{pointwise_decides}
 use Rattle.std.specs.FinMap.{nat_cmp-IsAntisymmetric}
 use Rattle.std.specs.FinMap.Entries.{find}
-use Rattle.std.specs.declared.cmp.Ordering.{Ordering}
 use Rattle.std.specs.declared.cmp.Ordering.TheVariants.{Less, Equal, Greater}
 use Rattle.std.proofs.lemmas.Bool.Decides.{nat_tests, same_from_decides}
 use Rattle.std.proofs.lemmas.List.{reverse-reverse}
@@ -20,7 +19,7 @@ use Rattle.htl_event.specs.Slots.{same_slot}
 use Rattle.htl_event.specs.Stacks.{outer}
 use Rattle.htl_event.specs.Tallies.{zero_count, plus_count, total_of}
 use Rattle.htl_sorted.specs.Entries.{IsSorted}
-use Rattle.htl_sorted.proofs.Bools.{both_left, both_right}
+use Rattle.htl_lemmas.proofs.Tests.{both_left, both_right, equal}
 use Rattle.htl_sorted.proofs.Finds.{find_below, below_tied}
 use Rattle.htl_event.specs.SlotOrder.{slot_cmp}
 use Rattle.htl_event.specs.OrderLaws.{slot_total, slot_same}
@@ -46,15 +45,10 @@ same_slot_Decides (Handles a) (Bad b c) = (λ e. cc, λ e. cc)
 same_slot_Decides (Bad a b) (Tagged c d) = (λ e. cc, λ e. cc)
 same_slot_Decides (Bad a b) (Handles c) = (λ e. cc, λ e. cc)
 
-is_eq_equal : (r : Ordering) → is_eq r ≡ true → r ≡ Equal
-is_eq_equal Less e = cc
-is_eq_equal Equal e = refl
-is_eq_equal Greater e = cc
-
 -- slots are the same exactly where they tie
 pub same_slot_tied : (s t : Slot) → same_slot s t ≡ is_eq (slot_cmp s t)
 same_slot_tied s t = same_from_decides _ _ (same_slot_Decides s t)
-    (λ e. slot_same s t (is_eq_equal (slot_cmp s t) e), λ e. ap (λ u. is_eq (slot_cmp s u)) (sym e) ∙ ap is_eq (tied_itself slot_total s))
+    (λ e. slot_same s t (equal (slot_cmp s t) e), λ e. ap (λ u. is_eq (slot_cmp s u)) (sym e) ∙ ap is_eq (tied_itself slot_total s))
 
 module _ (slot : Slot) where
   pub sum_where-append : (p : List ℕ → Bool) (xs ys : Tree)

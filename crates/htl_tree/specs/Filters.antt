@@ -1,4 +1,4 @@
--- Filters: one bit of 64 for each slot, by which walks pass over what can't count a slot.
+-- Filters: one bit of 64 for each slot, by which walks skip what can't count a slot.
 use Rattle.std.specs.Prelude.{◌≡◌, ℕ, ◌*◌, ◌/◌, ◌%◌, ◌^◌, List}
 use Rattle.std.specs.List.{AllByRecursion}
 use Rattle.std.specs.Int.Bits.{bit_and}

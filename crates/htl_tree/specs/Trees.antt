@@ -39,15 +39,6 @@ add_one Minus count = record { plus = count.plus; minus = count.minus + 1 }
 abbrev pub with_one : Tree → Slot → Sign → List ℕ → Tree
 with_one tree slot sign stack = put key_cmp (stack, slot) (add_one sign (count_at tree slot stack)) tree
 
--- one more where an event with this slot and stack is counted
-abbrev pub with_slot : Tree → Option (Slot × Sign) → List ℕ → Tree
-with_slot tree None stack = tree
-with_slot tree (Some x) stack = with_one tree x.0 x.1 stack
-
--- the event counted too
-abbrev pub with_event : Tree → Event → Tree
-with_event tree event = with_slot tree (slot_of event) event.stack
-
 -- the sum of the slot's counts at the stacks that pass
 abbrev pub sum_where : (List ℕ → Bool) → Slot → Tree → Count
 sum_where passes slot [] = zero_count

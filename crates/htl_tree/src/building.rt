@@ -1,5 +1,5 @@
-//! The tree of rows. They are gathered by stack, and each stack is put into the tree by one
-//! descent.
+//! Builds the tree of rows. The rows are gathered by stack, and each stack is put into the tree by
+//! one descent.
 
 ghost use Rattle.std.specs.Prelude.{◌≡◌, ℕ, List, ◌+◌, ◌<◌, ◌≤◌, ◌^◌};
 ghost use Rattle.std.specs.Prelude.{length, take, true, IfOk, OnOk};
@@ -41,7 +41,7 @@ pub fn root_of<A: Allocator + Clone>(
     Ok(root)
 }
 
-/// In stack order, and then by the first slot.
+/// Puts groups in stack order. Groups of one stack are in the order of their first slots.
 fn by_stack(a: &[Row<'_>], b: &[Row<'_>]) -> Ordering {
     match (a.first(), b.first()) {
         (Some(a), Some(b)) => match a.stack.iter().rev().cmp(b.stack.iter().rev()) {
@@ -52,7 +52,7 @@ fn by_stack(a: &[Row<'_>], b: &[Row<'_>]) -> Ordering {
     }
 }
 
-/// The rows in groups of neighbours that have one stack.
+/// The rows in groups. Each group has neighbours with the same stack.
 fn groups_of<'a, 'b, A: Allocator>(
     alloc: A,
     rows: &'b [Row<'a>],
@@ -73,7 +73,7 @@ fn groups_of<'a, 'b, A: Allocator>(
     Ok(groups)
 }
 
-/// How many rows at the start have one stack.
+/// The number of rows at the start that have the stack of the first.
 fn alike(rows: &[Row<'_>]) -> usize
     requires { 0 < length rows.now }
     ensures some { 0 < result }
@@ -87,15 +87,15 @@ fn alike(rows: &[Row<'_>]) -> usize
     len
 }
 
-/// Whether two rows have one stack, where equal ones have one fingerprint. Others needn't be
-/// fetched from memory.
+/// Whether two rows have the same stack and the same fingerprint. Stacks with different fingerprints
+/// needn't be fetched from memory.
 fn have_one_stack(one: &Row<'_>, other: &Row<'_>) -> bool
     ensures { result ≡ true → other.now.stack.now ≡ one.now.stack.now }
 {
     one.fingerprint == other.fingerprint && other.stack == one.stack
 }
 
-/// Adds what the rows of one stack count.
+/// Adds the counts of the rows of one stack.
 fn add_group<A: Allocator + Clone>(
     root: &mut Option<Node<A>>,
     alloc: &A,

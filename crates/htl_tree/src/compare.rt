@@ -1,4 +1,4 @@
-//! Whether two positions count the same.
+//! Equality: whether two positions count the same.
 
 ghost use Rattle.std.specs.Prelude.{◌≡◌, ◌↔◌, IsTrue};
 ghost use Rattle.htl_tree.specs.Nodes.{position_of, tally_of, IsNormal, IsSameTally};

@@ -1,28 +1,27 @@
-//! Events counted in rows. Hints find the row that counts an event's slot and stack.
+//! Counts events in rows. Hints find the row that counts an event's slot and stack.
 
 ghost use Rattle.std.specs.Prelude.{◌≡◌, List, ◌+◌, ◌<◌, ◌≤◌, ◌^◌, [], ◌∷◌, ◌++◌};
-ghost use Rattle.std.specs.Prelude.{length, true, false, IfOk, IfSome, OnOk};
-ghost use Rattle.std.specs.List.{flat_map};
+ghost use Rattle.std.specs.Prelude.{length, true, false, IfOk, OnOk};
 ghost use Rattle.htl_event.specs.Events.{Event};
 ghost use Rattle.htl_tree.specs.Trees.{total_count};
 ghost use Rattle.htl_tree.specs.Rows.{entries_of, AreRows, HaveTally, IsOneMore};
 
-use crate::hints::Hints;
+use crate::hints::RowHints;
 use crate::node::{ZERO, add_one};
 use crate::row::Row;
-use htl_event::{EventList, NoMemory, SharedEvent, Sign, Slot};
+use htl_event::{NoMemory, SharedEvent, Sign, Slot};
 use std::alloc::Allocator;
 
-/// Rows that count events, and their number.
+/// Rows that count events, and the number of these events.
 #[derive(Drop)]
 pub struct Counting<'a, A: Allocator> {
     pub rows: Vec<Row<'a>, A>,
     pub total: u64,
-    hints: Hints<A>,
+    hints: RowHints<A>,
 }
 
 impl<'a, A: Allocator> Counting<'a, A> {
-    /// No rows yet, and hints for so many events.
+    /// No row yet, and hints for this many events.
     pub fn new(alloc: &A, events: usize) -> Result<Self, NoMemory>
     where
         A: Clone,
@@ -30,7 +29,7 @@ impl<'a, A: Allocator> Counting<'a, A> {
         ensures none { IfOk result (λ counting. HaveTally counting.rows.items []) }
         ensures total { IfOk result (λ counting. counting.total ≡ 0) }
     {
-        let hints = Hints::new(alloc.clone()?, events)?;
+        let hints = RowHints::new(alloc.clone()?, events)?;
         Ok(Counting {
             rows: Vec::new(alloc.clone()?),
             total: 0,
@@ -38,7 +37,7 @@ impl<'a, A: Allocator> Counting<'a, A> {
         })
     }
 
-    /// Counts the events too.
+    /// Counts these events.
     pub fn count_all(&mut self, events: &'a [SharedEvent]) -> Result<(), NoMemory>
         requires rows { AreRows self.old.rows.items self.old.total }
         requires room { self.old.total + length events.now < 2 ^ 64 }
@@ -54,7 +53,7 @@ impl<'a, A: Allocator> Counting<'a, A> {
         Ok(())
     }
 
-    /// The rows, and how many events they count.
+    /// The rows, and the number of events that they count.
     pub fn into_rows(self) -> (Vec<Row<'a>, A>, u64)
         ensures rows { result.0 ≡ self.entry.rows }
         ensures total { result.1 ≡ self.entry.total }
@@ -62,8 +61,8 @@ impl<'a, A: Allocator> Counting<'a, A> {
         (self.rows, self.total)
     }
 
-    /// Counts one more event, whose row is likely to be at this place. One that is counted nowhere
-    /// changes nothing.
+    /// Counts one more event, whose row is likely to be at this place. An event without a slot changes
+    /// nothing.
     fn count(&mut self, event: &'a SharedEvent, place: usize) -> Result<(), NoMemory>
         requires rows { AreRows self.old.rows.items self.old.total }
         requires room { self.old.total + 1 < 2 ^ 64 }
@@ -93,26 +92,11 @@ impl<'a, A: Allocator> Counting<'a, A> {
     }
 }
 
-/// How many events the lists have, or none where the number is no `u64`.
-pub fn number_of_events<R: EventList>(lists: &[R]) -> Option<usize>
-    ensures some { IfSome result (λ number. number ≡ length (flat_map R.events_of lists.now)) }
-    ensures none { result ≡ None → 2 ^ 64 ≤ length (flat_map R.events_of lists.now) }
-{
-    let mut number = 0usize;
-    for list in lists {
-        match number.checked_add(list.events().len()) {
-            Some(sum) => number = sum,
-            None => return None,
-        }
-    }
-    Some(number)
-}
-
-/// Counts one more of the slot with the stack: in the row at this place, where that counts these,
-/// else in a row of its own.
+/// Counts the slot with the stack once more: in the row at this place, where it counts these two, or
+/// else in a new row.
 fn count_in_rows<'a, A: Allocator>(
     rows: &mut Vec<Row<'a>, A>,
-    hints: &mut Hints<A>,
+    hints: &mut RowHints<A>,
     place: usize,
     fingerprint: u64,
     stack: &'a [u64],
@@ -131,12 +115,13 @@ fn count_in_rows<'a, A: Allocator>(
         slot,
         count: add_one(ZERO, sign),
     };
+    let end = rows.len();
     rows.push(row)?;
-    hints.put(hints.cell(fingerprint, slot), rows.len());
+    hints.put(hints.cell(fingerprint, slot), end);
     Ok(())
 }
 
-/// Counts one more in the row at this place, where there is one of this slot and stack.
+/// Counts once more in the row at this place, if that counts this slot with this stack.
 fn count_in_row(
     rows: &mut [Row<'_>],
     place: usize,

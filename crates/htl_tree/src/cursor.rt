@@ -21,7 +21,7 @@ pub struct Cursor<'a, A: Allocator> {
 }
 
 impl<A: Allocator> Node<A> {
-    /// The position from which all of its frames lead to it.
+    /// The position before all frames of a node.
     pub fn top(&self) -> Cursor<'_, A>
         ensures { position_of result ≡ top self.now }
     {
@@ -33,7 +33,7 @@ impl<A: Allocator> Node<A> {
 }
 
 impl<'a, A: Allocator> Cursor<'a, A> {
-    /// The position so many frames further towards the node.
+    /// The position this many frames further towards the node.
     pub fn skip(&self, frames: usize) -> Cursor<'a, A>
         requires { frames ≤ length self.now.frames.now }
         ensures { position_of result ≡ (drop frames self.now.frames.now, self.now.node.now) }
@@ -55,14 +55,14 @@ impl<'a, A: Allocator> Cursor<'a, A> {
         }
     }
 
-    /// The filters of the slots that are counted here and further in.
+    /// The filters of the slots that are counted here or further in.
     pub fn filters(&self) -> u64
         ensures { result ≡ filters (position_of self.now) }
     {
         self.node.filters
     }
 
-    /// How many positions are one frame further in. Before the node it is one.
+    /// The number of positions one frame further in. Before the node there is one.
     pub fn number_of_children(&self) -> usize
         ensures { result ≡ length (children (position_of self.now)) }
     {

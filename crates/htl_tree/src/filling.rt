@@ -1,4 +1,4 @@
-//! Rows of one stack put into a node: all their counts by one descent.
+//! Puts the rows of one stack into a node, all their counts by one descent.
 
 ghost use Rattle.std.specs.Prelude.{◌≡◌, ◌+◌, ◌<◌, ◌^◌, length, reverse, IfOk, OnOk};
 ghost use Rattle.std.specs.FinMap.Entries.{put};
@@ -16,7 +16,7 @@ use htl_event::{Count, NoMemory, Slot};
 use std::alloc::Allocator;
 
 impl<A: Allocator + Clone> Node<A> {
-    /// A node that counts the rows at the end of the stack, and nothing else. Its vectors have no
+    /// A node that counts these rows at the end of the stack, and nothing else. Its vectors have no
     /// room to spare.
     pub fn chain(alloc: &A, stack: &[u64], rows: &[Row<'_>]) -> Result<Self, NoMemory>
         requires some { 0 < length rows.now }
@@ -29,7 +29,7 @@ impl<A: Allocator + Clone> Node<A> {
         Node::leaf(alloc, counts, stack)
     }
 
-    /// Adds what the rows count at the end of the stack.
+    /// Adds the counts of the rows at the end of the stack.
     pub fn add_rows(&mut self, stack: &[u64], rows: &[Row<'_>]) -> Result<(), NoMemory>
         requires normal { IsNormal (top self.old) }
         requires some { 0 < length rows.now }
@@ -65,7 +65,7 @@ impl<A: Allocator + Clone> Node<A> {
     }
 }
 
-/// Adds what the rows count of each slot. Room for all is made at once.
+/// Adds the counts of the rows, slot by slot. Room for all is made at once.
 fn add_to_counts<A: Allocator>(
     counts: &mut Vec<(Slot, Count), A>,
     rows: &[Row<'_>],
@@ -86,7 +86,7 @@ fn add_to_counts<A: Allocator>(
     Ok(())
 }
 
-/// Adds to the slot's count.
+/// Adds this count to the slot's.
 pub fn add_count<A: Allocator>(
     counts: &mut Vec<(Slot, Count), A>,
     slot: Slot,

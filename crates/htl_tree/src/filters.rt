@@ -1,5 +1,5 @@
-//! Filters: one bit of 64 for each slot. Where a slot's filter is not in a number that has the
-//! filters of all slots of a list, the slot is not in the list.
+//! Filters: each slot has one bit of 64. A list has the bits of all its slots in one number, so a slot
+//! whose bit isn't in that number isn't in the list.
 
 ghost use Rattle.std.specs.Prelude.{◌≡◌, ℕ, true};
 ghost use Rattle.std.specs.Int.Bits.{bit_and};
@@ -10,7 +10,7 @@ ghost use Rattle.htl_tree.specs.Filters.{bit_of, filter_of, common_filter, HasFi
 use crate::slots::Slots;
 use htl_event::{Count, Slot};
 
-/// What numbers are multiplied by, so that those that differ in few bits have different filters.
+/// An odd constant for multiplicative hashing: numbers that differ in few bits get different filters.
 const SPREAD: u64 = 0x9e37_79b9_7f4a_7c15;
 
 /// One bit of 64, by the slot's object or process.
@@ -35,7 +35,7 @@ pub fn filters_of(counts: &[(Slot, Count)]) -> u64
     filters
 }
 
-/// What the filters of these slots have in common: one bit, or none where all slots are asked for.
+/// The bit that all these slots have as their filter, or no bit where all slots are asked for.
 pub fn common_filter(slots: Slots) -> u64
     ensures value { result ≡ common_filter slots }
     ensures of_each { (filters : ℕ) (slot : Slot) → has_slot slots slot ≡ true

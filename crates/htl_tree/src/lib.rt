@@ -4,11 +4,11 @@
 //! stacks and slots. Equal tallies have one tree, so `StackTree::same` walks two trees side by
 //! side.
 //!
-//! Files, in reading order: `tree.rt` (the public type), `slots.rt` (which slots are asked for),
+//! Files, in reading order: `tree.rt` (the public type), `slots.rt` (the slots that are asked for),
 //! `root.rt` (the same calls on an optional root), `node.rt` (a node, which keeps all frames up to
-//! the next fork, and adding), `filters.rt` (which slots may be counted from a node on, as one
+//! the next fork, and adding), `filters.rt` (the slots that may be counted from a node on, as one
 //! number), `cursor.rt` (a position in the tree, where each step is one frame, and look-up),
-//! `order.rt` (what the two lists of a node are sorted by). The tree of many events is made by
+//! `order.rt` (the order of the two lists of a node). The tree of many events is made by
 //! rows that hints find and one descent for each stack: `counting.rt`, `hints.rt`, `row.rt`,
 //! `sorting.rt` (rows of one fingerprint brought together), `building.rt`, `filling.rt`. Then
 //! `sums.rt` (copy and plus), `compare.rt` (equality), `prefix.rt` (the prefix tally),
@@ -40,4 +40,4 @@ mod sums;
 mod tree;
 
 pub use slots::Slots;
-pub use tree::{StackTree, fits_events};
+pub use tree::StackTree;

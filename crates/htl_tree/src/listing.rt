@@ -1,4 +1,4 @@
-//! Lists of what a node counts.
+//! Lists of the counts and slots of a node.
 
 ghost use Rattle.std.specs.Prelude.{◌≡◌, ℕ, ◌<◌, ◌≤◌, List, [], ◌++◌, ◌↔◌, length};
 ghost use Rattle.std.specs.Prelude.{map, reverse, false, Contains, IfOk, OnOk};
@@ -134,7 +134,7 @@ fn push_rows(
     Ok(())
 }
 
-/// Whether any of the counts is of one of these slots.
+/// Whether one of the counts is of one of these slots.
 fn has_any(counts: &[(Slot, Count)], slots: Slots) -> bool
     ensures { result ≡ false → (path : List ℕ)
         → rows_of_counts (has_slot slots) path counts.now ≡ [] }
@@ -157,7 +157,7 @@ fn stack_at(alloc: Global, path: &[u64]) -> Result<SharedStack, NoMemory>
     SharedStack::of(alloc, addresses, 0)
 }
 
-/// The rows of one slot without it.
+/// The rows of one slot, with the slot left out.
 pub fn without_slot(
     alloc: Global,
     rows: &[((Slot, SharedStack), Count)],

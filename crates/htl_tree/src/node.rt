@@ -26,13 +26,13 @@ use std::mem;
 /// that equal tallies have one tree when it is seen frame by frame.
 #[derive(Drop)]
 pub struct Node<A: Allocator> {
-    /// The frames that lead to it, the outermost first, but for the one that its parent has it
-    /// under.
+    /// The frames that lead to the node, the outermost first. The first of all is missing: the parent
+    /// has the node under that frame.
     pub frames: Vec<u64, A>,
     pub counts: Vec<(Slot, Count), A>,
     pub children: Vec<(u64, Node<A>), A>,
     /// The filters of the slots that are counted at the node and below it. A walk that looks for
-    /// slots with other filters passes over the node.
+    /// slots with other filters skips the node.
     pub filters: u64,
 }
 
@@ -126,8 +126,8 @@ impl<A: Allocator> Node<A> {
         }
     }
 
-    /// Leaves the node only frames that the stack begins with, and returns the rest of the stack.
-    /// What the node counts is the same.
+    /// Shortens the node's frames to those that the stack begins with, and returns the rest of the
+    /// stack. The counts stay the same.
     pub fn enter<'a>(&mut self, stack: &'a [u64]) -> Result<&'a [u64], NoMemory>
     where
         A: Clone,
@@ -143,16 +143,16 @@ impl<A: Allocator> Node<A> {
         Ok(&stack[..stack.len() - shared])
     }
 
-    /// Whether the filter is among those of the node. Where it isn't, no slot that has it is
-    /// counted at the node or below it.
+    /// Whether the node has this filter. If it hasn't, no slot with this filter is counted at the node
+    /// or below it.
     pub fn may_count(&self, filter: u64) -> bool
         ensures { result ≡ false → bit_and (filters_at self.now) filter ≢ filter }
     {
         self.filters & filter == filter
     }
 
-    /// Leaves the node so many of its frames, and puts the rest of them, its counts and its
-    /// children into its only child. Both have all of its filters.
+    /// Splits the node: it keeps this many frames, and its only child gets the other frames, the counts
+    /// and the children. Both have all filters of the node.
     fn split(&mut self, len: usize) -> Result<(), NoMemory>
     where
         A: Clone,
@@ -177,7 +177,7 @@ impl<A: Allocator> Node<A> {
         Ok(())
     }
 
-    /// Each node gets what the other counts and has below it, and keeps its frames and filters.
+    /// Exchanges the counts and the children of two nodes. Each keeps its frames and filters.
     fn swap_inside(&mut self, other: &mut Self)
         ensures frames { frames self.new ≡ frames self.old }
         ensures filters { filters_at self.new ≡ filters_at self.old }
@@ -193,7 +193,7 @@ impl<A: Allocator> Node<A> {
     }
 }
 
-/// Puts in a child under its frame. Most nodes of a tree are children of forks with few of them.
+/// Inserts a child at the place of its frame. Most forks have few children, so room is made for one.
 pub fn insert_child<A: Allocator>(
     children: &mut Vec<(u64, Node<A>), A>,
     place: usize,
@@ -212,7 +212,7 @@ pub fn insert_child<A: Allocator>(
     Ok(())
 }
 
-/// With how many of the frames the stack begins, read from its outermost frame.
+/// The number of these frames with which the stack begins, read from its outermost frame.
 fn shared_len(frames: &[u64], stack: &[u64]) -> usize
     ensures within { result ≤ length frames.now }
     ensures stack { result ≤ length stack.now }

@@ -1,4 +1,4 @@
-//! What a node's two lists are sorted by.
+//! The orders of a node's two lists.
 
 use crate::node::{Node, sum_of};
 use htl_event::{Count, Slot};
@@ -6,7 +6,7 @@ use htl_sorted::{Joined, Keyed};
 use std::alloc::{AllocError, Allocator};
 use std::marker::PhantomData;
 
-/// A node's counts, by slot.
+/// The counts of a node, in slot order.
 pub struct BySlot;
 
 impl Keyed for BySlot {
@@ -29,7 +29,7 @@ impl Keyed for BySlot {
     }
 }
 
-/// Two counts of one slot add up.
+/// Two counts of one slot are added up.
 impl Joined for BySlot {
     ghost use Rattle.std.specs.Prelude.{◌+◌, ◌<◌, ◌^◌};
     ghost use Rattle.htl_event.specs.Tallies.{plus_count, total_of};
@@ -47,7 +47,7 @@ impl Joined for BySlot {
     }
 }
 
-/// A node's children, by frame.
+/// The children of a node, in the order of their frames.
 pub struct ByFrame<A: Allocator>(PhantomData<A>);
 
 impl<A: Allocator> Keyed for ByFrame<A> {

@@ -1,4 +1,4 @@
-//! The root of a tree. It is made by the first count.
+//! The root of a tree. The first count makes it.
 
 ghost use Rattle.std.specs.Prelude.{◌≡◌, ◌+◌, ◌<◌, ◌≤◌, ◌^◌, ◌↔◌};
 ghost use Rattle.std.specs.Prelude.{length, IsTrue, IfOk, MatchResult};

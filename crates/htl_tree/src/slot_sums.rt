@@ -21,7 +21,7 @@ pub fn sort_by_slot<A: Allocator>(counts: &mut Vec<(Slot, Count), A>)
     counts.sort_unstable_by_key(|count| count.0);
 }
 
-/// The counts added up by slot. Where they are in slot order, each is added at the end.
+/// Adds up the counts of each slot. Where they are in slot order, each is added at the end.
 pub fn add_up<A: Allocator + Clone>(
     alloc: &A,
     counts: &[(Slot, Count)],
@@ -37,8 +37,8 @@ pub fn add_up<A: Allocator + Clone>(
     Ok(sums)
 }
 
-/// How often the slot changes along the counts: how many sums they have where they are in slot
-/// order. It only says how much room to make.
+/// The number of sums where the counts are in slot order, and more elsewhere. It only says how much
+/// room to make.
 fn number_of_slots(counts: &[(Slot, Count)]) -> usize {
     let mut number = 0usize;
     let mut last = None;

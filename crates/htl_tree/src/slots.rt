@@ -1,11 +1,11 @@
-//! Which slots are asked for.
+//! The slots that a question asks for.
 
 ghost use Rattle.std.specs.Prelude.{◌≡◌};
 ghost use Rattle.htl_tree.specs.Asked.{has_slot};
 
 use htl_event::Slot;
 
-/// Which slots are asked for.
+/// The slots that a question asks for.
 #[derive(Clone, Copy)]
 pub enum Slots {
     /// Every slot.

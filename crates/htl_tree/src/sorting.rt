@@ -1,5 +1,5 @@
-//! Rows of equal fingerprints brought together. They are put into buckets first, which takes one
-//! step for each row, and then the few rows of each bucket are sorted.
+//! Brings rows of equal fingerprints together. The rows are put into buckets first, which takes one
+//! step for each, and then the few rows of each bucket are sorted.
 
 ghost use Rattle.std.specs.Prelude.{◌<◌, length};
 ghost use Rattle.std.specs.List.Sorted.{IsPermutation};
@@ -8,7 +8,7 @@ use crate::row::Row;
 use std::alloc::Allocator;
 use std::cmp::Ordering;
 
-/// How many buckets there are. A bucket of a million rows still has few enough to be sorted in the
+/// The number of buckets. A bucket of a million rows still has few enough to be sorted in the
 /// processor's nearest memory.
 const BUCKETS: usize = 1024;
 
@@ -27,14 +27,14 @@ fn sort_slice(rows: &mut [Row<'_>])
     sort_buckets(rows, &ends);
 }
 
-/// The bucket of a row: one for each fingerprint.
+/// The bucket of a row. Rows with one fingerprint have one bucket.
 fn bucket_of(row: &Row<'_>) -> usize
     ensures { result < BUCKETS }
 {
     (row.fingerprint.wrapping_mul(0xd6e8_feb8_6659_fd93) >> 54) as usize % BUCKETS
 }
 
-/// How many rows each bucket gets.
+/// The number of rows that each bucket gets.
 fn numbers_in_buckets(rows: &[Row<'_>]) -> [usize; BUCKETS] {
     let mut numbers = [0usize; BUCKETS];
     for row in rows {
@@ -44,7 +44,7 @@ fn numbers_in_buckets(rows: &[Row<'_>]) -> [usize; BUCKETS] {
     numbers
 }
 
-/// Where each bucket ends, where they have so many rows.
+/// The end of each bucket, given the numbers of their rows.
 fn ends_of_buckets(numbers: [usize; BUCKETS]) -> [usize; BUCKETS] {
     let mut ends = numbers;
     for bucket in 1..BUCKETS {
@@ -53,7 +53,7 @@ fn ends_of_buckets(numbers: [usize; BUCKETS]) -> [usize; BUCKETS] {
     ends
 }
 
-/// Where each bucket starts.
+/// The start of each bucket.
 fn starts_of_buckets(ends: &[usize; BUCKETS]) -> [usize; BUCKETS] {
     let mut starts = [0usize; BUCKETS];
     for bucket in 0..BUCKETS {
@@ -62,7 +62,7 @@ fn starts_of_buckets(ends: &[usize; BUCKETS]) -> [usize; BUCKETS] {
     starts
 }
 
-/// Where a bucket starts: where the one before it ends.
+/// The start of a bucket: the end of the one before it.
 fn start_of(ends: &[usize; BUCKETS], bucket: usize) -> usize {
     match bucket.checked_sub(1).and_then(|before| ends.get(before)) {
         Some(end) => *end,
@@ -112,7 +112,7 @@ fn sort_buckets(rows: &mut [Row<'_>], ends: &[usize; BUCKETS])
     }
 }
 
-/// Sorts the rows from one place on and below another, where there are such.
+/// Sorts the rows from one place up to another, if there are any.
 fn sort_part(rows: &mut [Row<'_>], start: usize, end: usize)
     ensures { IsPermutation rows.old rows.new }
 {

@@ -1,4 +1,4 @@
-//! Nodes made of others: a copy, and the sum of two.
+//! Copies of nodes, and sums of two nodes.
 
 ghost use Rattle.std.specs.Prelude.{◌≡◌, ◌+◌, ◌<◌, ◌≤◌, ◌^◌, ◌++◌, length, drop, take, IfOk, OnOk};
 ghost use Rattle.std.specs.Prelude.{◌≢◌, get_or};
@@ -19,7 +19,7 @@ use std::alloc::Allocator;
 use std::cmp::Ordering;
 
 impl<'a, A: Allocator + Clone> Cursor<'a, A> {
-    /// A node that counts the same.
+    /// A copy of the node at this position.
     #[cycle(copying)]
     pub fn copy(&self, alloc: &A) -> Result<Node<A>, NoMemory>
         requires { IsNormal (position_of self.now) }
@@ -83,7 +83,7 @@ impl<'a, A: Allocator + Clone> Cursor<'a, A> {
     }
 }
 
-/// How many frames both begin with.
+/// The number of frames with which both begin.
 fn common_len(left: &[u64], right: &[u64]) -> usize
     ensures left { result ≤ length left.now }
     ensures right { result ≤ length right.now }
@@ -116,7 +116,7 @@ fn plus_counts<A: Allocator>(
     Ok(sums)
 }
 
-/// Adds copies of the children from this one on.
+/// Adds copies of the children, from this one on.
 #[cycle(copying)]
 fn copy_children<A: Allocator + Clone>(
     alloc: &A,

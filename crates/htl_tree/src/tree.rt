@@ -1,10 +1,7 @@
-//! The tree as its callers see it.
-
-ghost use Rattle.std.specs.Prelude.{◌<◌, ◌^◌, ◌↔◌, length, IsTrue};
-ghost use Rattle.std.specs.List.{flat_map};
+//! The tree and its public calls.
 
 use crate::building::root_of;
-use crate::counting::{Counting, number_of_events};
+use crate::counting::Counting;
 use crate::listing::without_slot;
 use crate::node::{Node, ZERO};
 use crate::root::{
@@ -13,11 +10,11 @@ use crate::root::{
 };
 use crate::slot_sums::{add_up, sort_by_slot};
 use crate::slots::Slots;
-use htl_event::{Count, EventList, NoMemory, SharedEvent, SharedStack, Sign, Slot, Stack};
+use htl_event::{Count, EventList, NoMemory, SharedStack, Sign, Slot, Stack, number_of_events};
 use std::alloc::{Allocator, Global};
 use std::marker::Model;
 
-/// How often each slot came with each stack, under any allocator.
+/// A stack tree: it counts how often each slot came with each stack. It may have any allocator.
 #[derive(Drop)]
 pub struct StackTree<A: Allocator> {
     alloc: A,
@@ -36,26 +33,18 @@ impl<A: Allocator> Model for StackTree<A> {
     ghost invariant = { λ t. IsRoot t.root t.total };
 }
 
-/// Whether the number of all events of these lists is a `u64`, as it is wherever they came from
-/// bytes.
-pub fn fits_events<R: EventList>(lists: &[R]) -> bool
-    ensures { IsTrue result ↔ (length (flat_map R.events_of lists.now) < 2 ^ 64) }
-{
-    number_of_events(lists).is_some()
-}
-
 impl<A: Allocator> StackTree<A> {
     ghost use Rattle.std.specs.Prelude.{◌≡◌, List, ◌+◌, ◌<◌, ◌≤◌, ◌^◌, [], ◌∷◌, ◌++◌};
     ghost use Rattle.std.specs.Prelude.{◌↔◌, length, IsTrue, IfOk, OnOk, OnErr};
     ghost use Rattle.htl_tree.specs.Trees.{count_at, count_under, total_count};
-    ghost use Rattle.htl_tree.specs.Trees.{with_one, with_event, IsTree, IsSameTally};
+    ghost use Rattle.htl_tree.specs.Trees.{with_one, IsTree, IsSameTally};
     ghost use Rattle.htl_tree.specs.Trees.{IsSumTally, HasTally, ListsRows, ListsRowsOf};
     ghost use Rattle.htl_tree.specs.Trees.{ListsSums, ListsSlots};
     ghost use Rattle.std.specs.List.{flat_map};
     ghost use Rattle.htl_event.specs.Events.{Event};
     ghost use Rattle.htl_event.specs.Tallies.{under};
 
-    /// The tree that counts nothing. It takes no memory before the first count.
+    /// An empty tree. It takes no memory before the first count.
     pub fn new(alloc: A) -> Self
         ensures { result ≡ [] }
     {
@@ -160,7 +149,8 @@ impl<A: Allocator> StackTree<A> {
         })
     }
 
-    /// Counts one more. A branch that isn't there is built apart, and attached when it is whole.
+    /// Counts the slot with the stack once more. A branch that is missing is built apart, and attached
+    /// once it is whole.
     pub fn add(&mut self, slot: Slot, sign: Sign, stack: &Stack) -> Result<(), NoMemory>
     where
         A: Clone,
@@ -169,36 +159,7 @@ impl<A: Allocator> StackTree<A> {
         ensures err { OnErr result (self.new ≡ self.old) }
         ensures total { OnOk result (total_count self.new ≡ total_count self.old + 1) }
     {
-        self.add_frames(slot, sign, stack.frames())
-    }
-
-    /// Counts the event. A snapshot and a process exit are counted nowhere.
-    pub fn note(&mut self, event: &SharedEvent) -> Result<(), NoMemory>
-    where
-        A: Clone,
-        requires { total_count self.old + 1 < 2 ^ 64 }
-        ensures ok { OnOk result (self.new ≡ with_event self.old event.now) }
-        ensures err { OnErr result (self.new ≡ self.old) }
-        ensures tally { OnOk result ((events : List Event) → HasTally self.old events
-            → HasTally self.new (events ++ event.now ∷ [])) }
-        ensures total { OnOk result (total_count self.new ≤ total_count self.old + 1) }
-    {
-        match event.slot() {
-            None => Ok(()),
-            Some((slot, sign)) => self.add_frames(slot, sign, event.stack.frames()),
-        }
-    }
-
-    fn add_frames(&mut self, slot: Slot, sign: Sign, frames: &[u64]) -> Result<(), NoMemory>
-    where
-        A: Clone,
-        requires room { total_count self.old + 1 < 2 ^ 64 }
-        requires few { length frames.now ≤ 64 }
-        ensures ok { OnOk result (self.new ≡ with_one self.old slot sign frames.now) }
-        ensures err { OnErr result (self.new ≡ self.old) }
-        ensures total { OnOk result (total_count self.new ≡ total_count self.old + 1) }
-    {
-        add_to_root(&mut self.root, &self.alloc, slot, sign, frames)?;
+        add_to_root(&mut self.root, &self.alloc, slot, sign, stack.frames())?;
         self.total += 1;
         Ok(())
     }

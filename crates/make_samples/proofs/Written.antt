@@ -1,8 +1,8 @@
 -- Segments that are written one after the other are written together.
-use Rattle.std.proofs.Common.{◌≡◌, ◌∙◌, ℕ, ◌+◌, List, [], ◌∷◌, ◌++◌, refl, sym, ap, append_assoc, Option, Some, None, add-one}
+use Rattle.std.proofs.Common.{◌≡◌, ◌∙◌, ℕ, ◌+◌, List, [], ◌∷◌, ◌++◌, refl, ap, append_assoc, Option, Some, None, add-one}
 use Rattle.std.specs.Io.KnownBytes.{Appends}
 use Rattle.std.proofs.lemmas.Grind.{flat_map-append}
-use Rattle.std.proofs.lemmas.List.{append-nil, map-append}
+use Rattle.std.proofs.lemmas.List.{map-append}
 use Rattle.std.proofs.lemmas.List.Elements.{All-nil, All-append}
 use Rattle.htl_segment.specs.Content.{Content, Fits}
 use Rattle.htl_segment.specs.Bundles.{bundle}
@@ -10,10 +10,7 @@ use Rattle.htl_segment.specs.Encoding.{encoding}
 use Rattle.htl_samples.specs.Samples.{IsOfTrace}
 use Rattle.htl_samples.specs.declared.trace.Trace.{Trace}
 use Rattle.make_samples.specs.Writing.{Writes, WritesKeys, key_of, turn, turns}
-
-appends-none : (old : Option (List ℕ)) → Appends old old []
-appends-none None = tt
-appends-none (Some xs) = sym (append-nil xs)
+use Rattle.std.proofs.KnownBytes.{Appends-nil}
 
 appends-both : (old mid new : Option (List ℕ)) (xs ys : List ℕ) → Appends old mid xs → Appends mid new ys → Appends old new (xs ++ ys)
 appends-both None mid new xs ys a b = tt
@@ -25,7 +22,7 @@ pub writes-none : (trace : Trace) (old : Option (List ℕ)) → Writes trace [] 
 writes-none trace old = record {
   of_trace = All-nil (IsOfTrace trace);
   fit = All-nil Fits;
-  bytes = appends-none old;
+  bytes = Appends-nil old;
 }
 
 pub writes-both : (trace : Trace) (ss ts : List Content) (old mid new : Option (List ℕ)) → Writes trace ss old mid

@@ -1,4 +1,4 @@
-//! Writes a made-up trace of any size to standard output, as a bundle of segments.
+//! Writes a generated trace of any size to standard output, as a bundle of segments.
 //!
 //! `make_samples MEGABYTES STACKS HANDLES PROCESSORS` writes a trace of about that size, to measure
 //! with: each segment is made, written and let go, so it takes little memory whatever the size.

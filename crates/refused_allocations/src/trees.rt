@@ -1,10 +1,10 @@
 //! Calls on stack trees.
 
 use allocation_trials::{Equal, Refusal, Trials, answered, both};
-use htl_event::{Count, SharedEvent, SharedStack, Sign, Slot};
-use htl_samples::{SMALL, shared_events, stack};
+use htl_event::{Count, SharedStack, Sign, Slot, number_of_events};
+use htl_samples::{SMALL, stack};
 use htl_segment::Segment;
-use htl_tree::{Slots, StackTree, fits_events};
+use htl_tree::{Slots, StackTree};
 use std::alloc::Global;
 
 type Tree = StackTree<Global>;
@@ -26,7 +26,6 @@ fn try_trees(trials: &mut Trials<'_, HostRuntime>) {
     trials.reads("StackTree::of", segments, tree_of);
     trials.changes("StackTree::add, the first", empty_tree, add);
     trials.changes("StackTree::add, a branch", tree, add);
-    trials.changes("StackTree::note", noting, note);
     trials.reads("StackTree::plus", two_trees, sum);
     trials.reads("StackTree::copy", tree, copy);
 }
@@ -57,13 +56,8 @@ fn two_trees(alloc: Global) -> Result<(Tree, Tree), Refusal> {
     both(tree_of(alloc, &segments), tree(alloc))
 }
 
-fn noting(alloc: Global) -> Result<(Tree, Equal<Vec<SharedEvent>>), Refusal> {
-    let events = shared_events(alloc, "R 999 0x9000 Lky8 [0x70 0x60 0x50]");
-    both(tree(alloc), Equal::of(events))
-}
-
 fn tree_of(alloc: Global, segments: &Vec<Segment>) -> Result<Tree, Refusal> {
-    if !fits_events(segments) {
+    if number_of_events(segments).is_none() {
         return Err(Refusal::Other);
     }
     answered(StackTree::of(alloc, segments))
@@ -74,19 +68,6 @@ fn add(_alloc: Global, tree: &mut Tree) -> Result<Equal<()>, Refusal> {
         return Err(Refusal::Other);
     }
     Equal::of(tree.add(SLOT, Sign::Plus, &stack(&[0x70, 0x60, 0x50])))
-}
-
-fn note(
-    _alloc: Global,
-    (tree, events): &mut (Tree, Equal<Vec<SharedEvent>>),
-) -> Result<Equal<()>, Refusal> {
-    for event in &events.0 {
-        if !tree.fits(1) {
-            return Err(Refusal::Other);
-        }
-        tree.note(event)?;
-    }
-    Ok(Equal(()))
 }
 
 fn sum(_alloc: Global, (one, two): &(Tree, Tree)) -> Result<Tree, Refusal> {

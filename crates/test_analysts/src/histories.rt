@@ -9,7 +9,7 @@ use crate::rows::{assert_counted, assert_events, assert_is, assert_list, assert_
 use crate::{analysts, plain};
 use htl_analyst::{Analyst, Took};
 use htl_event::{Kind, NoMemory, SharedEvent, SharedStack, Slot};
-use htl_samples::{RandomTrace, SMALL};
+use htl_samples::{RandomTrace, SMALL, stack};
 use htl_segment::Segment;
 use htl_tree::StackTree;
 use std::alloc::Global;
@@ -279,7 +279,10 @@ fn tree_of(rt: &impl Abort, alloc: Global, events: &[SharedEvent]) -> StackTree<
     let mut tree = StackTree::new(alloc);
     for event in events {
         assert!(rt; tree.fits(1));
-        tree.note(event).expect(rt, "the memory");
+        if let Some((slot, sign)) = event.slot() {
+            tree.add(slot, sign, &stack(event.stack.frames()))
+                .expect(rt, "the memory");
+        }
     }
     tree
 }

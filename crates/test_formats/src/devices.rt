@@ -59,36 +59,33 @@ impl Write for Narrow {
 
 const TEXT: &[u8] = b"outstanding process=4 count=0\n";
 
-/// What comes of a reader that gives so many bytes a read and fails after so many calls, and
-/// whether it failed.
-fn read_by(alloc: Global, piece: usize, calls_left: usize) -> (Result<Vec<u8>, ReadFault>, bool) {
+/// What comes of a reader that gives this many bytes a read, and fails after this many calls.
+fn read_by(alloc: Global, piece: usize, calls_left: usize) -> Result<Vec<u8>, ReadFault> {
     let mut source = Reading::new(Pieces {
         bytes: TEXT,
         piece,
         calls_left,
     });
-    let read = read_whole(alloc, &mut source);
-    (read, source.failed())
+    read_whole(alloc, &mut source)
 }
 
 #[test]
 fn reads_pieces(rt: HostRuntime) {
     for piece in [1, 7, 65_536] {
-        let (read, failed) = read_by(rt.alloc(), piece, 100);
-        let read = read.expect(&rt, "what is read");
-        assert_row(&rt, piece, (read.as_slice(), failed), (TEXT, false));
+        let read = read_by(rt.alloc(), piece, 100).expect(&rt, "what is read");
+        assert_row(&rt, piece, read.as_slice(), TEXT);
     }
 }
 
 #[test]
 fn reports_a_failed_read(rt: HostRuntime) {
-    let (read, failed) = read_by(rt.alloc(), 7, 1);
-    assert!(rt; matches!(read, Err(ReadFault::Failed)) && failed);
+    let read = read_by(rt.alloc(), 7, 1);
+    assert!(rt; matches!(read, Err(ReadFault::Failed)));
 }
 
-/// What comes of a writer that takes so many bytes a write and fails when it holds `most`, whether
-/// it failed, and the bytes that it took.
-fn write_by(alloc: Global, piece: usize, most: usize) -> (Result<(), Failed>, bool, Vec<u8>) {
+/// What comes of a writer that takes this many bytes a write and fails when it holds `most`, and the
+/// bytes that it took.
+fn write_by(alloc: Global, piece: usize, most: usize) -> (Result<(), Failed>, Vec<u8>) {
     let mut narrow = Narrow {
         held: Vec::new(alloc),
         piece,
@@ -96,22 +93,21 @@ fn write_by(alloc: Global, piece: usize, most: usize) -> (Result<(), Failed>, bo
     };
     let mut sink = Writing::new(&mut narrow);
     let written = write_whole(&mut sink, TEXT);
-    let failed = sink.failed();
-    (written, failed, narrow.held)
+    (written, narrow.held)
 }
 
 #[test]
 fn writes_pieces(rt: HostRuntime) {
-    let (written, failed, held) = write_by(rt.alloc(), 1, 100);
-    let found = (written, failed, held.as_slice());
-    assert_row(&rt, "a byte a write", found, (Ok(()), false, TEXT));
+    let (written, held) = write_by(rt.alloc(), 1, 100);
+    let found = (written, held.as_slice());
+    assert_row(&rt, "a byte a write", found, (Ok(()), TEXT));
 }
 
 #[test]
 fn reports_a_failed_write(rt: HostRuntime) {
     for (piece, went) in [(10, "outstandin"), (0, "")] {
-        let (written, failed, held) = write_by(rt.alloc(), piece, 10);
-        let found = (written, failed, held.as_slice());
-        assert_row(&rt, piece, found, (Err(Failed), true, went.as_bytes()));
+        let (written, held) = write_by(rt.alloc(), piece, 10);
+        let found = (written, held.as_slice());
+        assert_row(&rt, piece, found, (Err(Failed), went.as_bytes()));
     }
 }

@@ -13,7 +13,8 @@ use std::io::Read;
 use std::process::Abort;
 use std::thread::Threads;
 
-/// A reader over memory that gives a few bytes a read, and fails after so many reads.
+/// A reader over memory that gives a few bytes a read, and fails once after so many reads. The next
+/// read would succeed, so that bytes after a lost read show.
 #[derive(Clone, Copy, Drop)]
 struct Pieces<'a> {
     bytes: &'a [u8],
@@ -24,6 +25,7 @@ struct Pieces<'a> {
 impl Read for Pieces<'_> {
     fn read(&mut self, buffer: &mut [u8]) -> io::Result<usize> {
         if self.reads_left == 0 {
+            self.reads_left = usize::MAX;
             return Err(io::Error::from(io::ErrorKind::Interrupted));
         }
         self.reads_left -= 1;
@@ -121,6 +123,55 @@ fn pieces_that_workers_share(rt: HostRuntime) {
         }
         if let Some(cell) = bytes.get_mut(place) {
             *cell = 0xFF;
+        }
+    }
+}
+
+/// A reader over memory that notes how many bytes each read asks for.
+#[derive(Drop)]
+struct Noting<'a> {
+    bytes: &'a [u8],
+    lens: Vec<usize>,
+}
+
+impl Read for Noting<'_> {
+    fn read(&mut self, buffer: &mut [u8]) -> io::Result<usize> {
+        self.lens.push(buffer.len())?;
+        let count = self.bytes.len().min(buffer.len());
+        let (given, rest) = self.bytes.split_at(count);
+        buffer[..count].copy_from_slice(given);
+        self.bytes = rest;
+        Ok(count)
+    }
+}
+
+/// How many bytes each read of some bytes asks for, by so many workers.
+fn lens_of_reads(
+    rt: &(impl Abort + Threads + Sync),
+    alloc: Global,
+    workers: u32,
+    bytes: &[u8],
+) -> Vec<usize> {
+    let mut reader = Noting {
+        bytes,
+        lens: Vec::new(alloc),
+    };
+    let read = read_bundle(rt, alloc, workers, 100_000, &mut Reading::new(&mut reader));
+    assert!(rt; read.is_ok());
+    reader.lens
+}
+
+#[test]
+fn reads_ask_for_many_bytes(rt: HostRuntime) {
+    let alloc = rt.alloc();
+    let bytes = bundle(&rt, alloc, 8_000);
+    for workers in [1, 4] {
+        let lens = lens_of_reads(&rt, alloc, workers, &bytes);
+        let (first, later) = lens.split_first().expect(&rt, "a read");
+        assert_row(&rt, workers, *first, 4_096);
+        assert!(rt; !later.is_empty());
+        for len in later {
+            assert_row(&rt, workers, *len, 65_536);
         }
     }
 }

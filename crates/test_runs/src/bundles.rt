@@ -1,4 +1,4 @@
-//! Made-up bundles, small enough that each of their bits can be turned.
+//! Generated bundles, small enough that each of their bits can be turned.
 
 use htl_event::{Event, Kind};
 use htl_samples::{RandomTrace, SMALL, TRACE};
@@ -31,7 +31,7 @@ pub fn bundle(rt: &impl Abort, alloc: Global, number: u32) -> Vec<u8> {
     bytes
 }
 
-/// Made-up events, without those that the version doesn't know.
+/// Generated events, without those that the version doesn't know.
 fn events_of(
     rt: &impl Abort,
     alloc: Global,

@@ -6,7 +6,8 @@
 //! their calls in turn, and in `texts` those of runs that dump and encode. In `changes` each bit of
 //! generated bundles (`bundles`) is turned, and they are cut at each byte: what the readers of the
 //! format answer is compared with `plain`, a reader that was written from the description of the
-//! format alone. `comparison` has what the tests assert of each row.
+//! format alone. In `programs` the whole program runs over a world of memory (`worlds`).
+//! `comparison` has what the tests assert of each row.
 #![tactic(auto)]
 
 #[cfg(test)]
@@ -26,6 +27,8 @@ mod plain;
 #[cfg(test)]
 mod printed;
 #[cfg(test)]
+mod programs;
+#[cfg(test)]
 mod reads;
 #[cfg(test)]
 mod rows;
@@ -33,5 +36,7 @@ mod rows;
 mod summaries;
 #[cfg(test)]
 mod texts;
+#[cfg(test)]
+mod worlds;
 #[cfg(test)]
 mod writes;

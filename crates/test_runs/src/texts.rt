@@ -11,7 +11,7 @@ use std::alloc::Global;
 use std::process::Abort;
 
 /// The texts of the two inputs, a segment each.
-const TEXTS: [&str; 2] = [
+pub const TEXTS: [&str; 2] = [
     "\
 segment version=1 trace=0x0000000000000007 processors=1 processor=0 number=0
 OPEN handle=0x44 seq=1 process=4 thread=12

@@ -7,7 +7,7 @@ ghost use Rattle.htl_answers.specs.Parts.{size_of_all};
 use crate::lines::events_of;
 use crate::rows::{assert_counted, assert_is, assert_list};
 use htl_answers::{
-    Part, bad, diff, last_exit, latest, leaks, mark, outstanding, stacks, tags, under, whole_tree,
+    Part, bad, diff, latest, leaks, mark, outstanding, stacks, tags, under, whole_tree,
 };
 use htl_event::{Count, NoMemory, SharedEvent, SharedStack, Slot};
 use htl_tables::{Exits, Latest, Marks};
@@ -150,9 +150,8 @@ fn snapshot_and_difference(rt: HostRuntime) {
     have_marks(&rt, rt.alloc(), &parts);
 }
 
-// The last exit of process 4, and the latest event of handle 0x44.
+// The latest event of handle 0x44, and what the exit of process 4 leaves open.
 fn have_exit<P: Part>(rt: &impl Abort, alloc: Global, parts: &[P]) {
-    assert_is(rt, last_exit(parts, 4), 5);
     let open = events_of(rt, alloc, "O 4 0x44");
     assert_is(rt, latest(parts, 4, 0x44), open.first());
 }

@@ -2,9 +2,11 @@
 
 use crate::heaps::heap;
 use crate::rows::{assert_counted, assert_is, assert_list, assert_row, is_done};
-use htl_event::{Count, Event, Kind, NoMemory, SharedEvent, SharedStack, Sign, Slot};
+use htl_event::{
+    Count, Event, Kind, NoMemory, SharedEvent, SharedStack, Sign, Slot, number_of_events,
+};
 use htl_samples::stack;
-use htl_tree::{Slots, StackTree, fits_events};
+use htl_tree::{Slots, StackTree};
 use std::alloc::{Allocator, Global};
 use std::process::Abort;
 
@@ -331,7 +333,10 @@ fn try_note<A: Allocator + Clone>(
     event: &SharedEvent,
 ) -> Result<(), NoMemory> {
     assert!(rt; tree.fits(1));
-    tree.note(event)
+    match event.slot() {
+        Some((slot, sign)) => tree.add(slot, sign, &stack(event.stack.frames())),
+        None => Ok(()),
+    }
 }
 
 // Counts the events one by one.
@@ -360,7 +365,7 @@ fn try_of<A: Allocator + Clone>(
     alloc: A,
     runs: &[Vec<SharedEvent>],
 ) -> Result<StackTree<A>, NoMemory> {
-    assert!(rt; fits_events(runs));
+    assert!(rt; number_of_events(runs).is_some());
     StackTree::of(alloc, runs)
 }
 

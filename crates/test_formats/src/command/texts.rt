@@ -384,7 +384,7 @@ Usage: hleak diff --process <N> [FILES]...
 For more information, try '--help'.
 ";
 
-const PARTED_VALUE: &str = "\
+const SEPARATED_VALUE: &str = "\
 error: unexpected argument '-a' found
 
   tip: a value that begins with '-' follows '=', as in '--tag=-abc'
@@ -394,7 +394,7 @@ Usage: hleak stacks [OPTIONS] --object <HEX> --tag <TAG> [FILES]...
 For more information, try '--help'.
 ";
 
-const PARTED_NUMBER: &str = "\
+const SEPARATED_NUMBER: &str = "\
 error: unexpected argument '-4' found
 
 Usage: hleak leaks [OPTIONS] --process <N> [FILES]...
@@ -410,7 +410,7 @@ Usage: hleak leaks --process <N> [FILES]...
 For more information, try '--help'.
 ";
 
-const PARTED_FILE: &str = "\
+const SEPARATED_FILE: &str = "\
 error: unexpected argument '-x' found
 
   tip: to pass '-x' as a value, use '-- -x'
@@ -448,12 +448,12 @@ const USAGE: &[(&str, &str)] = &[
     ("outstandin", MISSPELT_COMMAND),
     ("bad|--proces|4", MISSPELT_OPTION),
     ("diff", MISSING_OPTION),
-    ("stacks|--object|1|--tag|-abc", PARTED_VALUE),
+    ("stacks|--object|1|--tag|-abc", SEPARATED_VALUE),
     ("leaks|--process|0x4b0", HEXADECIMAL),
     ("tags|--object|ffffa000`00001000", BACKQUOTED),
-    ("leaks|--process|-4", PARTED_NUMBER),
+    ("leaks|--process|-4", SEPARATED_NUMBER),
     ("leaks|--process|4|--since|4", OTHER_OPTION),
-    ("leaks|--process|4|-x", PARTED_FILE),
+    ("leaks|--process|4|-x", SEPARATED_FILE),
 ];
 
 /// Each line fits into 80 columns.

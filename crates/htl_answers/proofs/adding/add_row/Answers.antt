@@ -7,9 +7,9 @@ use Rattle.htl_event.specs.declared.slot.Count.{Count}
 use Rattle.htl_event.specs.Tallies.{plus_count}
 use Rattle.htl_answers.specs.Rows.{AreSums}
 use Rattle.htl_answers.proofs.AddedRows.{put_after, join_last, greater}
-use Rattle.htl_answers.proofs.RowCounts.{tied}
 use Rattle.htl_answers.proofs.adding.add_row.Goals as goal
 use Rattle.htl_answers.proofs.adding.add_row.Goals.{else-len-gt0-via-then-len-gt0+else-is_eq, else-len-gt0-via-else-len-gt0}
+use Rattle.htl_lemmas.proofs.Tests.{equal}
 
 pub returns-then-is_eq-clause-sums : goal.returns-then-is_eq-clause-sums
 returns-then-is_eq-clause-sums g c =
@@ -25,7 +25,7 @@ returns-then-is_eq-clause-sums g c =
     let z = c.index_mut.result.now in
     let z_is : z ≡ x = get_or_read rows (length rows - 1) z (omega (arith, some))
     (c.index_mut.ensures.value ∙ ap (λ m. get_or rows (m - 1) z) n) x ∙ sym at in
-    let same : x.0 ≡ row.0 = g.met.L.CountedBy.proper x.0 row.0 (tied (g.L.Key.Ord.cmp x.0 row.0)
+    let same : x.0 ≡ row.0 = g.met.L.CountedBy.proper x.0 row.0 (equal (g.L.Key.Ord.cmp x.0 row.0)
     (ap is_eq (sym c.cmp.ensures) ∙ sym c.is_eq.ensures ∙ c.if-is_eq.true)) in
     let whole : ◌≡◌ {A = g.row.L-Key.Denot × Count} (x.0, plus_count x.1 row.1) (z.0, c.sum_of.result) =
     ap (λ r. (r.0, plus_count x.1 row.1)) (sym z_is) ∙ ap (λ r. (z.0, plus_count r.1 row.1)) (sym y_is) ∙ ap (λ s. (z.0, s)) (sym c.sum_of.ensures) in

@@ -6,7 +6,7 @@ use Rattle.htl_answers.proofs.leaking.number_first.Goals as goal
 
 pub loop-stack-preserved : goal.loop-stack-preserved
 loop-stack-preserved c =
-    let rows = c.args.stacks.now in
+    let rows = c.args.counts.now in
     let i = c.loop-stack.stack-index in
     let row = c.loop-stack-item.result in
     let more = ap (map counted_first) (take_more rows i row c.loop-stack-test.true

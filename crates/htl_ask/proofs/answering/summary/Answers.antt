@@ -10,7 +10,6 @@ summary_of-requires c =
     let whole = c.requires.whole in
     let right = whole.standing.right in
     record {
-      coverage = c.requires.coverage;
       processes = of_all (λ events. IsProcesses events c.in_ok-processes.processes.items) T a whole
           (c.in_ok-processes.ensures T c.requires.case.trace right);
       number = of_all (λ events. IsNumberOfObjects events c.in_ok-objects.objects.number) T a whole

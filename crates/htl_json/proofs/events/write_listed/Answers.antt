@@ -5,7 +5,7 @@ use Rattle.htl_json.specs.Writing.{AddsFields}
 use Rattle.htl_json.proofs.Line.{fields_then, line_added}
 use Rattle.htl_json.specs.Frames.{stack_fields}
 use Rattle.htl_json.specs.Rows.{event_fields}
-use Rattle.htl_report.specs.Listings.{word_of}
+use Rattle.htl_event.specs.Words.{word_of}
 use Rattle.htl_json.proofs.events.write_listed.Goals as goal
 
 pub returns : goal.returns
@@ -13,7 +13,7 @@ returns c =
     let a = event_fields (word_of c.args.event.now.kind) c.args.event.now.handle c.args.event.now in
     let b = stack_fields c.args.symbols.now c.args.event.now.stack in
     let shown = subst (λ x. AddsFields c.begin_object.new.self c.write_event.new.lines (event_fields x c.args.event.now.handle c.args.event.now))
-    c.event_word.ensures c.in_ok-write_event.ensures in
+    c.word.ensures c.in_ok-write_event.ensures in
     let fields = fields_then a b c.begin_object.new.self c.write_event.new.lines c.write_stack.new.lines shown c.in_ok-write_stack.ensures in
     on_ok_weaker c.end_line.result
     (line_added (a ++ b) c.args.lines.now c.begin_object.new.self c.write_stack.new.lines c.end_line.new.self c.requires c.in_ok-begin_object.ensures fields)

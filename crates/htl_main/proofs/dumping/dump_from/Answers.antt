@@ -1,21 +1,20 @@
--- One source more, and the one at which the dump ends.
-use Rattle.htl_device.specs.declared.source.TheConstants.{MAX_READ_LEN}
-use Rattle.std.proofs.Common.{◌<◌, [], length, map, get_or, arith, refl, false, inl}
+-- How dump_from reads its sources one after another, what it writes of them, and of the one at which it ends.
+use Rattle.std.proofs.Common.{◌<◌, [], length, get_or, arith, refl}
 use Rattle.std.proofs.KnownBytes.{Appends-nil}
 use Rattle.std.proofs.lemmas.Option.{slice_get-get_or}
 use Rattle.std.proofs.lemmas.Result.{err_from_is_err_and}
 use Rattle.htl_main.specs.Dumps.{DumpsInput, InputStops}
 use Rattle.htl_main.proofs.DumpLaws.{dumps_next, written_after}
 use Rattle.htl_main.proofs.ReadingLaws.{all_read, none_before, one_before, read_to, unread_later}
-use Rattle.htl_main.proofs.SourceLaws.{at_known, known_now, knows_now, none_read, one_read, value_there}
+use Rattle.htl_main.proofs.SourceLaws.{at_known, knows_now, value_there}
 use Rattle.htl_main.proofs.dumping.dump_from.Goals as goal
 
 pub loop-place-init : goal.loop-place-init
 loop-place-init g c = record {
-  before = none_before g.R.Source.has_failed g.R.Source.has_ended g.R.Source.good_reads c.args.inputs.now c.requires.inputs;
+  before = none_before c.args.hex 1 g.R.Source.has_failed g.R.Source.has_ended g.R.Source.good_reads g.R.Source.remaining c.args.inputs.now
+      c.requires.inputs;
   sound = c.requires.out;
   dumped = λ texts all. ([], refl, Appends-nil (g.W.Sink.contents c.args.out.now));
-  to_fault = λ bytes. none_read MAX_READ_LEN (map g.R.Source.remaining c.args.inputs.now);
 }
 
 pub loop-place-preserved : goal.loop-place-preserved
@@ -27,9 +26,8 @@ loop-place-preserved g c =
     let source = get_or c.loop-place.inputs place c.index-inputs-place.result in
     let here = slice_get-get_or c.loop-place.inputs place c.index-inputs-place.result within in
     record {
-      before = one_before false 1 g.R.Source.has_failed g.R.Source.has_ended g.R.Source.good_reads g.R.Source.remaining c.args.inputs.now
-          c.loop-place.inputs place source c.dump_input.new.source _ inv.before within here
-          (record { reported = λ failed. inl (is.reported failed); read = is.read; bounded = is.bounded; named = is.named }) is.ended;
+      before = one_before c.args.hex 1 g.R.Source.has_failed g.R.Source.has_ended g.R.Source.good_reads g.R.Source.remaining
+          c.args.inputs.now c.loop-place.inputs place source c.dump_input.new.source inv.before within here _ is.reading;
       sound = is.failed;
       dumped = λ texts all.
           let knows = knows_now g.R.Source.remaining c.args.inputs.now c.loop-place.inputs texts place source
@@ -37,10 +35,6 @@ loop-place-preserved g c =
           dumps_next c.args.hex texts place knows.input _ (g.W.Sink.contents c.loop-place.out) (g.W.Sink.contents c.dump_input.new.out)
           knows.here (inv.dumped texts all) (at_known texts place (g.R.Source.remaining source) (λ bytes. DumpsInput c.args.hex bytes
           (g.W.Sink.contents c.loop-place.out) (g.W.Sink.contents c.dump_input.new.out)) knows is.ok);
-      to_fault = λ bytes.
-          one_read MAX_READ_LEN g.R.Source.remaining (map g.R.Source.remaining c.args.inputs.now) c.loop-place.inputs place source
-          c.dump_input.new.source within (inv.to_fault bytes) (known_now g.R.Source.remaining c.args.inputs.now c.loop-place.inputs place source
-          (inv.before.left place (omega arith)) here) (is.to_fault bytes);
     }
 
 pub returns-in_err-dump_input-clause-stops : goal.returns-in_err-dump_input-clause-stops
@@ -79,29 +73,15 @@ returns-in_err-dump_input-clause-stops g c =
 pub returns-in_err-dump_input-clause-reading : goal.returns-in_err-dump_input-clause-reading
 returns-in_err-dump_input-clause-reading g c =
     let p = err_from_is_err_and c.from_residual.result c.from_residual.ensures.1 in
-    let inv = c.loop-place.invariant in
-    let is = c.in_err-dump_input.ensures in
     let place = c.loop-place.place in
     let within : place < length c.loop-place.inputs = omega arith in
     let source = get_or c.loop-place.inputs place c.index-inputs-place.result in
     let here = slice_get-get_or c.loop-place.inputs place c.index-inputs-place.result within in
-    rw (p.1, p.2) (read_to false 1 g.R.Source.has_failed g.R.Source.has_ended g.R.Source.good_reads g.R.Source.remaining c.args.inputs.now
-    c.loop-place.inputs place source c.dump_input.new.source c.in_err-dump_input.field-0.0 inv.before within here
-    (record { reported = λ failed. inl (is.reported failed); read = is.read; bounded = is.bounded; named = is.named }))
-
-pub returns-in_err-dump_input-clause-to_fault : goal.returns-in_err-dump_input-clause-to_fault
-returns-in_err-dump_input-clause-to_fault g c =
-    let inv = c.loop-place.invariant in
-    let place = c.loop-place.place in
-    let within : place < length c.loop-place.inputs = omega arith in
-    let source = get_or c.loop-place.inputs place c.index-inputs-place.result in
-    let here = slice_get-get_or c.loop-place.inputs place c.index-inputs-place.result within in
-    λ bytes.
-    one_read MAX_READ_LEN g.R.Source.remaining (map g.R.Source.remaining c.args.inputs.now) c.loop-place.inputs place source c.dump_input.new.source within
-    (inv.to_fault bytes) (known_now g.R.Source.remaining c.args.inputs.now c.loop-place.inputs place source
-    (inv.before.left place (omega arith)) here) (c.in_err-dump_input.ensures.to_fault bytes)
+    rw (p.1, p.2) (read_to c.args.hex 1 g.R.Source.has_failed g.R.Source.has_ended g.R.Source.good_reads g.R.Source.remaining
+    c.args.inputs.now c.loop-place.inputs place source c.dump_input.new.source c.loop-place.invariant.before within here
+    c.in_err-dump_input.field-0.0 c.in_err-dump_input.ensures.reading)
 
 pub returns-clause-reading : goal.returns-clause-reading
 returns-clause-reading g c =
-    all_read false 1 g.R.Source.has_failed g.R.Source.has_ended g.R.Source.good_reads g.R.Source.remaining c.args.inputs.now c.loop-place.inputs
-    c.loop-place.place _ c.loop-place.invariant.before (omega arith)
+    all_read c.args.hex 1 g.R.Source.has_failed g.R.Source.has_ended g.R.Source.good_reads g.R.Source.remaining c.args.inputs.now
+    c.loop-place.inputs c.loop-place.place _ c.loop-place.invariant.before (omega arith)

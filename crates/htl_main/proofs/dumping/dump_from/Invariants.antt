@@ -1,16 +1,14 @@
 -- The sources so far were read to their ends, and their segments dumped.
 use Rattle.std.proofs.Common.{◌≡◌, ℕ, List, Some, map, take, false}
-use Rattle.htl_device.specs.declared.source.TheConstants.{MAX_READ_LEN}
 use Rattle.htl_main.specs.Dumps.{Dumps}
-use Rattle.htl_main.specs.Sources.{AreReadToFault}
 use Rattle.htl_main.proofs.ReadingLaws.{ReadBefore}
 use Rattle.htl_main.proofs.dumping.dump_from.Given as goal
 
 abbrev pub invariant-loop-place : goal.invariant-loop-place
 invariant-loop-place g l = record {
-  before : ReadBefore g.R.Source.has_failed g.R.Source.has_ended g.R.Source.good_reads l.initial.inputs l.inputs l.place;
+  before : ReadBefore l.hex 1 g.R.Source.has_failed g.R.Source.has_ended g.R.Source.good_reads g.R.Source.remaining
+      l.initial.inputs l.inputs l.place;
   sound : g.W.Sink.has_failed l.out ≡ false;
   dumped : (texts : List (List ℕ)) → map g.R.Source.remaining l.initial.inputs ≡ map Some texts
       → Dumps l.hex (take l.place texts) (g.W.Sink.contents l.initial.out) (g.W.Sink.contents l.out);
-  to_fault : l.hex ≡ false → AreReadToFault MAX_READ_LEN (map g.R.Source.remaining l.initial.inputs) (map g.R.Source.remaining l.inputs);
 }

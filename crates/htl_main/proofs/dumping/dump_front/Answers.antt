@@ -2,8 +2,8 @@
 use Rattle.std.proofs.Common.{sym, ◌∙◌, inl, inr}
 use Rattle.std.proofs.lemmas.List.{take_rest}
 use Rattle.std.proofs.lemmas.Result.{err_from_is_err_and}
-use Rattle.htl_segment.proofs.BundleLaws.{early_end}
-use Rattle.htl_main.proofs.DumpLaws.{front_memory, front_next, front_refused, front_unwritten, some_left}
+use Rattle.htl_segment.proofs.BundleLaws.{early_end, some_left}
+use Rattle.htl_main.proofs.DumpLaws.{front_memory, front_next, front_refused, front_unwritten}
 use Rattle.htl_main.proofs.dumping.dump_front.Goals as goal
 
 pub returns-in_err-dump_segment-in-Ok-clause-dumped : goal.returns-in_err-dump_segment-in-Ok-clause-dumped

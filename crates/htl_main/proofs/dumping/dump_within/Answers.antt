@@ -22,7 +22,14 @@ returns-in_default-clause-stops g c =
 pub returns-in_default-clause-to_fault : goal.returns-in_default-clause-to_fault
 returns-in_default-clause-to_fault g c =
     let failed : is_err c.read.result ≡ true = grind (arith, common_steps) in
-    so_far_read _ _ _ _ _ _ (so_far_failed (g.R.Source.remaining c.args.source.now) (g.R.Source.remaining c.loop-read.source)
+    so_far_read _ _ _ _ _ _ _ (so_far_failed (g.R.Source.remaining c.args.source.now) (g.R.Source.remaining c.loop-read.source)
+    (g.R.Source.remaining c.read.new.self) c.loop-read.start c.loop-read.held.items c.read.new.buffer _ _ c.read.result failed
+    c.read.ensures.bytes c.loop-read.invariant.so_far)
+
+pub returns-in_default-clause-no_fault : goal.returns-in_default-clause-no_fault
+returns-in_default-clause-no_fault g c = λ at is.
+    let failed : is_err c.read.result ≡ true = grind (arith, common_steps) in
+    so_far_read _ _ _ _ _ _ _ (so_far_failed (g.R.Source.remaining c.args.source.now) (g.R.Source.remaining c.loop-read.source)
     (g.R.Source.remaining c.read.new.self) c.loop-read.start c.loop-read.held.items c.read.new.buffer _ _ c.read.result failed
     c.read.ensures.bytes c.loop-read.invariant.so_far)
 
@@ -75,6 +82,11 @@ returns-in_err-left-clause-read g c =
     let p = err_from_is_err_and c.from_residual-in_err-left.result c.from_residual-in_err-left.ensures.1 in
     λ at is. absurd (front_no_read _ _ _ _ _ _ c.in_err-left.ensures.dumped at (cc (p.1, p.2, is)))
 
+pub returns-in_err-left-clause-no_fault : goal.returns-in_err-left-clause-no_fault
+returns-in_err-left-clause-no_fault g c =
+    let p = err_from_is_err_and c.from_residual-in_err-left.result c.from_residual-in_err-left.ensures.1 in
+    λ at is. absurd (front_no_read _ _ _ _ _ _ c.in_err-left.ensures.dumped at (cc (p.1, p.2, is)))
+
 pub returns-in_err-left-clause-bounded : goal.returns-in_err-left-clause-bounded
 returns-in_err-left-clause-bounded g c =
     let inv = c.loop-read.invariant in
@@ -95,7 +107,10 @@ pub returns-clause-stops : goal.returns-clause-stops
 returns-clause-stops g c = so_far_unread _ _ _ _ _ _ _ _ c.loop-read.invariant.so_far
 
 pub returns-clause-to_fault : goal.returns-clause-to_fault
-returns-clause-to_fault g c = so_far_read _ _ _ _ _ _ c.loop-read.invariant.so_far
+returns-clause-to_fault g c = so_far_read _ _ _ _ _ _ _ c.loop-read.invariant.so_far
+
+pub returns-clause-no_fault : goal.returns-clause-no_fault
+returns-clause-no_fault g c = λ at is. so_far_read _ _ _ _ _ _ _ c.loop-read.invariant.so_far
 
 pub loop-read-preserved : goal.loop-read-preserved
 loop-read-preserved g c =

@@ -1,5 +1,5 @@
--- One source more, and what is reported of the first whose text is refused or can't be read.
-use Rattle.std.proofs.Common.{◌<◌, [], length, get_or, arith, refl, inl, false}
+-- How encode_all reads its sources one after another, what their texts encode, and what is reported of the first that is refused or can't be read.
+use Rattle.std.proofs.Common.{◌<◌, [], length, get_or, arith, refl, inl, true}
 use Rattle.std.proofs.lemmas.Option.{slice_get-get_or}
 use Rattle.std.proofs.lemmas.Result.{err_from_is_err_and}
 use Rattle.htl_main.specs.Encodings.{IsReportedOfText}
@@ -10,7 +10,8 @@ use Rattle.htl_main.proofs.encoding.encode_all.Goals as goal
 
 pub loop-place-init : goal.loop-place-init
 loop-place-init g c = record {
-  before = none_before g.R.Source.has_failed g.R.Source.has_ended g.R.Source.good_reads c.args.sources.now c.requires.fresh;
+  before = none_before true 1 g.R.Source.has_failed g.R.Source.has_ended g.R.Source.good_reads g.R.Source.remaining c.args.sources.now
+      c.requires.fresh;
   encoded = λ texts all. ([], refl, c.new-bundle.ensures.items);
 }
 
@@ -23,9 +24,8 @@ loop-place-preserved g c =
     let source = get_or c.loop-place.sources place c.index-sources-place.result in
     let here = slice_get-get_or c.loop-place.sources place c.index-sources-place.result within in
     record {
-      before = one_before false 1 g.R.Source.has_failed g.R.Source.has_ended g.R.Source.good_reads g.R.Source.remaining c.args.sources.now
-          c.loop-place.sources place source c.encode_input.new.source _ inv.before within here
-          (record { reported = λ failed. inl (is.reported failed); read = is.read; bounded = is.bounded; named = is.named }) is.ended;
+      before = one_before true 1 g.R.Source.has_failed g.R.Source.has_ended g.R.Source.good_reads g.R.Source.remaining
+          c.args.sources.now c.loop-place.sources place source c.encode_input.new.source inv.before within here _ is.reading;
       encoded = λ texts all.
           let knows = knows_now g.R.Source.remaining c.args.sources.now c.loop-place.sources texts place source
           (inv.before.left place (omega arith)) here all in
@@ -93,30 +93,26 @@ returns-in_err-append-clause-stops g c =
 pub returns-in_err-more-clause-reading : goal.returns-in_err-more-clause-reading
 returns-in_err-more-clause-reading g c =
     let p = err_from_is_err_and c.from_residual.result c.from_residual.ensures.1 in
-    let inv = c.loop-place.invariant in
-    let is = c.in_err-more.ensures in
     let place = c.loop-place.place in
     let within : place < length c.loop-place.sources = omega arith in
     let source = get_or c.loop-place.sources place c.index-sources-place.result in
     let here = slice_get-get_or c.loop-place.sources place c.index-sources-place.result within in
-    rw (p.1, p.2) (read_to false 1 g.R.Source.has_failed g.R.Source.has_ended g.R.Source.good_reads g.R.Source.remaining c.args.sources.now
-    c.loop-place.sources place source c.encode_input.new.source c.in_err-more.field-0.0 inv.before within here
-    (record { reported = λ failed. inl (is.reported failed); read = is.read; bounded = is.bounded; named = is.named }))
+    rw (p.1, p.2) (read_to true 1 g.R.Source.has_failed g.R.Source.has_ended g.R.Source.good_reads g.R.Source.remaining
+    c.args.sources.now c.loop-place.sources place source c.encode_input.new.source c.loop-place.invariant.before within here
+    c.in_err-more.field-0.0 c.in_err-more.ensures.reading)
 
 pub returns-in_err-append-clause-reading : goal.returns-in_err-append-clause-reading
 returns-in_err-append-clause-reading g c =
     let p = err_from_is_err_and c.from_residual-in_err-append.result c.from_residual-in_err-append.ensures.1 in
-    let inv = c.loop-place.invariant in
-    let is = c.in_ok-more.ensures in
     let place = c.loop-place.place in
     let within : place < length c.loop-place.sources = omega arith in
     let source = get_or c.loop-place.sources place c.index-sources-place.result in
     let here = slice_get-get_or c.loop-place.sources place c.index-sources-place.result within in
-    rw (p.1, p.2) (refused_after false 1 g.R.Source.has_failed g.R.Source.has_ended g.R.Source.good_reads g.R.Source.remaining c.args.sources.now
-    c.loop-place.sources place source c.encode_input.new.source _ inv.before within here
-    (record { reported = λ failed. inl (is.reported failed); read = is.read; bounded = is.bounded; named = is.named }))
+    rw (p.1, p.2) (refused_after true 1 g.R.Source.has_failed g.R.Source.has_ended g.R.Source.good_reads g.R.Source.remaining
+    c.args.sources.now c.loop-place.sources place source c.encode_input.new.source c.loop-place.invariant.before within here _
+    c.in_ok-more.ensures.reading)
 
 pub returns-clause-reading : goal.returns-clause-reading
 returns-clause-reading g c =
-    all_read false 1 g.R.Source.has_failed g.R.Source.has_ended g.R.Source.good_reads g.R.Source.remaining c.args.sources.now c.loop-place.sources
-    c.loop-place.place _ c.loop-place.invariant.before (omega arith)
+    all_read true 1 g.R.Source.has_failed g.R.Source.has_ended g.R.Source.good_reads g.R.Source.remaining c.args.sources.now
+    c.loop-place.sources c.loop-place.place _ c.loop-place.invariant.before (omega arith)

@@ -2,7 +2,7 @@
 use Rattle.std.proofs.Common.{refl, ap, ◌∙◌, rules}
 use Rattle.htl_segment.specs.Traces.{all_events}
 use Rattle.htl_report.specs.declared.answer.Answer.TheVariants.{Trace as Listing}
-use Rattle.htl_command.specs.declared.question.Question.TheVariants as asked
+use Rattle.htl_command.specs.declared.question.Question.TheVariants as questions
 use Rattle.htl_case.proofs.Pickings.{picked_own}
 use Rattle.htl_main.specs.Answers.{IsAnswerOver}
 use Rattle.htl_main.specs.Unfolded.{unfolded}
@@ -19,7 +19,7 @@ answer_of-requires-clause-few c = few_of _ c.events.result.now.items c.unfolded_
 
 pub returns-in_ok-trace-in-Trace : goal.returns-in_ok-trace-in-Trace
 returns-in_ok-trace-in-Trace c = λ segments is.
-    let asks = asked.Trace c.in-Trace.process c.in-Trace.handle in
+    let asks = questions.Trace c.in-Trace.process c.in-Trace.handle in
     let rows = c.in_ok-trace-in-Trace.field-0 in
     let over : IsAnswerOver c.args.case.now.events asks (Listing c.in-Trace.process c.in-Trace.handle rows) =
     (refl, refl, c.in_ok-trace-in-Trace.ensures is.interest is.trace is.case_of.is_case.trace is.picked) in

@@ -1,29 +1,22 @@
--- What comes of the picks comes of the segments of all inputs.
+-- What pick_from makes of the picks comes of the segments of all inputs, and before the first read no source is read.
 use Rattle.std.proofs.Common.{map, false}
 use Rattle.std.specs.Option.{option_copied}
 use Rattle.std.specs.Io.KnownBytes.{Appends}
 use Rattle.std.proofs.lemmas.Result.{err_from_is_err_and}
 use Rattle.htl_device.specs.Devices.{AppendsPrefix}
-use Rattle.htl_reading.specs.Sources.{read_ahead}
-use Rattle.htl_reading.specs.declared.reading.TheConstants.{BLOCK_LEN}
 use Rattle.htl_main.specs.Causes.{Prints}
 use Rattle.htl_main.specs.Picked.{AskForWhole, Reports}
 use Rattle.htl_main.specs.Picking.{PrintsOf, ReportsOf}
 use Rattle.htl_case.specs.Picked.{NeedsWhole}
-use Rattle.htl_main.proofs.AfterPicking.{ends_for, if_done, if_whole, picked_run, prints, prints_part, reports, unread}
-use Rattle.htl_main.proofs.SourceLaws.{none_read}
+use Rattle.htl_main.proofs.AfterPicking.{ends_for, if_done, if_whole, picked_run, prints, prints_part, reports}
+use Rattle.htl_main.proofs.ReadingLaws.{unread}
 use Rattle.htl_main.proofs.picked_run.pick_from.Goals as goal
 
 pub returns-in_err-check_workers-clause-reading : goal.returns-in_err-check_workers-clause-reading
 returns-in_err-check_workers-clause-reading g c =
     let p = err_from_is_err_and c.from_residual.result c.from_residual.ensures.1 in
-    let fault = c.in_err-check_workers.ensures.err in
-    rw (p.1, p.2, fault.0) (unread false c.args.job.now.workers g.R.Source.has_failed g.R.Source.has_ended g.R.Source.good_reads
-    g.R.Source.remaining c.args.inputs.now
-    c.requires.inputs)
-
-pub returns-in_err-check_workers-clause-to_fault : goal.returns-in_err-check_workers-clause-to_fault
-returns-in_err-check_workers-clause-to_fault g c = none_read (read_ahead c.args.job.now.workers BLOCK_LEN) (map g.R.Source.remaining c.args.inputs.now)
+    rw (p.1, p.2, c.in_err-check_workers.ensures.err.0) (unread false c.args.job.now.workers
+    g.R.Source.has_failed g.R.Source.has_ended g.R.Source.good_reads g.R.Source.remaining c.args.inputs.now c.requires.inputs)
 
 pub returns-clause-ok : goal.returns-clause-ok
 returns-clause-ok g c = λ texts all.

@@ -1,16 +1,13 @@
 -- The sources so far were read to their ends, and what is asked about of them was picked.
-use Rattle.std.proofs.Common.{◌≡◌, ℕ, List, Some, map, take}
-use Rattle.htl_reading.specs.Sources.{read_ahead}
-use Rattle.htl_reading.specs.declared.reading.TheConstants.{BLOCK_LEN}
+use Rattle.std.proofs.Common.{◌≡◌, ℕ, List, Some, map, take, false}
 use Rattle.htl_main.specs.Picking.{ArePicksOfAll}
-use Rattle.htl_main.specs.Sources.{AreReadToFault}
 use Rattle.htl_main.proofs.ReadingLaws.{ReadBefore}
 use Rattle.htl_main.proofs.picking.pick_all.Given as goal
 
 abbrev pub invariant-loop-place : goal.invariant-loop-place
 invariant-loop-place g l = record {
-  before : ReadBefore g.R.Source.has_failed g.R.Source.has_ended g.R.Source.good_reads l.initial.sources l.sources l.place;
+  before : ReadBefore false l.workers g.R.Source.has_failed g.R.Source.has_ended g.R.Source.good_reads g.R.Source.remaining
+      l.initial.sources l.sources l.place;
   picked : (texts : List (List ℕ)) → map g.R.Source.remaining l.initial.sources ≡ map Some texts
       → ArePicksOfAll l.fn.interest (take l.place texts) l.picks;
-  to_fault : AreReadToFault (read_ahead l.workers BLOCK_LEN) (map g.R.Source.remaining l.initial.sources) (map g.R.Source.remaining l.sources);
 }

@@ -1,4 +1,4 @@
--- The case's segments are one part, whose rows are those of all its events.
+-- To summary the case's segments are one part, whose rows are those of all its events.
 use Rattle.htl_segment.specs.Traces.{all_events}
 use Rattle.htl_main.proofs.UnfoldedLaws.{are_events, size_fits}
 use Rattle.htl_main.proofs.summarizing.summary.Goals as goal
@@ -14,8 +14,7 @@ summary_with-requires c =
     let events = all_events T.segments in
     let are = are_events T _ c.segments.result.now c.new-part.ensures c.segments.ensures.value in
     record {
-      outlines = c.requires.outlines;
-      coverage = c.requires.coverage;
+      missed = c.requires;
       processes = c.in_ok-objects.ensures.processes events are c.segments.ensures.is_case.trace.sequences;
       number = c.in_ok-objects.ensures.number events are;
       unbalanced = c.in_ok-objects.ensures.unbalanced events are;

@@ -1,4 +1,4 @@
--- The totals are those of the case's segments, and of its coverage.
+-- The totals are those of the case's segments, of which there are few enough to count their events.
 use Rattle.std.proofs.Common.{◌∙◌, List, ap, length}
 use Rattle.htl_segment.specs.Content.{Content}
 use Rattle.htl_segment.specs.Traces.{all_events}
@@ -14,6 +14,6 @@ returns c = record {
   processors = c.processors.ensures;
   segments = ap length c.segments.ensures.value;
   events = c.event_count.ensures ∙ ap (λ (ss : List Content). length (all_events ss)) c.segments-2.ensures.value;
-  complete_to = c.requires.coverage.complete_to;
+  complete_to = c.requires.complete_to;
   objects = c.requires.objects;
 }

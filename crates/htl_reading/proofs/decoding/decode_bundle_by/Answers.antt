@@ -1,5 +1,5 @@
 -- The segments that were taken are all, or the bytes that are left end too early.
-use Rattle.std.proofs.Common.{◌≡◌, ◌<◌, [], length, arith, inl, refl}
+use Rattle.std.proofs.Common.{◌≡◌, ◌<◌, [], length, arith, inl}
 use Rattle.std.proofs.lemmas.Grind.{common_steps}
 use Rattle.htl_segment.proofs.BundleLaws.{bundle_cut}
 use Rattle.htl_reading.proofs.decoding.decode_bundle_by.Goals as goal
@@ -18,4 +18,4 @@ returns-clause-fault g c =
     let took = c.in_ok-rest.ensures.ok in
     let some : 0 < length rest = grind (arith, common_steps) in
     rw (c.cut_off.ensures)
-    (inl (bundle_cut bytes [] (took.0) rest (record { more = took.0; pushed = refl; splits = took.1 }) c.in_ok-rest.ensures.rest some))
+    (inl (bundle_cut bytes took.0 rest took.1 c.in_ok-rest.ensures.rest some))

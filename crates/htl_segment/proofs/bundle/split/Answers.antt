@@ -1,31 +1,27 @@
 -- Each turn takes one segment off the front, or the bytes left are reported.
-use Rattle.std.proofs.Common.{◌≡◌, ◌++◌, ◌∷◌, [], arith, refl, sym, ◌∙◌, ℕ}
-use Rattle.std.proofs.lemmas.List.{take_rest, length-drop, length-take}
-use Rattle.std.proofs.lemmas.Grind.{common_steps}
-use Rattle.htl_segment.proofs.BundleLaws.{early_end, begins_long, splits_one, refused, told_early}
+use Rattle.std.proofs.Common.{◌++◌, ◌∷◌, [], refl, sym, ◌∙◌, append_assoc, Some}
+use Rattle.std.proofs.lemmas.List.{take_rest}
+use Rattle.htl_segment.proofs.BundleLaws.{early_end, splits_one, refused}
 use Rattle.htl_segment.proofs.bundle.split.Goals as goal
 
-pub loop-segment-smaller : goal.loop-segment-smaller
-loop-segment-smaller c =
-    let front = c.in-Ok.ensures.found in
-    let long = begins_long c.loop-segment.rest.now c.in-Ok.len c.in-Ok.segment front in
-    omega (arith, long, front.inside, length-take {A = ℕ}, length-drop {A = ℕ})
+pub loop-found-preserved : goal.loop-found-preserved
+loop-found-preserved g c =
+    let inv = c.loop-found.invariant in
+    let s = c.in-Ok.found in
+    let front = rw (← c.byte_len.ensures.value) at c.in-Ok.ensures.found in
+    record {
+      more = inv.more ++ s ∷ [];
+      splits = rw take_rest (splits_one c.args.bytes.now [] inv.more c.loop-found.rest.now c.byte_len.result s inv.splits front);
+      gathers = λ start segments before.
+          rw (sym (append_assoc segments inv.more (s ∷ [])))
+          (c.in-Ok-take.ensures start (segments ++ inv.more) (inv.gathers start segments before));
+    }
 
-pub loop-segment-preserved : goal.loop-segment-preserved
-loop-segment-preserved c =
-    let pushed : c.push.new.self.items ≡ c.loop-segment.segments.items ++ c.in-Ok.segment ∷ [] = grind (arith, common_steps) in
-    rw (pushed, take_rest) (splits_one c.args.bytes.now _ _ c.loop-segment.rest.now c.in-Ok.len c.in-Ok.segment c.loop-segment.invariant
-    c.in-Ok.ensures.found)
+pub returns-in-Err-clause-rest : goal.returns-in-Err-clause-rest
+returns-in-Err-clause-rest g c =
+    early_end c.loop-found.rest.now c.in-Err.end c.in-Err.ensures.fault (sym c.is_early_end.ensures ∙ c.if-is_early_end.true)
 
-pub returns-in-Err : goal.returns-in-Err
-returns-in-Err c =
-    let early = sym c.is_early_end.ensures ∙ c.if-is_early_end.true in (
-      c.loop-segment.invariant,
-      early_end c.loop-segment.rest.now c.in-Err.fault (told_early _ c.in-Err.fault c.in-Err.ensures.fault early)
-          early,
-    )
-
-pub returns-in-Err-2 : goal.returns-in-Err-2
-returns-in-Err-2 c =
-    let late = sym c.is_early_end.ensures ∙ c.if-is_early_end.false in
-    refused c.args.bytes.now _ _ c.loop-segment.rest.now c.in-Err.fault _ c.loop-segment.invariant late refl c.in-Err.ensures.fault
+pub returns-in-Err-2-clause-refused : goal.returns-in-Err-2-clause-refused
+returns-in-Err-2-clause-refused g c =
+    refused c.args.bytes.now _ _ c.loop-found.rest.now c.in-Err.end (Some c.in-Err.end) c.loop-found.invariant.splits
+    (sym c.is_early_end.ensures ∙ c.if-is_early_end.false) c.in-Err.ensures.fault refl

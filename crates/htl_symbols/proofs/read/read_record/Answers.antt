@@ -1,4 +1,4 @@
--- A read takes the next record, finds the end, or is refused at a record that is no text.
+-- A read takes the next record, finds the end, or is refused at a record that is not UTF-8.
 use Rattle.std.proofs.Common.{◌∙◌}
 use Rattle.csv.specs.Records.{fields_of}
 use Rattle.htl_symbols.proofs.Reader.{read-ok, read-refused}

@@ -1,5 +1,5 @@
 -- What a splitter keeps of a piece.
-use Rattle.std.proofs.Common.{◌++◌, ap, arith}
+use Rattle.std.proofs.Common.{rules, ◌++◌, ap, arith}
 use Rattle.std.proofs.lemmas.List.{length-append}
 use Rattle.htl_segment.specs.Pieces.{SplitterState}
 use Rattle.htl_segment.proofs.BundleLaws.{boundary_inside}
@@ -12,8 +12,11 @@ invariant_of-self c =
       taken.is_rest,
       (
         taken.room,
-        rest_inside c.self.inside.rest.items c.args.piece.now _ _ c.self.inside.fed taken.splits
-            c.self.invariant.1.1,
+        (
+          rest_inside c.self.inside.rest.items c.args.piece.now _ _ c.self.inside.fed taken.splits
+              c.self.invariant.1.1.0,
+          search rules,
+        ),
       ),
     )
 
@@ -26,7 +29,7 @@ overflow_add-refused c =
       arith,
       inside,
       length-append held c.args.piece.now,
-      c.self.invariant.1.1,
+      c.self.invariant.1.1.0,
       c.len-held.ensures,
       c.requires,
       ap (λ (s : SplitterState). s.fed) c.self.view_is,

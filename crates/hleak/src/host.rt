@@ -1,0 +1,65 @@
+//! The files and the standard input of the machine. What its names hold is known to no contract, so
+//! each body here is one call of std's: `.ci/statuses` and `.ci/picks` show that it is of the name.
+
+ghost use Rattle.std.specs.Prelude.{◌≡◌, Err, IfErr, IfOk, None, Ok, false};
+ghost use Rattle.std_io.specs.IoError.{error_kind};
+ghost use Rattle.hleak.specs.Openings.{open_fault};
+
+use crate::file::{InputFile, known_len};
+use crate::input::{Device, Input};
+use crate::progress::Progress;
+use htl_main::Reading;
+use htl_program::{OpenFault, World};
+use std::{fs, io};
+
+/// What the program opens. What is read of it is counted where somebody watches.
+#[derive(Clone, Copy)]
+pub struct Host<'p> {
+    pub rt: HostRuntime,
+    pub progress: Option<&'p Progress>,
+}
+
+impl<'p> World for Host<'p> {
+    type Input = Reading<Input<'p, Device>>;
+
+    ghost holds = { λ _ _. None };
+
+    ghost is_absent = { λ _ _. false };
+
+    ghost standard = { λ _. None };
+
+    fn open(&self, name: &str) -> Result<Reading<Input<'p, Device>>, OpenFault> {
+        match InputFile::find(&self.rt, name) {
+            Ok(file) => Ok(Reading::new(Input::file(file, self.progress))),
+            Err(_) => Err(OpenFault::Refused),
+        }
+    }
+
+    fn read(&self, name: &str) -> Result<Vec<u8>, OpenFault> {
+        whole(fs::read(&self.rt, name))
+    }
+
+    fn standard_input(&self) -> Reading<Input<'p, Device>> {
+        Reading::new(Input::standard(&self.rt, self.progress))
+    }
+
+    fn questions(&self) -> Reading<Input<'p, Device>> {
+        Reading::new(Input::standard(&self.rt, None))
+    }
+
+    fn can_be_read_again(&self, name: &str) -> bool {
+        known_len(&fs::metadata(&self.rt, name)).is_some()
+    }
+}
+
+/// What a read of a whole file comes to.
+fn whole(read: io::Result<Vec<u8>>) -> Result<Vec<u8>, OpenFault>
+    ensures ok { IfOk read (λ bytes. result ≡ Ok bytes) }
+    ensures err { IfErr read (λ error. result ≡ Err (open_fault (error_kind error))) }
+{
+    match read {
+        Ok(bytes) => Ok(bytes),
+        Err(error) if error.kind() == io::ErrorKind::OutOfMemory => Err(OpenFault::NoMemory),
+        Err(_) => Err(OpenFault::Refused),
+    }
+}

@@ -1,0 +1,118 @@
+//! What is read on standard error: the line of a fault, and at a terminal what a person reads more.
+
+ghost use Rattle.std.specs.Prelude.{None};
+
+use crate::absence::Absence;
+use crate::explanation::Explanation;
+use crate::note::Note;
+use crate::progress::Progress;
+use crate::shown::Shown;
+use crate::stopped::Stopped;
+use crate::task::Task;
+use htl_command::{Asked, Command, ParseFault};
+use htl_dialogue::DialogueFault;
+use htl_main::{Completed, Refused, RunFault};
+use htl_program::Person;
+use std::io::IsTerminal;
+
+/// Standard error. A line that can't be written is left out.
+#[derive(Clone, Copy)]
+pub struct Terminal<'p> {
+    pub rt: HostRuntime,
+    /// Shows how much was read, where a person watches.
+    pub progress: Option<&'p Progress>,
+    /// Whether a person at a terminal reads it.
+    pub is_watched: bool,
+    /// Whether standard output is a terminal.
+    pub sees_output: bool,
+}
+
+impl Terminal<'_> {
+    /// Says to a person at a terminal that the program waits for what is typed there.
+    fn await_typing(self, what: &str) {
+        if self.is_watched && self.rt.stdin().is_terminal() {
+            let _ = eprintln!(self.rt; "hleak: no file is named: {what} expected at this terminal");
+        }
+    }
+}
+
+impl Person for Terminal<'_> {
+    ghost heard = { λ _. None };
+
+    ghost sees_output = { λ terminal. terminal.sees_output };
+
+    fn sees_output(&self) -> bool {
+        self.sees_output
+    }
+
+    /// How much was read isn't shown where a terminal gets the text of segments meanwhile.
+    fn begins(&mut self, command: &Command) {
+        match command {
+            Command::Answer(asked) if asked.files.is_empty() => self.await_typing("segments are"),
+            Command::Dump(of) if of.files.is_empty() => self.await_typing("segments are"),
+            Command::Encode(of) if of.files.is_empty() => self.await_typing("text is"),
+            _ => {}
+        }
+        if let (Some(progress), Command::Dump(_), true) = (
+            self.progress,
+            command,
+            self.sees_output,
+        ) {
+            progress.hide();
+        }
+    }
+
+    fn ends(&mut self) {
+        if let Some(progress) = self.progress {
+            progress.clear();
+        }
+    }
+
+    fn refuses(&mut self, refused: &ParseFault) {
+        match refused {
+            ParseFault::Help(text) | ParseFault::Usage(text) => {
+                let _ = eprint!(self.rt; "{}", Shown::lines(text));
+            }
+            ParseFault::Memory => {
+                let _ = eprintln!(self.rt; "{refused}");
+            }
+        }
+    }
+
+    fn misses(&mut self) {
+        let _ = eprintln!(self.rt; "{}", RunFault::Write);
+    }
+
+    fn reports(&mut self, command: &Command, refused: Refused) {
+        let _ = eprintln!(self.rt; "{refused}");
+        if self.is_watched {
+            if let Some(task) = Task::of(command) {
+                let explanation = Explanation {
+                    task,
+                    fault: refused.fault,
+                    between: refused.between,
+                };
+                let _ = eprintln!(self.rt; "{explanation}");
+            }
+        }
+    }
+
+    fn notes(&mut self, asked: &Asked, completed: Completed) {
+        if !self.is_watched {
+            return;
+        }
+        if let Some(absence) = Absence::after(asked.job.question, completed) {
+            let _ = eprintln!(self.rt; "{absence}");
+        }
+        if let Some(note) = Note::on(completed.coverage) {
+            let _ = eprintln!(self.rt; "{note}");
+        }
+    }
+
+    fn stops(&mut self, stopped: DialogueFault) {
+        let _ = eprintln!(self.rt; "{stopped}");
+        if self.is_watched {
+            let _ = eprintln!(self.rt; "{}", Stopped { fault: stopped });
+        }
+    }
+}

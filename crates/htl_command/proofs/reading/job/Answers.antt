@@ -1,0 +1,66 @@
+-- No value that is read before the one that is refused breaks its rule.
+use Rattle.std.proofs.Common.{◌≡◌, ◌∙◌, ℕ, List, [], ◌∷◌, ◌++◌, refl, sym, ap}
+use Rattle.std.specs.Prelude.{None, Some, find}
+use Rattle.std.specs.Option.{option_or}
+use Rattle.std.proofs.lemmas.List.Folds.{find-append}
+use Rattle.std.proofs.lemmas.Result.{err_from_is_err_and}
+use Rattle.clap.specs.Words.{Row}
+use Rattle.htl_command.specs.Requests.{optional, workers}
+use Rattle.htl_command.specs.Steps.{IsFirstBroken, Names, breaks_rule, entries_of, question_options}
+use Rattle.htl_command.specs.Values.{top_in}
+use Rattle.htl_command.specs.declared.commands.CommandOption.{CommandOption}
+use Rattle.htl_command.specs.declared.commands.CommandOption.TheVariants.{Top, Workers}
+use Rattle.htl_command.specs.declared.reading.Refused.{Refused}
+use Rattle.htl_command.proofs.reading.job.Goals as goal
+
+-- the first that breaks its rule is the first of more
+own_first : (rows : List Row) (own more : List CommandOption) (refused : Refused) → IsFirstBroken rows own refused
+    → IsFirstBroken rows (own ++ more) refused
+own_first rows own more refused first =
+    (first.0, find-append (breaks_rule rows) own more ∙ ap (λ f. option_or f (find (breaks_rule rows) more)) first.1)
+
+-- where none does, it is the first of those that follow
+then_later : (rows : List Row) (own more : List CommandOption) → find (breaks_rule rows) own ≡ None
+    → find (breaks_rule rows) (own ++ more) ≡ find (breaks_rule rows) more
+then_later rows own more none =
+    find-append (breaks_rule rows) own more ∙ ap (λ f. option_or f (find (breaks_rule rows) more)) none
+
+named : (rows : List Row) (wanted : CommandOption) (refused : Refused) → Names wanted rows refused → Names refused.option rows refused
+named rows wanted refused names = record { option = refl; given = rw (names.option) (names.given) }
+
+workers_broken : (rows : List Row) → None ≡ workers rows → find (breaks_rule rows) (Workers ∷ Top ∷ []) ≡ Some Workers
+workers_broken rows is = rw (← is) refl
+
+top_broken : (rows : List Row) (n : ℕ) → Some n ≡ workers rows → None ≡ optional top_in Top rows
+    → find (breaks_rule rows) (Workers ∷ Top ∷ []) ≡ Some Top
+top_broken rows n is none = rw (← is, ← none) refl
+
+pub returns-in_err-question-clause-err : goal.returns-in_err-question-clause-err
+returns-in_err-question-clause-err c =
+    let p = err_from_is_err_and c.from_residual.result c.from_residual.ensures.1 in
+    rw (p.1, p.2) (own_first (entries_of c.args.entries.now) (question_options c.args.name) (Workers ∷ Top ∷ [])
+    c.in_err-question.field-0.0 c.in_err-question.ensures.err)
+
+pub returns-in_err-workers-clause-err : goal.returns-in_err-workers-clause-err
+returns-in_err-workers-clause-err c =
+    let p = err_from_is_err_and c.from_residual-in_err-workers.result c.from_residual-in_err-workers.ensures.1 in
+    let rows = entries_of c.args.entries.now in
+    let refused = c.in_err-workers.field-0.0 in
+    let names = c.in_err-workers.ensures.err in
+    rw (p.1, p.2) (
+      named rows Workers refused names,
+      then_later rows (question_options c.args.name) (Workers ∷ Top ∷ []) c.in_ok-question.ensures.none
+          ∙ workers_broken rows c.in_err-workers.ensures.ok ∙ ap (λ o. Some o) (sym names.option),
+    )
+
+pub returns-in_err-top-clause-err : goal.returns-in_err-top-clause-err
+returns-in_err-top-clause-err c =
+    let p = err_from_is_err_and c.from_residual-in_err-top.result c.from_residual-in_err-top.ensures.1 in
+    let rows = entries_of c.args.entries.now in
+    let refused = c.in_err-top.field-0.0 in
+    let names = c.in_err-top.ensures.err in
+    rw (p.1, p.2) (
+      named rows Top refused names,
+      then_later rows (question_options c.args.name) (Workers ∷ Top ∷ []) c.in_ok-question.ensures.none
+          ∙ top_broken rows c.in_ok-workers.field-0 c.in_ok-workers.ensures.ok c.in_err-top.ensures.ok ∙ ap (λ o. Some o) (sym names.option),
+    )

@@ -1,0 +1,13 @@
+-- What `{:016x}` and `{:08x}` write of a number: its digits, and zeros before them.
+use Rattle.std.proofs.Common.{◌≡◌, ◌-◌, ◌^◌, ℕ, false, List, [], ◌++◌, length, replicate, arith}
+use Rattle.std.specs.Fmt.{char_count, padded_integral, format_spec}
+use Rattle.std.proofs.lemmas.List.{append-nil}
+
+-- a number is padded with zeros to the width
+pub padded_to : (width : ℕ) (digits : List ℕ)
+    → padded_integral (format_spec 32 0 4 width (2 ^ 64 - 1)) false [] digits ≡ replicate (width - length digits) 48 ++ digits
+unfolding padded_integral char_count
+padded_to width digits = simp (append-nil, less-none)
+  where
+    less-none : (n : ℕ) → n - 0 ≡ n
+    less-none n = omega arith

@@ -1,0 +1,32 @@
+-- Tests that are true together, and what a comparison answered.
+use Rattle.std.proofs.Common.{◌≡◌, ℕ, ◌<◌, Bool, true, false, ◌&&◌, T, refl, arith}
+use Rattle.std.specs.Ordering.{is_lt, is_eq, nat_cmp}
+use Rattle.std.proofs.lemmas.Bool.Decides.{nat_tests}
+use Rattle.std.specs.declared.cmp.Ordering.{Ordering}
+use Rattle.std.specs.declared.cmp.Ordering.TheVariants.{Less, Equal, Greater}
+
+pub both : (a b : Bool) → T a → T b → T (a && b)
+both true b p q = q
+both false b p q = p
+
+pub both_left : (a b : Bool) → T (a && b) → T a
+both_left true b p = tt
+both_left false b p = p
+
+pub both_right : (a b : Bool) → T (a && b) → T b
+both_right true b p = p
+both_right false b p = absurd p
+
+pub less : (o : Ordering) → T (is_lt o) → o ≡ Less
+less Less p = refl
+less Equal p = absurd p
+less Greater p = absurd p
+
+pub equal : (o : Ordering) → is_eq o ≡ true → o ≡ Equal
+equal Less e = cc
+equal Equal e = refl
+equal Greater e = cc
+
+-- a number that comes first in order is the lower
+pub lower : (x y : ℕ) → nat_cmp x y ≡ Less → x < y
+lower x y e = grind (arith, nat_tests)

@@ -1,0 +1,98 @@
+//! What is loaded once, so that many questions can be asked of it.
+
+ghost use Rattle.std.specs.Prelude.{◌≡◌, ℕ, List, All, Some, false, map, IfErr, IfOk};
+ghost use Rattle.std.specs.Option.{option_copied};
+ghost use Rattle.htl_segment.specs.Content.{Content};
+ghost use Rattle.htl_case.specs.Cases.{IsCase, IsCaseOf};
+ghost use Rattle.htl_command.specs.declared.question.Job.{Job};
+ghost use Rattle.htl_main.specs.Causes.{IsCauseAfter};
+ghost use Rattle.htl_main.specs.Coverages.{IsCoverage};
+ghost use Rattle.htl_main.specs.Origins.{IsBetween, by_fault};
+ghost use Rattle.htl_main.specs.Readings.{AreRead};
+ghost use Rattle.htl_main.specs.Reads.{NeverWrite};
+ghost use Rattle.htl_main.specs.Sources.{IsSourcesCause};
+ghost use Rattle.htl_main.specs.Loading.{AreLoaded, AreLoadedOf, in_setting};
+
+use crate::casing::case_of;
+use crate::coverage::{Coverage, Missed};
+use crate::fault::RunFault;
+use crate::printing::{check_gaps, check_workers, read_symbols};
+use crate::refused::Refused;
+use crate::sources::read_all;
+use htl_case::Case;
+use htl_command::Setting;
+use htl_device::Source;
+use htl_symbols::Symbols;
+use std::alloc::Global;
+use std::thread::Threads;
+
+/// The case of all segments, how much of its trace it has, and the names of its addresses.
+#[derive(Drop)]
+pub struct Loaded {
+    pub case: Case,
+    pub coverage: Coverage,
+    pub symbols: Symbols,
+}
+
+/// Reads all sources as `run_from` does and makes their segments a case. It reports what `run_from`
+/// reports before it answers.
+pub fn load<Rt: Threads + Sync, R: Source>(
+    rt: &Rt,
+    alloc: Global,
+    setting: Setting,
+    inputs: &mut [R],
+    symbols: Option<&[u8]>,
+) -> Result<Loaded, Refused>
+    requires fresh { All (λ source. R.has_failed source ≡ false) inputs.old }
+    requires inside { All (λ source. R.has_ended source ≡ false) inputs.old }
+    // What the sources' bytes come to is loaded, or reported as by a run for whichever question.
+    ensures ok { (texts : List (List ℕ)) → map R.remaining inputs.old ≡ map Some texts
+        → IfOk result (λ loaded. AreLoadedOf texts (option_copied symbols.entry) setting
+        loaded.case loaded.symbols) }
+    ensures case { IfOk result (λ loaded. IsCase loaded.case) }
+    ensures coverage { IfOk result (λ loaded. IsCoverage loaded.case loaded.coverage) }
+    ensures cause { (texts : List (List ℕ)) → map R.remaining inputs.old ≡ map Some texts
+        → IfErr (by_fault result) (λ fault. (job : Job)
+        → IsSourcesCause (in_setting setting job) texts (map R.remaining inputs.new)
+        (map R.has_ended inputs.new) (option_copied symbols.entry) fault) }
+    // Where a fault is about two segments, they are named.
+    ensures between { (texts : List (List ℕ)) → map R.remaining inputs.old ≡ map Some texts
+        → IfErr result (λ refused.
+        IsBetween setting.hex texts refused.fault refused.between) }
+    ensures reading { AreRead setting.hex setting.workers R.has_failed R.has_ended R.good_reads
+        R.remaining inputs.old inputs.new (by_fault result) }
+    ensures no_write { NeverWrite (by_fault result) }
+{
+    check_workers(setting.workers)?;
+    let decoded = read_all(rt, alloc, setting.hex, setting.workers, inputs)?;
+    let case = case_of(alloc, decoded)?;
+    let loaded = with_symbols(alloc, setting, case, symbols)?;
+    Ok(loaded)
+}
+
+/// The case with the symbols. A case with a gap is refused where the setting asks for a complete one.
+fn with_symbols(
+    alloc: Global,
+    setting: Setting,
+    case: Case,
+    symbols: Option<&[u8]>,
+) -> Result<Loaded, RunFault>
+    ensures ok { IfOk result (λ loaded. (segments : List Content) → IsCaseOf segments case
+        → AreLoaded segments (option_copied symbols.entry) setting loaded.case
+        loaded.symbols) }
+    ensures case { IfOk result (λ loaded. IsCase loaded.case) }
+    ensures coverage { IfOk result (λ loaded. IsCoverage loaded.case loaded.coverage) }
+    ensures err { IfErr result (λ fault. (segments : List Content) (job : Job)
+        → IsCaseOf segments case
+        → IsCauseAfter segments (option_copied symbols.entry) (in_setting setting job) fault) }
+{
+    let missed = Missed::of_case(alloc, &case)?;
+    check_gaps(setting.complete, &missed)?;
+    let symbols = read_symbols(alloc, symbols)?;
+    let coverage = missed.coverage();
+    Ok(Loaded {
+        case,
+        coverage,
+        symbols,
+    })
+}

@@ -1,0 +1,36 @@
+-- Inputs that are lent come back with nothing behind them, and a fault is passed on.
+use Rattle.std.proofs.Common.{◌≡◌, ◌∙◌, Bool, false, inl, inr, true, ◌++◌, ◌∷◌, [], List, ℕ, ap, arith, length, refl, suc, sym, take, zero}
+use Rattle.std.specs.Prelude.{Result, Ok, Err}
+use mathlib.Core.Bool.{true≢false}
+use Rattle.htl_main.specs.declared.fault.RunFault.{RunFault}
+use Rattle.htl_program.specs.Endings.{IsUnopened}
+
+pub take_front : {X : Type 0} (xs zs : List X) (n : ℕ) → length xs ≡ n → take n (xs ++ zs) ≡ xs
+take_front [] zs zero e = refl
+take_front [] zs (suc n) e = absurd (omega (arith, e))
+take_front (x ∷ xs) zs zero e = absurd (omega (arith, e))
+take_front (x ∷ xs) zs (suc n) e = ap (λ l. x ∷ l) (take_front xs zs n (omega (arith, e)))
+
+fault_or : {S E : Type 0} → E → Result S E → E
+fault_or other (Ok done) = other
+fault_or other (Err fault) = fault
+
+-- one fault is reported
+pub same_fault : {S E : Type 0} (a b : E) (result : Result S E) → result ≡ Err a → result ≡ Err b → a ≡ b
+unfolding fault_or
+same_fault a b result one other = ap (fault_or a) (sym one ∙ other)
+
+is_ok : {S E : Type 0} → Result S E → Bool
+is_ok (Ok done) = true
+is_ok (Err fault) = false
+
+-- inputs that were opened are all there
+pub all_opened : {S X : Type 0} (place : ℕ) (done : S) → IsUnopened place (Ok done) → X
+unfolding is_ok
+all_opened place done (inl is) = absurd (true≢false (ap is_ok is))
+all_opened place done (inr is) = absurd (true≢false (ap is_ok is))
+
+-- a fault of the opening is the fault of what was to come of it
+pub same_end : {S T : Type 0} (place : ℕ) (fault : RunFault) → IsUnopened {S = S} place (Err fault) → IsUnopened {S = T} place (Err fault)
+same_end place fault (inl is) = inl (ap Err (same_fault _ _ _ refl is))
+same_end place fault (inr is) = inr (ap Err (same_fault _ _ _ refl is))

@@ -1,0 +1,5 @@
+pub mod Names
+pub mod FirstAbsent
+pub mod Lent
+pub mod RanOut
+mod RunEnds

@@ -1,0 +1,39 @@
+-- What a run ensures, clause by clause, is how it ends; and a cause stays one where memory may be refused too.
+use Rattle.std.proofs.Common.{◌≡◌, ◌⊎◌, ℕ, Bool, List, Option, Result, Ok, Err, ap, inl}
+use Rattle.std.specs.Prelude.{IfOk, IfErr, OnOk}
+use Rattle.htl_command.specs.declared.question.Job.{Job}
+use Rattle.htl_main.specs.Answers.{Finds}
+use Rattle.htl_main.specs.Causes.{Prints, PrintsPart}
+use Rattle.htl_main.specs.Coverages.{Covers}
+use Rattle.htl_main.specs.Origins.{IsBetween, by_fault}
+use Rattle.htl_main.specs.Sources.{IsSourcesCause}
+use Rattle.htl_main.specs.Subjects.{ReportsSubject}
+use Rattle.htl_main.specs.declared.completed.Completed.{Completed}
+use Rattle.htl_main.specs.declared.fault.RunFault.{RunFault}
+use Rattle.htl_main.specs.declared.fault.RunFault.TheVariants.{Memory, Write}
+use Rattle.htl_main.specs.declared.refused.Refused.{Refused}
+use Rattle.htl_program.specs.Endings.{Ends}
+
+-- the clauses of a run say how it ends
+pub run_ends : (job : Job) (texts : List (List ℕ)) (table : Option (List ℕ)) (lefts : List (Option (List ℕ))) (ends : List Bool)
+    (old new : Option (List ℕ)) (result : Result Completed Refused) → OnOk result (Prints job texts table old new)
+    → IfOk result (λ completed. Covers job.hex texts completed.coverage)
+    → IfOk result (λ completed. ReportsSubject job.hex texts job.question completed.has_subject)
+    → IfOk result (λ completed. Finds job.hex texts job.question completed.has_finding)
+    → IfErr (by_fault result) (IsSourcesCause job texts lefts ends table)
+    → (by_fault result ≡ Err Write → PrintsPart job texts table old new)
+    → IfErr result (λ refused. IsBetween job.hex texts refused.fault refused.between)
+    → Ends job texts table lefts ends old new result
+run_ends job texts table lefts ends old new (Ok completed) prints covers subject finds cause write between =
+    (prints, record { coverage = covers; subject = subject; finding = finds })
+run_ends job texts table lefts ends old new (Err refused) prints covers subject finds cause write between = record {
+  cause = cause;
+  between = between;
+  written = λ is. write (ap Err is);
+}
+
+-- a cause, or refused memory
+pub or_memory : {S : Type 0} (Cause : RunFault → Type 0) (result : Result S RunFault) → IfErr result Cause
+    → IfErr result (λ fault. Cause fault ⊎ fault ≡ Memory)
+or_memory Cause (Ok done) is = tt
+or_memory Cause (Err fault) is = inl is

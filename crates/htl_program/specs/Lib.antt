@@ -1,0 +1,9 @@
+-- What public contracts cite.
+pub mod Worlds
+pub mod Endings
+pub mod Statuses
+pub mod Sayings
+pub mod Words
+pub mod Programs
+-- What only private contracts cite.
+pub mod Runs

@@ -1,0 +1,236 @@
+-- What the program does with its arguments (this project's own).
+use Rattle.std.specs.Prelude.{◌≡◌, ◌≢◌, ◌⊎◌, ◌&&◌, ⊤, not, ℕ, Bool, true, false, List, map, Option, Some, IfErr, IfOk}
+use Rattle.std.specs.Prelude.{Result, Ok, Err, String, string_bytes}
+use Rattle.std.specs.Io.KnownBytes.{Appends}
+use Rattle.htl_ask.specs.Asking.{BeginsAndGets, IsRunsCause, IsRunsText, before_dialogue}
+use Rattle.htl_ask.specs.declared.fault.AskFault.{AskFault}
+use Rattle.htl_ask.specs.declared.fault.AskFault.TheVariants as asks
+use Rattle.htl_command.specs.Refusals.{IsUsageWith, RefusesArguments}
+use Rattle.htl_command.specs.Requests.{request, requested}
+use Rattle.htl_command.specs.declared.asked.Asked.{Asked}
+use Rattle.htl_command.specs.declared.asked.Command.{Command}
+use Rattle.htl_command.specs.declared.asked.Command.TheVariants as wish
+use Rattle.htl_command.specs.declared.asked.Conversion.{Conversion}
+use Rattle.htl_command.specs.declared.asked.Dialogue.{Dialogue}
+use Rattle.htl_command.specs.declared.fault.ParseFault.{ParseFault}
+use Rattle.htl_command.specs.declared.fault.ParseFault.TheVariants.{Help, Usage, Memory}
+use Rattle.htl_device.specs.Devices.{AppendsPrefix}
+use Rattle.htl_dialogue.specs.Dialogues.{Converses, StopsAt}
+use Rattle.htl_dialogue.specs.Notes.{Note}
+use Rattle.htl_dialogue.specs.declared.dialogue.DialogueFault.{DialogueFault}
+use Rattle.htl_main.specs.Coverages.{Covers}
+use Rattle.htl_main.specs.Dumps.{is_failed_write}
+use Rattle.htl_main.specs.Origins.{by_fault}
+use Rattle.htl_main.specs.Sources.{IsEndless, IsTrueAt}
+use Rattle.htl_main.specs.Subjects.{ReportsSubject}
+use Rattle.htl_main.specs.declared.completed.Completed.{Completed}
+use Rattle.htl_main.specs.declared.coverage.Coverage.{Coverage}
+use Rattle.htl_main.specs.declared.fault.RunFault.{RunFault}
+use Rattle.htl_main.specs.declared.fault.RunFault.TheVariants as faults
+use Rattle.htl_main.specs.declared.refused.Refused.{Refused}
+use Rattle.htl_program.specs.Endings.{Ends, EndsDump, EndsEncoding, IsUnopened, IsUntabled, RunsOut}
+use Rattle.htl_program.specs.Sayings.{Hears, Saying, answer, fault, no_memory, of_fault, stop, text, unwritten}
+use Rattle.htl_program.specs.Statuses.{conversion_status, dialogue_status, end_status}
+use Rattle.htl_program.specs.Words.{explained}
+use Rattle.htl_program.specs.Worlds.{IsFirstAbsent, IsFirstRefused, IsTable, IsTableAbsent, of_each, of_inputs}
+
+-- what is known of a world
+pub record Known : Type 0 where
+  pub holds : List ℕ → Option (List ℕ)
+  pub is_absent : List ℕ → Bool
+  pub standard : Option (List ℕ)
+
+abbrev pub known : {W : Type 0} → (W → List ℕ → Option (List ℕ)) → (W → List ℕ → Bool) → (W → Option (List ℕ)) → W → Known
+known holds is_absent standard world = record { holds = holds world; is_absent = is_absent world; standard = standard world }
+
+-- what became of the inputs that were opened: which bytes each has left, whether its end was found, whether a read of it failed, and how
+-- many reads of it gave bytes
+pub record Opened : Type 0 where
+  pub lefts : List (Option (List ℕ))
+  pub ends : List Bool
+  pub failed : List Bool
+  pub reads : List ℕ
+
+abbrev pub opened : {R : Type 0} → (R → Option (List ℕ)) → (R → Bool) → (R → Bool) → (R → ℕ) → List R → Opened
+opened remaining has_ended has_failed good_reads inputs = record {
+  lefts = map remaining inputs;
+  ends = map has_ended inputs;
+  failed = map has_failed inputs;
+  reads = map good_reads inputs;
+}
+
+-- what was written and said: which bytes the output holds, whether a write to it failed, and what a person heard
+pub record Told : Type 0 where
+  pub out : Option (List ℕ)
+  pub is_full : Bool
+  pub heard : Option (List Saying)
+
+abbrev pub told : {O P : Type 0} → (O → Option (List ℕ)) → (O → Bool) → (P → Option (List Saying)) → O → P → Told
+told contents has_failed heard out person = record { out = contents out; is_full = has_failed out; heard = heard person }
+
+-- the inputs of the names have these texts
+abbrev pub HaveTexts : {A : Type 0} → Known → List (String A) → List (List ℕ) → Type 0
+HaveTexts world names texts = of_inputs world.holds world.standard names ≡ map Some texts
+
+-- the name at the place is the first for which there is nothing
+abbrev pub IsAbsentAt : {A : Type 0} → Known → List (String A) → ℕ → Type 0
+IsAbsentAt world names place = IsFirstAbsent (of_each world.holds names) (of_each world.is_absent names) place
+
+-- a failed read is reported only of a name that was refused, or of an input whose read failed or that has no end
+abbrev pub ReportsRead : {A S : Type 0} → Known → Opened → List (String A) → Result S RunFault → Type 0
+ReportsRead world inputs names result =
+    (place : ℕ) → result ≡ Err (faults.Read place)
+    → IsFirstRefused (of_each world.holds names) (of_each world.is_absent names) place
+    ⊎ (IsTrueAt inputs.failed place ⊎ IsEndless inputs.reads (of_inputs world.holds world.standard names) place)
+
+-- the question was run so over its files and its table of symbols
+pub record IsAnswered (world : Known) (inputs : Opened) (old new : Told) (asked : Asked) (ended : Result Completed Refused) : Type 0 where
+  pub ends : (texts : List (List ℕ)) → (table : Option (List ℕ)) → HaveTexts world asked.files.items texts
+      → IsTable world.holds asked.symbols table
+      → Ends asked.job texts table inputs.lefts inputs.ends old.out new.out ended ⊎ RunsOut ended
+  pub absent : (place : ℕ) → IsAbsentAt world asked.files.items place → IsUnopened place (by_fault ended)
+  pub untabled : (texts : List (List ℕ)) → HaveTexts world asked.files.items texts → IsTableAbsent world.is_absent asked.symbols
+      → IsUntabled (by_fault ended)
+  pub read : ReportsRead world inputs asked.files.items (by_fault ended)
+  pub untouched : IfErr (by_fault ended) (λ reported. reported ≢ faults.Write → new.out ≡ old.out)
+  pub failed : by_fault ended ≡ Err faults.Write → new.is_full ≡ true
+
+-- How a question's end is said. A failed write is not where nobody reads any more.
+abbrev pub SaysAnswer : Option (List Saying) → Option (List Saying) → Result Completed Refused → Type 0
+SaysAnswer old new (Ok completed) = Hears old new (answer completed)
+SaysAnswer old new (Err refused) = Hears old new (fault refused) ⊎ ((refused.fault ≡ faults.Write) × (new ≡ old))
+
+pub record DoesAnswer (world : Known) (inputs : Opened) (old new : Told) (asked : Asked) (status : ℕ) : Type 0 where
+  pub ended : Result Completed Refused
+  pub is : IsAnswered world inputs old new asked ended
+  pub status_is : status ≡ end_status asked.job.exit_code (by_fault ended)
+  pub said : SaysAnswer old.heard new.heard ended
+
+-- how a conversion's end is said: nothing, if it ended well
+abbrev pub SaysConversion : {S : Type 0} → Option (List Saying) → Option (List Saying) → Result S RunFault → Type 0
+SaysConversion old new (Ok done) = new ≡ old
+SaysConversion old new (Err reported) = Hears old new (of_fault reported) ⊎ ((reported ≡ faults.Write) × (new ≡ old))
+
+pub record DoesDump (world : Known) (inputs : Opened) (old new : Told) (of : Conversion) (status : ℕ) : Type 0 where
+  pub ended : Result (Unit {0}) RunFault
+  pub ends : (texts : List (List ℕ)) → HaveTexts world of.files.items texts
+      → EndsDump of.hex texts inputs.lefts inputs.ends old.out new.out ended
+  pub absent : (place : ℕ) → IsAbsentAt world of.files.items place → IsUnopened place ended × (new.out ≡ old.out)
+  pub read : ReportsRead world inputs of.files.items ended
+  pub failed : new.is_full ≡ is_failed_write ended
+  pub status_is : status ≡ conversion_status ended
+  pub said : SaysConversion old.heard new.heard ended
+
+pub record DoesEncode (world : Known) (inputs : Opened) (old new : Told) (of : Conversion) (status : ℕ) : Type 0 where
+  pub ended : Result (Unit {0}) RunFault
+  pub ends : (texts : List (List ℕ)) → HaveTexts world of.files.items texts
+      → EndsEncoding of.hex texts inputs.lefts inputs.ends old.out new.out ended
+  pub absent : (place : ℕ) → IsAbsentAt world of.files.items place → IsUnopened place ended
+  pub read : ReportsRead world inputs of.files.items ended
+  pub failed : new.is_full ≡ is_failed_write ended
+  pub untouched : IfErr ended (λ reported. reported ≢ faults.Write → new.out ≡ old.out)
+  pub status_is : status ≡ conversion_status ended
+  pub said : SaysConversion old.heard new.heard ended
+
+-- A text that was asked for: it is written and nothing is said, with status 0; or its write fails, which is said, with status 5.
+abbrev pub IsPrinted : List ℕ → Told → Told → ℕ → Type 0
+IsPrinted bytes old new status =
+    ((new.is_full ≡ false) × (status ≡ 0) × Appends old.out new.out bytes × (new.heard ≡ old.heard))
+    ⊎ ((new.is_full ≡ true) × (status ≡ 5) × AppendsPrefix old.out new.out bytes × Hears old.heard new.heard unwritten)
+
+-- Where the arguments give no command: help is printed, and all else is said.
+abbrev pub Refuses : Told → Told → ParseFault → ℕ → Type 0
+Refuses old new (Help help) status = IsPrinted (string_bytes help) old new status
+Refuses old new (Usage why) status = (status ≡ 2) × (new.out ≡ old.out) × Hears old.heard new.heard (text (string_bytes why))
+Refuses old new Memory status = (status ≡ 6) × (new.out ≡ old.out) × Hears old.heard new.heard no_memory
+
+-- a code is explained, unless memory is refused
+abbrev pub Explains : Told → Told → List ℕ → ℕ → Type 0
+Explains old new bytes status =
+    IsPrinted bytes old new status
+    ⊎ ((status ≡ 6) × (new.out ≡ old.out) × Hears old.heard new.heard (of_fault faults.Memory))
+
+-- Segments are made of text, but their bytes aren't shown to a person.
+abbrev pub Encodes : Bool → Known → Opened → Told → Told → Conversion → ℕ → Type 0
+Encodes true world inputs old new of status = (why : ParseFault) × IsUsageWith ⊤ why × Refuses old new why status
+Encodes false world inputs old new of status = DoesEncode world inputs old new of status
+
+-- how a dialogue's end is said: nothing, if it ended well
+abbrev pub SaysDialogue : {S : Type 0} → Option (List Saying) → Option (List Saying) → Result S AskFault → Type 0
+SaysDialogue old new (Ok done) = new ≡ old
+SaysDialogue old new (Err (asks.Run refused)) = Hears old new (fault refused) ⊎ ((refused.fault ≡ faults.Write) × (new ≡ old))
+SaysDialogue old new (Err (asks.Dialogue stopped)) = Hears old new (stop stopped) ⊎ (new ≡ old)
+
+-- who types the lines of a dialogue, before it and after: what each note makes of them, whether they want to know what has no event, and
+-- whether in the end their wrong lines count
+pub record Spoken (S : Type 0) : Type 0 where
+  pub told : S → Note → S
+  pub wants_absence : Bool
+  pub counts_wrong : Bool
+  pub before : S
+  pub after : S
+
+abbrev pub spoken : {S : Type 0} → (S → Note → S) → (S → Bool) → (S → Bool) → S → S → Spoken S
+spoken told wants_absence counts_wrong before after = record {
+  told = told;
+  wants_absence = wants_absence before;
+  counts_wrong = counts_wrong after;
+  before = before;
+  after = after;
+}
+
+-- the output got these replies, and who types the lines these notes, after they were told how much of its trace the case has
+abbrev pub HasGot : {S : Type 0} → Spoken S → Told → Told → Coverage → List ℕ → List Note → Type 0
+HasGot speaker old new coverage = BeginsAndGets old.out new.out speaker.told speaker.before speaker.after coverage
+
+-- The lines of standard input get their replies. What is left of these lines, and whether a read of them failed, is given too.
+pub record DoesConverse {S : Type 0} (speaker : Spoken S) (world : Known) (inputs : Opened) (old new : Told) (of : Dialogue) (status : ℕ)
+    : Type 0 where
+  pub ended : Result Bool AskFault
+  pub left : Option (List ℕ)
+  pub has_failed : Bool
+  pub replies : (texts : List (List ℕ)) → (table : Option (List ℕ)) → (lines : List ℕ) → HaveTexts world of.files.items texts
+      → IsTable world.holds of.symbols table → world.standard ≡ Some lines
+      → IfOk ended (λ has_wrong. (coverage : Coverage) × Covers of.setting.hex texts coverage
+      × Converses (IsRunsText of.setting texts table) (ReportsSubject of.setting.hex texts) speaker.wants_absence lines
+      (HasGot speaker old new coverage) has_wrong)
+  pub stops : (texts : List (List ℕ)) → (table : Option (List ℕ)) → (lines : List ℕ) → (stopped : DialogueFault)
+      → HaveTexts world of.files.items texts → IsTable world.holds of.symbols table → world.standard ≡ Some lines
+      → ended ≡ Err (asks.Dialogue stopped) → (coverage : Coverage) × Covers of.setting.hex texts coverage
+      × StopsAt (IsRunsText of.setting texts table) (ReportsSubject of.setting.hex texts) speaker.wants_absence lines left has_failed
+      (HasGot speaker old new coverage) stopped
+  pub cause : (texts : List (List ℕ)) → (table : Option (List ℕ)) → HaveTexts world of.files.items texts
+      → IsTable world.holds of.symbols table
+      → IfErr (by_fault (before_dialogue ended)) (λ reported.
+      IsRunsCause of.setting texts inputs.lefts inputs.ends table reported ⊎ (reported ≡ faults.Memory))
+  pub absent : (place : ℕ) → IsAbsentAt world of.files.items place → IsUnopened place (by_fault (before_dialogue ended))
+  pub untabled : (texts : List (List ℕ)) → HaveTexts world of.files.items texts → IsTableAbsent world.is_absent of.symbols
+      → IsUntabled (by_fault (before_dialogue ended))
+  pub read : ReportsRead world inputs of.files.items (by_fault (before_dialogue ended))
+  pub untouched : IfErr (before_dialogue ended) (λ refused. (new.out ≡ old.out) × (speaker.after ≡ speaker.before))
+  pub status_is : status ≡ dialogue_status speaker.counts_wrong ended
+  pub said : SaysDialogue old.heard new.heard ended
+
+-- what is done for a command, and the status with which the program ends; whether a person sees the output is given first
+abbrev pub Does : {S : Type 0} → Bool → Spoken S → Known → Opened → Told → Told → Command → ℕ → Type 0
+Does sees speaker world inputs old new (wish.Answer asked) status = DoesAnswer world inputs old new asked status
+Does sees speaker world inputs old new (wish.Explain code) status = Explains old new (explained code) status
+Does sees speaker world inputs old new (wish.Dump of) status = DoesDump world inputs old new of status
+Does sees speaker world inputs old new (wish.Encode of) status = Encodes (not of.hex && sees) world inputs old new of status
+Does sees speaker world inputs old new (wish.Converse of) status = DoesConverse speaker world inputs old new of status
+
+-- what arguments give
+abbrev pub IsParsed : List (List ℕ) → Result Command ParseFault → Type 0
+IsParsed words (Ok command) = requested words ≡ Some (request command)
+IsParsed words (Err why) = RefusesArguments words why
+
+abbrev pub DoesParsed : {S : Type 0} → Bool → Spoken S → Known → Opened → Told → Told → Result Command ParseFault → ℕ → Type 0
+DoesParsed sees speaker world inputs old new (Ok command) status = Does sees speaker world inputs old new command status
+DoesParsed sees speaker world inputs old new (Err why) status = Refuses old new why status
+
+-- The program does what its arguments ask for.
+pub record Obeys {S : Type 0} (sees : Bool) (speaker : Spoken S) (world : Known) (inputs : Opened) (old new : Told) (words : List (List ℕ))
+    (status : ℕ) : Type 0 where
+  pub parsed : Result Command ParseFault
+  pub is : IsParsed words parsed
+  pub does : DoesParsed sees speaker world inputs old new parsed status

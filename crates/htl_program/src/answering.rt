@@ -1,0 +1,126 @@
+//! A question in a world: from the names that it is asked of to its end.
+
+ghost use Rattle.std.specs.Prelude.{◌≡◌, ◌≢◌, ◌⊎◌, ℕ, All, IfErr, IfSome, List, OnOk, Option, Some};
+ghost use Rattle.std.specs.Prelude.{Err, false, length, map, option_copied, true};
+ghost use Rattle.htl_main.specs.Origins.{by_fault};
+ghost use Rattle.htl_main.specs.Picked.{asks_about};
+ghost use Rattle.htl_main.specs.Sources.{IsEndless, IsTrueAt};
+ghost use Rattle.htl_program.specs.Endings.{Ends, IsUnopened, IsUntabled, RunsOut};
+ghost use Rattle.htl_program.specs.Worlds.{IsFirstAbsent, IsFirstRefused, IsTable, IsTableAbsent};
+ghost use Rattle.htl_program.specs.Worlds.{of_each, of_inputs};
+
+use crate::opening::{as_bytes, open_inputs, read_table};
+use crate::running::{pick_opened, run_opened};
+use crate::world::World;
+use htl_command::Asked;
+use htl_device::Sink;
+use htl_main::{Completed, Interest, Refused, RunFault, interest};
+use std::alloc::Global;
+use std::thread::Threads;
+
+/// Answers what is asked from the files and the table of symbols that it names, or from standard input
+/// where it names no file.
+///
+/// Every file is opened before any is read, and then the table of symbols is read. Of files that can
+/// be read again a question about a process or an object reads only what it asks about; where that
+/// doesn't tell what comes of them, they are opened once more and read whole.
+///
+/// `inputs` has then what was opened, as far as it was read.
+pub fn answer<Rt: Threads + Sync, W: World, O: Sink>(
+    rt: &Rt,
+    alloc: Global,
+    world: &W,
+    asked: &Asked,
+    inputs: &mut Vec<W::Input>,
+    out: &mut O,
+) -> Result<Completed, Refused>
+    requires { O.has_failed out.old ≡ false }
+    // The answer over what the names hold is printed, or what ends a run over it is reported.
+    ensures ends { (texts : List (List ℕ)) → (table : Option (List ℕ))
+        → of_inputs (W.holds world.now) (W.standard world.now) asked.now.files.items ≡ map Some texts
+        → IsTable (W.holds world.now) asked.now.symbols table
+        → Ends asked.now.job texts table (map W.Input.remaining inputs.new.items)
+        (map W.Input.has_ended inputs.new.items) (O.contents out.old) (O.contents out.new) result
+        ⊎ RunsOut result }
+    // The first name for which there is nothing is reported by its place.
+    ensures absent { (place : ℕ)
+        → IsFirstAbsent (of_each (W.holds world.now) asked.now.files.items)
+        (of_each (W.is_absent world.now) asked.now.files.items) place
+        → IsUnopened place (by_fault result) }
+    ensures untabled { (texts : List (List ℕ))
+        → of_inputs (W.holds world.now) (W.standard world.now) asked.now.files.items ≡ map Some texts
+        → IsTableAbsent (W.is_absent world.now) asked.now.symbols → IsUntabled (by_fault result) }
+    // A failed read is reported of a name that was refused, or of an input whose read failed.
+    ensures read { (place : ℕ) → by_fault result ≡ Err (RunFault.Read place)
+        → IsFirstRefused (of_each (W.holds world.now) asked.now.files.items)
+        (of_each (W.is_absent world.now) asked.now.files.items) place
+        ⊎ (IsTrueAt (map W.Input.has_failed inputs.new.items) place
+        ⊎ IsEndless (map W.Input.good_reads inputs.new.items)
+        (of_inputs (W.holds world.now) (W.standard world.now) asked.now.files.items) place) }
+    ensures untouched { IfErr (by_fault result) (λ fault. fault ≢ RunFault.Write → out.new ≡ out.old) }
+    ensures failed { by_fault result ≡ Err RunFault.Write → O.has_failed out.new ≡ true }
+    ensures fine { OnOk result (O.has_failed out.new ≡ false) }
+{
+    *inputs = open_inputs(alloc, world, &asked.files)?;
+    let table = read_table(world, asked.symbols.as_ref())?;
+    run_inputs(rt, alloc, world, asked, as_bytes(&table), inputs, out)
+}
+
+/// Answers what is asked from its inputs, which were opened.
+fn run_inputs<Rt: Threads + Sync, W: World, O: Sink>(
+    rt: &Rt,
+    alloc: Global,
+    world: &W,
+    asked: &Asked,
+    symbols: Option<&[u8]>,
+    inputs: &mut Vec<W::Input>,
+    out: &mut O,
+) -> Result<Completed, Refused>
+    requires fresh { All (λ input. W.Input.has_failed input ≡ false) inputs.old.items }
+    requires inside { All (λ input. W.Input.has_ended input ≡ false) inputs.old.items }
+    requires bytes { map W.Input.remaining inputs.old.items
+        ≡ of_inputs (W.holds world.now) (W.standard world.now) asked.now.files.items }
+    requires out { O.has_failed out.old ≡ false }
+    ensures ends { (texts : List (List ℕ))
+        → of_inputs (W.holds world.now) (W.standard world.now) asked.now.files.items ≡ map Some texts
+        → Ends asked.now.job texts (option_copied symbols.entry)
+        (map W.Input.remaining inputs.new.items) (map W.Input.has_ended inputs.new.items)
+        (O.contents out.old) (O.contents out.new) result ⊎ RunsOut result }
+    ensures read { (place : ℕ) → by_fault result ≡ Err (RunFault.Read place)
+        → IsFirstRefused (of_each (W.holds world.now) asked.now.files.items)
+        (of_each (W.is_absent world.now) asked.now.files.items) place
+        ⊎ (IsTrueAt (map W.Input.has_failed inputs.new.items) place
+        ⊎ IsEndless (map W.Input.good_reads inputs.new.items)
+        (of_inputs (W.holds world.now) (W.standard world.now) asked.now.files.items) place) }
+    ensures untouched { IfErr (by_fault result) (λ fault. fault ≢ RunFault.Write → out.new ≡ out.old) }
+    ensures failed { by_fault result ≡ Err RunFault.Write → O.has_failed out.new ≡ true }
+    ensures fine { OnOk result (O.has_failed out.new ≡ false) }
+{
+    let Some(interest) = pickable(world, asked) else {
+        return run_opened(rt, alloc, &asked.job, inputs, symbols, out);
+    };
+    if let Some(ended) = pick_opened(rt, alloc, &asked.job, interest, inputs, symbols, out) {
+        return ended;
+    }
+    *inputs = open_inputs(alloc, world, &asked.files)?;
+    run_opened(rt, alloc, &asked.job, inputs, symbols, out)
+}
+
+/// What the question asks about, where that can be picked of its files and these read once more.
+fn pickable<W: World>(world: &W, asked: &Asked) -> Option<Interest>
+    ensures { IfSome result (λ interest.
+        asks_about asked.now.job.hex asked.now.job.question ≡ Some interest) }
+{
+    if can_be_read_again(world, &asked.files) {
+        interest(&asked.job)
+    } else {
+        None
+    }
+}
+
+/// Whether all of the files can be read again. Standard input can't.
+fn can_be_read_again<W: World>(world: &W, files: &[String]) -> bool
+    ensures { length files.now ≡ 0 → result ≡ false }
+{
+    !files.is_empty() && files.iter().all(|name| world.can_be_read_again(name))
+}

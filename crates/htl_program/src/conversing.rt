@@ -1,0 +1,185 @@
+//! A dialogue in a world: the files are read once, and each line of standard input gets its reply.
+
+ghost use Rattle.std.specs.Prelude.{◌≡◌, ◌⊎◌, ℕ, All, Err, IfErr, IfOk, List, OnOk, Option, Some};
+ghost use Rattle.std.specs.Prelude.{false, map, option_copied, option_map, true};
+ghost use Rattle.htl_ask.specs.Asking.{BeginsAndGets, IsRunsCause, IsRunsText, before_dialogue};
+ghost use Rattle.htl_dialogue.specs.Dialogues.{Converses, StopsAt};
+ghost use Rattle.htl_dialogue.specs.declared.dialogue.DialogueFault.{DialogueFault};
+ghost use Rattle.htl_main.specs.Coverages.{Covers};
+ghost use Rattle.htl_main.specs.Origins.{by_fault};
+ghost use Rattle.htl_main.specs.Sources.{IsEndless, IsTrueAt};
+ghost use Rattle.htl_main.specs.Subjects.{ReportsSubject};
+ghost use Rattle.htl_main.specs.declared.coverage.Coverage.{Coverage};
+ghost use Rattle.htl_program.specs.Endings.{IsUnopened, IsUntabled};
+ghost use Rattle.htl_program.specs.Worlds.{IsFirstAbsent, IsFirstRefused, IsTable, IsTableAbsent};
+ghost use Rattle.htl_program.specs.Worlds.{of_each, of_inputs};
+
+use crate::opening::{as_bytes, open_inputs, read_table};
+use crate::world::World;
+use htl_ask::{AskFault, Audience, ask_from};
+use htl_command::{Dialogue, Setting};
+use htl_device::{Sink, Source};
+use htl_main::{Between, Refused, RunFault};
+use std::alloc::Global;
+use std::sync::Wait;
+use std::thread::Threads;
+
+/// Replies to the lines of the questions, which are asked of the files and the table of symbols that
+/// are named. Every file is opened before any is read, then the table of symbols is read, and no
+/// question is read before.
+///
+/// `inputs` has then what was opened, as far as it was read.
+pub fn converse<Rt: Threads + Wait + Sync, W: World, Q: Source, O: Sink, H: Audience>(
+    rt: &Rt,
+    alloc: Global,
+    world: &W,
+    of: &Dialogue,
+    inputs: &mut Vec<W::Input>,
+    questions: &mut Q,
+    out: &mut O,
+    audience: &mut H,
+) -> Result<bool, AskFault>
+    requires questions { Q.has_failed questions.old ≡ false }
+    requires open { Q.has_ended questions.old ≡ false }
+    requires out { O.has_failed out.old ≡ false }
+    // Each line gets what a run of its own prints over what the names hold, or those before a fault do.
+    ensures replies { (texts : List (List ℕ)) → (table : Option (List ℕ)) → (lines : List ℕ)
+        → of_inputs (W.holds world.now) (W.standard world.now) of.now.files.items ≡ map Some texts
+        → IsTable (W.holds world.now) of.now.symbols table → Q.remaining questions.old ≡ Some lines
+        → IfOk result (λ has_wrong. (coverage : Coverage) × Covers of.now.setting.hex texts coverage
+        × Converses (IsRunsText of.now.setting texts table)
+        (ReportsSubject of.now.setting.hex texts) (H.wants_absence audience.old) lines
+        (BeginsAndGets (O.contents out.old) (O.contents out.new) H.told audience.old audience.new
+        coverage) has_wrong) }
+    ensures stops { (texts : List (List ℕ)) → (table : Option (List ℕ)) → (lines : List ℕ)
+        → (stopped : DialogueFault)
+        → of_inputs (W.holds world.now) (W.standard world.now) of.now.files.items ≡ map Some texts
+        → IsTable (W.holds world.now) of.now.symbols table → Q.remaining questions.old ≡ Some lines
+        → result ≡ Err (AskFault.Dialogue stopped)
+        → (coverage : Coverage) × Covers of.now.setting.hex texts coverage
+        × StopsAt (IsRunsText of.now.setting texts table)
+        (ReportsSubject of.now.setting.hex texts) (H.wants_absence audience.old) lines
+        (Q.remaining questions.new) (Q.has_failed questions.new)
+        (BeginsAndGets (O.contents out.old) (O.contents out.new) H.told audience.old audience.new
+        coverage) stopped }
+    ensures cause { (texts : List (List ℕ)) → (table : Option (List ℕ))
+        → of_inputs (W.holds world.now) (W.standard world.now) of.now.files.items ≡ map Some texts
+        → IsTable (W.holds world.now) of.now.symbols table
+        → IfErr (by_fault (before_dialogue result)) (λ fault. IsRunsCause of.now.setting texts
+        (map W.Input.remaining inputs.new.items) (map W.Input.has_ended inputs.new.items) table fault
+        ⊎ (fault ≡ RunFault.Memory)) }
+    // The first name for which there is nothing is reported by its place.
+    ensures absent { (place : ℕ) → IsFirstAbsent (of_each (W.holds world.now) of.now.files.items)
+        (of_each (W.is_absent world.now) of.now.files.items) place
+        → IsUnopened place (by_fault (before_dialogue result)) }
+    ensures untabled { (texts : List (List ℕ))
+        → of_inputs (W.holds world.now) (W.standard world.now) of.now.files.items ≡ map Some texts
+        → IsTableAbsent (W.is_absent world.now) of.now.symbols
+        → IsUntabled (by_fault (before_dialogue result)) }
+    // A failed read is reported of a name that was refused, or of an input whose read failed.
+    ensures read { (place : ℕ) → by_fault (before_dialogue result) ≡ Err (RunFault.Read place)
+        → IsFirstRefused (of_each (W.holds world.now) of.now.files.items)
+        (of_each (W.is_absent world.now) of.now.files.items) place
+        ⊎ (IsTrueAt (map W.Input.has_failed inputs.new.items) place
+        ⊎ IsEndless (map W.Input.good_reads inputs.new.items)
+        (of_inputs (W.holds world.now) (W.standard world.now) of.now.files.items) place) }
+    ensures untouched { IfErr (before_dialogue result)
+        (λ _. (questions.new ≡ questions.old) × (out.new ≡ out.old)
+        × (audience.new ≡ audience.old)) }
+{
+    match open_all(alloc, world, of, inputs) {
+        Ok(table) => ask_opened(
+            rt,
+            alloc,
+            of.setting,
+            inputs,
+            as_bytes(&table),
+            questions,
+            out,
+            audience,
+        ),
+        Err(fault) => Err(AskFault::Run(Refused {
+            fault,
+            between: Between::Nothing,
+        })),
+    }
+}
+
+/// Opens the files, and reads the table of symbols.
+fn open_all<W: World>(
+    alloc: Global,
+    world: &W,
+    of: &Dialogue,
+    inputs: &mut Vec<W::Input>,
+) -> Result<Option<Vec<u8>>, RunFault>
+    ensures fresh { OnOk result (All (λ input. W.Input.has_failed input ≡ false) inputs.new.items) }
+    ensures inside { OnOk result (All (λ input. W.Input.has_ended input ≡ false) inputs.new.items) }
+    ensures bytes { OnOk result (map W.Input.remaining inputs.new.items
+        ≡ of_inputs (W.holds world.now) (W.standard world.now) of.now.files.items) }
+    ensures table { IfOk result (λ read. (table : Option (List ℕ))
+        → IsTable (W.holds world.now) of.now.symbols table
+        → table ≡ option_map (λ v. v.items) read) }
+    ensures known { (texts : List (List ℕ)) → (table : Option (List ℕ))
+        → of_inputs (W.holds world.now) (W.standard world.now) of.now.files.items ≡ map Some texts
+        → IsTable (W.holds world.now) of.now.symbols table
+        → IfErr result (λ fault. fault ≡ RunFault.Memory) }
+    ensures absent { (place : ℕ) → IsFirstAbsent (of_each (W.holds world.now) of.now.files.items)
+        (of_each (W.is_absent world.now) of.now.files.items) place → IsUnopened place result }
+    ensures untabled { (texts : List (List ℕ))
+        → of_inputs (W.holds world.now) (W.standard world.now) of.now.files.items ≡ map Some texts
+        → IsTableAbsent (W.is_absent world.now) of.now.symbols → IsUntabled result }
+    ensures read { (place : ℕ) → result ≡ Err (RunFault.Read place)
+        → IsFirstRefused (of_each (W.holds world.now) of.now.files.items)
+        (of_each (W.is_absent world.now) of.now.files.items) place }
+{
+    *inputs = open_inputs(alloc, world, &of.files)?;
+    read_table(world, of.symbols.as_ref())
+}
+
+/// Replies to the lines over inputs that were opened.
+fn ask_opened<Rt: Threads + Wait + Sync, R: Source, Q: Source, O: Sink, H: Audience>(
+    rt: &Rt,
+    alloc: Global,
+    setting: Setting,
+    inputs: &mut Vec<R>,
+    symbols: Option<&[u8]>,
+    questions: &mut Q,
+    out: &mut O,
+    audience: &mut H,
+) -> Result<bool, AskFault>
+    requires fresh { All (λ input. R.has_failed input ≡ false) inputs.old.items }
+    requires inside { All (λ input. R.has_ended input ≡ false) inputs.old.items }
+    requires questions { Q.has_failed questions.old ≡ false }
+    requires open { Q.has_ended questions.old ≡ false }
+    requires out { O.has_failed out.old ≡ false }
+    ensures replies { (texts : List (List ℕ)) → (lines : List ℕ)
+        → map R.remaining inputs.old.items ≡ map Some texts → Q.remaining questions.old ≡ Some lines
+        → IfOk result (λ has_wrong. (coverage : Coverage) × Covers setting.hex texts coverage
+        × Converses (IsRunsText setting texts (option_copied symbols.entry))
+        (ReportsSubject setting.hex texts) (H.wants_absence audience.old) lines
+        (BeginsAndGets (O.contents out.old) (O.contents out.new) H.told audience.old audience.new
+        coverage) has_wrong) }
+    ensures stops { (texts : List (List ℕ)) → (lines : List ℕ) → (stopped : DialogueFault)
+        → map R.remaining inputs.old.items ≡ map Some texts → Q.remaining questions.old ≡ Some lines
+        → result ≡ Err (AskFault.Dialogue stopped)
+        → (coverage : Coverage) × Covers setting.hex texts coverage
+        × StopsAt (IsRunsText setting texts (option_copied symbols.entry))
+        (ReportsSubject setting.hex texts) (H.wants_absence audience.old) lines
+        (Q.remaining questions.new) (Q.has_failed questions.new)
+        (BeginsAndGets (O.contents out.old) (O.contents out.new) H.told audience.old audience.new
+        coverage) stopped }
+    ensures cause { (texts : List (List ℕ)) → map R.remaining inputs.old.items ≡ map Some texts
+        → IfErr (by_fault (before_dialogue result)) (IsRunsCause setting texts
+        (map R.remaining inputs.new.items) (map R.has_ended inputs.new.items)
+        (option_copied symbols.entry)) }
+    ensures read { (place : ℕ) → by_fault (before_dialogue result) ≡ Err (RunFault.Read place)
+        → IsTrueAt (map R.has_failed inputs.new.items) place
+        ⊎ IsEndless (map R.good_reads inputs.new.items) (map R.remaining inputs.old.items) place }
+    ensures untouched { IfErr (before_dialogue result)
+        (λ _. (questions.new ≡ questions.old) × (out.new ≡ out.old)
+        × (audience.new ≡ audience.old)) }
+{
+    ask_from(
+        rt, alloc, setting, inputs, symbols, questions, out, audience,
+    )
+}

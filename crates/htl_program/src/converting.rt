@@ -1,0 +1,122 @@
+//! The runs that print the segments of files as text and make segments of texts, in a world.
+
+ghost use Rattle.std.specs.Prelude.{◌≡◌, ◌≢◌, ◌⊎◌, ℕ, All, IfErr, List, Some, Err, false, map};
+ghost use Rattle.htl_main.specs.Dumps.{is_failed_write};
+ghost use Rattle.htl_main.specs.Sources.{IsEndless, IsTrueAt};
+ghost use Rattle.htl_program.specs.Endings.{EndsDump, EndsEncoding, IsUnopened};
+ghost use Rattle.htl_program.specs.Worlds.{IsFirstAbsent, IsFirstRefused, of_each, of_inputs};
+
+use crate::opening::open_inputs;
+use crate::world::World;
+use htl_command::Conversion;
+use htl_device::{Sink, Source};
+use htl_main::{RunFault, dump_from, encode_from};
+use std::alloc::Global;
+
+/// Prints the segments of the files as text, or those of standard input where no file is named.
+///
+/// `inputs` has then what was opened, as far as it was read.
+pub fn dump<W: World, O: Sink>(
+    alloc: Global,
+    world: &W,
+    of: &Conversion,
+    inputs: &mut Vec<W::Input>,
+    out: &mut O,
+) -> Result<(), RunFault>
+    requires { O.has_failed out.old ≡ false }
+    ensures ends { (texts : List (List ℕ))
+        → of_inputs (W.holds world.now) (W.standard world.now) of.now.files.items ≡ map Some texts
+        → EndsDump of.now.hex texts (map W.Input.remaining inputs.new.items)
+        (map W.Input.has_ended inputs.new.items) (O.contents out.old) (O.contents out.new) result }
+    // The first name for which there is nothing is reported by its place.
+    ensures absent { (place : ℕ) → IsFirstAbsent (of_each (W.holds world.now) of.now.files.items)
+        (of_each (W.is_absent world.now) of.now.files.items) place
+        → IsUnopened place result × (out.new ≡ out.old) }
+    // A failed read is reported of a name that was refused, or of an input whose read failed.
+    ensures read { (place : ℕ) → result ≡ Err (RunFault.Read place)
+        → IsFirstRefused (of_each (W.holds world.now) of.now.files.items)
+        (of_each (W.is_absent world.now) of.now.files.items) place
+        ⊎ (IsTrueAt (map W.Input.has_failed inputs.new.items) place
+        ⊎ IsEndless (map W.Input.good_reads inputs.new.items)
+        (of_inputs (W.holds world.now) (W.standard world.now) of.now.files.items) place) }
+    ensures failed { O.has_failed out.new ≡ is_failed_write result }
+{
+    *inputs = open_inputs(alloc, world, &of.files)?;
+    dump_opened(alloc, of.hex, inputs, out)
+}
+
+/// Prints the segments of inputs that were opened as text.
+fn dump_opened<R: Source, O: Sink>(
+    alloc: Global,
+    hex: bool,
+    inputs: &mut Vec<R>,
+    out: &mut O,
+) -> Result<(), RunFault>
+    requires fresh { All (λ input. R.has_failed input ≡ false) inputs.old.items }
+    requires inside { All (λ input. R.has_ended input ≡ false) inputs.old.items }
+    requires out { O.has_failed out.old ≡ false }
+    ensures ends { (texts : List (List ℕ)) → map R.remaining inputs.old.items ≡ map Some texts
+        → EndsDump hex texts (map R.remaining inputs.new.items) (map R.has_ended inputs.new.items)
+        (O.contents out.old) (O.contents out.new) result }
+    ensures read { (place : ℕ) → result ≡ Err (RunFault.Read place)
+        → IsTrueAt (map R.has_failed inputs.new.items) place
+        ⊎ IsEndless (map R.good_reads inputs.new.items) (map R.remaining inputs.old.items) place }
+    ensures failed { O.has_failed out.new ≡ is_failed_write result }
+{
+    dump_from(alloc, hex, inputs, out)
+}
+
+/// Writes the segments that the texts of the files encode, or the text of standard input where no file
+/// is named.
+///
+/// `inputs` has then what was opened, as far as it was read.
+pub fn encode<W: World, O: Sink>(
+    alloc: Global,
+    world: &W,
+    of: &Conversion,
+    inputs: &mut Vec<W::Input>,
+    out: &mut O,
+) -> Result<(), RunFault>
+    requires { O.has_failed out.old ≡ false }
+    ensures ends { (texts : List (List ℕ))
+        → of_inputs (W.holds world.now) (W.standard world.now) of.now.files.items ≡ map Some texts
+        → EndsEncoding of.now.hex texts (map W.Input.remaining inputs.new.items)
+        (map W.Input.has_ended inputs.new.items) (O.contents out.old) (O.contents out.new) result }
+    // The first name for which there is nothing is reported by its place.
+    ensures absent { (place : ℕ) → IsFirstAbsent (of_each (W.holds world.now) of.now.files.items)
+        (of_each (W.is_absent world.now) of.now.files.items) place → IsUnopened place result }
+    // A failed read is reported of a name that was refused, or of an input whose read failed.
+    ensures read { (place : ℕ) → result ≡ Err (RunFault.Read place)
+        → IsFirstRefused (of_each (W.holds world.now) of.now.files.items)
+        (of_each (W.is_absent world.now) of.now.files.items) place
+        ⊎ (IsTrueAt (map W.Input.has_failed inputs.new.items) place
+        ⊎ IsEndless (map W.Input.good_reads inputs.new.items)
+        (of_inputs (W.holds world.now) (W.standard world.now) of.now.files.items) place) }
+    ensures failed { O.has_failed out.new ≡ is_failed_write result }
+    ensures untouched { IfErr result (λ fault. fault ≢ RunFault.Write → out.new ≡ out.old) }
+{
+    *inputs = open_inputs(alloc, world, &of.files)?;
+    encode_opened(alloc, of.hex, inputs, out)
+}
+
+/// Writes the segments that the texts of inputs encode which were opened.
+fn encode_opened<R: Source, O: Sink>(
+    alloc: Global,
+    hex: bool,
+    inputs: &mut Vec<R>,
+    out: &mut O,
+) -> Result<(), RunFault>
+    requires fresh { All (λ input. R.has_failed input ≡ false) inputs.old.items }
+    requires inside { All (λ input. R.has_ended input ≡ false) inputs.old.items }
+    requires out { O.has_failed out.old ≡ false }
+    ensures ends { (texts : List (List ℕ)) → map R.remaining inputs.old.items ≡ map Some texts
+        → EndsEncoding hex texts (map R.remaining inputs.new.items)
+        (map R.has_ended inputs.new.items) (O.contents out.old) (O.contents out.new) result }
+    ensures read { (place : ℕ) → result ≡ Err (RunFault.Read place)
+        → IsTrueAt (map R.has_failed inputs.new.items) place
+        ⊎ IsEndless (map R.good_reads inputs.new.items) (map R.remaining inputs.old.items) place }
+    ensures failed { O.has_failed out.new ≡ is_failed_write result }
+    ensures untouched { IfErr result (λ fault. fault ≢ RunFault.Write → out.new ≡ out.old) }
+{
+    encode_from(alloc, hex, inputs, out)
+}

@@ -1,0 +1,47 @@
+//! The statuses with which the program ends.
+
+ghost use Rattle.std.specs.Prelude.{◌≡◌};
+ghost use Rattle.htl_main.specs.Origins.{by_fault};
+ghost use Rattle.htl_program.specs.Statuses.{dialogue_status, end_status, stop_status};
+
+use htl_ask::AskFault;
+use htl_dialogue::DialogueFault;
+use htl_main::{Completed, Refused};
+
+/// The status after a question: 0, or 1 where its answer finds something and the status is to say so,
+/// or that of its fault.
+pub(crate) fn status_of_answer(exit_code: bool, ended: Result<Completed, Refused>) -> u8
+    ensures { result ≡ end_status exit_code (by_fault ended) }
+{
+    match ended {
+        Ok(completed) => {
+            if exit_code && completed.has_finding {
+                1
+            } else {
+                0
+            }
+        }
+        Err(refused) => refused.fault.status(),
+    }
+}
+
+/// The status after a dialogue: 0, or 2 where a line was wrong and that counts, or that of its fault.
+pub(crate) fn status_after(counts_wrong: bool, ended: Result<bool, AskFault>) -> u8
+    ensures { result ≡ dialogue_status counts_wrong ended }
+{
+    match ended {
+        Ok(has_wrong) => { if has_wrong && counts_wrong { 2 } else { 0 } }
+        Err(AskFault::Run(refused)) => refused.fault.status(),
+        Err(AskFault::Dialogue(fault)) => stop_status(fault),
+    }
+}
+
+/// The status where the replies of a dialogue stopped.
+fn stop_status(fault: DialogueFault) -> u8
+    ensures { result ≡ stop_status fault }
+{
+    match fault {
+        DialogueFault::Questions | DialogueFault::Write => 5,
+        DialogueFault::NoMemory => 6,
+    }
+}

@@ -1,0 +1,106 @@
+//! The inputs of a run, each opened before any is read, and the table of symbols.
+
+ghost use Rattle.std.specs.Prelude.{◌≡◌, ◌⊎◌, ℕ, All, IfErr, IfOk, List, OnOk, Option, false, map};
+ghost use Rattle.std.specs.Prelude.{option_copied, option_map};
+ghost use Rattle.htl_program.specs.Worlds.{IsFirstRefused, IsTable, IsTableAbsent, IsTableUnknown};
+ghost use Rattle.htl_program.specs.Worlds.{of_each, of_inputs};
+
+use crate::world::{OpenFault, World};
+use htl_main::RunFault;
+use std::alloc::Global;
+
+/// The files of the names in order, or standard input where there is none. Every file is looked for
+/// before any is read; the first that is refused is reported.
+pub(crate) fn open_inputs<W: World>(
+    alloc: Global,
+    world: &W,
+    names: &[String],
+) -> Result<Vec<W::Input>, RunFault>
+    ensures fresh { IfOk result (λ inputs. All
+        (λ input. W.Input.has_failed input ≡ false) inputs.items) }
+    ensures inside { IfOk result (λ inputs. All
+        (λ input. W.Input.has_ended input ≡ false) inputs.items) }
+    ensures bytes { IfOk result (λ inputs. map W.Input.remaining inputs.items
+        ≡ of_inputs (W.holds world.now) (W.standard world.now) names.now) }
+    ensures there { OnOk result (All (λ absent. absent ≡ false)
+        (of_each (W.is_absent world.now) names.now)) }
+    ensures refused { IfErr result (λ fault. (fault ≡ RunFault.Memory)
+        ⊎ ((place : ℕ) × (fault ≡ RunFault.Read place)
+        × IsFirstRefused (of_each (W.holds world.now) names.now)
+        (of_each (W.is_absent world.now) names.now) place)) }
+{
+    if names.is_empty() {
+        let mut inputs = Vec::new(alloc);
+        inputs.push(world.standard_input())?;
+        return Ok(inputs);
+    }
+    open_files(alloc, world, names)
+}
+
+/// The files of the names in order.
+fn open_files<W: World>(
+    alloc: Global,
+    world: &W,
+    names: &[String],
+) -> Result<Vec<W::Input>, RunFault>
+    ensures fresh { IfOk result (λ inputs. All
+        (λ input. W.Input.has_failed input ≡ false) inputs.items) }
+    ensures inside { IfOk result (λ inputs. All
+        (λ input. W.Input.has_ended input ≡ false) inputs.items) }
+    ensures bytes { IfOk result (λ inputs. map W.Input.remaining inputs.items
+        ≡ of_each (W.holds world.now) names.now) }
+    ensures there { OnOk result (All (λ absent. absent ≡ false)
+        (of_each (W.is_absent world.now) names.now)) }
+    ensures refused { IfErr result (λ fault. (fault ≡ RunFault.Memory)
+        ⊎ ((place : ℕ) × (fault ≡ RunFault.Read place)
+        × IsFirstRefused (of_each (W.holds world.now) names.now)
+        (of_each (W.is_absent world.now) names.now) place)) }
+{
+    let mut inputs = Vec::new(alloc);
+    for (place, name) in names.iter().enumerate() {
+        match world.open(name) {
+            Ok(input) => inputs.push(input)?,
+            Err(OpenFault::NoMemory) => return Err(RunFault::Memory),
+            Err(OpenFault::Refused) => {
+                return Err(RunFault::Read {
+                    input: place as u64,
+                });
+            }
+        }
+    }
+    Ok(inputs)
+}
+
+/// The bytes of the table of symbols, if one is named.
+pub(crate) fn read_table<W: World>(
+    world: &W,
+    name: Option<&String>,
+) -> Result<Option<Vec<u8>>, RunFault>
+    ensures bytes { IfOk result (λ read. (table : Option (List ℕ))
+        → IsTable (W.holds world.now) (option_copied name.entry) table
+        → table ≡ option_map (λ v. v.items) read) }
+    ensures there { OnOk result (IsTableAbsent (W.is_absent world.now) (option_copied name.entry)
+        → ⊥) }
+    ensures refused { IfErr result (λ fault. (fault ≡ RunFault.Memory)
+        ⊎ ((fault ≡ RunFault.SymbolsRead)
+        × IsTableUnknown (W.holds world.now) (option_copied name.entry))) }
+{
+    let Some(name) = name else {
+        return Ok(None);
+    };
+    match world.read(name) {
+        Ok(bytes) => Ok(Some(bytes)),
+        Err(OpenFault::NoMemory) => Err(RunFault::Memory),
+        Err(OpenFault::Refused) => Err(RunFault::SymbolsRead),
+    }
+}
+
+/// The bytes of the table of symbols, as a slice.
+pub(crate) fn as_bytes(table: &Option<Vec<u8>>) -> Option<&[u8]>
+    ensures { option_copied result ≡ option_map (λ v. v.items) table.now }
+{
+    match table {
+        Some(bytes) => Some(bytes.as_slice()),
+        None => None,
+    }
+}

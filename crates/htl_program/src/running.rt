@@ -1,0 +1,74 @@
+//! The run of a question over inputs that were opened.
+
+ghost use Rattle.std.specs.Prelude.{◌≡◌, ◌≢◌, ℕ, All, Bool, IfNone, IfSome, List, Some, false};
+ghost use Rattle.std.specs.Option.{option_copied};
+ghost use Rattle.htl_main.specs.Origins.{IsBetween};
+ghost use Rattle.htl_main.specs.Picked.{asks_about};
+ghost use Rattle.htl_program.specs.Runs.{IsRun};
+
+use htl_command::Job;
+use htl_device::{Sink, Source};
+use htl_main::{Completed, Interest, Refused, RunFault, pick_from, run_from};
+use std::alloc::Global;
+use std::thread::Threads;
+
+/// The run over whole segments.
+pub(crate) fn run_opened<Rt: Threads + Sync, R: Source, O: Sink>(
+    rt: &Rt,
+    alloc: Global,
+    job: &Job,
+    inputs: &mut Vec<R>,
+    symbols: Option<&[u8]>,
+    out: &mut O,
+) -> Result<Completed, Refused>
+    requires fresh { All (λ input. R.has_failed input ≡ false) inputs.old.items }
+    requires inside { All (λ input. R.has_ended input ≡ false) inputs.old.items }
+    requires out { O.has_failed out.old ≡ false }
+    ensures { IsRun job.now (option_copied symbols.entry) R.has_failed R.has_ended R.good_reads
+        R.remaining O.contents O.has_failed inputs.old.items inputs.new.items out.old out.new result }
+{
+    run_from(rt, alloc, job, inputs, symbols, out)
+}
+
+/// The run that keeps only what the question asks about. It has no end of its own, and has written
+/// nothing, where only whole segments tell what comes of the inputs. So it has none for a fault of all
+/// segments: which two of them it is about is what whole segments tell.
+pub(crate) fn pick_opened<Rt: Threads + Sync, R: Source, O: Sink>(
+    rt: &Rt,
+    alloc: Global,
+    job: &Job,
+    interest: Interest,
+    inputs: &mut Vec<R>,
+    symbols: Option<&[u8]>,
+    out: &mut O,
+) -> Option<Result<Completed, Refused>>
+    requires fresh { All (λ input. R.has_failed input ≡ false) inputs.old.items }
+    requires inside { All (λ input. R.has_ended input ≡ false) inputs.old.items }
+    requires out { O.has_failed out.old ≡ false }
+    requires about { asks_about job.now.hex job.now.question ≡ Some interest }
+    ensures ended { IfSome result (λ ended. IsRun job.now (option_copied symbols.entry) R.has_failed
+        R.has_ended R.good_reads R.remaining O.contents O.has_failed inputs.old.items
+        inputs.new.items out.old out.new ended) }
+    ensures unwritten { IfNone result (out.new ≡ out.old) }
+{
+    match pick_from(rt, alloc, job, interest, inputs, symbols, out) {
+        Ok(Some(completed)) => Some(Ok(completed)),
+        Ok(None) => None,
+        Err(fault) => match about_no_two(fault) {
+            Some(refused) => Some(Err(refused)),
+            None => None,
+        },
+    }
+}
+
+/// The fault as one that is about no two segments, unless it is of all segments.
+fn about_no_two(fault: RunFault) -> Option<Refused>
+    ensures some { (hex : Bool) → (texts : List (List ℕ)) → IfSome result (λ refused.
+        (refused.fault ≡ fault) × IsBetween hex texts fault refused.between) }
+    ensures none { IfNone result (fault ≢ RunFault.Write) }
+{
+    match fault {
+        RunFault::Case(_) => None,
+        _ => Some(Refused::from(fault)),
+    }
+}

@@ -1,0 +1,126 @@
+//! What each code means, and what to do about it. docs/FORMAT.md has the same words.
+//!
+//! "The segment" is the one at the offset in the fault's line. Records, rows and segments count
+//! from 0. A word in angle brackets stands for a number or a field of the fault.
+
+ghost use Rattle.std.specs.Prelude.{◌≡◌};
+ghost use Rattle.htl_program.specs.Words.{advice_of, form_meaning_of, meaning_of};
+
+use htl_command::Code;
+use htl_text::FormFault;
+
+/// What to do where bytes of a segment break a rule that each writer keeps.
+const DAMAGED: &str = "was the file changed, or is its writer at fault?";
+
+/// What to do where segments were not written as those of one trace.
+const MIXED: &str = "are they of one trace? If so, its writer is at fault";
+
+/// What to do where segments are not of one trace.
+const ONE_TRACE: &str = "give the files of one trace";
+
+/// What to do where memory was refused.
+pub const FREE_MEMORY: &str = "free some, or raise its limit";
+
+/// What is wrong with what.
+#[tactic(auto, unfolding(crate::specs::Words::meaning_of))]
+pub fn meaning(code: Code) -> &'static str
+    ensures { result.now ≡ meaning_of code }
+{
+    match code {
+        Code::S1 => "a segment has at least 32 bytes and begins with HLS1, and fewer are left",
+        Code::S2 => "a segment begins with HLS1 (48 4c 53 31), and these bytes do not",
+        Code::S3 => "the segment's version is neither 1 nor 2",
+        Code::S4 => "the segment's version allows no such number of processors",
+        Code::S5 => "the segment's processor isn't below their number",
+        Code::S6 => "the header's reserved field isn't 0",
+        Code::S7 => "no segment has the number 0xffffffff",
+        Code::S8 => "a segment has at most 4096 records",
+        Code::S9 => "the segment's version allows no such length of a segment",
+        Code::S10 => "the file ends before its last segment does",
+        Code::S11 => "record <i> is cut by the end of the segment's length",
+        Code::S12 => "record <i> has sequence 0, or one not above that of the record before",
+        Code::S13 => "record <i> is of no kind of the segment's version",
+        Code::S14 => "record <i> has more frames than its version allows, or than fit in",
+        Code::S15 =>
+            "record <i> has a reserved field, handle, object or tag that its kind doesn't allow",
+        Code::S16 => "bytes are left in the segment after its last record",
+        Code::S17 | Code::H3 | Code::C6 | Code::Y7 => "the system refused memory",
+        Code::H1 => "byte <place> is no digit and no blank",
+        Code::H2 => "the last byte has only one digit",
+        Code::C1 => "the inputs have no segments",
+        Code::C2 => "segment <place> of all inputs is of another trace than segment 0",
+        Code::C3 => "segment <place> of all inputs has another number of processors than segment 0",
+        Code::C4 =>
+            "segment <number> of processor <processor> is there with two different contents",
+        Code::C5 => "sequence <sequence> is that of an event in each of two different segments",
+        Code::C7 => {
+            "\
+segment <number> of processor <processor> has an event that isn't above all in the \
+processor's segments before"
+        }
+        Code::C8 => "segment <number> of processor <processor> is missing",
+        Code::Y1 => "the first line isn't start,end,module,name",
+        Code::Y2 => "row <row> hasn't four fields",
+        Code::Y3 => "row <row> has a start or an end that is no number",
+        Code::Y4 => "row <row> ends at or below its start",
+        Code::Y5 => "row <row> has an address of an earlier row",
+        Code::Y6 => "row <row> can't be read",
+        Code::E1 => {
+            "\
+the line has none of the forms of the text, or the line's <field> isn't there, or has no value \
+that fits"
+        }
+        Code::E2 =>
+            "the line is an event or a frame before any segment, or a frame before any event",
+    }
+}
+
+/// What is wrong with a line of text: the part of what E1 means that is about this fault.
+pub fn form_meaning(fault: FormFault) -> &'static str
+    ensures { result.now ≡ form_meaning_of fault }
+{
+    match fault {
+        FormFault::Words => "the line has none of the forms of the text",
+        FormFault::Field(_) => "the line's <field> isn't there, or has no value that fits",
+    }
+}
+
+/// What to do.
+#[tactic(auto, unfolding(crate::specs::Words::advice_of))]
+pub fn advice(code: Code) -> &'static str
+    ensures { result.now ≡ advice_of code }
+{
+    match code {
+        Code::S1 => "is it a trace, and copied whole?",
+        Code::S2 => "is it a trace, in bytes and not in digits (--hex) or text (hleak encode)?",
+        Code::S3 => "was it written for a newer hleak?",
+        Code::S4
+        | Code::S5
+        | Code::S6
+        | Code::S7
+        | Code::S8
+        | Code::S9
+        | Code::S11
+        | Code::S12
+        | Code::S13
+        | Code::S14
+        | Code::S15
+        | Code::S16 => DAMAGED,
+        Code::S10 | Code::H2 => "was it copied whole?",
+        Code::S17 | Code::H3 | Code::C6 | Code::Y7 => FREE_MEMORY,
+        Code::H1 => "is it a trace in bytes, without --hex?",
+        Code::C1 => "are these the files of a trace?",
+        Code::C2 | Code::C3 => ONE_TRACE,
+        Code::C4 => "give the files of one trace, as they were written",
+        Code::C5 | Code::C7 => MIXED,
+        Code::C8 => "give all files of the trace, or leave out --complete",
+        Code::Y1 => "is it a table of symbols?",
+        Code::Y2 => "is a name with a comma in quotes, and is each quote ended?",
+        Code::Y3 => "each is 1 to 16 hexadecimal digits, with or without 0x",
+        Code::Y4 => "an end is the first address after the range",
+        Code::Y5 => "are all rows of one moment?",
+        Code::Y6 => "is the file in UTF-8?",
+        Code::E1 => "is it written as dump prints it?",
+        Code::E2 => "is a line left out before it?",
+    }
+}

@@ -1,0 +1,200 @@
+//! The program over a world of memory, from its arguments to its status.
+
+use crate::commands::{COMMANDS, COMPLETED, INPUTS, SYMBOLS, bytes_of};
+use crate::comparison::assert_row;
+use crate::devices::Narrow;
+use crate::texts::TEXTS;
+use crate::worlds::{Memory, Named, Said, Silent, Witness};
+use htl_main::{RunFault, Writing};
+use htl_program::program;
+use std::alloc::Global;
+use std::process::Abort;
+use std::sync::Wait;
+use std::thread::Threads;
+
+/// Words of a command line over the files `first`, `second`, `symbols` and `text`, and how the program
+/// ends that is given them, with a sink that fails when it holds `most` bytes.
+#[derive(Clone, Copy, Debug)]
+struct Line {
+    words: &'static [&'static str],
+    most: usize,
+    status: u8,
+    printed: &'static str,
+    last: Said,
+}
+
+const LINE: Line = Line {
+    words: &[],
+    most: usize::MAX,
+    status: 0,
+    printed: "",
+    last: Said::Nothing,
+};
+
+/// What is said of an answer over both files.
+const ANSWERED: Said = Said::Answer(COMPLETED);
+
+/// The files of the world, by their names.
+fn files(rt: &impl Abort, alloc: Global) -> [Named; 4] {
+    [
+        Named {
+            name: "first",
+            bytes: bytes_of(rt, alloc, INPUTS[0]),
+        },
+        Named {
+            name: "second",
+            bytes: bytes_of(rt, alloc, INPUTS[1]),
+        },
+        Named {
+            name: "symbols",
+            bytes: copy_of(rt, alloc, SYMBOLS),
+        },
+        Named {
+            name: "text",
+            bytes: copy_of(rt, alloc, TEXTS[0]),
+        },
+    ]
+}
+
+/// The bytes of a text.
+fn copy_of(rt: &impl Abort, alloc: Global, text: &str) -> Vec<u8> {
+    Vec::from_slice(alloc, text.as_bytes()).expect(rt, "the memory")
+}
+
+/// Whether the program ends so. At most one thing is said.
+fn is_obeyed(rt: &(impl Threads + Wait + Sync + Abort), alloc: Global, line: &Line) {
+    let files = files(rt, alloc);
+    let world = Memory {
+        alloc,
+        files: &files,
+        standard: b"",
+    };
+    let mut arguments = Vec::new(alloc);
+    for word in line.words {
+        let word = String::from_str(alloc, word).expect(rt, "the memory");
+        arguments.push(word).expect(rt, "the memory");
+    }
+    let mut held = Narrow {
+        held: Vec::new(alloc),
+        piece: 65_536,
+        most: line.most,
+    };
+    let mut witness = Witness::new();
+    let status = program(
+        rt,
+        alloc,
+        &world,
+        arguments,
+        &mut Vec::new(alloc),
+        &mut Writing::new(&mut held),
+        &mut witness,
+        &mut Silent,
+    );
+    let found = (status, held.held.as_slice(), witness.last);
+    let wanted = (line.status, line.printed.as_bytes(), line.last);
+    assert_row(rt, *line, found, wanted);
+    assert_eq!(rt; witness.count, u32::from(line.last != Said::Nothing));
+}
+
+#[test]
+fn a_question_is_answered_over_its_files(rt: HostRuntime) {
+    for (number, words) in [
+        (
+            1,
+            &["outstanding", "--process", "4", "first", "second"] as &[&str],
+        ),
+        (
+            6,
+            &[
+                "stacks",
+                "--object",
+                "0x1000",
+                "--tag",
+                "Lky8",
+                "--symbols",
+                "symbols",
+                "second",
+                "first",
+            ],
+        ),
+    ] {
+        let line = Line {
+            words,
+            printed: COMMANDS[number].text,
+            last: ANSWERED,
+            ..LINE
+        };
+        is_obeyed(&rt, rt.alloc(), &line);
+    }
+}
+
+#[test]
+fn the_first_file_that_is_absent_is_reported(rt: HostRuntime) {
+    let line = Line {
+        words: &["summary", "first", "none", "second", "none"],
+        status: 5,
+        last: Said::Fault(RunFault::Read { input: 1 }),
+        ..LINE
+    };
+    is_obeyed(&rt, rt.alloc(), &line);
+}
+
+#[test]
+fn a_table_of_symbols_that_is_absent_is_reported(rt: HostRuntime) {
+    let line = Line {
+        words: &["summary", "--symbols", "none", "first", "second"],
+        status: 5,
+        last: Said::Fault(RunFault::SymbolsRead),
+        ..LINE
+    };
+    is_obeyed(&rt, rt.alloc(), &line);
+}
+
+#[test]
+fn files_are_dumped_in_their_order(rt: HostRuntime) {
+    let line = Line {
+        words: &["dump", "first"],
+        printed: TEXTS[0],
+        ..LINE
+    };
+    is_obeyed(&rt, rt.alloc(), &line);
+    let line = Line {
+        words: &["dump", "second"],
+        printed: TEXTS[1],
+        ..LINE
+    };
+    is_obeyed(&rt, rt.alloc(), &line);
+}
+
+#[test]
+fn a_code_is_explained(rt: HostRuntime) {
+    let line = Line {
+        words: &["explain", "S10"],
+        printed: "S10: the file ends before its last segment does\nwas it copied whole?\n",
+        ..LINE
+    };
+    is_obeyed(&rt, rt.alloc(), &line);
+}
+
+#[test]
+fn help_that_cannot_be_written_is_no_success(rt: HostRuntime) {
+    let line = Line {
+        words: &["--help"],
+        most: 0,
+        status: 5,
+        last: Said::Unwritten,
+        ..LINE
+    };
+    is_obeyed(&rt, rt.alloc(), &line);
+}
+
+#[test]
+fn a_word_that_is_no_command_is_refused(rt: HostRuntime) {
+    let line = Line {
+        words: &["leek", "first"],
+        status: 2,
+        last: Said::Refusal,
+        ..LINE
+    };
+    is_obeyed(&rt, rt.alloc(), &line);
+}

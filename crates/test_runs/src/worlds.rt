@@ -1,0 +1,184 @@
+//! A world of memory: names, and the bytes that each holds.
+
+ghost use Rattle.std.specs.Prelude.{◌≡◌, None, Some, find, is_none, option_copied, option_map};
+ghost use Rattle.std.specs.Str.{bytes_eq};
+
+use htl_ask::Audience;
+use htl_command::{Asked, Command, ParseFault, Question};
+use htl_dialogue::{DialogueFault, Host};
+use htl_main::{Completed, Coverage, Reading, Refused, RunFault};
+use htl_program::{OpenFault, Person, Speaker, World};
+use std::alloc::Global;
+
+/// A name, and the bytes that it holds.
+#[derive(Drop)]
+pub struct Named {
+    pub name: &'static str,
+    pub bytes: Vec<u8>,
+}
+
+/// Names, of which the first of each counts, and standard input.
+#[derive(Clone, Copy)]
+pub struct Memory<'a> {
+    pub alloc: Global,
+    pub files: &'a [Named],
+    pub standard: &'a [u8],
+}
+
+impl<'a> Memory<'a> {
+    /// The first file of a name.
+    fn named(&self, name: &str) -> Option<&'a Named>
+        ensures { option_copied result
+            ≡ find (λ file. bytes_eq file.name.now name.now) self.now.files.now }
+    {
+        self.files.iter().find(|file| file.name == name)
+    }
+}
+
+impl<'a> World for Memory<'a> {
+    type Input = Reading<&'a [u8]>;
+
+    ghost holds = { λ world name. option_map (λ file. file.bytes.items)
+        (find (λ file. bytes_eq file.name.now name) world.files.now) };
+
+    ghost is_absent = { λ world name.
+        is_none (find (λ file. bytes_eq file.name.now name) world.files.now) };
+
+    ghost standard = { λ world. Some world.standard.now };
+
+    fn open(&self, name: &str) -> Result<Reading<&'a [u8]>, OpenFault> {
+        match self.named(name) {
+            Some(file) => Ok(Reading::new(file.bytes.as_slice())),
+            None => Err(OpenFault::Refused),
+        }
+    }
+
+    fn read(&self, name: &str) -> Result<Vec<u8>, OpenFault> {
+        let Some(file) = self.named(name) else {
+            return Err(OpenFault::Refused);
+        };
+        match Vec::from_slice(self.alloc, &file.bytes) {
+            Ok(bytes) => Ok(bytes),
+            Err(_) => Err(OpenFault::NoMemory),
+        }
+    }
+
+    fn standard_input(&self) -> Reading<&'a [u8]> {
+        Reading::new(self.standard)
+    }
+
+    fn questions(&self) -> Reading<&'a [u8]> {
+        Reading::new(self.standard)
+    }
+
+    fn can_be_read_again(&self, _name: &str) -> bool {
+        true
+    }
+}
+
+/// What was said last, and how many things were.
+#[derive(Clone, Copy, Debug, PartialEq, Eq)]
+pub enum Said {
+    Nothing,
+    Refusal,
+    Unwritten,
+    Fault(RunFault),
+    Answer(Completed),
+    Stop(DialogueFault),
+}
+
+/// A person who remembers what was said.
+#[derive(Clone, Copy)]
+pub struct Witness {
+    pub last: Said,
+    pub count: u32,
+    /// Whether standard output is a terminal.
+    pub sees_output: bool,
+}
+
+impl Witness {
+    pub fn new() -> Witness {
+        Witness {
+            last: Said::Nothing,
+            count: 0,
+            sees_output: false,
+        }
+    }
+
+    fn hears(&mut self, said: Said) {
+        self.last = said;
+        self.count = self.count.saturating_add(1);
+    }
+}
+
+impl Person for Witness {
+    ghost heard = { λ _. None };
+
+    ghost sees_output = { λ witness. witness.sees_output };
+
+    fn sees_output(&self) -> bool {
+        self.sees_output
+    }
+
+    fn begins(&mut self, _command: &Command) {}
+
+    fn ends(&mut self) {}
+
+    fn refuses(&mut self, _refused: &ParseFault) {
+        self.hears(Said::Refusal);
+    }
+
+    fn misses(&mut self) {
+        self.hears(Said::Unwritten);
+    }
+
+    fn reports(&mut self, _command: &Command, refused: Refused) {
+        self.hears(Said::Fault(refused.fault));
+    }
+
+    fn notes(&mut self, _asked: &Asked, completed: Completed) {
+        self.hears(Said::Answer(completed));
+    }
+
+    fn stops(&mut self, stopped: DialogueFault) {
+        self.hears(Said::Stop(stopped));
+    }
+}
+
+/// Who types the lines of a dialogue, and hears nothing of it.
+#[derive(Clone, Copy)]
+pub struct Silent;
+
+impl Host for Silent {
+    ghost use Rattle.std.specs.Prelude.{false};
+
+    ghost told = { λ s note. s };
+
+    ghost wants_absence = { λ s. false };
+
+    fn awaits(&mut self) {}
+
+    fn refuses(&mut self, _fault: &ParseFault) {}
+
+    fn notes_absence(&self) -> bool {
+        false
+    }
+
+    fn lacks(&mut self, _question: Question) {}
+}
+
+impl Audience for Silent {
+    fn begins(&mut self, _coverage: Coverage) {}
+}
+
+impl Speaker for Silent {
+    ghost use Rattle.std.specs.Prelude.{true};
+
+    ghost counts = { λ s. true };
+
+    fn counts_wrong(&self) -> bool {
+        true
+    }
+
+    fn leaves(&mut self, _has_ended: bool) {}
+}

@@ -29,14 +29,12 @@ impl<'p> World for Host<'p> {
     ghost standard = { λ _. None };
 
     fn open(&self, name: &str) -> Result<Reading<Input<'p, Device>>, OpenFault> {
-        match InputFile::find(&self.rt, name) {
-            Ok(file) => Ok(Reading::new(Input::file(file, self.progress))),
-            Err(_) => Err(OpenFault::Refused),
-        }
+        let file = opened(InputFile::find(&self.rt, name))?;
+        Ok(Reading::new(Input::file(file, self.progress)))
     }
 
     fn read(&self, name: &str) -> Result<Vec<u8>, OpenFault> {
-        whole(fs::read(&self.rt, name))
+        opened(fs::read(&self.rt, name))
     }
 
     fn standard_input(&self) -> Reading<Input<'p, Device>> {
@@ -52,13 +50,13 @@ impl<'p> World for Host<'p> {
     }
 }
 
-/// What a read of a whole file comes to.
-fn whole(read: io::Result<Vec<u8>>) -> Result<Vec<u8>, OpenFault>
-    ensures ok { IfOk read (λ bytes. result ≡ Ok bytes) }
-    ensures err { IfErr read (λ error. result ≡ Err (open_fault (error_kind error))) }
+/// What was opened, or why nothing was.
+fn opened<T: Drop>(attempt: io::Result<T>) -> Result<T, OpenFault>
+    ensures ok { IfOk attempt (λ it. result ≡ Ok it) }
+    ensures err { IfErr attempt (λ error. result ≡ Err (open_fault (error_kind error))) }
 {
-    match read {
-        Ok(bytes) => Ok(bytes),
+    match attempt {
+        Ok(it) => Ok(it),
         Err(error) if error.kind() == io::ErrorKind::OutOfMemory => Err(OpenFault::NoMemory),
         Err(_) => Err(OpenFault::Refused),
     }

@@ -1,7 +1,7 @@
 //! Sources of bytes.
 
 ghost use Rattle.std.specs.Prelude.{◌≡◌, ◌≤◌, ℕ, Bool, List, Option, None, false, length};
-ghost use Rattle.std.specs.Prelude.{is_err, IfOk};
+ghost use Rattle.std.specs.Prelude.{is_err, IfOk, true};
 ghost use Rattle.std.specs.Io.KnownBytes.{ReadConsumes};
 ghost use Rattle.htl_device.specs.Devices.{finds_end, reads_after};
 
@@ -53,6 +53,8 @@ pub struct Reading<R> {
     failed: bool,
     reads: u64,
     ended: bool,
+    /// Whether it was ended without the end being read.
+    is_finished: bool,
 }
 
 impl<R: Read> Reading<R> {
@@ -69,21 +71,40 @@ impl<R: Read> Reading<R> {
             failed: false,
             reads: 0,
             ended: false,
+            is_finished: false,
         }
+    }
+
+    /// The reader, of which the bytes that were read are gone.
+    pub fn reader(&self) -> &R
+        ensures { ⟦<Reading<R> as Source>⟧.has_ended self.now ≡ false
+            → R.remaining result.now ≡ ⟦<Reading<R> as Source>⟧.remaining self.now }
+    {
+        &self.reader
+    }
+
+    /// Ends the source. Nothing more is read of it.
+    pub(crate) fn end(&mut self)
+        ensures { self.new ≡ record self.old { is_finished = true } }
+    {
+        self.is_finished = true;
     }
 }
 
 impl<R: Read> Source for Reading<R> {
-    ghost remaining = { λ s. R.remaining s.reader };
+    ghost use Rattle.std.specs.Prelude.{◌||◌};
+    ghost use Rattle.htl_device.specs.Devices.{left_of};
+
+    ghost remaining = { λ s. left_of s.is_finished (R.remaining s.reader) };
 
     ghost has_failed = { λ s. s.failed };
 
     ghost good_reads = { λ s. s.reads };
 
-    ghost has_ended = { λ s. s.ended };
+    ghost has_ended = { λ s. s.ended || s.is_finished };
 
     fn ended(&self) -> bool {
-        self.ended
+        self.ended || self.is_finished
     }
 
     fn read(&mut self, buffer: &mut [u8]) -> Result<usize, Failed> {

@@ -1,11 +1,15 @@
 -- Bytes that are refused: what is reported of them, whichever follow, and how far a source is read.
-use Rattle.std.proofs.Common.{◌≡◌, ◌+◌, ◌<◌, ◌≤◌, ℕ, Bool, false, List, [], ◌++◌, length, All, refl, sym, ap}
-use Rattle.std.proofs.Common.{arith, inl, inr, subst, Option, Some, None, IfSome, Err, append-nil}
+use Rattle.std.proofs.Common.{◌≡◌, ◌+◌, ◌<◌, ◌≤◌, ℕ, Bool, false, List, [], ◌∷◌, ◌++◌, length, All, refl, sym, ap, ◌∙◌, append_assoc}
+use Rattle.std.proofs.Common.{arith, inl, inr, subst, Option, Some, None, IfSome, append-nil}
 use Rattle.std.proofs.KnownBytes.{Consumes-trans, Consumes-whole}
 use Rattle.std.proofs.lemmas.List.{length-append}
 use Rattle.std.specs.Io.KnownBytes.{Consumes, IsAtEnd}
 use Rattle.htl_segment.specs.Content.{Content, Fits}
-use Rattle.htl_segment.specs.Bundles.{bundle, BundleFault, Splits, IsRefused, IsRest}
+use Rattle.std.proofs.lemmas.List.Elements.{All-head, All-nil}
+use Rattle.htl_segment.proofs.SegmentLaws.{segment_again}
+use Rattle.htl_segment.specs.Faults.{first_fault}
+use Rattle.htl_segment.specs.Encoding.{encoding}
+use Rattle.htl_segment.specs.Bundles.{bundle, BundleFault, SegmentAt, Splits, IsRefused, IsRest}
 use Rattle.htl_segment.specs.Pieces.{is_memory}
 use Rattle.htl_segment.specs.declared.fault.Fault.{Fault}
 use Rattle.htl_segment.specs.declared.fault.Fault.TheVariants as faults
@@ -15,8 +19,7 @@ use Rattle.htl_reading.specs.declared.fault.SourceFault.{SourceFault}
 use Rattle.htl_reading.specs.declared.fault.SourceFault.TheVariants.{Segment, Read, NoMemory}
 use Rattle.htl_reading.specs.Keepers.{taken}
 use Rattle.htl_reading.specs.Blocks.{of_segment}
-use Rattle.htl_reading.specs.Sources.{IsReadToFault, IsRefusal, IsReported, ReportsFailure}
-use Rattle.htl_reading.proofs.JoinLaws.{first_begins}
+use Rattle.htl_reading.specs.Sources.{IsReadToFault, IsRefusal, IsReported}
 
 -- ---- bytes that were taken in
 
@@ -35,6 +38,21 @@ pub whole_before : (segments : List Content) → All Fits segments → Splits (b
 whole_before segments fits = record { parts = sym (append-nil (bundle segments)); fits = fits }
 
 -- ---- bytes that are refused
+
+-- bytes of some segments begin with one
+pub first_begins : (b rest : List ℕ) (ts : List Content) → Splits b ts rest → 0 < length ts → SegmentAt b 0
+first_begins b rest [] split some = absurd (omega arith)
+first_begins b rest (t ∷ ts) split some =
+    let parts : b ≡ encoding t ++ (bundle ts ++ rest) = split.parts ∙ append_assoc (encoding t) (bundle ts) rest in
+    let none : first_fault b ≡ None = ap first_fault parts
+    ∙ (segment_again t (bundle ts ++ rest) (All-head Fits t ts split.fits)).no_fault in
+    record {
+      before = [];
+      rest = b;
+      splits = record { parts = refl; fits = All-nil Fits };
+      offset_is = refl;
+      no_fault = none;
+    }
 
 -- out of memory is reported as itself, and every other fault by its offset
 pub segment_fault : (offset : ℕ) (fault : Fault) → is_memory fault ≡ false → of_segment offset fault ≡ Segment offset fault
@@ -73,11 +91,6 @@ more_reported read left ended (Segment offset fault) refusal = fault_more read l
 more_reported read left ended Read refusal = absurd refusal
 more_reported read left ended NoMemory refusal = inl (refusal.0, segment_more read left refusal.0 refusal.1)
 
-pub refusal_more : (read more : List ℕ) (fault : SourceFault) → IsRefusal read fault → IsRefusal (read ++ more) fault
-refusal_more read more (Segment offset fault) refusal = (fault_more read more offset fault refusal.1 refusal.0, refusal.1)
-refusal_more read more Read refusal = absurd refusal
-refusal_more read more NoMemory refusal = (refusal.0, segment_more read more refusal.0 refusal.1)
-
 pub refusal_reported : (first last : Option (List ℕ)) (ended : Bool) (read : List ℕ) (fault : SourceFault) → Consumes first last read
     → IsRefusal read fault → IfSome first (λ all. IsReported last ended all fault)
 refusal_reported None last ended read fault given refusal = tt
@@ -106,20 +119,6 @@ pub given_many : (first last : Option (List ℕ)) (read : List ℕ) (most : ℕ)
 given_many None last read most given many = tt
 given_many (Some xs) None read most given many = absurd given
 given_many (Some xs) (Some ys) read most given many = omega (arith, ap length given, length-append read ys, many)
-
--- the same of a result of another type
-pub reported_again : {S R : Type 0} (workers : ℕ) (failed : Bool) (given left : Option (List ℕ)) (fault : SourceFault)
-    → ReportsFailure {S = S} workers failed given left (Err fault) → ReportsFailure {S = R} workers failed given left (Err fault)
-reported_again workers failed given left fault reported is =
-    elim (reported is) [
-      | inl read ↦ inl (cc read)
-      | inr found ↦
-          let stands = found.1 in
-          inr (
-            found.0,
-            record { fault = stands.fault; is = cc (stands.is); read = stands.read; consumes = stands.consumes; refusal = stands.refusal },
-          )
-    ]
 
 -- ---- how far a source is read
 

@@ -1,5 +1,3 @@
-pub mod CutLaws
-pub mod JoinLaws
-pub mod FaultLaws
 pub mod TakenLaws
-pub mod BlockLaws
+pub mod FaultLaws
+pub mod PartLaws

@@ -1,5 +1,5 @@
 -- What reads come to: the bytes held in a block, and the segments that keepers took.
-use Rattle.std.proofs.Common.{◌≡◌, ◌+◌, ◌-◌, ◌*◌, ◌<◌, ◌≤◌, ℕ, Bool, false, List, [], ◌∷◌, ◌++◌, length, drop, take, All, refl, sym, ap, ◌∙◌}
+use Rattle.std.proofs.Common.{◌≡◌, ◌+◌, ◌-◌, ◌<◌, ◌≤◌, ℕ, Bool, false, List, [], ◌∷◌, ◌++◌, length, drop, take, All, refl, sym, ap, ◌∙◌}
 use Rattle.std.proofs.Common.{append-nil, append_assoc, arith, inl, inr, subst, Option, Some, None, IfSome, Result, Ok, Err, true}
 use Rattle.std.specs.Prelude.{is_err, IfErr, IfOk, OnErr}
 use Rattle.std.proofs.KnownBytes.{Consumes-kept, Consumes-nil, Consumes-trans, Consumes-whole}
@@ -8,9 +8,6 @@ use Rattle.std.proofs.lemmas.List.Elements.{All-nil}
 use Rattle.std.proofs.lemmas.Slice.{between_is}
 use Rattle.std.proofs.Math.Seq.{take-append-add}
 use Rattle.std.specs.Io.KnownBytes.{Consumes, IsAtEnd, Keeps, ReadConsumes}
-use Rattle.std.proofs.lemmas.Bool.{cases_Bool, lt-leb}
-use Rattle.std.specs.Prelude.{nat_le}
-use Rattle.htl_device.specs.declared.source.TheConstants.{MAX_READ_LEN}
 use Rattle.htl_segment.specs.Content.{Content, Fits}
 use Rattle.htl_segment.specs.Bundles.{bundle, IsRest, RestAt, Splits, cut_off}
 use Rattle.htl_segment.proofs.BundleLaws.{first_fault-rest}
@@ -18,7 +15,7 @@ use Rattle.htl_reading.specs.declared.fault.SourceFault.{SourceFault}
 use Rattle.htl_reading.specs.declared.fault.SourceFault.TheVariants.{NoMemory}
 use Rattle.htl_reading.specs.Keepers.{IsTakenOff, IsTakenTo, TookAll, taken}
 use Rattle.htl_reading.specs.Blocks.{IsReadBehind, IsRefusedAt, of_segment}
-use Rattle.htl_reading.specs.Sources.{IsReadToFault, IsReported, read_ahead}
+use Rattle.htl_reading.specs.Sources.{IsReadToFault, IsReported}
 use Rattle.htl_reading.proofs.FaultLaws.{ended_inside, given_many, memory_refused, read_more, read_without_fault, refusal_reported, taken_next}
 use Rattle.htl_reading.proofs.FaultLaws.{taken_splits}
 
@@ -203,35 +200,9 @@ module _ {S K : Type 0} {gathers : S → K → List Content → Type 0} {old new
   taken_and_more {last = last} most behind few =
       read_more most given left last at.segments rest behind.more at.fits at.is_rest at.read behind.read (omega (arith, behind.count_is, few))
 
-least_ahead : (workers block : ℕ) → MAX_READ_LEN ≤ read_ahead workers block
-least_ahead workers block =
-    elim (cases_Bool (nat_le workers 1)) [
-      | inl one ↦ rw one (omega arith)
-      | inr more ↦ rw more (omega arith)
-    ]
-
--- one read is no more than workers read ahead
-pub read_no_further : {given left : Option (List ℕ)} (workers block : ℕ) → IsReadToFault MAX_READ_LEN given left
-    → IsReadToFault (read_ahead workers block) given left
-read_no_further workers block read = record {
-  before = read.before;
-  segments = read.segments;
-  rest = read.rest;
-  splits = read.splits;
-  is_rest = read.is_rest;
-  last = read.last;
-  few = omega (arith, read.few, least_ahead workers block);
-  read = read.read;
-}
-
--- two blocks are what several read ahead
-pub read_in_blocks : {given left : Option (List ℕ)} (workers block : ℕ) → 1 < workers → IsReadToFault (2 * (block + MAX_READ_LEN)) given left
-    → IsReadToFault (read_ahead workers block) given left
-read_in_blocks workers block several read = rw (lt-leb workers 1 several) read
-
 -- ---- the first read
 
-begins_none : IsRest []
+pub begins_none : IsRest []
 begins_none = record { cut_off = inl (omega arith) }
 
 -- no segment was taken before it
@@ -267,6 +238,10 @@ pub first_refused : (given left : Option (List ℕ)) (piece : List ℕ) (ended :
     → IfSome given (λ bytes. IsReported left ended bytes fault)
 first_refused given left piece ended fault read refused =
     refusal_reported given left ended piece fault read (refused [] (All-nil Fits) refl)
+
+-- nothing was read
+pub nothing_read : (most : ℕ) (given : Option (List ℕ)) → IsReadToFault most given given
+nothing_read most given = read_without_fault most given given [] [] (All-nil Fits) begins_none (Consumes-nil given)
 
 -- it reads no further than others
 pub first_to_fault : (most : ℕ) (given left : Option (List ℕ)) (piece : List ℕ) → Consumes given left piece → length piece ≤ most

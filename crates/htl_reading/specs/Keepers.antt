@@ -3,7 +3,6 @@ use Rattle.std.specs.Prelude.{◌≡◌, ◌≤◌, ℕ, List, ◌++◌, [], len
 use Rattle.std.specs.Io.KnownBytes.{Consumes}
 use Rattle.htl_segment.specs.Content.{Content, Fits}
 use Rattle.htl_segment.specs.Bundles.{IsRest, Splits, bundle}
-use Rattle.htl_reading.specs.declared.keepers.Keepers.{Keepers}
 
 -- the bytes that were taken in: those of the segments, and others after them
 abbrev pub taken : List Content → List ℕ → List ℕ
@@ -39,14 +38,3 @@ pub record IsTakenTo {S K : Type 0} (gathers : S → K → List Content → Type
   pub read : Consumes given left (taken segments rest)
   pub each : reads ≤ length (taken segments rest)
   pub took : Took gathers old new segments
-
--- ---- several keepers
-
--- the first of some keepers has these segments, and the others have none
-pub record AreShared {K : Type 0} (gathers : K → K → List Content → Type 0) (kind : K) (keepers : K × List K) (segments : List Content)
-    : Type 0 where
-  pub first : gathers kind (keepers.0) segments
-  pub others : All (λ keeper. gathers kind keeper []) (keepers.1)
-
-abbrev pub AreKept : {K : Type 0} → (K → K → List Content → Type 0) → K → Keepers K → List Content → Type 0
-AreKept gathers kind keepers segments = AreShared gathers kind (keepers.first, keepers.others.items) segments

@@ -1,6 +1,6 @@
 -- What public contracts cite.
 pub mod Sources
 -- What only private contracts cite.
-pub mod Cuts
 pub mod Keepers
+pub mod Parts
 pub mod Blocks

@@ -1,8 +1,6 @@
 -- Why the reading of one source ends, and how far it is read (this project's own). What a source gives is known where it reports its bytes.
-use Rattle.std.specs.Prelude.{◌≡◌, ◌<◌, ◌≤◌, ◌+◌, ◌*◌, ◌⊎◌, ⊤, ℕ, Bool, true, false, List, ◌++◌, length, Option, Some, IfSome, Result, Err}
-use Rattle.std.specs.Prelude.{nat_le, if◌then◌else◌}
+use Rattle.std.specs.Prelude.{◌≡◌, ◌≤◌, ◌⊎◌, ⊤, ℕ, Bool, true, false, List, ◌++◌, length, Option, Some, IfSome, Result, Err}
 use Rattle.std.specs.Io.KnownBytes.{Consumes}
-use Rattle.htl_device.specs.declared.source.TheConstants.{MAX_READ_LEN}
 use Rattle.htl_segment.specs.Content.{Content}
 use Rattle.htl_segment.specs.Bundles.{BundleFault, IsRest, RestAt, SegmentAt, Splits, is_early_end}
 use Rattle.htl_reading.specs.declared.fault.SourceFault.{SourceFault}
@@ -30,25 +28,6 @@ abbrev pub IsRefusal : List ℕ → SourceFault → Type 0
 IsRefusal bytes (Segment offset fault) = BundleFault bytes offset fault × (is_early_end fault ≡ false)
 IsRefusal bytes Read = ⊥
 IsRefusal bytes NoMemory = (offset : ℕ) × SegmentAt bytes offset
-
--- a fault of the bytes that were read is reported, in place of a read that failed after them
-pub record StandsBefore {S : Type 0} (given left : Option (List ℕ)) (result : Result S SourceFault) : Type 0 where
-  pub fault : SourceFault
-  pub is : result ≡ Err fault
-  pub read : List ℕ
-  pub consumes : Consumes given left read
-  pub refusal : IsRefusal read fault
-
--- A read that failed is reported, or what stands before it. One worker decodes each read before the next, so only several find a
--- fault so late.
-abbrev pub ReportsFailure : {S : Type 0} → ℕ → Bool → Option (List ℕ) → Option (List ℕ) → Result S SourceFault → Type 0
-ReportsFailure workers failed given left result =
-    failed ≡ true → (result ≡ Err Read) ⊎ ((1 < workers) × StandsBefore given left result)
-
--- How many bytes are read before they are decoded, in blocks of at least so many: one read by one worker; and by several a block, of
--- which a read may make more, and the next one, which is read while that is decoded.
-abbrev pub read_ahead : ℕ → ℕ → ℕ
-read_ahead workers block = if nat_le workers 1 then MAX_READ_LEN else 2 * (block + MAX_READ_LEN)
 
 -- What was read of a source: segments and the beginning of one more, and after these so many bytes at most. So it is read
 -- no further once a fault was read.

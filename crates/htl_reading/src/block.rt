@@ -1,7 +1,5 @@
 //! Blocks: a source is read into a block, and segments are checked in it.
 
-ghost use Rattle.std.specs.Prelude.{◌≡◌, ◌≤◌, OnOk, length, take};
-
 use htl_device::{Failed, MAX_READ_LEN, Source};
 use std::alloc::{AllocError, Global};
 use std::marker::Model;
@@ -32,7 +30,7 @@ impl Model for Block {
 }
 
 impl Block {
-    ghost use Rattle.std.specs.Prelude.{◌≡◌, ◌+◌, ◌<◌, ◌≤◌, ◌^◌, [], drop, false, length};
+    ghost use Rattle.std.specs.Prelude.{◌≡◌, ◌+◌, ◌<◌, ◌≤◌, ◌^◌, drop, false, length};
     ghost use Rattle.std.specs.Prelude.{IfOk, OnErr, OnOk, is_err};
     ghost use Rattle.std.specs.Io.KnownBytes.{Keeps};
     ghost use Rattle.htl_device.specs.Devices.{finds_end, reads_after};
@@ -47,27 +45,6 @@ impl Block {
             start: 0,
             end: held.len(),
         })
-    }
-
-    /// An empty block.
-    pub fn empty(alloc: Global) -> Block
-        ensures { result.held ≡ [] }
-    {
-        Block {
-            bytes: Vec::new(alloc),
-            start: 0,
-            end: 0,
-        }
-    }
-
-    /// Replaces the bytes held by these.
-    pub fn restart(&mut self, held: &[u8]) -> Result<(), AllocError>
-        ensures { OnOk result (self.new.held ≡ held.now) }
-    {
-        put_in_front(&mut self.bytes, held)?;
-        self.start = 0;
-        self.end = held.len();
-        Ok(())
     }
 
     /// The bytes held.
@@ -131,26 +108,4 @@ impl Block {
         self.end += count;
         Ok(count)
     }
-}
-
-/// Writes the piece over the first bytes. Their number stays the same.
-fn put_in_front(bytes: &mut Vec<u8>, piece: &[u8]) -> Result<(), AllocError>
-    ensures grown { length bytes.old.items ≤ length bytes.new.items }
-    ensures room { OnOk result (length piece.now ≤ length bytes.new.items) }
-    ensures put { OnOk result (take (length piece.now) bytes.new.items ≡ piece.now) }
-{
-    if bytes.len() < piece.len() {
-        bytes.resize(piece.len(), 0)?;
-    }
-    copy_over(bytes, piece);
-    Ok(())
-}
-
-fn copy_over(bytes: &mut [u8], piece: &[u8])
-    requires { length piece.now ≤ length bytes.old }
-    ensures len { length bytes.new ≡ length bytes.old }
-    ensures front { take (length piece.now) bytes.new ≡ piece.now }
-{
-    let (front, _) = bytes.split_at_mut(piece.len());
-    front.copy_from_slice(piece);
 }

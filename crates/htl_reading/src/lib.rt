@@ -1,30 +1,27 @@
 //! The segments that a source gives, by one worker or by several.
 //!
 //! One worker reads into a block in which it checks the segments, and a keeper takes them from there.
-//! Several fill a block: it is cut between segments, as their headers say, a thread with a keeper of its
-//! own takes each part, and what the keepers took goes over to the first one in order. While they take
-//! a block the next one is read. What is taken is what one worker takes, and so is each fault.
+//! Where a source can be read from several places at once, several workers read a part of its bytes
+//! each, with a keeper of its own, and what the keepers took goes over to the first one in order. A
+//! part begins where a segment seems to. Whatever is wrong with a part, its bytes or its place, one
+//! worker then reads the source as if nothing had been read of it, and so each fault is what it
+//! reports.
 //!
 //! Files, in reading order: `fault.rt` (why a reading ends), `reading.rt` (a source to its end),
-//! `block.rt` and `filling.rt` (the bytes that reads put into a block), `gathered.rt` (reading on, by
-//! one worker or in blocks), `keepers.rt` and `cutting.rt` (bytes that workers share, and where they
-//! are cut), `decoding.rt` (bytes in memory, decoded by several workers).
+//! `block.rt` (the bytes that a read puts behind those that are held), `gathered.rt` (reading on by one
+//! worker), `parts.rt` (several workers), `starts.rt` (where their parts begin).
 //!
-//! `specs/Sources` says what is reported and how far a source is read. In `proofs/`, `TakenLaws` and
-//! `BlockLaws` show which segments reads give, `FaultLaws` which faults are reported, `CutLaws` that
-//! bytes which are cut by headers leave no rest, and `JoinLaws` that two parts give the segments of
-//! their bytes.
+//! `specs/Sources` says what is reported and how far a source is read. In `proofs/`, `TakenLaws` shows
+//! which segments reads give, `FaultLaws` which faults are reported, and `PartLaws` that the parts of
+//! several workers give the segments of all bytes.
 #![tactic(auto)]
 
 mod block;
-mod cutting;
-mod decoding;
 mod fault;
-mod filling;
 mod gathered;
-mod keepers;
+mod parts;
 mod reading;
+mod starts;
 
-pub use decoding::decode_bundle_by;
 pub use fault::SourceFault;
-pub use reading::{BLOCK_LEN, gather_bundle, read_bundle};
+pub use reading::{gather_bundle, read_bundle};

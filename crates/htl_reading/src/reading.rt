@@ -4,39 +4,32 @@ ghost use Rattle.std.specs.Prelude.{◌≡◌, ◌*◌, ◌+◌, ◌<◌, ◌≤
 ghost use Rattle.std.specs.Prelude.{Err, IfOk, IfErr, IfSome, OnOk, false, true};
 ghost use Rattle.htl_segment.specs.Content.{Content};
 ghost use Rattle.htl_segment.specs.Bundles.{Splits};
-ghost use Rattle.htl_reading.specs.Keepers.{AreKept, TookAll};
-ghost use Rattle.htl_reading.specs.Sources.{FailsOnly, IsReadToFault, IsReported, ReportsFailure};
-ghost use Rattle.htl_reading.specs.Sources.{read_ahead};
+ghost use Rattle.htl_reading.specs.Keepers.{TookAll};
+ghost use Rattle.htl_reading.specs.Sources.{FailsOnly, IsReadToFault, IsReported};
 ghost use Rattle.htl_reading.specs.declared.fault.SourceFault.TheVariants.{Read};
 
 use crate::block::Block;
 use crate::fault::SourceFault;
-use crate::filling::Limits;
-use crate::gathered::Gathered;
-use crate::keepers::Keepers;
-use htl_device::{MAX_READ_LEN, MAX_READS, MIN_READ_LEN, Source};
+use crate::gathered::{Gathered, take_front};
+use crate::parts::{append_all, gather_parts};
+use htl_device::{MAX_READ_LEN, MAX_READS, MIN_READ_LEN, Parted, Source};
 use htl_segment::{Keeper, Segment, Segments};
 use std::alloc::Global;
 use std::thread::Threads;
 
-/// The bytes of a source that several workers take at once, or a read more.
-pub const BLOCK_LEN: usize = 4_194_304;
-
-/// Gathers the segments of a source. The workers read it to its end, in reads of 65,536 bytes, but for
-/// the first, of 4,096. The segments are the same for every number of workers, and the first fault of
-/// the bytes is reported wherever it was found. A failed read is reported only where the bytes before
-/// it have no fault.
+/// Gathers the segments of a source. One worker reads it to its end, in reads of 65,536 bytes, but for
+/// the first, of 4,096, and takes the segments of each read before the next. A source without bytes
+/// needs no memory.
 ///
-/// One worker takes the segments of each read before the next. Several begin so, and take the bytes
-/// after the first segments in blocks of `block_len` bytes or a read more, while this thread reads the
-/// next block. A source without bytes needs no memory.
-pub fn gather_bundle<T: Threads + Sync, R: Source, K: Keeper + Drop + Send>(
+/// Several workers read parts of it, where it has some, and end it. Where that isn't all, one worker
+/// reads it as if there were no others: the segments are the same for every number of workers, and so
+/// is what is reported.
+pub fn gather_bundle<T: Threads + Sync, R: Parted, K: Keeper + Drop + Send>(
     rt: &T,
     alloc: Global,
     workers: u32,
-    block_len: usize,
     source: &mut R,
-    keeper: K,
+    mut keeper: K,
 ) -> Result<K, SourceFault>
     requires fresh { R.has_failed source.old ≡ false }
     requires inside { R.has_ended source.old ≡ false }
@@ -46,33 +39,30 @@ pub fn gather_bundle<T: Threads + Sync, R: Source, K: Keeper + Drop + Send>(
     ensures err { IfErr result (λ fault. IfSome (R.remaining source.old) (λ bytes.
         IsReported (R.remaining source.new) (R.has_ended source.new) bytes fault)) }
     ensures ended { OnOk result (R.has_ended source.new ≡ true) }
-    ensures reported { ReportsFailure workers (R.has_failed source.new) (R.remaining source.old)
-        (R.remaining source.new) result }
+    ensures reported { R.has_failed source.new ≡ true → result ≡ Err Read }
     ensures read { FailsOnly (R.has_failed source.new) (R.good_reads source.new)
         (R.remaining source.old) MAX_READS result }
     // A failed read is reported only where what was read has no fault.
     ensures no_fault { result ≡ Err Read
         → IsReadToFault 0 (R.remaining source.old) (R.remaining source.new) }
     ensures bounded { R.good_reads source.new ≤ R.good_reads source.old + MAX_READS }
-    ensures to_fault { IsReadToFault (read_ahead workers block_len) (R.remaining source.old)
-        (R.remaining source.new) }
+    ensures to_fault { IsReadToFault MAX_READ_LEN (R.remaining source.old) (R.remaining source.new) }
 {
-    let limits = Limits {
-        workers,
-        block_len,
-        reads: MAX_READS,
-    };
-    let keepers = Keepers::new(alloc, workers, keeper);
-    let kept = read_source(rt, alloc, limits, source, keepers)?;
-    Ok(kept.first)
+    if let Some(parts) = gather_parts(rt, alloc, workers, source, &keeper) {
+        let Ok(()) = append_all(&mut keeper, parts) else {
+            return Err(SourceFault::NoMemory);
+        };
+        source.finish();
+        return Ok(keeper);
+    }
+    read_source(alloc, MAX_READS, source, keeper)
 }
 
 /// The segments of a source, as `gather_bundle` gathers them.
-pub fn read_bundle<T: Threads + Sync, R: Source>(
+pub fn read_bundle<T: Threads + Sync, R: Parted>(
     rt: &T,
     alloc: Global,
     workers: u32,
-    block_len: usize,
     source: &mut R,
 ) -> Result<Vec<Segment>, SourceFault>
     requires fresh { R.has_failed source.old ≡ false }
@@ -82,63 +72,57 @@ pub fn read_bundle<T: Threads + Sync, R: Source>(
     ensures err { IfErr result (λ fault. IfSome (R.remaining source.old) (λ bytes.
         IsReported (R.remaining source.new) (R.has_ended source.new) bytes fault)) }
     ensures ended { OnOk result (R.has_ended source.new ≡ true) }
-    ensures reported { ReportsFailure workers (R.has_failed source.new) (R.remaining source.old)
-        (R.remaining source.new) result }
+    ensures reported { R.has_failed source.new ≡ true → result ≡ Err Read }
     ensures read { FailsOnly (R.has_failed source.new) (R.good_reads source.new)
         (R.remaining source.old) MAX_READS result }
     ensures no_fault { result ≡ Err Read
         → IsReadToFault 0 (R.remaining source.old) (R.remaining source.new) }
     ensures bounded { R.good_reads source.new ≤ R.good_reads source.old + MAX_READS }
-    ensures to_fault { IsReadToFault (read_ahead workers block_len) (R.remaining source.old)
-        (R.remaining source.new) }
+    ensures to_fault { IsReadToFault MAX_READ_LEN (R.remaining source.old) (R.remaining source.new) }
 {
-    let segments = Segments::new(alloc);
-    let gathered = gather_bundle(rt, alloc, workers, block_len, source, segments)?;
+    let gathered = gather_bundle(rt, alloc, workers, source, Segments::new(alloc))?;
     Ok(gathered.list)
 }
 
-/// Reads a source to its end, and gives the first keeper, which has all segments.
+/// Reads a source to its end by one worker. At most `most` reads give bytes.
 ///
 /// The first read goes into a short buffer. If it gives bytes, a block is made for all other reads.
-fn read_source<T: Threads + Sync, R: Source, K: Keeper + Drop + Send>(
-    rt: &T,
+pub(crate) fn read_source<R: Source, K: Keeper + Drop>(
     alloc: Global,
-    limits: Limits,
+    most: u64,
     source: &mut R,
-    mut keepers: Keepers<K>,
-) -> Result<Keepers<K>, SourceFault>
+    mut keeper: K,
+) -> Result<K, SourceFault>
     requires fresh { R.has_failed source.old ≡ false }
     requires inside { R.has_ended source.old ≡ false }
-    requires some { 0 < limits.reads }
-    requires few { limits.reads * MAX_READ_LEN < 2 ^ 64 }
+    requires some { 0 < most }
+    requires few { most * MAX_READ_LEN < 2 ^ 64 }
     ensures ok { IfOk result (λ new. IfSome (R.remaining source.old)
-        (TookAll (AreKept K.gathers) keepers new)) }
+        (TookAll K.gathers keeper new)) }
     ensures err { IfErr result (λ fault. IfSome (R.remaining source.old) (λ bytes.
         IsReported (R.remaining source.new) (R.has_ended source.new) bytes fault)) }
     ensures ended { OnOk result (R.has_ended source.new ≡ true) }
-    ensures reported { ReportsFailure limits.workers (R.has_failed source.new)
-        (R.remaining source.old) (R.remaining source.new) result }
+    ensures reported { R.has_failed source.new ≡ true → result ≡ Err Read }
     ensures read { FailsOnly (R.has_failed source.new) (R.good_reads source.new)
-        (R.remaining source.old) limits.reads result }
+        (R.remaining source.old) most result }
     ensures no_fault { result ≡ Err Read
         → IsReadToFault 0 (R.remaining source.old) (R.remaining source.new) }
-    ensures bounded { R.good_reads source.new ≤ R.good_reads source.old + limits.reads }
-    ensures to_fault { IsReadToFault (read_ahead limits.workers limits.block_len)
-        (R.remaining source.old) (R.remaining source.new) }
+    ensures bounded { R.good_reads source.new ≤ R.good_reads source.old + most }
+    ensures to_fault { IsReadToFault MAX_READ_LEN (R.remaining source.old) (R.remaining source.new) }
 {
     let mut buffer = [0u8; MIN_READ_LEN];
     let Ok(count) = source.read(&mut buffer) else {
         return Err(SourceFault::Read);
     };
     if count == 0 {
-        return Ok(keepers);
+        return Ok(keeper);
     }
     let piece = &buffer[..count];
-    let len = keepers.take(rt, alloc, 0, piece)?;
+    let len = take_front(alloc, &mut keeper, 0, piece)?;
     let gathered = Gathered {
-        keepers,
+        keeper,
         offset: len as u64,
         block: Block::new(alloc, &piece[len..])?,
     };
-    gathered.read_on(rt, alloc, limits, source)
+    gathered.read_on(alloc, most, source)
 }

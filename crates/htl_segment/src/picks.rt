@@ -58,10 +58,7 @@ impl Keeper for Picks {
     }
 
     fn another(&self, alloc: Global) -> Picks {
-        Picks {
-            seen: Seen::list(alloc),
-            ..Picks::new(alloc, self.interest)
-        }
+        Picks::new(alloc, self.interest)
     }
 
     fn append(&mut self, other: &mut Picks) -> Result<(), NoMemory> {

@@ -24,8 +24,6 @@ const MARKS_AT_FIRST: usize = 1 << 20;
 pub struct Seen {
     marks: Vec<bool>,
     apart: Vec<u64>,
-    /// Whether every sequence is listed, and none is marked.
-    is_list: bool,
     /// The number of sequences that were seen.
     count: usize,
     /// Whether a sequence is known to have come twice. Then nothing more is noted.
@@ -44,20 +42,6 @@ impl Seen {
         Seen {
             marks: Vec::new(alloc),
             apart: Vec::new(alloc),
-            is_list: false,
-            count: 0,
-            comes_twice: false,
-        }
-    }
-
-    /// An empty set for a few sequences that are appended to another set soon. It lists each of them.
-    pub fn list(alloc: Global) -> Seen
-        ensures { Saw result [] }
-    {
-        Seen {
-            marks: Vec::new(alloc),
-            apart: Vec::new(alloc),
-            is_list: true,
             count: 0,
             comes_twice: false,
         }
@@ -69,10 +53,6 @@ impl Seen {
             → OnOk result (Saw self.new (numbers ++ sequence ∷ [])) }
     {
         if self.comes_twice {
-            return Ok(());
-        }
-        if self.is_list {
-            self.apart.push(sequence)?;
             return Ok(());
         }
         self.count = self.count.saturating_add(1);

@@ -19,7 +19,7 @@ use allocation_trials::Trials;
 
 fn main(rt: HostRuntime) -> anyhow::Result<()> {
     let mut trials = Trials::new(&rt);
-    segments::try_all(&rt, &mut trials);
+    segments::try_all(&mut trials);
     trees::try_all(&mut trials);
     tables::try_all(&mut trials);
     sets::try_all(&mut trials);

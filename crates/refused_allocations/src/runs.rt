@@ -7,7 +7,6 @@ use htl_main::run;
 use htl_samples::SMALL;
 use std::alloc::Global;
 use std::mem;
-use std::sync::Wait;
 use std::thread::Threads;
 
 /// Ranges of addresses with names, one of which is quoted.
@@ -32,7 +31,7 @@ const RUNS: &[(&str, Question, u32)] = &[
     ("run for a summary by two workers", Question::Summary, 2),
 ];
 
-pub fn try_all<R: Threads + Wait + Sync>(rt: &R, trials: &mut Trials<'_, HostRuntime>) {
+pub fn try_all<R: Threads + Sync>(rt: &R, trials: &mut Trials<'_, HostRuntime>) {
     for (name, question, workers) in RUNS {
         let job = job(*question, *workers);
         trials.changes(name, unread, |alloc, running: &mut Running| {
@@ -79,7 +78,7 @@ fn unread(alloc: Global) -> Result<Running, Refusal> {
     Ok(Running { inputs, out })
 }
 
-fn printed<R: Threads + Wait + Sync>(
+fn printed<R: Threads + Sync>(
     rt: &R,
     alloc: Global,
     job: &Job,

@@ -2,30 +2,17 @@
 
 use allocation_trials::{Equal, Refusal, Same, Trials, answered};
 use htl_event::Event;
-use htl_reading::decode_bundle_by;
-use htl_samples::{RandomTrace, SMALL, TRACE};
+use htl_samples::{SMALL, TRACE};
 use htl_segment::{
     Fault, Segment, Splitter, decode, decode_bundle, decode_pieces, encode, from_hex,
 };
 use std::alloc::Global;
 use std::mem;
-use std::thread::Threads;
 
-/// A trace whose bundle is long enough for workers to share it.
-const LONG: RandomTrace = RandomTrace {
-    events: 400,
-    ..SMALL
-};
-
-pub fn try_all<R: Threads + Sync>(rt: &R, trials: &mut Trials<'_, HostRuntime>) {
+pub fn try_all(trials: &mut Trials<'_, HostRuntime>) {
     trials.reads("decode", encoding, decoded);
     trials.reads("decode_bundle", bundle, decoded_bundle);
     trials.reads("decode_pieces", bundle, decoded_pieces);
-    trials.reads(
-        "decode_bundle_by two workers",
-        long_bundle,
-        |alloc, bytes: &Vec<u8>| decoded_by_two(rt, alloc, bytes),
-    );
     trials.reads("from_hex", digits, bytes_of_digits);
     trials.reads("encode", segment, encoded);
     trials.changes("feed", half_fed, feed);
@@ -45,10 +32,6 @@ fn bundle(alloc: Global) -> Result<Vec<u8>, Refusal> {
     answered(SMALL.bundle(alloc))
 }
 
-fn long_bundle(alloc: Global) -> Result<Vec<u8>, Refusal> {
-    answered(LONG.bundle(alloc))
-}
-
 fn digits(alloc: Global) -> Result<String, Refusal> {
     answered(String::from_str(alloc, "48 4c 53 31\n01 00"))
 }
@@ -66,14 +49,6 @@ fn decoded_bundle(alloc: Global, bytes: &Vec<u8>) -> Result<Vec<Segment>, Refusa
 fn decoded_pieces(alloc: Global, bytes: &Vec<u8>) -> Result<Vec<Segment>, Refusal> {
     let (front, back) = bytes.split_at(FIRST_PIECE.min(bytes.len()));
     answered(decode_pieces(alloc, &[front, back]))
-}
-
-fn decoded_by_two<R: Threads + Sync>(
-    rt: &R,
-    alloc: Global,
-    bytes: &[u8],
-) -> Result<Vec<Segment>, Refusal> {
-    answered(decode_bundle_by(rt, alloc, 2, bytes))
 }
 
 fn bytes_of_digits(alloc: Global, text: &String) -> Result<Equal<Vec<u8>>, Refusal> {

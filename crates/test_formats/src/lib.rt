@@ -11,6 +11,8 @@ mod command;
 #[cfg(test)]
 mod devices;
 #[cfg(test)]
+mod parts;
+#[cfg(test)]
 mod reading;
 #[cfg(test)]
 mod reports;
@@ -20,8 +22,6 @@ mod rows;
 mod samples;
 #[cfg(test)]
 mod segments;
-#[cfg(test)]
-mod sharing;
 #[cfg(test)]
 mod symbols;
 #[cfg(test)]

@@ -1,12 +1,10 @@
-//! Sources that several workers read in blocks, beside bytes that lie in memory.
+//! Sources that give their bytes once, beside bytes that lie in memory.
 
+use crate::parts::{bundle, told};
 use crate::rows::assert_row;
-use crate::sharing::{bundle, told};
 use htl_device::Reading;
-use htl_event::Interest;
-use htl_reading::{SourceFault, gather_bundle, read_bundle};
-use htl_samples::{RandomTrace, SMALL};
-use htl_segment::{Fault, Picks, Segment, decode_bundle};
+use htl_reading::{SourceFault, read_bundle};
+use htl_segment::{Fault, Segment, decode_bundle};
 use std::alloc::Global;
 use std::io;
 use std::io::Read;
@@ -63,14 +61,12 @@ fn told_or_fault(read: Result<Vec<Segment>, SourceFault>) -> Result<u64, SourceF
     Ok(told(&read?))
 }
 
-/// Reads by every number of workers, in blocks of a few bytes and of many.
+/// Reads for one worker and for several, of which one reads such a source.
 fn by_all(rt: &(impl Abort + Threads + Sync), alloc: Global, source: Pieces) {
     let expected = expected(alloc, source);
-    for workers in [1, 2, 3, 8] {
-        for block_len in [0, 100, 100_000] {
-            let read = read_bundle(rt, alloc, workers, block_len, &mut Reading::new(source));
-            assert_row(rt, (workers, block_len), told_or_fault(read), expected);
-        }
+    for workers in [1, 8] {
+        let read = read_bundle(rt, alloc, workers, &mut Reading::new(source));
+        assert_row(rt, workers, told_or_fault(read), expected);
     }
 }
 
@@ -106,7 +102,7 @@ fn pieces_of_a_few_bytes(rt: HostRuntime) {
 }
 
 #[test]
-fn pieces_that_workers_share(rt: HostRuntime) {
+fn pieces_of_many_bytes(rt: HostRuntime) {
     let alloc = rt.alloc();
     let mut bytes = bundle(&rt, alloc, 8_000);
     for place in [256_000, 189_988, 149_988] {
@@ -156,7 +152,7 @@ fn lens_of_reads(
         bytes,
         lens: Vec::new(alloc),
     };
-    let read = read_bundle(rt, alloc, workers, 100_000, &mut Reading::new(&mut reader));
+    let read = read_bundle(rt, alloc, workers, &mut Reading::new(&mut reader));
     assert!(rt; read.is_ok());
     reader.lens
 }
@@ -174,68 +170,4 @@ fn reads_ask_for_many_bytes(rt: HostRuntime) {
             assert_row(&rt, workers, *len, 65_536);
         }
     }
-}
-
-/// What is picked of a process by workers: numbers that tell the outlines and the events apart, and
-/// whether a sequence came twice.
-fn picked(
-    rt: &(impl Threads + Sync),
-    alloc: Global,
-    workers: u32,
-    block_len: usize,
-    bytes: &[u8],
-) -> Result<(u64, u64, bool), SourceFault> {
-    let mut source = Reading::new(Pieces {
-        bytes,
-        piece: 65_536,
-        reads_left: usize::MAX,
-    });
-    let picks = Picks::new(alloc, Interest::Process(1));
-    let Picks {
-        outlines,
-        events,
-        seen,
-        ..
-    } = gather_bundle(rt, alloc, workers, block_len, &mut source, picks)?;
-    let mut of_outlines: u64 = 1;
-    for outline in &outlines {
-        of_outlines = of_outlines.wrapping_mul(31).wrapping_add(outline.last);
-    }
-    let mut of_events: u64 = 1;
-    for event in &events {
-        of_events = of_events.wrapping_mul(31).wrapping_add(event.sequence);
-    }
-    Ok((of_outlines, of_events, seen.comes_twice()))
-}
-
-/// Workers pick what one does.
-fn picks_by_all(
-    rt: &(impl Abort + Threads + Sync),
-    alloc: Global,
-    bytes: &[u8],
-    comes_twice: bool,
-) {
-    let alone = picked(rt, alloc, 1, 0, bytes);
-    assert_row(rt, bytes.len(), alone.map(|told| told.2), Ok(comes_twice));
-    for workers in [2, 3, 8] {
-        for block_len in [0, 100_000, 10_000_000] {
-            let shared = picked(rt, alloc, workers, block_len, bytes);
-            assert_row(rt, (workers, block_len), shared, alone);
-        }
-    }
-}
-
-#[test]
-fn picks_of_workers(rt: HostRuntime) {
-    let alloc = rt.alloc();
-    let trace = RandomTrace {
-        segments: 20,
-        events: 150,
-        ..SMALL
-    };
-    let once = trace.bundle(alloc).ok().expect(&rt, "a bundle");
-    picks_by_all(&rt, alloc, &once, false);
-    let mut twice = trace.bundle(alloc).ok().expect(&rt, "a bundle");
-    twice.extend_from_slice(&once).expect(&rt, "the memory");
-    picks_by_all(&rt, alloc, &twice, true);
 }

@@ -1,9 +1,18 @@
--- What is reported of keepers is reported of the first.
-use Rattle.std.proofs.lemmas.Result.{err_from_is_err_and}
-use Rattle.htl_reading.proofs.FaultLaws.{reported_again}
+-- What several workers took of a source, which is read no more then.
+use Rattle.htl_device.specs.declared.source.TheConstants.{MAX_READ_LEN}
+use Rattle.htl_reading.proofs.PartLaws.{order_asks, order_read}
+use Rattle.htl_reading.proofs.TakenLaws.{nothing_read}
 use Rattle.htl_reading.proofs.reading.gather_bundle.Goals as goal
 
-pub returns-in_err-kept-clause-reported : goal.returns-in_err-kept-clause-reported
-returns-in_err-kept-clause-reported g c =
-    let p = err_from_is_err_and c.from_residual.result c.from_residual.ensures.1 in
-    rw (p.1, p.2) (reported_again c.args.workers _ _ _ c.in_err-kept.field-0.0 c.in_err-kept.ensures.reported)
+pub returns-in_default-append_all-clause-err : goal.returns-in_default-append_all-clause-err
+returns-in_default-append_all-clause-err g c =
+    order_asks g.K.Keeper.gathers c.args.keeper c.in-Some.parts.items (g.R.Source.remaining c.args.source.now) _ _ c.in-Some.ensures.taken
+    c.in-Some.ensures.some
+
+pub returns-in_default-append_all-clause-to_fault : goal.returns-in_default-append_all-clause-to_fault
+returns-in_default-append_all-clause-to_fault g c = nothing_read MAX_READ_LEN (g.R.Source.remaining c.args.source.now)
+
+pub returns-in-Some-clause-to_fault : goal.returns-in-Some-clause-to_fault
+returns-in-Some-clause-to_fault g c =
+    order_read g.K.Keeper.gathers c.args.keeper MAX_READ_LEN c.in-Some.parts.items (g.R.Source.remaining c.args.source.now) _ c.finish.ensures.bytes
+    c.in-Some.ensures.taken

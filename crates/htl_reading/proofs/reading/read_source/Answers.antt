@@ -5,8 +5,8 @@ use Rattle.std.proofs.lemmas.List.{length-take-le, take_rest}
 use Rattle.std.proofs.lemmas.Result.{err_from_is_err_and}
 use Rattle.std.specs.Prelude.{is_err}
 use Rattle.htl_device.specs.declared.source.TheConstants.{MAX_READ_LEN}
-use Rattle.htl_reading.specs.Keepers.{AreKept, IsTakenTo}
-use Rattle.htl_reading.proofs.TakenLaws.{first_failed, first_refused, first_to_fault, read_no_further, taken_first, taken_memory}
+use Rattle.htl_reading.specs.Keepers.{IsTakenTo}
+use Rattle.htl_reading.proofs.TakenLaws.{first_failed, first_refused, first_to_fault, taken_first, taken_memory}
 use Rattle.htl_reading.proofs.reading.read_source.Goals as goal
 
 pub returns-in_default-clause-no_fault : goal.returns-in_default-clause-no_fault
@@ -22,7 +22,7 @@ returns-in_default-clause-to_fault g c =
 pub returns-then-count-eq0-clause-to_fault : goal.returns-then-count-eq0-clause-to_fault
 returns-then-count-eq0-clause-to_fault g c =
     let few : length (take c.in-Ok.count c.read.new.buffer) ≤ MAX_READ_LEN = grind (arith, common_steps) in
-    read_no_further c.args.limits.workers c.args.limits.block_len (first_to_fault MAX_READ_LEN _ _ _ c.in-Ok.ensures.bytes.0 few)
+    first_to_fault MAX_READ_LEN _ _ _ c.in-Ok.ensures.bytes.0 few
 
 pub returns-in_err-len-clause-err : goal.returns-in_err-len-clause-err
 returns-in_err-len-clause-err g c =
@@ -32,7 +32,7 @@ returns-in_err-len-clause-err g c =
 pub returns-in_err-len-clause-to_fault : goal.returns-in_err-len-clause-to_fault
 returns-in_err-len-clause-to_fault g c =
     let few : length (take c.in-Ok.count c.read.new.buffer) ≤ MAX_READ_LEN = grind (arith, common_steps) in
-    read_no_further c.args.limits.workers c.args.limits.block_len (first_to_fault MAX_READ_LEN _ _ _ c.in-Ok.ensures.bytes.0 few)
+    first_to_fault MAX_READ_LEN _ _ _ c.in-Ok.ensures.bytes.0 few
 
 pub returns-in_err-new-clause-err : goal.returns-in_err-new-clause-err
 returns-in_err-new-clause-err g c =
@@ -46,10 +46,10 @@ returns-in_err-new-clause-err g c =
 pub returns-in_err-new-clause-to_fault : goal.returns-in_err-new-clause-to_fault
 returns-in_err-new-clause-to_fault g c =
     let few : length (take c.in-Ok.count c.read.new.buffer) ≤ MAX_READ_LEN = grind (arith, common_steps) in
-    read_no_further c.args.limits.workers c.args.limits.block_len (first_to_fault MAX_READ_LEN _ _ _ c.in-Ok.ensures.bytes.0 few)
+    first_to_fault MAX_READ_LEN _ _ _ c.in-Ok.ensures.bytes.0 few
 
 began : (g : _) (c : goal.After-read_on g)
-    → IsTakenTo (AreKept g.K.Keeper.gathers) c.args.keepers c.take.new.self (g.R.Source.remaining c.args.source.now)
+    → IsTakenTo g.K.Keeper.gathers c.args.keeper c.take_front.new.keeper (g.R.Source.remaining c.args.source.now)
     (g.R.Source.remaining c.read.new.self) c.in_ok-new.field-0.held c.in_ok-len.len 1
 began g c =
     let piece = take c.in-Ok.count c.read.new.buffer in
@@ -59,19 +59,16 @@ began g c =
     (taken_first piece c.in_ok-len.len c.in-Ok.ensures.bytes.0 some c.in_ok-len.ensures.ok c.in_ok-len.ensures.inside)
 
 pub returns-clause-ok : goal.returns-clause-ok
-returns-clause-ok g c = c.read_on.ensures.ok c.args.keepers (g.R.Source.remaining c.args.source.now) (began g c)
+returns-clause-ok g c = c.read_on.ensures.ok c.args.keeper (g.R.Source.remaining c.args.source.now) (began g c)
 
 pub returns-clause-err : goal.returns-clause-err
-returns-clause-err g c = c.read_on.ensures.err c.args.keepers (g.R.Source.remaining c.args.source.now) (began g c)
-
-pub returns-clause-reported : goal.returns-clause-reported
-returns-clause-reported g c = c.read_on.ensures.reported c.args.keepers (g.R.Source.remaining c.args.source.now) (began g c)
+returns-clause-err g c = c.read_on.ensures.err c.args.keeper (g.R.Source.remaining c.args.source.now) (began g c)
 
 pub returns-clause-read : goal.returns-clause-read
-returns-clause-read g c = c.read_on.ensures.read c.args.keepers (g.R.Source.remaining c.args.source.now) (began g c)
+returns-clause-read g c = c.read_on.ensures.read c.args.keeper (g.R.Source.remaining c.args.source.now) (began g c)
 
 pub returns-clause-no_fault : goal.returns-clause-no_fault
-returns-clause-no_fault g c = c.read_on.ensures.no_fault c.args.keepers (g.R.Source.remaining c.args.source.now) (began g c)
+returns-clause-no_fault g c = c.read_on.ensures.no_fault c.args.keeper (g.R.Source.remaining c.args.source.now) (began g c)
 
 pub returns-clause-to_fault : goal.returns-clause-to_fault
-returns-clause-to_fault g c = c.read_on.ensures.to_fault c.args.keepers (g.R.Source.remaining c.args.source.now) (began g c)
+returns-clause-to_fault g c = c.read_on.ensures.to_fault c.args.keeper (g.R.Source.remaining c.args.source.now) (began g c)

@@ -1,51 +1,19 @@
 -- One read more, the end of the source, and that a fault ends the reading.
-use Rattle.std.proofs.Common.{◌≡◌, ◌≤◌, ◌<◌, length, ap, arith, inl, inr, refl, true}
+use Rattle.std.proofs.Common.{◌≡◌, ◌≤◌, ◌<◌, length, ap, arith, inr, refl, true}
 use Rattle.std.proofs.lemmas.List.{length-append, length-drop}
 use Rattle.std.proofs.lemmas.Grind.{common_steps}
 use Rattle.std.proofs.lemmas.Result.{err_from_is_err_and}
 use Rattle.std.specs.Prelude.{is_err}
 use Rattle.htl_device.specs.declared.source.TheConstants.{MAX_READ_LEN}
 use Rattle.htl_reading.proofs.TakenLaws.{taken_all, taken_and_more, taken_ended, taken_inside, taken_kept, taken_many, taken_memory}
-use Rattle.htl_reading.proofs.TakenLaws.{read_in_blocks, read_no_further, taken_more, taken_refused, taken_to_fault}
+use Rattle.htl_reading.proofs.TakenLaws.{taken_more, taken_refused, taken_to_fault}
 use Rattle.htl_reading.proofs.gathered.Gathered.read_on.Goals as goal
-
--- ---- several workers go on in blocks
-
-pub returns-then-self-gt0-clause-ok : goal.returns-then-self-gt0-clause-ok
-returns-then-self-gt0-clause-ok g c = λ start given at. c.read_blocks.ensures.ok start given (c.loop-reads.invariant.taken start given at)
-
-pub returns-then-self-gt0-clause-err : goal.returns-then-self-gt0-clause-err
-returns-then-self-gt0-clause-err g c = λ start given at. c.read_blocks.ensures.err start given (c.loop-reads.invariant.taken start given at)
-
-pub returns-then-self-gt0-clause-reported : goal.returns-then-self-gt0-clause-reported
-returns-then-self-gt0-clause-reported g c =
-    let several : 1 < c.args.limits.workers = grind (arith, common_steps) in
-    λ start given at failed.
-    elim (c.read_blocks.ensures.reported start given (c.loop-reads.invariant.taken start given at) failed) [
-      | inl read ↦ inl read
-      | inr before ↦ inr (several, before)
-    ]
-
-pub returns-then-self-gt0-clause-read : goal.returns-then-self-gt0-clause-read
-returns-then-self-gt0-clause-read g c = λ start given at. c.read_blocks.ensures.read start given (c.loop-reads.invariant.taken start given at)
-
-pub returns-then-self-gt0-clause-no_fault : goal.returns-then-self-gt0-clause-no_fault
-returns-then-self-gt0-clause-no_fault g c =
-    λ start given at. c.read_blocks.ensures.no_fault start given (c.loop-reads.invariant.taken start given at)
-
-pub returns-then-self-gt0-clause-to_fault : goal.returns-then-self-gt0-clause-to_fault
-returns-then-self-gt0-clause-to_fault g c =
-    let several : 1 < c.args.limits.workers = grind (arith, common_steps) in
-    λ start given at. read_in_blocks c.args.limits.workers c.args.limits.block_len several
-    (c.read_blocks.ensures.to_fault start given (c.loop-reads.invariant.taken start given at))
-
--- ---- one worker's next read
 
 pub returns-in_err-make_room-clause-err : goal.returns-in_err-make_room-clause-err
 returns-in_err-make_room-clause-err g c =
     let p = err_from_is_err_and c.from_residual.result c.from_residual.ensures.1 in
     let inv = c.loop-reads.invariant in
-    let some : 0 < c.loop-reads.reads = grind (arith, common_steps) in
+    let some : 0 < c.loop-reads._reads = grind (arith, common_steps) in
     λ start given at. rw (p.1, p.2) (taken_memory (inv.taken start given at) _ some inv.inside)
 
 pub returns-in_err-make_room-clause-to_fault : goal.returns-in_err-make_room-clause-to_fault
@@ -80,8 +48,7 @@ returns-then-count-eq0-clause-err g c =
 pub returns-then-count-eq0-clause-to_fault : goal.returns-then-count-eq0-clause-to_fault
 returns-then-count-eq0-clause-to_fault g c =
     let behind = rw (c.make_room.ensures.held) at c.in-Ok.ensures.ok in
-    λ start given at. read_no_further c.args.limits.workers c.args.limits.block_len
-    (taken_and_more (c.loop-reads.invariant.taken start given at) MAX_READ_LEN behind c.in-Ok.ensures.bound)
+    λ start given at. taken_and_more (c.loop-reads.invariant.taken start given at) MAX_READ_LEN behind c.in-Ok.ensures.bound
 
 pub returns-in_err-take-clause-err : goal.returns-in_err-take-clause-err
 returns-in_err-take-clause-err g c =
@@ -92,8 +59,7 @@ returns-in_err-take-clause-err g c =
 pub returns-in_err-take-clause-to_fault : goal.returns-in_err-take-clause-to_fault
 returns-in_err-take-clause-to_fault g c =
     let behind = rw (c.make_room.ensures.held) at c.in-Ok.ensures.ok in
-    λ start given at. read_no_further c.args.limits.workers c.args.limits.block_len
-    (taken_and_more (c.loop-reads.invariant.taken start given at) MAX_READ_LEN behind c.in-Ok.ensures.bound)
+    λ start given at. taken_and_more (c.loop-reads.invariant.taken start given at) MAX_READ_LEN behind c.in-Ok.ensures.bound
 
 pub loop-reads-preserved : goal.loop-reads-preserved
 loop-reads-preserved g c =
@@ -136,9 +102,9 @@ loop-reads-preserved g c =
 
 pub returns-clause-read : goal.returns-clause-read
 returns-clause-read g c =
-    let all : c.args.limits.reads ≤ c.loop-reads.reads = grind (arith, common_steps) in
+    let all : c.args.most ≤ c.loop-reads._reads = grind (arith, common_steps) in
     λ start given at is.
-    inr (grind (arith, common_steps), taken_many (c.loop-reads.invariant.taken start given at) c.args.limits.reads all)
+    inr (grind (arith, common_steps), taken_many (c.loop-reads.invariant.taken start given at) c.args.most all)
 
 pub returns-clause-no_fault : goal.returns-clause-no_fault
 returns-clause-no_fault g c = λ start given at is. taken_to_fault (c.loop-reads.invariant.taken start given at) 0

@@ -1,20 +1,20 @@
 -- The segments of all reads so far were taken, and the block holds the bytes after them.
 use Rattle.std.proofs.Common.{◌≡◌, ◌≤◌, ◌+◌, ◌*◌, ℕ, List, Option, length, false}
 use Rattle.htl_device.specs.declared.source.TheConstants.{MAX_READ_LEN}
-use Rattle.htl_reading.specs.Keepers.{AreKept, IsTakenTo}
+use Rattle.htl_reading.specs.Keepers.{IsTakenTo}
 use Rattle.htl_reading.proofs.gathered.Gathered.read_on.Given as goal
 
 abbrev pub invariant-loop-reads : goal.invariant-loop-reads
 invariant-loop-reads g l = record {
   taken : (start : _) (given : Option (List ℕ))
-      → IsTakenTo (AreKept g.K.Keeper.gathers) start l.fn.self.keepers given (g.R.Source.remaining l.fn.source) l.fn.self.block.held
+      → IsTakenTo g.K.Keeper.gathers start l.fn.self.keeper given (g.R.Source.remaining l.fn.source) l.fn.self.block.held
       l.fn.self.offset 1
-      → IsTakenTo (AreKept g.K.Keeper.gathers) start l.self.keepers given (g.R.Source.remaining l.source) l.self.block.held l.self.offset
-      l.reads;
+      → IsTakenTo g.K.Keeper.gathers start l.self.keeper given (g.R.Source.remaining l.source) l.self.block.held l.self.offset
+      l._reads;
   fine : g.R.Source.has_failed l.source ≡ false;
   inside : g.R.Source.has_ended l.source ≡ false;
-  short : l.self.offset + length l.self.block.held ≤ l.reads * MAX_READ_LEN;
-  each : l.reads ≤ l.self.offset + length l.self.block.held;
-  counted : l.reads ≤ g.R.Source.good_reads l.source;
-  bounded : g.R.Source.good_reads l.source + 1 ≤ g.R.Source.good_reads l.fn.source + l.reads;
+  short : l.self.offset + length l.self.block.held ≤ l._reads * MAX_READ_LEN;
+  each : l._reads ≤ l.self.offset + length l.self.block.held;
+  counted : l._reads ≤ g.R.Source.good_reads l.source;
+  bounded : g.R.Source.good_reads l.source + 1 ≤ g.R.Source.good_reads l.fn.source + l._reads;
 }

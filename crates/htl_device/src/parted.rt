@@ -1,0 +1,49 @@
+//! Sources that several workers may read at once.
+
+ghost use Rattle.std.specs.Prelude.{◌≡◌, [], IfSome, false, length, option_map, true};
+ghost use Rattle.htl_device.specs.Devices.{tail_of};
+
+use crate::{Reading, Source};
+use std::io::{Empty, Read};
+
+/// A source that may be read from several places at once, as a file may that is opened once more for
+/// each. What can be read only once gives none.
+pub trait Parted: Source {
+    /// What reads from a place on.
+    type Tail: Read + Send + Drop;
+
+    /// The number of bytes that are left, if it can be read from several places.
+    fn len(&self) -> Option<u64>
+        ensures { IfSome result (λ len. IfSome (Self.remaining self.now)
+            (λ bytes. length bytes ≡ len)) };
+
+    /// Another reader, of the bytes that are left from an offset on.
+    fn tail(&self, offset: u64) -> Option<Self::Tail>
+        ensures { IfSome result (λ tail.
+            Self.Tail.remaining tail ≡ tail_of offset (Self.remaining self.now)) };
+
+    /// Ends the source, of which all bytes were read in parts.
+    fn finish(&mut self)
+        requires { Self.has_failed self.old ≡ false }
+        ensures bytes { Self.remaining self.new ≡ option_map (λ _. []) (Self.remaining self.old) }
+        ensures fresh { Self.has_failed self.new ≡ false }
+        ensures counts { Self.good_reads self.new ≡ Self.good_reads self.old }
+        ensures ends { Self.has_ended self.new ≡ true };
+}
+
+/// A reader of std is read from one place.
+impl<R: Read> Parted for Reading<R> {
+    type Tail = Empty;
+
+    fn len(&self) -> Option<u64> {
+        None
+    }
+
+    fn tail(&self, _offset: u64) -> Option<Empty> {
+        None
+    }
+
+    fn finish(&mut self) {
+        self.end();
+    }
+}

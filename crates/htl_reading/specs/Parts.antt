@@ -1,0 +1,30 @@
+-- For the clauses of private functions: the parts of a source's bytes, and what the keepers of its workers took.
+use Rattle.std.specs.Prelude.{◌≡◌, ℕ, List, [], ◌∷◌, ◌++◌, Option, Some}
+use Rattle.std.specs.Io.Take.{take_remaining}
+use Rattle.htl_segment.specs.Content.{Content}
+use Rattle.htl_segment.specs.Bundles.{Splits}
+use Rattle.htl_reading.specs.declared.parts.Part.{Part}
+
+-- it is of another keeper's kind, and took these segments
+abbrev pub IsAnother : {K : Type 0} → (K → K → List Content → Type 0) → K → K → List Content → Type 0
+IsAnother {K} gathers keeper new segments = (kind : K) (before : List Content) → gathers kind keeper before → gathers kind new segments
+
+-- Each keeper, of the kind of another one, took the segments of some of the bytes, one after the other.
+abbrev pub TookInOrder : {K : Type 0} → (K → K → List Content → Type 0) → K → List K → List ℕ → Type 0
+TookInOrder gathers keeper [] bytes = bytes ≡ []
+TookInOrder gathers keeper (new ∷ more) bytes =
+    (piece : List ℕ) × (rest : List ℕ) × (segments : List Content) × (bytes ≡ piece ++ rest) × Splits piece segments []
+    × IsAnother gathers keeper new segments × TookInOrder gathers keeper more rest
+
+-- the part has these bytes, and a keeper that took no segment
+pub record IsPartOf {K R : Type 0} (gathers : K → K → List Content → Type 0) (remaining : R → Option (List ℕ)) (keeper : K)
+    (part : Part R K) (piece : List ℕ) : Type 0 where
+  pub bytes_are : take_remaining remaining part.bytes ≡ Some piece
+  pub fresh : IsAnother gathers keeper part.keeper []
+
+-- these are all bytes, one part after the other
+abbrev pub ArePartsOf : {K R : Type 0} → (K → K → List Content → Type 0) → (R → Option (List ℕ)) → K → List (Part R K) → List ℕ → Type 0
+ArePartsOf gathers remaining keeper [] bytes = bytes ≡ []
+ArePartsOf gathers remaining keeper (part ∷ parts) bytes =
+    (piece : List ℕ) × (rest : List ℕ) × (bytes ≡ piece ++ rest) × IsPartOf gathers remaining keeper part piece
+    × ArePartsOf gathers remaining keeper parts rest

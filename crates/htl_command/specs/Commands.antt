@@ -1,19 +1,19 @@
 -- The table of the commands and their options (this project's own).
 use Rattle.std.specs.Prelude.{ℕ, Bool, true, false, List, [], ◌∷◌, Option, codes, find}
 use Rattle.std.specs.Str.{bytes_eq}
-use Rattle.htl_command.specs.declared.commands.CommandFlag.{CommandFlag}
-use Rattle.htl_command.specs.declared.commands.CommandFlag.TheVariants.{ExitCode, Folded, Json, Complete, Hex}
-use Rattle.htl_command.specs.declared.commands.CommandName.{CommandName}
-use Rattle.htl_command.specs.declared.commands.CommandName.TheVariants.{Ask, Explain, Dump, Encode, Converse}
-use Rattle.htl_command.specs.declared.commands.CommandOption.{CommandOption}
-use Rattle.htl_command.specs.declared.commands.CommandOption.TheVariants.{Process, Since, Object, Tag, Handle, Top, Symbols, Workers}
-use Rattle.htl_command.specs.declared.commands.QuestionName.{QuestionName}
-use Rattle.htl_command.specs.declared.commands.QuestionName.TheVariants.{Summary, Outstanding, Diff, Tags, Bad, Leaks, Stacks, Trace}
+use Rattle.htl_command.specs.declared.names.CommandFlag.{CommandFlag}
+use Rattle.htl_command.specs.declared.names.CommandFlag.TheVariants.{ExitCode, Folded, Json, Complete, Hex}
+use Rattle.htl_command.specs.declared.names.CommandName.{CommandName}
+use Rattle.htl_command.specs.declared.names.CommandName.TheVariants.{Question, Ask, Explain, Dump, Encode}
+use Rattle.htl_command.specs.declared.names.CommandOption.{CommandOption}
+use Rattle.htl_command.specs.declared.names.CommandOption.TheVariants.{Process, Since, Object, Tag, Handle, Top, Symbols, Workers}
+use Rattle.htl_command.specs.declared.names.QuestionName.{QuestionName}
+use Rattle.htl_command.specs.declared.names.QuestionName.TheVariants.{Summary, Outstanding, Diff, Tags, Bad, Leaks, Stacks, Trace}
 
 abbrev pub commands : List CommandName
 commands =
-    Ask Summary ∷ Ask Outstanding ∷ Ask Diff ∷ Ask Tags ∷ Ask Bad ∷ Ask Leaks ∷ Ask Stacks ∷ Ask Trace ∷ Converse
-    ∷ Explain ∷ Dump ∷ Encode ∷ []
+    Question Summary ∷ Question Outstanding ∷ Question Diff ∷ Question Tags ∷ Question Bad ∷ Question Leaks ∷ Question Stacks
+    ∷ Question Trace ∷ Ask ∷ Explain ∷ Dump ∷ Encode ∷ []
 
 -- each question: the name of its command, and the options that not every question has
 abbrev pub question_row : QuestionName → List ℕ × List CommandOption
@@ -51,11 +51,11 @@ own_flags Trace = []
 own_flags question = ExitCode ∷ []
 
 abbrev pub name_of : CommandName → List ℕ
-name_of (Ask question) = question_name question
+name_of (Question question) = question_name question
 name_of Explain = codes "explain"
 name_of Dump = codes "dump"
 name_of Encode = codes "encode"
-name_of Converse = codes "ask"
+name_of Ask = codes "ask"
 
 abbrev pub option_name : CommandOption → List ℕ
 option_name option = (option_row option).0

@@ -5,12 +5,12 @@ use Rattle.clap.specs.Simple.{new_shape}
 use Rattle.clap.specs.Words.{App, Kinds, Row, Rule, Text, fault_of, new_app, new_rule, subcommand_of, with_rule, with_subcommand}
 use Rattle.clap.specs.declared.builder.ArgAction.TheVariants.{SetTrue}
 use Rattle.htl_command.specs.Commands.{commands, flag_name, is_required, name_of, option_name, own_flags, own_options}
-use Rattle.htl_command.specs.declared.commands.CommandFlag.{CommandFlag}
-use Rattle.htl_command.specs.declared.commands.CommandFlag.TheVariants.{Complete, Hex, Json}
-use Rattle.htl_command.specs.declared.commands.CommandName.{CommandName}
-use Rattle.htl_command.specs.declared.commands.CommandName.TheVariants.{Ask, Explain, Dump, Encode, Converse}
-use Rattle.htl_command.specs.declared.commands.CommandOption.{CommandOption}
-use Rattle.htl_command.specs.declared.commands.CommandOption.TheVariants.{Symbols, Workers}
+use Rattle.htl_command.specs.declared.names.CommandFlag.{CommandFlag}
+use Rattle.htl_command.specs.declared.names.CommandFlag.TheVariants.{Complete, Hex, Json}
+use Rattle.htl_command.specs.declared.names.CommandName.{CommandName}
+use Rattle.htl_command.specs.declared.names.CommandName.TheVariants.{Question, Ask, Explain, Dump, Encode}
+use Rattle.htl_command.specs.declared.names.CommandOption.{CommandOption}
+use Rattle.htl_command.specs.declared.names.CommandOption.TheVariants.{Symbols, Workers}
 
 -- an option takes one value
 abbrev pub option_rule : CommandOption → Rule
@@ -54,12 +54,12 @@ abbrev pub code_rule : Rule
 code_rule = record (new_rule (codes "code")) { value_names = 1; required = true }
 
 abbrev pub rules_of : CommandName → App → App
-rules_of (Ask question) a =
+rules_of (Question question) a =
     with_rules (with_rules (with_rules a (map option_rule (own_options question))) (map flag_rule (own_flags question))) common_rules
 rules_of Explain a = with_rules a (code_rule ∷ [])
 rules_of Dump a = with_rules a text_rules
 rules_of Encode a = with_rules a text_rules
-rules_of Converse a = with_rules a dialogue_rules
+rules_of Ask a = with_rules a dialogue_rules
 
 abbrev pub command_app : CommandName → App
 command_app command = rules_of command (new_app (name_of command))

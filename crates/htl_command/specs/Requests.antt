@@ -8,18 +8,18 @@ use Rattle.htl_command.specs.Codes.{code_named}
 use Rattle.htl_command.specs.Commands.{command_named, flag_name, option_name}
 use Rattle.htl_command.specs.Entries.{entries, refusals}
 use Rattle.htl_command.specs.Values.{handle_in, object_in, process_in, sequence_in, tag_in, top_in, workers_in}
-use Rattle.htl_command.specs.declared.asked.Asked.{Asked}
-use Rattle.htl_command.specs.declared.asked.Command.{Command}
-use Rattle.htl_command.specs.declared.asked.Command.TheVariants as wish
+use Rattle.htl_command.specs.declared.command.Run.{Run}
+use Rattle.htl_command.specs.declared.command.Command.{Command}
+use Rattle.htl_command.specs.declared.command.Command.TheVariants as wish
 use Rattle.htl_command.specs.declared.code.Code.{Code}
-use Rattle.htl_command.specs.declared.commands.CommandFlag.{CommandFlag}
-use Rattle.htl_command.specs.declared.commands.CommandFlag.TheVariants as flag
-use Rattle.htl_command.specs.declared.commands.CommandName.{CommandName}
-use Rattle.htl_command.specs.declared.commands.CommandName.TheVariants as command
-use Rattle.htl_command.specs.declared.commands.QuestionName.{QuestionName}
-use Rattle.htl_command.specs.declared.commands.QuestionName.TheVariants as name
-use Rattle.htl_command.specs.declared.commands.CommandOption.{CommandOption}
-use Rattle.htl_command.specs.declared.commands.CommandOption.TheVariants.{Process, Since, Object, Tag, Handle, Top, Symbols, Workers}
+use Rattle.htl_command.specs.declared.names.CommandFlag.{CommandFlag}
+use Rattle.htl_command.specs.declared.names.CommandFlag.TheVariants as flag
+use Rattle.htl_command.specs.declared.names.CommandName.{CommandName}
+use Rattle.htl_command.specs.declared.names.CommandName.TheVariants as command
+use Rattle.htl_command.specs.declared.names.QuestionName.{QuestionName}
+use Rattle.htl_command.specs.declared.names.QuestionName.TheVariants as name
+use Rattle.htl_command.specs.declared.names.CommandOption.{CommandOption}
+use Rattle.htl_command.specs.declared.names.CommandOption.TheVariants.{Process, Since, Object, Tag, Handle, Top, Symbols, Workers}
 use Rattle.htl_command.specs.declared.question.Format.{Format}
 use Rattle.htl_command.specs.declared.question.Format.TheVariants.{Plain, Json, Folded}
 use Rattle.htl_command.specs.declared.question.Job.{Job}
@@ -96,7 +96,7 @@ pub data Request : Type 0 where
   explains : Code → Request
   dumps : Bool → List Text → Request
   encodes : Bool → List Text → Request
-  converses : Setting → List Text → Option Text → Request
+  asks : Setting → List Text → Option Text → Request
 
 abbrev pub file_names : List Row → List Text
 file_names rows = unwrap_or (all_of (codes "files") rows) []
@@ -111,11 +111,11 @@ setting_of rows =
 
 -- what a command asks for
 abbrev pub request_of : CommandName → List Row → Option Request
-request_of (command.Ask name) rows = option_map (λ job. answers (with_files rows job)) (job_of name rows)
+request_of (command.Question name) rows = option_map (λ job. answers (with_files rows job)) (job_of name rows)
 request_of command.Explain rows = option_map (λ code. explains code) (code_of rows)
 request_of command.Dump rows = Some (dumps (is_given flag.Hex rows) (file_names rows))
 request_of command.Encode rows = Some (encodes (is_given flag.Hex rows) (file_names rows))
-request_of command.Converse rows = option_map (λ setting. converses setting (file_names rows) (given Symbols rows)) (setting_of rows)
+request_of command.Ask rows = option_map (λ setting. asks setting (file_names rows) (given Symbols rows)) (setting_of rows)
 
 -- what a command's name and its entries ask for
 abbrev pub request_met : Option (Text × List Row) → Option Request
@@ -154,7 +154,7 @@ is_of_run rows =
 
 -- the job of a question with these entries
 abbrev pub asked_by : CommandName → List Row → Option Job
-asked_by (command.Ask name) rows = if is_of_run rows then None else job_of name rows
+asked_by (command.Question name) rows = if is_of_run rows then None else job_of name rows
 asked_by other rows = None
 
 abbrev pub asked_met : Option (Text × List Row) → Option Job
@@ -165,16 +165,16 @@ unfoldable pub asked_in : List Text → Option Job
 asked_in arguments = if is_nothing (refusals arguments) then asked_met (entries arguments) else None
 
 -- the same of the program's own types
-abbrev pub work : Asked → Work
-work asked = record {
-  job = asked.job;
-  files = map string_bytes asked.files.items;
-  symbols = option_map string_bytes asked.symbols;
+abbrev pub work : Run → Work
+work run = record {
+  job = run.job;
+  files = map string_bytes run.files.items;
+  symbols = option_map string_bytes run.symbols;
 }
 
 abbrev pub request : Command → Request
-request (wish.Answer asked) = answers (work asked)
+request (wish.Question run) = answers (work run)
 request (wish.Explain code) = explains code
 request (wish.Dump of) = dumps of.hex (map string_bytes of.files.items)
 request (wish.Encode of) = encodes of.hex (map string_bytes of.files.items)
-request (wish.Converse of) = converses of.setting (map string_bytes of.files.items) (option_map string_bytes of.symbols)
+request (wish.Ask of) = asks of.setting (map string_bytes of.files.items) (option_map string_bytes of.symbols)

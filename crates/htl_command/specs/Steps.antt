@@ -9,11 +9,11 @@ use Rattle.clap.specs.declared.parser.ArgMatches.{ArgMatches}
 use Rattle.htl_command.specs.Refusals.{HasReason, IsUsageText, is_mistake, is_wish}
 use Rattle.htl_command.specs.Requests.{given as given_in, is_given, optional, value, workers}
 use Rattle.htl_command.specs.Values.{handle_in, object_in, process_in, sequence_in, tag_in, top_in}
-use Rattle.htl_command.specs.declared.commands.CommandFlag.TheVariants as flag
-use Rattle.htl_command.specs.declared.commands.CommandOption.{CommandOption}
-use Rattle.htl_command.specs.declared.commands.CommandOption.TheVariants.{Process, Since, Object, Tag, Handle, Top, Symbols, Workers}
-use Rattle.htl_command.specs.declared.commands.QuestionName.{QuestionName}
-use Rattle.htl_command.specs.declared.commands.QuestionName.TheVariants as name
+use Rattle.htl_command.specs.declared.names.CommandFlag.TheVariants as flag
+use Rattle.htl_command.specs.declared.names.CommandOption.{CommandOption}
+use Rattle.htl_command.specs.declared.names.CommandOption.TheVariants.{Process, Since, Object, Tag, Handle, Top, Symbols, Workers}
+use Rattle.htl_command.specs.declared.names.QuestionName.{QuestionName}
+use Rattle.htl_command.specs.declared.names.QuestionName.TheVariants as name
 use Rattle.htl_command.specs.declared.reading.NoJob.{NoJob}
 use Rattle.htl_command.specs.declared.reading.NoJob.TheVariants.{Value, Formats}
 use Rattle.htl_command.specs.declared.reading.Refused.{Refused}

@@ -9,11 +9,11 @@ ghost use Rattle.htl_command.specs.Entries.{flag_rule, hleak_app, option_rule, p
 ghost use Rattle.htl_command.specs.Entries.{text_rules};
 ghost use Rattle.htl_command.specs.Entries.{with_commands as with_commands_of, with_rules};
 
-use crate::commands::{COMMANDS, CommandFlag, CommandName, CommandOption};
 use crate::help::{
     ABOUT, AFTER_HELP, CODE_HELP, DIALOGUE_FILES_HELP, FILES_HELP, HEX_TEXT_HELP, TEXTS_HELP,
     VERSION,
 };
+use crate::names::{COMMANDS, CommandFlag, CommandName, CommandOption};
 use clap::{Arg, ArgAction, Command};
 use std::alloc::{AllocError, Global};
 
@@ -141,7 +141,7 @@ fn command<'a>(alloc: Global, name: CommandName) -> Result<Command<'a>, AllocErr
         .about(name.about())
         .after_help(name.example());
     match name {
-        CommandName::Ask(question) => {
+        CommandName::Question(question) => {
             let command = with_options(alloc, bare, question.own_options())?;
             let command = with_flags(alloc, command, question.own_flags())?;
             with_common_options(alloc, command)
@@ -149,7 +149,7 @@ fn command<'a>(alloc: Global, name: CommandName) -> Result<Command<'a>, AllocErr
         CommandName::Explain => bare.arg(code(alloc)),
         CommandName::Dump => with_text_options(alloc, bare, CommandFlag::Hex.help(), FILES_HELP),
         CommandName::Encode => with_text_options(alloc, bare, HEX_TEXT_HELP, TEXTS_HELP),
-        CommandName::Converse => with_dialogue_options(alloc, bare),
+        CommandName::Ask => with_dialogue_options(alloc, bare),
     }
 }
 

@@ -4,8 +4,8 @@ ghost use Rattle.clap.specs.Words.{kind_of};
 ghost use Rattle.htl_command.specs.Refusals.{IsUsageWith};
 ghost use Rattle.htl_command.specs.Steps.{Reports};
 
-use crate::commands::CommandName;
 use crate::help::CODE_EXPECTED;
+use crate::names::CommandName;
 use crate::reading::NoJob;
 use clap::error::ErrorKind;
 use std::alloc::{AllocError, Global};

@@ -1,6 +1,6 @@
 //! What a person reads of the commands and their options: the texts of help.
 
-use crate::commands::{CommandFlag, CommandName, CommandOption, QuestionName};
+use crate::names::{CommandFlag, CommandName, CommandOption, QuestionName};
 
 pub(crate) const VERSION: &str = "0.1.0";
 
@@ -51,18 +51,18 @@ impl CommandName {
     /// What the command is for, in one line.
     pub(crate) fn about<'a>(self) -> &'a str {
         match self {
-            CommandName::Ask(question) => question.about(),
+            CommandName::Question(question) => question.about(),
             CommandName::Explain => "What the code of a fault means, and what to do",
             CommandName::Dump => "Segments as text, to read, compare and change",
             CommandName::Encode => "The bytes of segments that are given as text",
-            CommandName::Converse => "Many questions over the same segments, a line each",
+            CommandName::Ask => "Many questions over the same segments, a line each",
         }
     }
 
     /// A command line to begin with, after what else is to be known.
     pub(crate) fn example<'a>(self) -> &'a str {
         match self {
-            CommandName::Ask(question) => question.example(),
+            CommandName::Question(question) => question.example(),
             CommandName::Explain => {
                 "\
 Example:
@@ -80,7 +80,7 @@ Bytes are not written to a terminal.
 Example:
   hleak encode cpu0.txt > cpu0.hls"
             }
-            CommandName::Converse => {
+            CommandName::Ask => {
                 "\
 Each line of standard input is a question with its options, as
 'leaks --process 4 --top 5'. An argument with blanks stands in double quotes.

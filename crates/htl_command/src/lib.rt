@@ -6,24 +6,24 @@
 //! matter: `specs/Entries` says what it is given.
 //!
 //! Files, in reading order: `question.rt` (what can be asked), `code.rt` (the codes of faults),
-//! `commands.rt` (the table of commands), `builder.rt` (the commands as `clap` gets them),
-//! `asked.rt` (`parse`), `line.rt` (a question of a dialogue), `reading.rt` and `values.rt` (entries
-//! and values), `help.rt` and `fault.rt` (what a person reads).
+//! `names.rt` (the commands and their options, by name), `builder.rt` (the commands as `clap` gets
+//! them), `command.rt` (`parse`), `line.rt` (a question of a dialogue), `reading.rt` and
+//! `values.rt` (entries and values), `help.rt` and `fault.rt` (what a person reads).
 #![tactic(auto)]
 
-mod asked;
 mod builder;
 mod code;
-mod commands;
+mod command;
 mod fault;
 mod help;
 mod line;
+mod names;
 mod question;
 mod reading;
 mod values;
 
-pub use asked::{Asked, Command, Conversion, Dialogue, parse};
 pub use code::Code;
+pub use command::{Command, Conversion, Dialogue, Run, parse};
 pub use fault::ParseFault;
 pub use line::parse_question;
 pub use question::{Format, Job, Question, Setting};

@@ -4,11 +4,11 @@ ghost use Rattle.clap.specs.Words.{subcommand_rows_of};
 ghost use Rattle.htl_command.specs.Refusals.{IsUsageWith, RefusesQuestion};
 ghost use Rattle.htl_command.specs.Requests.{asked_by, asked_in, asked_met};
 ghost use Rattle.htl_command.specs.Steps.{entries_of};
-ghost use Rattle.htl_command.specs.declared.commands.CommandName.TheVariants as command;
+ghost use Rattle.htl_command.specs.declared.names.CommandName.TheVariants as command;
 
-use crate::asked::matches;
-use crate::commands::{CommandName, QuestionName};
+use crate::command::matches;
 use crate::fault::{ParseFault, no_command, no_question, of_entries};
+use crate::names::{CommandName, QuestionName};
 use crate::question::Job;
 use crate::reading::{is_of_run, job};
 use clap::ArgMatches;
@@ -34,7 +34,7 @@ fn read_line(alloc: Global, matches: &ArgMatches) -> Result<Job, ParseFault>
         return Err(no_command(alloc));
     };
     match CommandName::from_name(name) {
-        Some(CommandName::Ask(question)) => read_entries(alloc, question, entries),
+        Some(CommandName::Question(question)) => read_entries(alloc, question, entries),
         Some(_) => Err(no_question(alloc)),
         None => Err(no_command(alloc)),
     }
@@ -46,15 +46,15 @@ fn read_entries(
     entries: &ArgMatches,
 ) -> Result<Job, ParseFault>
     ensures ok { IfOk result (λ job.
-        asked_by (command.Ask question) (entries_of entries.now) ≡ Some job) }
+        asked_by (command.Question question) (entries_of entries.now) ≡ Some job) }
     ensures err { IfErr result
-        (IsUsageWith (asked_by (command.Ask question) (entries_of entries.now) ≡ None)) }
+        (IsUsageWith (asked_by (command.Question question) (entries_of entries.now) ≡ None)) }
 {
     if is_of_run(entries) {
         return Err(no_question(alloc));
     }
     match job(question, entries) {
         Ok(job) => Ok(job),
-        Err(refused) => Err(of_entries(alloc, CommandName::Ask(question), refused)),
+        Err(refused) => Err(of_entries(alloc, CommandName::Question(question), refused)),
     }
 }

@@ -12,10 +12,10 @@ ghost use Rattle.htl_command.specs.Requests.{is_of_run, setting_of, value};
 ghost use Rattle.htl_command.specs.Requests.{workers as workers_given};
 ghost use Rattle.htl_command.specs.Values.{handle_in, object_in, process_in, sequence_in, tag_in};
 ghost use Rattle.htl_command.specs.Values.{top_in};
-ghost use Rattle.htl_command.specs.declared.commands.CommandOption.TheVariants as option;
+ghost use Rattle.htl_command.specs.declared.names.CommandOption.TheVariants as option;
 
 use crate::code::Code;
-use crate::commands::{CommandFlag, CommandOption, QuestionName};
+use crate::names::{CommandFlag, CommandOption, QuestionName};
 use crate::question::{Format, Job, Question, Setting};
 use crate::values;
 use clap::ArgMatches;

@@ -2,7 +2,7 @@
 use super::{fault_of, text_of, words};
 use crate::rows::assert_row;
 use htl_command::{
-    Asked, Code, Command, Conversion, Dialogue, Format, Job, ParseFault, Question, Setting, parse,
+    Code, Command, Conversion, Dialogue, Format, Job, ParseFault, Question, Run, Setting, parse,
     parse_question,
 };
 use std::alloc::Global;
@@ -422,9 +422,9 @@ fn command(rt: &impl Abort, alloc: Global, line: &str) -> Command {
 }
 
 /// The question that a line asks.
-fn asked(rt: &impl Abort, alloc: Global, line: &str) -> Asked {
+fn run(rt: &impl Abort, alloc: Global, line: &str) -> Run {
     match command(rt, alloc, line) {
-        Command::Answer(asked) => asked,
+        Command::Question(run) => run,
         _ => panic!(rt; "no question: {line}"),
     }
 }
@@ -451,7 +451,7 @@ fn has_files(rt: &impl Abort, line: &str, files: &[String], names: &[&str]) {
 #[test]
 fn lines_ask_questions(rt: HostRuntime) {
     for (line, question) in QUESTIONS {
-        let job = asked(&rt, rt.alloc(), line).job;
+        let job = run(&rt, rt.alloc(), line).job;
         assert_row(&rt, *line, job, plain_job(*question));
     }
 }
@@ -472,9 +472,9 @@ fn plain_job(question: Question) -> Job {
 #[test]
 fn lines_have_options(rt: HostRuntime) {
     for (line, hex, workers, files, symbols) in OPTIONS {
-        let asked = asked(&rt, rt.alloc(), line);
-        has_files(&rt, line, &asked.files, files);
-        let found = (asked.job.hex, asked.job.workers, asked.symbols.as_deref());
+        let run = run(&rt, rt.alloc(), line);
+        has_files(&rt, line, &run.files, files);
+        let found = (run.job.hex, run.job.workers, run.symbols.as_deref());
         assert_row(&rt, *line, found, (*hex, *workers, *symbols));
     }
 }
@@ -482,14 +482,14 @@ fn lines_have_options(rt: HostRuntime) {
 #[test]
 fn lines_limit_rows(rt: HostRuntime) {
     for (line, top) in TOPS {
-        assert_row(&rt, *line, asked(&rt, rt.alloc(), line).job.top, *top);
+        assert_row(&rt, *line, run(&rt, rt.alloc(), line).job.top, *top);
     }
 }
 
 #[test]
 fn lines_check(rt: HostRuntime) {
     for (line, complete, exit_code) in CHECKS {
-        let job = asked(&rt, rt.alloc(), line).job;
+        let job = run(&rt, rt.alloc(), line).job;
         assert_row(
             &rt,
             *line,
@@ -502,7 +502,7 @@ fn lines_check(rt: HostRuntime) {
 #[test]
 fn lines_choose_a_form(rt: HostRuntime) {
     for (line, format) in FORMATS {
-        assert_row(&rt, *line, asked(&rt, rt.alloc(), line).job.format, *format);
+        assert_row(&rt, *line, run(&rt, rt.alloc(), line).job.format, *format);
     }
 }
 
@@ -541,7 +541,7 @@ fn lines_convert_files(rt: HostRuntime) {
 /// The dialogue that a line asks for.
 fn dialogue(rt: &impl Abort, alloc: Global, line: &str) -> Dialogue {
     match command(rt, alloc, line) {
-        Command::Converse(of) => of,
+        Command::Ask(of) => of,
         _ => panic!(rt; "no dialogue: {line}"),
     }
 }
@@ -597,10 +597,10 @@ fn is_no_question(rt: &impl Abort, alloc: Global, row: &str) {
 
 #[test]
 fn no_words_ask_for_the_stored_job(rt: HostRuntime) {
-    let written = asked(&rt, rt.alloc(), "outstanding|--process|4|--hex");
+    let written = run(&rt, rt.alloc(), "outstanding|--process|4|--hex");
     assert!(rt; written.job.workers == 1 && written.files.is_empty());
     let stored = parse(rt.alloc(), Vec::new(rt.alloc())).expect(&rt, "a command");
-    assert_row(&rt, "no words", stored, Command::Answer(written));
+    assert_row(&rt, "no words", stored, Command::Question(written));
 }
 
 #[test]

@@ -8,8 +8,8 @@ use Rattle.clap.specs.Words.{Row}
 use Rattle.htl_command.specs.Requests.{optional, workers}
 use Rattle.htl_command.specs.Steps.{IsFirstBroken, Names, breaks_rule, entries_of, question_options}
 use Rattle.htl_command.specs.Values.{top_in}
-use Rattle.htl_command.specs.declared.commands.CommandOption.{CommandOption}
-use Rattle.htl_command.specs.declared.commands.CommandOption.TheVariants.{Top, Workers}
+use Rattle.htl_command.specs.declared.names.CommandOption.{CommandOption}
+use Rattle.htl_command.specs.declared.names.CommandOption.TheVariants.{Top, Workers}
 use Rattle.htl_command.specs.declared.reading.Refused.{Refused}
 use Rattle.htl_command.proofs.reading.job.Goals as goal
 

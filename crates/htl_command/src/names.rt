@@ -8,7 +8,7 @@ ghost use Rattle.htl_command.specs.Commands.{option_name, own_flags, own_options
 #[derive(Clone, Copy)]
 pub(crate) enum CommandName {
     /// Answers a question over segments.
-    Ask(QuestionName),
+    Question(QuestionName),
     /// Says what a code means.
     Explain,
     /// Prints segments as text.
@@ -16,7 +16,7 @@ pub(crate) enum CommandName {
     /// Makes segments of text.
     Encode,
     /// Answers many questions over the same segments.
-    Converse,
+    Ask,
 }
 
 /// A question, by the name of its command.
@@ -57,15 +57,15 @@ pub(crate) enum CommandFlag {
 
 /// All commands, as help lists them.
 pub(crate) const COMMANDS: [CommandName; 12] = [
-    CommandName::Ask(QuestionName::Summary),
-    CommandName::Ask(QuestionName::Outstanding),
-    CommandName::Ask(QuestionName::Diff),
-    CommandName::Ask(QuestionName::Tags),
-    CommandName::Ask(QuestionName::Bad),
-    CommandName::Ask(QuestionName::Leaks),
-    CommandName::Ask(QuestionName::Stacks),
-    CommandName::Ask(QuestionName::Trace),
-    CommandName::Converse,
+    CommandName::Question(QuestionName::Summary),
+    CommandName::Question(QuestionName::Outstanding),
+    CommandName::Question(QuestionName::Diff),
+    CommandName::Question(QuestionName::Tags),
+    CommandName::Question(QuestionName::Bad),
+    CommandName::Question(QuestionName::Leaks),
+    CommandName::Question(QuestionName::Stacks),
+    CommandName::Question(QuestionName::Trace),
+    CommandName::Ask,
     CommandName::Explain,
     CommandName::Dump,
     CommandName::Encode,
@@ -79,11 +79,11 @@ impl CommandName {
         ensures { result.now ≡ name_of self }
     {
         match self {
-            CommandName::Ask(question) => question.as_str(),
+            CommandName::Question(question) => question.as_str(),
             CommandName::Explain => "explain",
             CommandName::Dump => "dump",
             CommandName::Encode => "encode",
-            CommandName::Converse => "ask",
+            CommandName::Ask => "ask",
         }
     }
 

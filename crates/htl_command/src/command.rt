@@ -4,21 +4,21 @@ ghost use Rattle.std.specs.Prelude.{string_bytes};
 ghost use Rattle.clap.specs.Words.{subcommand_rows_of};
 ghost use Rattle.htl_command.specs.Entries.{entries as entries_in, refusals};
 ghost use Rattle.htl_command.specs.Refusals.{IsUsageWith, RefusesArguments};
-ghost use Rattle.htl_command.specs.Requests.{converses, file_names, given as given_in};
+ghost use Rattle.htl_command.specs.Requests.{asks, file_names, given as given_in};
 ghost use Rattle.htl_command.specs.Requests.{is_given as is_given_in, setting_of};
 ghost use Rattle.htl_command.specs.Requests.{job_of, request, request_met, request_of};
 ghost use Rattle.htl_command.specs.Requests.{requested, stored as stored_work, work};
 ghost use Rattle.htl_command.specs.Requests.{with_files as with_files_in};
 ghost use Rattle.htl_command.specs.Steps.{IsRefused, entries_of};
-ghost use Rattle.htl_command.specs.declared.asked.Command.TheVariants as wish;
-ghost use Rattle.htl_command.specs.declared.commands.CommandFlag.TheVariants as flag;
-ghost use Rattle.htl_command.specs.declared.commands.CommandName.TheVariants as command;
-ghost use Rattle.htl_command.specs.declared.commands.CommandOption.TheVariants as option;
+ghost use Rattle.htl_command.specs.declared.command.Command.TheVariants as wish;
+ghost use Rattle.htl_command.specs.declared.names.CommandFlag.TheVariants as flag;
+ghost use Rattle.htl_command.specs.declared.names.CommandName.TheVariants as command;
+ghost use Rattle.htl_command.specs.declared.names.CommandOption.TheVariants as option;
 
 use crate::builder::program;
 use crate::code::Code;
-use crate::commands::{CommandFlag, CommandName, QuestionName};
 use crate::fault::{ParseFault, no_command, of_clap, of_code, of_entries};
+use crate::names::{CommandFlag, CommandName, QuestionName};
 use crate::question::{Format, Job, Question, Setting};
 use crate::reading::{NoJob, code, files, is_given, job, setting, symbols};
 use clap::ArgMatches;
@@ -28,7 +28,7 @@ use std::alloc::{AllocError, Global};
 #[derive(Debug, PartialEq, Eq, Drop)]
 pub enum Command {
     /// The answer to a question.
-    Answer(Asked),
+    Question(Run),
     /// What a code means, and what to do.
     Explain(Code),
     /// The text of segments.
@@ -36,12 +36,12 @@ pub enum Command {
     /// The segments of a text.
     Encode(Conversion),
     /// The answers to questions that come line by line.
-    Converse(Dialogue),
+    Ask(Dialogue),
 }
 
 /// A question, and what it is asked of.
 #[derive(Debug, PartialEq, Eq, Drop)]
-pub struct Asked {
+pub struct Run {
     pub job: Job,
     /// The names of the inputs, in order. Where there is none, standard input is read.
     pub files: Vec<String>,
@@ -85,16 +85,16 @@ pub fn parse(alloc: Global, arguments: Vec<String>) -> Result<Command, ParseFaul
     ensures none { arguments.items ≡ [] → IsOk result }
 {
     if arguments.is_empty() {
-        Ok(Command::Answer(stored(alloc)))
+        Ok(Command::Question(stored(alloc)))
     } else {
         read_arguments(alloc, &arguments)
     }
 }
 
-fn stored(alloc: Global) -> Asked
+fn stored(alloc: Global) -> Run
     ensures { work result ≡ stored_work }
 {
-    Asked {
+    Run {
         job: Job {
             question: Question::Outstanding { process: 4 },
             hex: true,
@@ -205,9 +205,9 @@ fn read_command(
         (IsUsageWith (request_of name (entries_of entries.now) ≡ None)) }
 {
     match name {
-        CommandName::Ask(question) => {
-            let asked = read_question(alloc, question, entries)?;
-            Ok(Command::Answer(asked))
+        CommandName::Question(question) => {
+            let run = read_question(alloc, question, entries)?;
+            Ok(Command::Question(run))
         }
         CommandName::Explain => match code(entries) {
             Ok(code) => Ok(Command::Explain(code)),
@@ -215,37 +215,33 @@ fn read_command(
         },
         CommandName::Dump => Ok(Command::Dump(read_conversion(alloc, entries)?)),
         CommandName::Encode => Ok(Command::Encode(read_conversion(alloc, entries)?)),
-        CommandName::Converse => {
+        CommandName::Ask => {
             let dialogue = read_dialogue(alloc, entries)?;
-            Ok(Command::Converse(dialogue))
+            Ok(Command::Ask(dialogue))
         }
     }
 }
 
-fn read_question(
-    alloc: Global,
-    name: QuestionName,
-    entries: &ArgMatches,
-) -> Result<Asked, ParseFault>
-    ensures ok { IfOk result (λ asked.
+fn read_question(alloc: Global, name: QuestionName, entries: &ArgMatches) -> Result<Run, ParseFault>
+    ensures ok { IfOk result (λ run.
         option_map (with_files_in (entries_of entries.now)) (job_of name (entries_of entries.now))
-        ≡ Some (work asked)) }
+        ≡ Some (work run)) }
     ensures err { IfErr result (IsUsageWith (job_of name (entries_of entries.now) ≡ None)) }
 {
     match job(name, entries) {
         Ok(job) => Ok(with_files(alloc, job, entries)?),
-        Err(refused) => Err(of_entries(alloc, CommandName::Ask(name), refused)),
+        Err(refused) => Err(of_entries(alloc, CommandName::Question(name), refused)),
     }
 }
 
 fn read_dialogue(alloc: Global, entries: &ArgMatches) -> Result<Dialogue, ParseFault>
-    ensures ok { IfOk result (λ of. request_of command.Converse (entries_of entries.now)
-        ≡ Some (request (wish.Converse of))) }
+    ensures ok { IfOk result (λ of. request_of command.Ask (entries_of entries.now)
+        ≡ Some (request (wish.Ask of))) }
     ensures err { IfErr result (IsUsageWith (setting_of (entries_of entries.now) ≡ None)) }
 {
     match setting(entries) {
         Ok(setting) => Ok(with_inputs(alloc, setting, entries)?),
-        Err(refused) => Err(of_entries(alloc, CommandName::Converse, NoJob::Value(refused))),
+        Err(refused) => Err(of_entries(alloc, CommandName::Ask, NoJob::Value(refused))),
     }
 }
 
@@ -254,8 +250,8 @@ fn with_inputs(
     setting: Setting,
     entries: &ArgMatches,
 ) -> Result<Dialogue, AllocError>
-    ensures { IfOk result (λ of. request (wish.Converse of)
-        ≡ converses setting (file_names (entries_of entries.now))
+    ensures { IfOk result (λ of. request (wish.Ask of)
+        ≡ asks setting (file_names (entries_of entries.now))
         (given_in option.Symbols (entries_of entries.now))) }
 {
     Ok(Dialogue {
@@ -265,11 +261,11 @@ fn with_inputs(
     })
 }
 
-fn with_files(alloc: Global, job: Job, entries: &ArgMatches) -> Result<Asked, AllocError>
-    ensures { IfOk result (λ asked.
-        work asked ≡ with_files_in (entries_of entries.now) job) }
+fn with_files(alloc: Global, job: Job, entries: &ArgMatches) -> Result<Run, AllocError>
+    ensures { IfOk result (λ run.
+        work run ≡ with_files_in (entries_of entries.now) job) }
 {
-    Ok(Asked {
+    Ok(Run {
         job,
         files: files(alloc, entries)?,
         symbols: symbols(alloc, entries)?,

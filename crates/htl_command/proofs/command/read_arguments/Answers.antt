@@ -2,7 +2,7 @@
 use Rattle.std.proofs.Common.{◌∙◌, map, string_bytes}
 use Rattle.std.proofs.lemmas.Result.{IfErr-weaker, IfOk-weaker}
 use Rattle.htl_command.proofs.Arguments.{broken, map-some, refused, taken}
-use Rattle.htl_command.proofs.asked.read_arguments.Goals as goal
+use Rattle.htl_command.proofs.command.read_arguments.Goals as goal
 
 pub returns-in-Ok-clause-ok : goal.returns-in-Ok-clause-ok
 returns-in-Ok-clause-ok c =

@@ -1,14 +1,7 @@
 -- What a session's replies are, as texts that runs of their own print.
-use Rattle.std.proofs.Common.{◌≡◌, ◌⊎◌, ◌∙◌, ℕ, Bool, true, false, List, [], ◌∷◌, ◌++◌, Option, Result, Err, inl, inr, subst, sym, ap}
-use Rattle.htl_symbols.specs.Ranges.{Range}
-use Rattle.htl_segment.specs.Traces.{Trace}
+use Rattle.std.proofs.Common.{◌≡◌, ◌⊎◌, ◌∙◌, ℕ, Bool, true, false, List, [], ◌∷◌, ◌++◌, Option, Result, Err, inl, inr, sym, ap}
 use Rattle.htl_command.specs.declared.question.Job.{Job}
-use Rattle.htl_command.specs.declared.question.Setting.{Setting}
-use Rattle.htl_main.specs.Loading.{AreLoadedOf}
-use Rattle.htl_main.specs.declared.fault.RunFault.TheVariants.{Memory}
 use Rattle.htl_command.specs.declared.question.Question.{Question}
-use Rattle.htl_main.specs.Coverages.{Covers, IsCoverage}
-use Rattle.htl_main.specs.Subjects.{ReportsSubject}
 use Rattle.htl_main.specs.declared.coverage.Coverage.{Coverage}
 use Rattle.htl_dialogue.specs.Dialogues.{AreReplies, Converses, Gets as GetsIn, GotAt, IsReply, StopsAt}
 use Rattle.htl_dialogue.specs.Notes.{AreNotes, IsAbsence, IsAbsenceOf, Note, awaits, begins}
@@ -17,69 +10,13 @@ use Rattle.htl_dialogue.specs.declared.dialogue.DialogueFault.{DialogueFault}
 use Rattle.htl_dialogue.specs.declared.dialogue.DialogueFault.TheVariants.{Questions, Write, NoMemory}
 use Rattle.htl_ask.specs.declared.fault.AskFault.{AskFault}
 use Rattle.htl_ask.specs.declared.fault.AskFault.TheVariants.{Dialogue}
-use Rattle.htl_ask.specs.Sessions.{SessionValue, IsSessionOf, IsSessionText, ReportsSessionSubject, session_value}
-use Rattle.htl_ask.specs.Asking.{BeginsAndGets, IsRunsCause, IsRunsText}
-
--- ---- a session over what was loaded
-
-text_of : (setting : Setting) (inputs : List (List ℕ)) (symbols : Option (List ℕ)) (T : Trace) (table : List Range)
-    → AreLoadedOf inputs symbols setting T table → (job : Job) (text : List ℕ) → IsSessionText (session_value T table) job text
-    → IsRunsText setting inputs symbols job text
-text_of setting inputs symbols T table loaded job text is = (
-  loaded.workers,
-  loaded.segments,
-  loaded.decoded,
-  record {
-    trace = T;
-    taken = (loaded.loaded.case, loaded.loaded.complete);
-    table = table;
-    named = loaded.loaded.named;
-    is = is;
-  },
-)
-
--- its texts are those of runs
-pub runs_text : (setting : Setting) (inputs : List (List ℕ)) (symbols : Option (List ℕ)) (T : Trace) (table : List Range)
-    (session : SessionValue) → AreLoadedOf inputs symbols setting T table → IsSessionOf T table session
-    → (job : Job) (text : List ℕ) → IsSessionText session job text → IsRunsText setting inputs symbols job text
-runs_text setting inputs symbols T table session loaded of job text is =
-    text_of setting inputs symbols T table loaded job text (subst (λ s. IsSessionText s job text) of is)
-
--- so is whether what a question names has an event
-pub runs_subject : (setting : Setting) (inputs : List (List ℕ)) (symbols : Option (List ℕ)) (T : Trace) (table : List Range)
-    (session : SessionValue) → AreLoadedOf inputs symbols setting T table → IsSessionOf T table session
-    → (question : Question) (found : Bool) → ReportsSessionSubject session question found
-    → ReportsSubject setting.hex inputs question found
-runs_subject setting inputs symbols T table session loaded of question found is = (
-  loaded.segments,
-  loaded.decoded,
-  subst (λ s. ReportsSessionSubject s question found) of is loaded.segments loaded.loaded.case,
-)
-
--- and how much of its trace the case has
-pub runs_coverage : (setting : Setting) (inputs : List (List ℕ)) (symbols : Option (List ℕ)) (T : Trace) (table : List Range)
-    (session : SessionValue) (coverage : Coverage) → AreLoadedOf inputs symbols setting T table → IsSessionOf T table session
-    → IsCoverage session.trace coverage → Covers setting.hex inputs coverage
-runs_coverage setting inputs symbols T table session coverage loaded of is = (
-  loaded.segments,
-  loaded.decoded,
-  (T, loaded.loaded.case, subst (λ s. IsCoverage s.trace coverage) of is),
-)
+use Rattle.htl_ask.specs.Asking.{BeginsAndGets}
 
 -- what is told after the coverage
 pub gets_after : {Host : Type 0} (old new : Option (List ℕ)) (told : Host → Note → Host) (audience host after : Host) (coverage : Coverage)
     → host ≡ told audience (begins coverage.gaps coverage.complete_to) → (replies : List ℕ) (notes : List Note)
     → GetsIn old new told host after replies notes → BeginsAndGets old new told audience after coverage replies notes
 gets_after old new told audience host after coverage is replies notes got = (got.0, rw is at got.1)
-
--- where it was loaded, memory may be refused to a run
-pub memory_cause : (setting : Setting) (inputs : List (List ℕ)) (symbols : Option (List ℕ)) (T : Trace) (table : List Range)
-    (lefts : List (Option (List ℕ))) (ends : List Bool) → AreLoadedOf inputs symbols setting T table
-    → IsRunsCause setting inputs lefts ends symbols Memory
-memory_cause setting inputs symbols T table lefts ends loaded = λ job. (
-  loaded.workers,
-  inr (loaded.segments, loaded.decoded, inr (T, (loaded.loaded.case, loaded.loaded.complete))),
-)
 
 -- ---- what is said of a session is said of runs
 

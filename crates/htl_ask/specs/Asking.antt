@@ -9,8 +9,6 @@ use Rattle.htl_main.specs.Printed.{Printed}
 use Rattle.htl_main.specs.Sources.{IsSourcesCause}
 use Rattle.htl_main.specs.Loading.{in_setting}
 use Rattle.htl_main.specs.declared.fault.RunFault.{RunFault}
-use Rattle.htl_main.specs.declared.fault.RunFault.TheVariants.{Memory}
-use Rattle.htl_main.specs.declared.origin.Between.TheVariants.{Nothing}
 use Rattle.htl_main.specs.declared.refused.Refused.{Refused}
 use Rattle.htl_ask.specs.declared.fault.AskFault.{AskFault}
 use Rattle.htl_ask.specs.declared.fault.AskFault.TheVariants.{Run, Dialogue}
@@ -35,7 +33,3 @@ abbrev pub before_dialogue : Result Bool AskFault → Result Bool Refused
 before_dialogue (Ok has_wrong) = Ok has_wrong
 before_dialogue (Err (Run refused)) = Err refused
 before_dialogue (Err (Dialogue fault)) = Ok false
-
--- memory was refused, which is about no segments
-abbrev pub of_memory : AskFault
-of_memory = Run (record { fault = Memory; between = Nothing })

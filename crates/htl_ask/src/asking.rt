@@ -18,31 +18,29 @@ ghost use Rattle.htl_ask.specs.Asking.{BeginsAndGets, IsRunsCause, IsRunsText, b
 use crate::fault::AskFault;
 use crate::session::Session;
 use htl_command::Setting;
-use htl_device::{Sink, Source};
+use htl_device::{Parted, Sink, Source};
 use htl_dialogue::{Host, converse};
 use htl_main::{Coverage, load};
 use std::alloc::Global;
-use std::sync::Wait;
 use std::thread::Threads;
 
 /// Who is told what goes on beside the replies, and when questions can come.
 pub trait Audience: Host {
     ghost use Rattle.htl_dialogue.specs.Notes.{begins};
 
-    /// The inputs were read and folded, and so much of their trace is there.
+    /// The inputs were read, and so much of their trace is there.
     fn begins(&mut self, coverage: Coverage)
         ensures told { self.new ≡ Self.told self.old (begins coverage.gaps coverage.complete_to) }
         ensures same { Self.wants_absence self.new ≡ Self.wants_absence self.old };
 }
 
-/// Reads all sources and folds their case once, and then replies to each line of the questions up to
-/// `quit` or to their end: to a question with what a run of its own prints over the same sources and
-/// symbols, and an empty line. Says whether a line was wrong. The audience is told when questions
-/// can come, over how much of the trace, and then what goes on beside the replies.
+/// Reads all sources once, and then replies to each line of the questions up to `quit` or to their
+/// end: to a question with what a run of its own prints over the same sources and symbols, and an
+/// empty line. Says whether a line was wrong. The audience is told when questions can come, over how
+/// much of the trace, and then what goes on beside the replies.
 ///
-/// The sources are read as by `run_from`, to the same faults, and no question is read before. Where
-/// threads are refused, the case is folded by this thread.
-pub fn ask_from<Rt: Threads + Wait + Sync, R: Source, Q: Source, W: Sink, H: Audience>(
+/// The sources are read as by `run_from`, to the same faults, and no question is read before.
+pub fn ask_from<Rt: Threads + Sync, R: Parted, Q: Source, W: Sink, H: Audience>(
     rt: &Rt,
     alloc: Global,
     setting: Setting,
@@ -98,13 +96,13 @@ pub fn ask_from<Rt: Threads + Wait + Sync, R: Source, Q: Source, W: Sink, H: Aud
         → IfErr (before_dialogue result) (λ refused.
         IsBetween setting.hex texts refused.fault refused.between) }
     // The sources are read as by a run.
-    ensures reading { AreRead setting.hex setting.workers R.has_failed R.has_ended R.good_reads
+    ensures reading { AreRead setting.hex R.has_failed R.has_ended R.good_reads
         R.remaining inputs.old inputs.new (by_fault (before_dialogue result)) }
     ensures no_write { NeverWrite (by_fault (before_dialogue result)) }
 {
     let loaded = load(rt, alloc, setting, inputs, symbols)?;
-    let session = Session::of(rt, alloc, loaded, setting.workers)?;
-    audience.begins(session.coverage());
+    audience.begins(loaded.coverage);
+    let session = Session { loaded };
     let has_wrong = converse(alloc, &session, questions, out, audience)?;
     Ok(has_wrong)
 }

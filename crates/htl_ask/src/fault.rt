@@ -1,8 +1,7 @@
 //! Why there are no more answers.
 
 use htl_dialogue::DialogueFault;
-use htl_event::NoMemory;
-use htl_main::{Refused, RunFault};
+use htl_main::Refused;
 use thiserror::Error;
 
 /// Why asking ends before the lines do. Its text is the line that the program prints on standard
@@ -25,18 +24,6 @@ impl From<Refused> for AskFault {
 
     fn from(refused: Refused) -> AskFault {
         AskFault::Run(refused)
-    }
-}
-
-/// The inputs could not be folded.
-impl From<NoMemory> for AskFault {
-    ghost use Rattle.std.specs.Prelude.{◌≡◌};
-    ghost use Rattle.htl_ask.specs.Asking.{of_memory};
-
-    ghost from_gives = { λ _ fault. fault ≡ of_memory };
-
-    fn from(_refused: NoMemory) -> AskFault {
-        AskFault::Run(Refused::from(RunFault::Memory))
     }
 }
 

@@ -39,13 +39,13 @@ no_input segments symbols job Memory place cause before = before
 no_input segments symbols job fault place cause before = cause
 
 -- so the sources are read as by a run that ends well
-pub reads_then : {R S T : Type 0} (is_text : Bool) (workers : ℕ) (has_failed has_ended : R → Bool) (good_reads : R → ℕ)
+pub reads_then : {R S T : Type 0} (is_text : Bool) (has_failed has_ended : R → Bool) (good_reads : R → ℕ)
     (remaining : R → Option (List ℕ)) (old new : List R) (value : S) (segments : List Content) (symbols : Option (List ℕ)) (job : Job)
-    (fault : RunFault) → AreRead is_text workers has_failed has_ended good_reads remaining old new (well value)
+    (fault : RunFault) → AreRead is_text has_failed has_ended good_reads remaining old new (well value)
     → IsCauseAfter segments symbols job fault
-    → AreRead is_text workers has_failed has_ended good_reads remaining old new (ill {S = T} fault)
-reads_then is_text workers has_failed has_ended good_reads remaining old new value segments symbols job fault read cause =
-    read_then is_text workers has_failed has_ended good_reads remaining old new value (ill fault) read
+    → AreRead is_text has_failed has_ended good_reads remaining old new (ill {S = T} fault)
+reads_then is_text has_failed has_ended good_reads remaining old new value segments symbols job fault read cause =
+    read_then is_text has_failed has_ended good_reads remaining old new value (ill fault) read
     (λ at told. not_read segments symbols job fault at cause (cc told)) (λ place before. no_input segments symbols job fault place cause before)
 
 pub cause_of : (job : Job) (inputs : List (List ℕ)) (symbols : Option (List ℕ)) (segments : List Content) (fault : RunFault)

@@ -11,13 +11,13 @@ use Rattle.htl_command.specs.declared.question.Question.{Question}
 use Rattle.htl_command.specs.declared.question.Job.{Job}
 use Rattle.htl_main.specs.Causes.{IsCauseAfter, Prints, PrintsPart}
 use Rattle.htl_main.specs.Inputs.{DecodeAll}
-use Rattle.htl_main.specs.Picked.{Reports, asks_about, interest_of}
+use Rattle.htl_main.specs.Picked.{NeverCase, Reports, asks_about, interest_of}
 use Rattle.htl_main.specs.Picking.{ArePickedFor, ArePicksOfAll, EndsPrinting, PrintsOf, ReportsOf}
 use Rattle.htl_main.specs.Printed.{WorkersFit}
 use Rattle.htl_main.specs.Sources.{IsSourcesCause}
 use Rattle.htl_main.specs.declared.completed.Completed.{Completed}
 use Rattle.htl_main.specs.declared.fault.RunFault.{RunFault}
-use Rattle.htl_main.specs.declared.fault.RunFault.TheVariants.{Incomplete, Symbols, Memory, Write}
+use Rattle.htl_main.specs.declared.fault.RunFault.TheVariants.{Case, Incomplete, Symbols, Memory, Write}
 use Rattle.htl_main.proofs.AfterDecoding.{sources_cause_of}
 
 -- ---- what was picked
@@ -91,7 +91,7 @@ pub ends_for : (job : Job) (inputs : List (List ℕ)) (lefts : List (Option (Lis
     → IfErr result EndsPrinting → IfErr result (λ fault. fault ≢ Write → IsCauseAfter segments symbols job fault)
     → (result ≡ Err Write → PrintsOf segments symbols job Written)
     → IfErr result (IsSourcesCause job inputs lefts ends symbols)
-ends_for job inputs lefts ends symbols segments W (Ok done) fit decoded after cause write = tt
+ends_for job inputs lefts ends symbols segments W (Ok ended) fit decoded after cause write = tt
 ends_for job inputs lefts ends symbols segments W (Err Write) fit decoded after cause write =
     let of = write refl in (of.lines, (fit, segments, decoded, of.are))
 ends_for job inputs lefts ends symbols segments W (Err (Incomplete processor number)) fit decoded after cause write =
@@ -101,3 +101,8 @@ ends_for job inputs lefts ends symbols segments W (Err (Symbols fault)) fit deco
 ends_for job inputs lefts ends symbols segments W (Err Memory) fit decoded after cause write =
     sources_cause_of job inputs lefts ends symbols segments Memory fit decoded (cause (λ e. cc e))
 ends_for job inputs lefts ends symbols segments W (Err other) fit decoded after cause write = absurd after
+
+pub ends_without_case : {S : Type 0} (result : Result S RunFault) → IfErr result EndsPrinting → NeverCase result
+ends_without_case (Ok ended) after = tt
+ends_without_case (Err (Case fault)) after = absurd after
+ends_without_case (Err other) after = λ broken is. cc is

@@ -16,7 +16,6 @@ use Rattle.htl_segment.specs.Encoding.{BeginsWith}
 use Rattle.htl_segment.specs.Faults.{first_fault}
 use Rattle.htl_segment.specs.Bundles.{bundle, is_early_end, IsRest, SegmentAt, Splits}
 use Rattle.htl_segment.specs.declared.fault.Fault.{Fault}
-use Rattle.htl_segment.specs.declared.fault.Fault.TheVariants as faults
 use Rattle.htl_segment.proofs.BundleLaws.{late_stays, no_fault_stays, splits_one}
 use Rattle.htl_text.specs.Texts.{segment_text}
 use Rattle.htl_main.specs.Inputs.{AsksMemory, HasBytes}

@@ -20,6 +20,7 @@ pub mod PartLaws
 pub mod PairLaws
 pub mod CaseRefused
 pub mod AfterDecoding
+pub mod AfterLoading
 pub mod PickedAnswers
 pub mod PickLaws
 pub mod AfterPicking

@@ -22,7 +22,7 @@ use Rattle.htl_symbols.specs.declared.fault.SymbolFault.{SymbolFault}
 use Rattle.htl_command.specs.declared.question.Job.{Job}
 use Rattle.htl_command.specs.declared.question.Question.{Question}
 use Rattle.htl_main.specs.Inputs.{HasBytes, Decodes, DecodeAll, HasBundleFault, HasHexFault, IsReported, StopsAt}
-use Rattle.htl_main.specs.Answers.{Finds, FindsIn, IsAnswer}
+use Rattle.htl_main.specs.Answers.{Finds, FindsIn, FindsOver}
 use Rattle.htl_main.specs.Completeness.{IsComplete, IsLeastMissing}
 use Rattle.htl_main.specs.Printed.{IsText, IsTaken, HasSymbols, HasSymbolFault, AreAnswerLines, IsPrinted, WorkersFit, Printed}
 use Rattle.htl_main.specs.Summaries.{IsFirstMissing}
@@ -319,5 +319,6 @@ one_finding hex inputs question a b p q =
     let first = subst (λ (ss : List Content). FindsIn ss question a) same p.2 in
     let second = q.2 in
     let trace = one_case q.0 first.0 second.0 first.1 second.1 in
-    let is = subst (λ (T : Trace). IsAnswer T question first.2) trace first.3 in
-    first.4 ∙ same_finding first.2 second.2 (one_answer second.0 question first.2 second.2 is second.3) ∙ sym second.4
+    let over = subst (λ (T : Trace). FindsOver T question a) trace first.2 in
+    let other = second.2 in
+    over.2 ∙ same_finding over.0 other.0 (one_answer second.0 question over.0 other.0 over.1 other.1) ∙ sym other.2

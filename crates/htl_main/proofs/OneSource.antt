@@ -1,4 +1,4 @@
--- One source of bytes, which several workers may read: what is reported of it, as a fault of the run.
+-- One source of bytes: what is reported of it, as a fault of the run.
 use Rattle.std.proofs.Common.{◌≡◌, ◌≢◌, ◌⊎◌, ◌<◌, ◌≤◌, ◌+◌, ℕ, Bool, true, false, List, length, refl, sym, ap, inl, inr}
 use Rattle.std.proofs.Common.{Option, Some, None, IfSome, Result, Ok, Err}
 use Rattle.std.specs.Prelude.{slice_get, OnOk}
@@ -7,13 +7,13 @@ use Rattle.htl_device.specs.declared.whole.ReadFault.TheVariants as reads
 use Rattle.htl_device.specs.declared.whole.TheConstants.{MAX_READS}
 use Rattle.htl_reading.specs.declared.fault.SourceFault.{SourceFault}
 use Rattle.htl_reading.specs.declared.fault.SourceFault.TheVariants as sources
-use Rattle.htl_reading.specs.declared.reading.TheConstants.{BLOCK_LEN}
-use Rattle.htl_reading.specs.Sources.{FailsOnly, IsReadToFault, IsRefusal, IsReported, ReportsFailure, read_ahead}
+use Rattle.htl_device.specs.declared.source.TheConstants.{MAX_READ_LEN}
+use Rattle.htl_reading.specs.Sources.{FailsOnly, IsReadToFault, IsReported}
 use Rattle.htl_main.specs.declared.fault.RunFault.{RunFault}
 use Rattle.htl_main.specs.declared.fault.RunFault.TheVariants.{Read, Write}
 use Rattle.htl_main.specs.Faults.{of_read, of_source}
 use Rattle.htl_main.specs.Reads.{IsRead, NamesOnly, NeverRead}
-use Rattle.htl_main.specs.Sources.{EndsBefore, IsRefusalOf, IsReportedOfSource, IsTrueAt, ReportsFailed, StandsBefore}
+use Rattle.htl_main.specs.Sources.{EndsBefore, IsReportedOfSource}
 
 abbrev ill : {S : Type 0} → RunFault → Result S RunFault
 ill fault = Err fault
@@ -47,31 +47,6 @@ pub reported_bytes_of : (first left : Option (List ℕ)) (ended : Bool) (place :
 reported_bytes_of None left ended place fault found = tt
 reported_bytes_of (Some bytes) left ended place fault found = reported_source left ended place bytes fault found
 
-refused_source : (place : ℕ) (read : List ℕ) (fault : SourceFault) → IsRefusal read fault → IsRefusalOf place read (of_source place fault)
-refused_source place read (sources.Segment offset fault) refusal = (refl, refusal.0, refusal.1)
-refused_source place read sources.Read refusal = absurd refusal
-refused_source place read sources.NoMemory refusal = refusal
-
--- a failed read, or what stands before it
-pub failure_of : {S : Type 0} (workers place : ℕ) (given left : Option (List ℕ)) (fault : SourceFault)
-    → (failed : Bool) → ReportsFailure {S = S} workers failed given left (told fault) → failed ≡ true
-    → (ill {S = S} (of_source place fault) ≡ Err (Read place)) ⊎ StandsBefore false workers place given left (ill {S = S} (of_source place fault))
-failure_of workers place given left fault failed reports is =
-    elim (reports is) [
-      | inl read ↦ let same : fault ≡ sources.Read = cc read in inl (rw same refl)
-      | inr before ↦
-          let same : before.1.fault ≡ fault = let told = before.1.is in cc told in
-          inr record {
-            bytes = refl;
-            several = before.0;
-            fault = of_source place fault;
-            is = refl;
-            read = before.1.read;
-            consumes = before.1.consumes;
-            refusal = refused_source place before.1.read fault (rw same at before.1.refusal);
-          }
-    ]
-
 -- only a failed read is reported as one
 pub read_of : (place at : ℕ) (fault : SourceFault) → of_source place fault ≡ Read at → (fault ≡ sources.Read) × (at ≡ place)
 read_of place at (sources.Segment offset fault) is = absurd cc
@@ -91,30 +66,27 @@ never_write place sources.NoMemory is = cc is
 -- ---- how one source is read
 
 -- the bytes of a source were decoded, and this is how the decoder says that they were read
-pub record IsDecoded {R S : Type 0} (workers : ℕ) (has_failed has_ended : R → Bool) (good_reads : R → ℕ) (remaining : R → Option (List ℕ))
+pub record IsDecoded {R S : Type 0} (has_failed has_ended : R → Bool) (good_reads : R → ℕ) (remaining : R → Option (List ℕ))
     (old new : R) (result : Result S SourceFault) : Type 0 where
   pub ended : OnOk result (has_ended new ≡ true)
-  pub reported : ReportsFailure workers (has_failed new) (remaining old) (remaining new) result
+  pub reported : has_failed new ≡ true → result ≡ Err sources.Read
   pub read : FailsOnly (has_failed new) (good_reads new) (remaining old) MAX_READS result
   pub no_fault : result ≡ Err sources.Read → IsReadToFault 0 (remaining old) (remaining new)
   pub bounded : good_reads new ≤ good_reads old + MAX_READS
-  pub to_fault : IsReadToFault (read_ahead workers BLOCK_LEN) (remaining old) (remaining new)
+  pub to_fault : IsReadToFault MAX_READ_LEN (remaining old) (remaining new)
 
 always : {S E P : Type 0} (result : Result S E) → P → OnOk result P
 always (Ok value) holds = holds
 always (Err fault) holds = tt
 
-module _ {R T : Type 0} (workers : ℕ) (has_failed has_ended : R → Bool) (good_reads : R → ℕ) (remaining : R → Option (List ℕ))
+module _ {R T : Type 0} (has_failed has_ended : R → Bool) (good_reads : R → ℕ) (remaining : R → Option (List ℕ))
     (place : ℕ) (old new : R) where
   -- so it is read as a source of the run, whatever is made of its segments
-  pub decoded_well : {S : Type 0} (made : S) (value : T) → IsDecoded workers has_failed has_ended good_reads remaining old new (made_of made)
-      → IsRead false workers MAX_READS has_failed has_ended good_reads remaining place old new (well value)
+  pub decoded_well : {S : Type 0} (made : S) (value : T) → IsDecoded has_failed has_ended good_reads remaining old new (made_of made)
+      → IsRead false MAX_READS has_failed has_ended good_reads remaining place old new (well value)
   decoded_well made value is = record {
     ended = is.ended;
-    reported = λ failed. absurd (elim (is.reported failed) [
-      | inl read ↦ cc read
-      | inr before ↦ let other = before.1.is in cc other
-    ]);
+    reported = λ failed. absurd (cc (is.reported failed));
     read = λ at given. absurd (cc given);
     no_fault = λ at given. absurd (cc given);
     bounded = is.bounded;
@@ -123,11 +95,11 @@ module _ {R T : Type 0} (workers : ℕ) (has_failed has_ended : R → Bool) (goo
   }
 
   -- or as one with a fault
-  pub decoded_ill : {S : Type 0} (fault : SourceFault) → IsDecoded workers has_failed has_ended good_reads remaining old new (told {S = S} fault)
-      → IsRead false workers MAX_READS has_failed has_ended good_reads remaining place old new (ill {S = T} (of_source place fault))
+  pub decoded_ill : {S : Type 0} (fault : SourceFault) → IsDecoded has_failed has_ended good_reads remaining old new (told {S = S} fault)
+      → IsRead false MAX_READS has_failed has_ended good_reads remaining place old new (ill {S = T} (of_source place fault))
   decoded_ill {S} fault is = record {
     ended = tt;
-    reported = λ failed. again (failure_of workers place (remaining old) (remaining new) fault (has_failed new) is.reported failed);
+    reported = λ failed. (let same : fault ≡ sources.Read = cc (is.reported failed) in rw same refl);
     read = λ at given.
         let read = read_of place at fault (cc given) in
         (read.1, is.read (ap (told {S = S}) read.0));
@@ -136,30 +108,11 @@ module _ {R T : Type 0} (workers : ℕ) (has_failed has_ended : R → Bool) (goo
     named = λ later before. names_place place fault later before;
     to_fault = λ bytes. is.to_fault;
   }
-    where
-      again : (ill {S = S} (of_source place fault) ≡ Err (Read place))
-          ⊎ StandsBefore false workers place (remaining old) (remaining new) (ill {S = S} (of_source place fault))
-          → (ill {S = T} (of_source place fault) ≡ Err (Read place))
-          ⊎ StandsBefore false workers place (remaining old) (remaining new) (ill {S = T} (of_source place fault))
-      again reports = elim reports [
-        | inl read ↦ let same : of_source place fault ≡ Read place = cc read in inl (ap (ill {S = T}) same)
-        | inr before ↦
-            let same : before.fault ≡ of_source place fault = let other = before.is in cc other in
-            inr record {
-              bytes = before.bytes;
-              several = before.several;
-              fault = before.fault;
-              is = ap (ill {S = T}) (sym same);
-              read = before.read;
-              consumes = before.consumes;
-              refusal = before.refusal;
-            }
-      ]
 
   -- a text was gathered whole, and this came of it
   pub gathered : (result : Result T RunFault) → has_ended new ≡ true → has_failed new ≡ false → good_reads new ≤ good_reads old + MAX_READS
       → NeverRead result → NamesOnly place result
-      → IsRead true workers MAX_READS has_failed has_ended good_reads remaining place old new result
+      → IsRead true MAX_READS has_failed has_ended good_reads remaining place old new result
   gathered result ended fine bounded never named = record {
     ended = always result ended;
     reported = λ failed. absurd (cc (fine, failed));
@@ -175,7 +128,7 @@ module _ {R T : Type 0} (workers : ℕ) (has_failed has_ended : R → Bool) (goo
       → (fault ≡ reads.NoMemory) ⊎ ((has_failed new ≡ true)
       ⊎ ((MAX_READS ≤ good_reads new) × IfSome (remaining old) (λ xs. MAX_READS ≤ length xs)))
       → good_reads new ≤ good_reads old + MAX_READS
-      → IsRead true workers MAX_READS has_failed has_ended good_reads remaining place old new (ill {S = T} (of_read place fault))
+      → IsRead true MAX_READS has_failed has_ended good_reads remaining place old new (ill {S = T} (of_read place fault))
   ungathered reads.NoMemory reported failed bounded = record {
     ended = tt;
     reported = λ is. absurd (cc (reported is));
@@ -187,7 +140,7 @@ module _ {R T : Type 0} (workers : ℕ) (has_failed has_ended : R → Bool) (goo
   }
   ungathered reads.Failed reported failed bounded = record {
     ended = tt;
-    reported = λ is. inl refl;
+    reported = λ is. refl;
     read = λ at given.
         let same : at ≡ place = cc given in
         (same, elim failed [ inl memory ↦ absurd (cc memory) | inr read ↦ read ]);
@@ -196,63 +149,3 @@ module _ {R T : Type 0} (workers : ℕ) (has_failed has_ended : R → Bool) (goo
     named = λ later before. before;
     to_fault = λ bytes. absurd (cc bytes);
   }
-
--- ---- one of several sources
-
--- the same among all sources
-pub failed_or_before : {S T : Type 0} (hex : Bool) (workers place : ℕ) (given left : Option (List ℕ)) (known lefts : List (Option (List ℕ)))
-    (fault : RunFault) → slice_get known place ≡ Some given → slice_get lefts place ≡ Some left
-    → (ill {S = S} fault ≡ Err (Read place)) ⊎ StandsBefore hex workers place given left (ill {S = S} fault)
-    → (ill {S = T} fault ≡ Err (Read place)) ⊎ ((given left : Option (List ℕ)) × (slice_get known place ≡ Some given)
-    × (slice_get lefts place ≡ Some left) × StandsBefore hex workers place given left (ill {S = T} fault))
-failed_or_before hex workers place given left known lefts fault here there reports =
-    elim reports [
-      | inl read ↦ let same : fault ≡ Read place = cc read in inl (rw same refl)
-      | inr before ↦
-          let same : fault ≡ before.fault = let told = before.is in cc told in
-          inr (
-            given,
-            left,
-            here,
-            there,
-            record {
-              bytes = before.bytes;
-              several = before.several;
-              fault = fault;
-              is = refl;
-              read = before.read;
-              consumes = before.consumes;
-              refusal = rw same (before.refusal);
-            },
-          )
-    ]
-
--- the same of a result of another type
-pub failed_again : {S T : Type 0} (hex : Bool) (workers place : ℕ) (known lefts : List (Option (List ℕ))) (fault : RunFault)
-    → (ill {S = S} fault ≡ Err (Read place)) ⊎ ((given left : Option (List ℕ)) × (slice_get known place ≡ Some given)
-    × (slice_get lefts place ≡ Some left) × StandsBefore hex workers place given left (ill {S = S} fault))
-    → (ill {S = T} fault ≡ Err (Read place)) ⊎ ((given left : Option (List ℕ)) × (slice_get known place ≡ Some given)
-    × (slice_get lefts place ≡ Some left) × StandsBefore hex workers place given left (ill {S = T} fault))
-failed_again hex workers place known lefts fault reports =
-    elim reports [
-      | inl read ↦ let same : fault ≡ Read place = cc read in inl (rw same refl)
-      | inr found ↦ failed_or_before hex workers place (found.0) (found.1) known lefts fault (found.2) (found.3) (inr (found.4))
-    ]
-
--- where a source was read to its end, no read failed
-pub never_failed : {S : Type 0} (hex : Bool) (workers place : ℕ) (given left : Option (List ℕ)) (value : S)
-    → (well value ≡ Err (Read place)) ⊎ StandsBefore hex workers place given left (well value) → ⊥
-never_failed hex workers place given left value reports =
-    elim reports [
-      | inl read ↦ cc read
-      | inr before ↦ let other = before.is in cc other
-    ]
-
--- where all were
-pub none_failed : {S : Type 0} (hex : Bool) (workers : ℕ) (failed : List Bool) (known lefts : List (Option (List ℕ))) (value : S)
-    → ReportsFailed hex workers failed known lefts (well value) → (place : ℕ) → IsTrueAt failed place → ⊥
-none_failed hex workers failed known lefts value reports place is =
-    elim (reports place is) [
-      | inl read ↦ cc read
-      | inr before ↦ let other = before.4.is in cc other
-    ]

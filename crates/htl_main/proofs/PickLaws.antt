@@ -1,12 +1,17 @@
 -- What is asked about of one source more.
-use Rattle.std.proofs.Common.{◌≡◌, ◌+◌, ℕ, false, List, [], ◌++◌, take, refl, sym, subst, Option, Some, None, IfSome}
+use Rattle.std.proofs.Common.{◌≡◌, ◌≢◌, ◌+◌, ℕ, false, List, [], ◌++◌, take, refl, sym, subst, Option, Some, None, IfSome}
 use Rattle.std.specs.Prelude.{slice_get}
 use Rattle.htl_event.specs.declared.interest.Interest.{Interest}
 use Rattle.htl_segment.specs.Content.{Content}
 use Rattle.htl_segment.specs.Picks.{ArePicksOf}
 use Rattle.htl_segment.specs.declared.picks.Picks.{Picks}
+use Rattle.htl_case.specs.declared.fault.CaseFault.{CaseFault}
 use Rattle.htl_reading.specs.Keepers.{TookAll}
+use Rattle.htl_reading.specs.declared.fault.SourceFault.{SourceFault}
+use Rattle.htl_reading.specs.declared.fault.SourceFault.TheVariants.{Segment, Read, NoMemory}
+use Rattle.htl_main.specs.Faults.{of_source}
 use Rattle.htl_main.specs.Picking.{ArePicksMore, ArePicksOfAll}
+use Rattle.htl_main.specs.declared.fault.RunFault.TheVariants.{Case}
 use Rattle.htl_main.proofs.InputLaws.{decode_next}
 
 abbrev gathers : Picks → Picks → List Content → Type 0
@@ -39,3 +44,9 @@ one_picked interest inputs place input old new here before one = record {
       (record { bytes = input; has = refl; splits = one.splits });
   picks_of = one.picks interest before.segments before.picks_of;
 }
+
+-- a fault of a source is none of a case
+pub never_case : (place : ℕ) (fault : SourceFault) (broken : CaseFault) → of_source place fault ≢ Case broken
+never_case place (Segment offset fault) broken is = cc is
+never_case place Read broken is = cc is
+never_case place NoMemory broken is = cc is

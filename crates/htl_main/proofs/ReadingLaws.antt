@@ -7,8 +7,7 @@ use Rattle.std.proofs.lemmas.Bool.{false_from_ne_true}
 use Rattle.std.proofs.lemmas.List.Elements.{All-set}
 use Rattle.std.proofs.lemmas.Option.{slice_get-map}
 use Rattle.htl_device.specs.declared.whole.TheConstants.{MAX_READS}
-use Rattle.htl_reading.specs.Sources.{read_ahead}
-use Rattle.htl_reading.specs.declared.reading.TheConstants.{BLOCK_LEN}
+use Rattle.htl_device.specs.declared.source.TheConstants.{MAX_READ_LEN}
 use Rattle.htl_main.specs.Reads.{IsRead, NeverRead}
 use Rattle.htl_main.specs.Readings.{AreRead}
 use Rattle.htl_main.specs.Sources.{AreReadToFault, AreReadWithin, EndsBefore, IsTrueAt}
@@ -16,8 +15,7 @@ use Rattle.htl_main.specs.declared.fault.RunFault.{RunFault}
 use Rattle.htl_main.specs.declared.fault.RunFault.TheVariants.{Memory, Read, Workers}
 use Rattle.htl_main.proofs.SourceLaws.{ended_next, endless_at, known_now, none_read, none_read_within, one_read, one_read_within, other_value}
 use Rattle.htl_main.proofs.SourceLaws.{read_no_fault, slice_get-set_other, stopped_at, stopped_before, true_nowhere, true_of_all, true_of_new}
-use Rattle.htl_main.proofs.SourceLaws.{true_there, value_there}
-use Rattle.htl_main.proofs.OneSource.{failed_again, failed_or_before, never_failed, none_failed}
+use Rattle.htl_main.proofs.SourceLaws.{true_there}
 
 abbrev pub well : {S : Type 0} → S → Result S RunFault
 well value = Ok value
@@ -26,33 +24,30 @@ abbrev pub ill : {S : Type 0} → RunFault → Result S RunFault
 ill fault = Err fault
 
 -- The sources before a place were read to their ends, and the others weren't read.
-pub record ReadBefore {R : Type 0} (is_text : Bool) (workers : ℕ) (has_failed has_ended : R → Bool) (good_reads : R → ℕ)
+pub record ReadBefore {R : Type 0} (is_text : Bool) (has_failed has_ended : R → Bool) (good_reads : R → ℕ)
     (remaining : R → Option (List ℕ)) (first now : List R) (place : ℕ) : Type 0 where
   pub left : (k : ℕ) → place ≤ k → slice_get now k ≡ slice_get first k
   pub ended : (k : ℕ) → k < place → IsTrueAt (map has_ended now) k
   pub fine : All (λ source. has_failed source ≡ false) now
   pub bounded : AreReadWithin (map good_reads first) (map good_reads now)
-  pub to_fault : is_text ≡ false → AreReadToFault (read_ahead workers BLOCK_LEN) (map remaining first) (map remaining now)
+  pub to_fault : is_text ≡ false → AreReadToFault MAX_READ_LEN (map remaining first) (map remaining now)
 
-module _ {R : Type 0} (is_text : Bool) (workers : ℕ) (has_failed has_ended : R → Bool) (good_reads : R → ℕ)
+module _ {R : Type 0} (is_text : Bool) (has_failed has_ended : R → Bool) (good_reads : R → ℕ)
     (remaining : R → Option (List ℕ)) (first : List R) where
-  abbrev ahead : ℕ
-  ahead = read_ahead workers BLOCK_LEN
-
   -- before the first read
   pub none_before : All (λ source. has_failed source ≡ false) first
-      → ReadBefore is_text workers has_failed has_ended good_reads remaining first first 0
+      → ReadBefore is_text has_failed has_ended good_reads remaining first first 0
   none_before fine = record {
     left = λ k above. refl;
     ended = λ k below. absurd (omega (arith, below));
     fine = fine;
     bounded = none_read_within (map good_reads first);
-    to_fault = λ bytes. none_read ahead (map remaining first);
+    to_fault = λ bytes. none_read MAX_READ_LEN (map remaining first);
   }
 
   -- a run that ends before its first read reads no source
   pub unread : {S : Type 0} → All (λ source. has_failed source ≡ false) first
-      → AreRead is_text workers has_failed has_ended good_reads remaining first first (ill {S = S} Workers)
+      → AreRead is_text has_failed has_ended good_reads remaining first first (ill {S = S} Workers)
   unread fine = record {
     ended = tt;
     in_order = λ earlier later below. inr refl;
@@ -61,14 +56,14 @@ module _ {R : Type 0} (is_text : Bool) (workers : ℕ) (has_failed has_ended : R
     no_fault = λ place told bytes. absurd (cc told);
     bounded = none_read_within (map good_reads first);
     unread = λ place before. refl;
-    to_fault = λ bytes. none_read ahead (map remaining first);
+    to_fault = λ bytes. none_read MAX_READ_LEN (map remaining first);
   }
 
   module _ (now : List R) where
     -- all were read
-    pub all_read : {S : Type 0} (place : ℕ) (value : S) → ReadBefore is_text workers has_failed has_ended good_reads remaining first now place
+    pub all_read : {S : Type 0} (place : ℕ) (value : S) → ReadBefore is_text has_failed has_ended good_reads remaining first now place
         → length now ≤ place
-        → AreRead is_text workers has_failed has_ended good_reads remaining first now (well {S = S} value)
+        → AreRead is_text has_failed has_ended good_reads remaining first now (well {S = S} value)
     all_read place value before all = record {
       ended = true_of_all has_ended now (λ k within. before.ended k (omega (arith, all, within)));
       in_order = stopped_before has_ended first now place before.ended before.left;
@@ -82,12 +77,12 @@ module _ {R : Type 0} (is_text : Bool) (workers : ℕ) (has_failed has_ended : R
 
     -- a run ends for the fault of its sources, whatever it gives else
     pub ends_too : {S T : Type 0} (fault : RunFault)
-        → AreRead is_text workers has_failed has_ended good_reads remaining first now (ill {S = S} fault)
-        → AreRead is_text workers has_failed has_ended good_reads remaining first now (ill {S = T} fault)
+        → AreRead is_text has_failed has_ended good_reads remaining first now (ill {S = S} fault)
+        → AreRead is_text has_failed has_ended good_reads remaining first now (ill {S = T} fault)
     ends_too fault read = record {
       ended = tt;
       in_order = read.in_order;
-      reported = λ at failed. failed_again is_text workers at (map remaining first) (map remaining now) fault (read.reported at failed);
+      reported = λ at failed. (let same : fault ≡ Read at = cc (read.reported at failed) in rw same refl);
       read = λ at told. (let same : fault ≡ Read at = cc told in read.read at (rw same refl));
       no_fault = λ at told. (let same : fault ≡ Read at = cc told in read.no_fault at (rw same refl));
       bounded = read.bounded;
@@ -97,13 +92,13 @@ module _ {R : Type 0} (is_text : Bool) (workers : ℕ) (has_failed has_ended : R
 
     -- a run that has read all its sources ends well, or for a fault of no input
     pub read_then : {S T : Type 0} (value : S) (result : Result T RunFault)
-        → AreRead is_text workers has_failed has_ended good_reads remaining first now (well {S = S} value) → NeverRead result
+        → AreRead is_text has_failed has_ended good_reads remaining first now (well {S = S} value) → NeverRead result
         → IfErr result (λ fault. (place : ℕ) → EndsBefore fault place → ⊥)
-        → AreRead is_text workers has_failed has_ended good_reads remaining first now result
+        → AreRead is_text has_failed has_ended good_reads remaining first now result
     read_then value (Ok done) read never names = record {
       ended = read.ended;
       in_order = read.in_order;
-      reported = λ at failed. absurd (none_failed is_text workers _ _ _ value read.reported at failed);
+      reported = λ at failed. absurd (cc (read.reported at failed));
       read = λ at told. absurd (never at told);
       no_fault = λ at told. absurd (never at told);
       bounded = read.bounded;
@@ -113,7 +108,7 @@ module _ {R : Type 0} (is_text : Bool) (workers : ℕ) (has_failed has_ended : R
     read_then value (Err fault) read never names = record {
       ended = tt;
       in_order = read.in_order;
-      reported = λ at failed. absurd (none_failed is_text workers _ _ _ value read.reported at failed);
+      reported = λ at failed. absurd (cc (read.reported at failed));
       read = λ at told. absurd (never at told);
       no_fault = λ at told. absurd (never at told);
       bounded = read.bounded;
@@ -122,7 +117,7 @@ module _ {R : Type 0} (is_text : Bool) (workers : ℕ) (has_failed has_ended : R
     }
 
     -- The source x at a place is read next, and is y after that.
-    module _ (place : ℕ) (x y : R) (before : ReadBefore is_text workers has_failed has_ended good_reads remaining first now place)
+    module _ (place : ℕ) (x y : R) (before : ReadBefore is_text has_failed has_ended good_reads remaining first now place)
         (within : place < length now) (here : slice_get now place ≡ Some x) where
       bytes_of : slice_get (map remaining first) place ≡ Some (remaining x)
       bytes_of = known_now remaining first now place x (before.left place (omega arith)) here
@@ -133,31 +128,31 @@ module _ {R : Type 0} (is_text : Bool) (workers : ℕ) (has_failed has_ended : R
 
       -- one source more
       pub one_before : {S : Type 0} (value : S)
-          → IsRead is_text workers MAX_READS has_failed has_ended good_reads remaining place x y (well {S = S} value)
-          → ReadBefore is_text workers has_failed has_ended good_reads remaining first (set now place y) (place + 1)
+          → IsRead is_text MAX_READS has_failed has_ended good_reads remaining place x y (well {S = S} value)
+          → ReadBefore is_text has_failed has_ended good_reads remaining first (set now place y) (place + 1)
       one_before value is =
           let fine : has_failed y ≡ false = false_from_ne_true (has_failed y)
-          (λ failed. never_failed is_text workers place _ _ value (is.reported failed)) in
+          (λ failed. cc (is.reported failed)) in
           record {
             left = λ k above. slice_get-set_other now place k y (λ e. omega (arith, above, e)) ∙ before.left k (omega (arith, above));
             ended = ended_next has_ended now place y within is.ended before.ended;
             fine = All-set (λ source. has_failed source ≡ false) now place y fine before.fine;
             bounded = few is.bounded;
-            to_fault = λ bytes. one_read ahead remaining (map remaining first) now place x y within (before.to_fault bytes) bytes_of
+            to_fault = λ bytes. one_read MAX_READ_LEN remaining (map remaining first) now place x y within (before.to_fault bytes) bytes_of
                 (is.to_fault bytes);
           }
 
       -- a run ends at the source at a place
       pub read_to : {S T : Type 0} (fault : RunFault)
-          → IsRead is_text workers MAX_READS has_failed has_ended good_reads remaining place x y (ill {S = S} fault)
-          → AreRead is_text workers has_failed has_ended good_reads remaining first (set now place y) (ill {S = T} fault)
+          → IsRead is_text MAX_READS has_failed has_ended good_reads remaining place x y (ill {S = S} fault)
+          → AreRead is_text has_failed has_ended good_reads remaining first (set now place y) (ill {S = T} fault)
       read_to fault is = record {
         ended = tt;
         in_order = stopped_at has_ended first now place y before.ended before.left;
         reported = λ at failed.
             let new = true_of_new has_failed now place at y before.fine failed in
-            rw (new.0) (failed_or_before is_text workers place (remaining x) (remaining y) (map remaining first)
-            (map remaining (set now place y)) fault bytes_of (value_there remaining now place y within) (is.reported new.1));
+            let same : fault ≡ Read place = cc (is.reported new.1) in
+            rw (new.0, same) refl;
         read = λ at told.
             let same : fault ≡ Read at = cc told in
             let read = is.read at (rw same refl) in
@@ -173,26 +168,26 @@ module _ {R : Type 0} (is_text : Bool) (workers : ℕ) (has_failed has_ended : R
         unread = λ later ends.
             let above : place < later = is.named later ends in
             slice_get-set_other now place later y (λ e. omega (arith, above, e)) ∙ before.left later (omega (arith, above));
-        to_fault = λ bytes. one_read ahead remaining (map remaining first) now place x y within (before.to_fault bytes) bytes_of
+        to_fault = λ bytes. one_read MAX_READ_LEN remaining (map remaining first) now place x y within (before.to_fault bytes) bytes_of
             (is.to_fault bytes);
       }
 
       -- a source was read, and then memory was refused
       pub refused_after : {S T : Type 0} (value : S)
-          → IsRead is_text workers MAX_READS has_failed has_ended good_reads remaining place x y (well {S = S} value)
-          → AreRead is_text workers has_failed has_ended good_reads remaining first (set now place y) (ill {S = T} Memory)
+          → IsRead is_text MAX_READS has_failed has_ended good_reads remaining place x y (well {S = S} value)
+          → AreRead is_text has_failed has_ended good_reads remaining first (set now place y) (ill {S = T} Memory)
       refused_after value is =
           record {
             ended = tt;
             in_order = stopped_at has_ended first now place y before.ended before.left;
             reported = λ at failed.
                 let new = true_of_new has_failed now place at y before.fine failed in
-                absurd (never_failed is_text workers place _ _ value (is.reported new.1));
+                absurd (cc (is.reported new.1));
             read = λ at told. absurd (cc told);
             no_fault = λ at told. absurd (cc told);
             bounded = few is.bounded;
             unread = λ later ends. absurd ends;
-            to_fault = λ bytes. one_read ahead remaining (map remaining first) now place x y within (before.to_fault bytes) bytes_of
+            to_fault = λ bytes. one_read MAX_READ_LEN remaining (map remaining first) now place x y within (before.to_fault bytes) bytes_of
                 (is.to_fault bytes);
           }
 

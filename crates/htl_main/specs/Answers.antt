@@ -54,10 +54,13 @@ has_finding (Listing process handle rows) = has_rows rows.items
 has_finding (Summary totals gaps processes objects) =
     list_any (λ row. not (row.outstanding == 0) || not (row.bad == 0)) processes.items || has_rows objects.items
 
--- the answer to the question over the case of decoded segments does so, or not
+-- the answer to the question over a trace does so, or not
+abbrev pub FindsOver : Trace → Question → Bool → Type 0
+FindsOver T question found = (answer : Answer) × IsAnswer T question answer × (found ≡ has_finding answer)
+
+-- that over the case of decoded segments
 abbrev pub FindsIn : List Content → Question → Bool → Type 0
-FindsIn segments question found =
-    (T : Trace) × IsCaseOf segments T × (answer : Answer) × IsAnswer T question answer × (found ≡ has_finding answer)
+FindsIn segments question found = (T : Trace) × IsCaseOf segments T × FindsOver T question found
 
 -- that over the case of all segments of the inputs
 abbrev pub Finds : Bool → List (List ℕ) → Question → Bool → Type 0

@@ -1,5 +1,5 @@
--- What is loaded for many questions (this project's own): the case of all segments of the inputs, and the names of its addresses.
-use Rattle.std.specs.Prelude.{◌≡◌, ℕ, true, List, Option}
+-- What is loaded before a question is answered (this project's own): the case of all segments, and the names of its addresses.
+use Rattle.std.specs.Prelude.{◌≡◌, ℕ, Bool, true, List, Option}
 use Rattle.htl_segment.specs.Content.{Content}
 use Rattle.htl_segment.specs.Traces.{Trace}
 use Rattle.htl_case.specs.Cases.{IsCaseOf}
@@ -14,11 +14,11 @@ use Rattle.htl_main.specs.Printed.{HasSymbols, WorkersFit}
 abbrev pub in_setting : Setting → Job → Job
 in_setting setting job = record job { hex = setting.hex; workers = setting.workers; complete = setting.complete }
 
--- This is the case of decoded segments, which has no gap where the setting asks for a complete one, with the symbols of the table.
-pub record AreLoaded (segments : List Content) (symbols : Option (List ℕ)) (setting : Setting) (T : Trace) (table : List Range)
+-- This is the case of decoded segments, which has no gap where a complete one is asked for, with the symbols of the table.
+pub record AreLoaded (segments : List Content) (symbols : Option (List ℕ)) (complete : Bool) (T : Trace) (table : List Range)
     : Type 0 where
   pub case : IsCaseOf segments T
-  pub complete : setting.complete ≡ true → IsComplete T
+  pub whole : complete ≡ true → IsComplete T
   pub named : HasSymbols symbols table
 
 -- those of all segments of the inputs
@@ -27,4 +27,4 @@ pub record AreLoadedOf (inputs : List (List ℕ)) (symbols : Option (List ℕ)) 
   pub workers : WorkersFit setting.workers
   pub segments : List Content
   pub decoded : DecodeAll setting.hex inputs segments
-  pub loaded : AreLoaded segments symbols setting T table
+  pub loaded : AreLoaded segments symbols setting.complete T table

@@ -1,9 +1,10 @@
 -- A run that keeps of its inputs only what its question asks about (this project's own).
-use Rattle.std.specs.Prelude.{ℕ, Bool, true, false, List, Option, Some, None}
+use Rattle.std.specs.Prelude.{◌≢◌, ℕ, Bool, true, false, List, Option, Some, None, Result, IfErr}
 use Rattle.htl_event.specs.declared.interest.Interest.{Interest}
 use Rattle.htl_event.specs.declared.interest.Interest.TheVariants.{Process, Object}
 use Rattle.htl_segment.specs.Content.{Content}
 use Rattle.htl_case.specs.Picked.{NeedsWhole}
+use Rattle.htl_case.specs.declared.fault.CaseFault.{CaseFault}
 use Rattle.htl_command.specs.declared.question.Question.{Question}
 use Rattle.htl_command.specs.declared.question.Question.TheVariants as questions
 use Rattle.htl_main.specs.Answers.{Finds}
@@ -11,6 +12,8 @@ use Rattle.htl_main.specs.Coverages.{Covers}
 use Rattle.htl_main.specs.Inputs.{DecodeAll}
 use Rattle.htl_main.specs.Subjects.{ReportsSubject}
 use Rattle.htl_main.specs.declared.completed.Completed.{Completed}
+use Rattle.htl_main.specs.declared.fault.RunFault.{RunFault}
+use Rattle.htl_main.specs.declared.fault.RunFault.TheVariants.{Case}
 
 -- the process or the object that a question is about
 abbrev pub interest_of : Question → Option Interest
@@ -37,3 +40,7 @@ pub record Reports (hex : Bool) (inputs : List (List ℕ)) (question : Question)
 -- Whole segments tell what comes of the inputs: a key comes twice in them, or they are no case.
 abbrev pub AskForWhole : Bool → List (List ℕ) → Type 0
 AskForWhole hex inputs = (segments : List Content) × DecodeAll hex inputs segments × NeedsWhole segments
+
+-- no rule of a case is reported as broken
+abbrev pub NeverCase : {S : Type 0} → Result S RunFault → Type 0
+NeverCase result = IfErr result (λ fault. (broken : CaseFault) → fault ≢ Case broken)

@@ -1,23 +1,22 @@
 -- How a run reads its sources (this project's own): one after another, each to its end, and no further than a fault.
 use Rattle.std.specs.Prelude.{◌≡◌, ◌⊎◌, ℕ, Bool, true, false, List, All, map, slice_get, Option, Result, Err, IfErr, OnOk}
-use Rattle.htl_reading.specs.Sources.{read_ahead}
-use Rattle.htl_reading.specs.declared.reading.TheConstants.{BLOCK_LEN}
+use Rattle.htl_device.specs.declared.source.TheConstants.{MAX_READ_LEN}
 use Rattle.htl_main.specs.Sources.{AreReadInOrder, AreReadToFault, AreReadWithin, EndsBefore, IsEndless, IsTrueAt, ReadsNoFault}
 use Rattle.htl_main.specs.Sources.{ReportsFailed}
 use Rattle.htl_main.specs.declared.fault.RunFault.{RunFault}
 use Rattle.htl_main.specs.declared.fault.RunFault.TheVariants.{Read}
 
--- Sources before and after a run by so many workers that ends with this result. Each source gives a text, which is gathered whole before
+-- Sources before and after a run that ends with this result. Each source gives a text, which is gathered whole before
 -- it is looked at, or bytes, which are decoded as they come. Which sources have failed or ended, how many reads of each gave bytes, and
 -- which bytes each has left, is said by the functions.
-pub record AreRead {R S : Type 0} (is_text : Bool) (workers : ℕ) (has_failed has_ended : R → Bool) (good_reads : R → ℕ)
+pub record AreRead {R S : Type 0} (is_text : Bool) (has_failed has_ended : R → Bool) (good_reads : R → ℕ)
     (remaining : R → Option (List ℕ)) (old new : List R) (result : Result S RunFault) : Type 0 where
   -- A run that ends well has read each source to its end.
   pub ended : OnOk result (All (λ source. has_ended source ≡ true) new)
   -- A source is read only after those before it have ended.
   pub in_order : AreReadInOrder has_ended old new
-  -- A read that failed is reported. Several workers may find a fault of the bytes before it first, and report that.
-  pub reported : ReportsFailed is_text workers (map has_failed new) (map remaining old) (map remaining new) result
+  -- A read that failed is reported.
+  pub reported : ReportsFailed (map has_failed new) result
   -- A failed read is reported only where a read failed, or after too many reads.
   pub read :
       (place : ℕ) → result ≡ Err (Read place)
@@ -28,5 +27,5 @@ pub record AreRead {R S : Type 0} (is_text : Bool) (workers : ℕ) (has_failed h
   pub bounded : AreReadWithin (map good_reads old) (map good_reads new)
   -- A source after the one that has the fault isn't read.
   pub unread : IfErr result (λ fault. (place : ℕ) → EndsBefore fault place → slice_get new place ≡ slice_get old place)
-  -- Of bytes that have a fault no more is read after it than what is read ahead: one read by one worker, two blocks by several.
-  pub to_fault : is_text ≡ false → AreReadToFault (read_ahead workers BLOCK_LEN) (map remaining old) (map remaining new)
+  -- Of bytes that have a fault no more than one read has bytes after it.
+  pub to_fault : is_text ≡ false → AreReadToFault MAX_READ_LEN (map remaining old) (map remaining new)

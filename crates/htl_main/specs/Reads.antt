@@ -1,8 +1,8 @@
 -- For the clauses of private functions: how the reading of the source at a place may end.
 use Rattle.std.specs.Prelude.{◌≡◌, ◌≢◌, ◌<◌, ◌≤◌, ◌+◌, ◌⊎◌, ℕ, Bool, true, false, List, length, Option, IfSome, IfErr, OnOk, Result, Err}
-use Rattle.htl_reading.specs.Sources.{IsReadToFault, read_ahead}
-use Rattle.htl_reading.specs.declared.reading.TheConstants.{BLOCK_LEN}
-use Rattle.htl_main.specs.Sources.{EndsBefore, StandsBefore}
+use Rattle.htl_device.specs.declared.source.TheConstants.{MAX_READ_LEN}
+use Rattle.htl_reading.specs.Sources.{IsReadToFault}
+use Rattle.htl_main.specs.Sources.{EndsBefore}
 use Rattle.htl_main.specs.declared.fault.RunFault.{RunFault}
 use Rattle.htl_main.specs.declared.fault.RunFault.TheVariants.{Read, Write}
 
@@ -26,14 +26,13 @@ NeverWrite result = IfErr result (λ fault. fault ≢ Write)
 
 -- How one source is read, as `AreRead` says it of all: the one at a place, of which at most so many reads give bytes. It has the state
 -- `new` after that.
-pub record IsRead {R S : Type 0} (is_text : Bool) (workers most : ℕ) (has_failed has_ended : R → Bool) (good_reads : R → ℕ)
+pub record IsRead {R S : Type 0} (is_text : Bool) (most : ℕ) (has_failed has_ended : R → Bool) (good_reads : R → ℕ)
     (remaining : R → Option (List ℕ)) (place : ℕ) (old new : R) (result : Result S RunFault) : Type 0 where
   pub ended : OnOk result (has_ended new ≡ true)
-  -- A read that failed is reported, or what stands before it.
-  pub reported : has_failed new ≡ true
-      → (result ≡ Err (Read place)) ⊎ StandsBefore is_text workers place (remaining old) (remaining new) result
+  -- A read that failed is reported.
+  pub reported : has_failed new ≡ true → result ≡ Err (Read place)
   pub read : FailsOnly place (has_failed new) (good_reads new) (remaining old) most result
   pub no_fault : (at : ℕ) → result ≡ Err (Read at) → is_text ≡ false → IsReadToFault 0 (remaining old) (remaining new)
   pub bounded : good_reads new ≤ good_reads old + most
   pub named : NamesOnly place result
-  pub to_fault : is_text ≡ false → IsReadToFault (read_ahead workers BLOCK_LEN) (remaining old) (remaining new)
+  pub to_fault : is_text ≡ false → IsReadToFault MAX_READ_LEN (remaining old) (remaining new)

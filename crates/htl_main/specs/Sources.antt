@@ -5,7 +5,7 @@ use Rattle.std.specs.Io.KnownBytes.{Consumes}
 use Rattle.htl_device.specs.declared.whole.TheConstants.{MAX_READS}
 use Rattle.htl_command.specs.declared.question.Job.{Job}
 use Rattle.htl_segment.specs.Content.{Content}
-use Rattle.htl_segment.specs.Bundles.{BundleFault, RestAt, SegmentAt, is_early_end}
+use Rattle.htl_segment.specs.Bundles.{RestAt}
 use Rattle.htl_reading.specs.Sources.{IsReadToFault}
 use Rattle.htl_main.specs.Inputs.{AsksMemory, DecodeAll, IsReported, StopsAt}
 use Rattle.htl_main.specs.Printed.{WorkersFit}
@@ -79,30 +79,9 @@ AreReadToFault most known lefts =
     (place : ℕ) (given left : Option (List ℕ)) → slice_get known place ≡ Some given → slice_get lefts place ≡ Some left
     → IsReadToFault most given left
 
--- why the bytes that were read of the source at a place are refused, whichever may follow them
-abbrev pub IsRefusalOf : ℕ → List ℕ → RunFault → Type 0
-IsRefusalOf place read (Segment at offset fault) = (at ≡ place) × BundleFault read offset fault × (is_early_end fault ≡ false)
-IsRefusalOf place read Memory = (offset : ℕ) × SegmentAt read offset
-IsRefusalOf place read fault = ⊥
-
--- Several workers decode reads together, so a read of the source at the place may fail after bytes that have a fault: that is reported.
-pub record StandsBefore {S : Type 0} (hex : Bool) (workers place : ℕ) (given left : Option (List ℕ)) (result : Result S RunFault)
-    : Type 0 where
-  pub bytes : hex ≡ false
-  pub several : 1 < workers
-  pub fault : RunFault
-  pub is : result ≡ Err fault
-  pub read : List ℕ
-  pub consumes : Consumes given left read
-  pub refusal : IsRefusalOf place read fault
-
--- a read that failed is reported, or what stands before it
-abbrev pub ReportsFailed : {S : Type 0} → Bool → ℕ → List Bool → List (Option (List ℕ)) → List (Option (List ℕ)) → Result S RunFault
-    → Type 0
-ReportsFailed hex workers failed known lefts result =
-    (place : ℕ) → IsTrueAt failed place
-    → (result ≡ Err (Read place)) ⊎ ((given left : Option (List ℕ)) × (slice_get known place ≡ Some given)
-    × (slice_get lefts place ≡ Some left) × StandsBefore hex workers place given left result)
+-- a read that failed is reported
+abbrev pub ReportsFailed : {S : Type 0} → List Bool → Result S RunFault → Type 0
+ReportsFailed failed result = (place : ℕ) → IsTrueAt failed place → result ≡ Err (Read place)
 
 -- what was read of the source of bytes at a place has no fault
 abbrev pub ReadsNoFault : List (Option (List ℕ)) → List (Option (List ℕ)) → ℕ → Type 0

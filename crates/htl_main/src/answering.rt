@@ -7,10 +7,8 @@ ghost use Rattle.htl_event.specs.Handles.{HaveOwnSequences, IsMark};
 ghost use Rattle.htl_segment.specs.Traces.{all_events};
 ghost use Rattle.htl_answers.specs.Parts.{AreEventsOf, size_of_all};
 ghost use Rattle.htl_main.specs.Answers.{IsAnswer, IsAnswerOver};
-ghost use Rattle.htl_main.specs.CaseOutlines.{IsMissed};
 ghost use Rattle.htl_main.specs.Questions.{IsOfParts};
 
-use crate::coverage::Missed;
 use crate::summarizing::summary;
 use crate::unfolded::Unfolded;
 use htl_answers::{Part, bad, diff, leaks, mark, outstanding, stacks, tags};
@@ -20,15 +18,8 @@ use htl_event::NoMemory;
 use htl_report::Answer;
 use std::alloc::Global;
 
-/// The answer to a question over a case that misses this: from the segments as they lie there,
-/// without folding any.
-pub(crate) fn answer(
-    alloc: Global,
-    question: Question,
-    case: &Case,
-    missed: Missed,
-) -> Result<Answer, NoMemory>
-    requires { IsMissed case.now missed }
+/// The answer to a question over a case: from the segments as they lie there, without folding any.
+pub(crate) fn answer(alloc: Global, question: Question, case: &Case) -> Result<Answer, NoMemory>
     ensures { IfOk result (IsAnswer case.now question) }
 {
     match question {
@@ -37,14 +28,8 @@ pub(crate) fn answer(
             handle,
             rows: case.trace(alloc, process, handle)?,
         }),
-        Question::Summary => {
-            let answer = summary(alloc, case, missed)?;
-            Ok(answer)
-        }
-        question => {
-            let answer = answer_over(alloc, case, question)?;
-            Ok(answer)
-        }
+        Question::Summary => summary(alloc, case),
+        question => answer_over(alloc, case, question),
     }
 }
 
@@ -54,8 +39,7 @@ fn answer_over(alloc: Global, case: &Case, question: Question) -> Result<Answer,
     ensures { IfOk result (IsAnswerOver (all_events case.now.segments) question) }
 {
     let part = Unfolded::new(alloc, case.segments());
-    let answer = answer_of(alloc, &[part], question)?;
-    Ok(answer)
+    answer_of(alloc, &[part], question)
 }
 
 /// The answer of parts to a question about events.

@@ -8,6 +8,7 @@ ghost use Rattle.htl_main.specs.Answers.{has_finding};
 ghost use Rattle.htl_main.specs.Subjects.{has_subject, is_about, names_handle, names_object};
 
 use crate::coverage::Coverage;
+use crate::loading::Loaded;
 use htl_case::Case;
 use htl_command::Question;
 use htl_event::{Count, Kind, ProcessRow, SharedEvent, base};
@@ -27,6 +28,27 @@ pub struct Completed {
     /// Whether the answer finds something: it has a row; of tags one that doesn't balance, and of a
     /// summary a process with outstanding handles or bad references, or an object.
     pub has_finding: bool,
+}
+
+impl Completed {
+    ghost use Rattle.std.specs.Prelude.{◌≡◌, List};
+    ghost use Rattle.htl_segment.specs.Content.{Content};
+    ghost use Rattle.htl_case.specs.Cases.{IsCaseOf};
+    ghost use Rattle.htl_main.specs.Subjects.{has_subject};
+
+    /// What is reported of what was loaded, where the answer to the question finds something or not.
+    pub(crate) fn of(question: Question, loaded: &Loaded, has_finding: bool) -> Completed
+        ensures coverage { result.coverage ≡ loaded.now.coverage }
+        ensures subject { (segments : List Content) → IsCaseOf segments loaded.now.case
+            → result.has_subject ≡ has_subject question segments }
+        ensures finding { result.has_finding ≡ has_finding }
+    {
+        Completed {
+            coverage: loaded.coverage,
+            has_subject: has_subject(question, &loaded.case),
+            has_finding,
+        }
+    }
 }
 
 /// Whether the answer finds something.

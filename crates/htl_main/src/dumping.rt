@@ -47,7 +47,7 @@ pub fn dump_from<R: Source, W: Sink>(
         → IfErr result (λ fault. DumpStops hex texts (map R.remaining inputs.new)
         (map R.has_ended inputs.new) (W.contents out.old) (W.contents out.new) fault) }
     ensures failed { W.has_failed out.new ≡ is_failed_write result }
-    ensures reading { AreRead hex 1 R.has_failed R.has_ended R.good_reads R.remaining
+    ensures reading { AreRead hex R.has_failed R.has_ended R.good_reads R.remaining
         inputs.old inputs.new result }
 {
     for (place, source) in inputs.iter_mut().enumerate() {
@@ -56,7 +56,8 @@ pub fn dump_from<R: Source, W: Sink>(
     Ok(())
 }
 
-/// Dumps the source at a place.
+/// Dumps the source at a place. A text in hexadecimal is gathered whole first; of bytes each read is
+/// dumped at once.
 fn dump_input<R: Source, W: Sink>(
     alloc: Global,
     hex: bool,
@@ -73,39 +74,17 @@ fn dump_input<R: Source, W: Sink>(
         InputStops hex (R.remaining source.new) (R.has_ended source.new) place bytes
         (W.contents out.old) (W.contents out.new) fault)) }
     ensures failed { W.has_failed out.new ≡ is_failed_write result }
-    ensures reading { IsRead hex 1 MAX_READS R.has_failed R.has_ended R.good_reads R.remaining
+    ensures reading { IsRead hex MAX_READS R.has_failed R.has_ended R.good_reads R.remaining
         place source.old source.new result }
 {
     if hex {
-        dump_digits(alloc, place, source, out)
-    } else {
-        dump_bundle(alloc, place, source, out)
+        return match read_whole(alloc, source) {
+            Ok(text) => dump_text(alloc, place, &text, out),
+            Err(fault) => Err(RunFault::of_read(place, fault)),
+        };
     }
-}
-
-/// Dumps the source at a place, which writes its segments in hexadecimal.
-fn dump_digits<R: Source, W: Sink>(
-    alloc: Global,
-    place: u64,
-    source: &mut R,
-    out: &mut W,
-) -> Result<(), RunFault>
-    requires fresh { R.has_failed source.old ≡ false }
-    requires inside { R.has_ended source.old ≡ false }
-    requires out { W.has_failed out.old ≡ false }
-    ensures ok { OnOk result (IfSome (R.remaining source.old)
-        (λ text. DumpsInput true text (W.contents out.old) (W.contents out.new))) }
-    ensures stops { IfErr result (λ fault. IfSome (R.remaining source.old) (λ text.
-        InputStops true (R.remaining source.new) (R.has_ended source.new) place text
-        (W.contents out.old) (W.contents out.new) fault)) }
-    ensures failed { W.has_failed out.new ≡ is_failed_write result }
-    ensures reading { IsRead true 1 MAX_READS R.has_failed R.has_ended R.good_reads R.remaining
-        place source.old source.new result }
-{
-    match read_whole(alloc, source) {
-        Ok(text) => dump_text(alloc, place, &text, out),
-        Err(fault) => Err(RunFault::of_read(place, fault)),
-    }
+    let mut buffer = [0u8; MIN_READ_LEN];
+    dump_within(alloc, place, source, &mut buffer, MAX_READS, out)
 }
 
 /// Dumps the text in hexadecimal of the input at a place.
@@ -136,29 +115,6 @@ fn dump_whole<W: Sink>(alloc: Global, place: u64, bytes: &[u8], out: &mut W) -> 
 {
     let rest = dump_front(alloc, place, 0, bytes, out)?;
     finish(place, (bytes.len() - rest.len()) as u64, rest)
-}
-
-/// Dumps the source at a place, which gives the bytes of its segments. Each read is dumped at once.
-fn dump_bundle<R: Source, W: Sink>(
-    alloc: Global,
-    place: u64,
-    source: &mut R,
-    out: &mut W,
-) -> Result<(), RunFault>
-    requires fresh { R.has_failed source.old ≡ false }
-    requires inside { R.has_ended source.old ≡ false }
-    requires out { W.has_failed out.old ≡ false }
-    ensures ok { OnOk result (IfSome (R.remaining source.old)
-        (λ bytes. DumpsInput false bytes (W.contents out.old) (W.contents out.new))) }
-    ensures stops { IfErr result (λ fault. IfSome (R.remaining source.old) (λ bytes.
-        InputStops false (R.remaining source.new) (R.has_ended source.new) place bytes
-        (W.contents out.old) (W.contents out.new) fault)) }
-    ensures failed { W.has_failed out.new ≡ is_failed_write result }
-    ensures reading { IsRead false 1 MAX_READS R.has_failed R.has_ended R.good_reads R.remaining
-        place source.old source.new result }
-{
-    let mut buffer = [0u8; MIN_READ_LEN];
-    dump_within(alloc, place, source, &mut buffer, MAX_READS, out)
 }
 
 /// Dumps the source at a place in reads of the buffer's length, of which at most `most` give bytes.

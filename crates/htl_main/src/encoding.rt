@@ -45,7 +45,7 @@ pub fn encode_from<R: Source, W: Sink>(
         → result ≡ Err RunFault.Write
         → EncodesPart hex texts (W.contents out.old) (W.contents out.new) }
     ensures failed { W.has_failed out.new ≡ is_failed_write result }
-    ensures reading { AreRead true 1 R.has_failed R.has_ended R.good_reads R.remaining
+    ensures reading { AreRead true R.has_failed R.has_ended R.good_reads R.remaining
         inputs.old inputs.new result }
     ensures untouched { IfErr result (λ fault. fault ≢ RunFault.Write → out.new ≡ out.old) }
 {
@@ -63,7 +63,7 @@ fn encode_all<R: Source>(alloc: Global, sources: &mut [R]) -> Result<Vec<u8>, Ru
     ensures stops { (texts : List (List ℕ)) → map R.remaining sources.old ≡ map Some texts
         → IfErr result (λ fault. EncodingStops texts (map R.remaining sources.new)
         (map R.has_ended sources.new) fault) }
-    ensures reading { AreRead true 1 R.has_failed R.has_ended R.good_reads R.remaining
+    ensures reading { AreRead true R.has_failed R.has_ended R.good_reads R.remaining
         sources.old sources.new result }
     ensures no_write { NeverWrite result }
 {
@@ -83,7 +83,7 @@ fn encode_input<R: Source>(alloc: Global, place: u64, source: &mut R) -> Result<
         (segments : List Content) × Encodes text segments × (bytes.items ≡ bundle segments))) }
     ensures stops { IfErr result (λ fault. IfSome (R.remaining source.old) (λ text.
         IsReportedOfText (R.remaining source.new) (R.has_ended source.new) place text fault)) }
-    ensures reading { IsRead true 1 MAX_READS R.has_failed R.has_ended R.good_reads R.remaining
+    ensures reading { IsRead true MAX_READS R.has_failed R.has_ended R.good_reads R.remaining
         place source.old source.new result }
     ensures no_write { NeverWrite result }
 {

@@ -4,6 +4,7 @@ ghost use Rattle.std.specs.Prelude.{◌≡◌, false, true, IfOk, IfErr, map};
 ghost use Rattle.htl_segment.specs.Bundles.{Splits, BundleFault};
 ghost use Rattle.htl_main.specs.Inputs.{Decodes, DecodeAll, IsReported, StopsAt};
 ghost use Rattle.htl_main.specs.Parts.{AreParts};
+ghost use Rattle.htl_main.specs.Reads.{NamesOnly, NeverRead};
 
 use crate::decoded::Decoded;
 use crate::fault::RunFault;
@@ -35,6 +36,8 @@ pub(crate) fn decode_input(
 ) -> Result<Vec<Segment>, RunFault>
     ensures ok { IfOk result (λ segments. Decodes hex input.now segments.items) }
     ensures err { IfErr result (IsReported hex place input.now) }
+    ensures no_read { NeverRead result }
+    ensures named { NamesOnly place result }
 {
     if !hex {
         return decode_bytes(alloc, place, input);

@@ -4,10 +4,13 @@
 //! keeps only what the question asks about. It calls `run_from`, which keeps whole segments, for all
 //! other questions, and where only whole segments tell what comes of the sources. `run` does the same
 //! over bytes in memory. `dump_from` writes the segments of sources as text, and `encode_from` writes
-//! the segments of texts as bytes. Where many questions come, `load` reads the sources once;
-//! `summary_of`, `lines` and `has_subject` are the steps of a run that each question needs.
+//! the segments of texts as bytes.
 //!
-//! Files, in reading order: `streaming.rt` and `printing.rt` (the steps of the two runs),
+//! `run_from` loads its sources, answers and writes. Where many questions come, a caller does the
+//! same: `load` reads the sources once, and `answer_text` answers each question.
+//!
+//! Files, in reading order: `streaming.rt` (the run over sources), `loading.rt` (what is loaded before
+//! a question is answered), `printing.rt` (the run over bytes in memory, and the steps of all runs),
 //! `sources.rt` and `inputs.rt` (the segments of sources and of inputs in memory), `decoded.rt`
 //! (which input each segment is of), `casing.rt` and `pairing.rt` (the case of all segments, or the
 //! two that a fault is about), `origin.rt` (where these two came from), `coverage.rt` (what a case
@@ -15,9 +18,9 @@
 //! are, over which a run answers), `summarizing.rt` (the summary of a case), `completed.rt` (what a
 //! run reports beside its answer), `picked_run.rt`, `picking.rt` and `picked.rt` (the run that keeps
 //! only what its question asks about), `dumping.rt` and `encoding.rt` (the runs of `dump` and
-//! `encode`), `loading.rt` (what is loaded for many questions), `fault.rt` (the faults, their lines
-//! and statuses), `refused.rt` (a fault and the two segments it is about), `laws.rt` (a run has one
-//! outcome, inputs have one coverage, and runs and analysts give the same answers).
+//! `encode`), `fault.rt` (the faults, their lines and statuses), `refused.rt` (a fault and the two
+//! segments it is about), `laws.rt` (a run has one outcome, inputs have one coverage, and runs and
+//! analysts give the same answers).
 //!
 //! `specs/` is read in this order: `Inputs` (which segments the inputs encode, and which input is
 //! refused first), `Summaries` (what a summary says of a trace), `Coverages` (how much of its trace
@@ -25,9 +28,9 @@
 //! answer and its lines, or the first fault in the order of a run), `Origins` (which two segments a
 //! fault is about), `Causes` and `Sources` (how a run ends for out of memory or by a failing device),
 //! `Readings` (how any run reads its sources, in one record), `Dumps` and `Encodings` (what the runs
-//! of `dump` and `encode` write, and why they end), `Loading` (what is loaded for many questions),
-//! `Picked` (what a run that keeps only what its question asks about reports, and when only whole
-//! segments tell).
+//! of `dump` and `encode` write, and why they end), `Loading` (what is loaded before a question is
+//! answered), `Picked` (what a run that keeps only what its question asks about reports, and when
+//! only whole segments tell).
 #![tactic(auto)]
 
 mod answering;
@@ -64,7 +67,6 @@ pub use htl_event::Interest;
 pub use loading::{Loaded, load};
 pub use origin::{Between, Origin};
 pub use picked_run::{interest, pick_from};
-pub use printing::{lines, run};
+pub use printing::{AnswerText, answer_text, run};
 pub use refused::Refused;
 pub use streaming::run_from;
-pub use summarizing::summary_of;

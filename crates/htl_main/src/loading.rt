@@ -1,4 +1,4 @@
-//! What is loaded once, so that many questions can be asked of it.
+//! What is loaded before a question is answered, or many.
 
 ghost use Rattle.std.specs.Prelude.{◌≡◌, ℕ, List, All, Some, false, map, IfErr, IfOk};
 ghost use Rattle.std.specs.Option.{option_copied};
@@ -21,7 +21,7 @@ use crate::refused::Refused;
 use crate::sources::read_all;
 use htl_case::Case;
 use htl_command::Setting;
-use htl_device::Source;
+use htl_device::Parted;
 use htl_symbols::Symbols;
 use std::alloc::Global;
 use std::thread::Threads;
@@ -34,9 +34,9 @@ pub struct Loaded {
     pub symbols: Symbols,
 }
 
-/// Reads all sources as `run_from` does and makes their segments a case. It reports what `run_from`
-/// reports before it answers.
-pub fn load<Rt: Threads + Sync, R: Source>(
+/// Reads all sources and makes their segments a case. It is all that a run does before it answers, and
+/// reports what the run reports then.
+pub fn load<Rt: Threads + Sync, R: Parted>(
     rt: &Rt,
     alloc: Global,
     setting: Setting,
@@ -59,35 +59,35 @@ pub fn load<Rt: Threads + Sync, R: Source>(
     ensures between { (texts : List (List ℕ)) → map R.remaining inputs.old ≡ map Some texts
         → IfErr result (λ refused.
         IsBetween setting.hex texts refused.fault refused.between) }
-    ensures reading { AreRead setting.hex setting.workers R.has_failed R.has_ended R.good_reads
+    ensures reading { AreRead setting.hex R.has_failed R.has_ended R.good_reads
         R.remaining inputs.old inputs.new (by_fault result) }
     ensures no_write { NeverWrite (by_fault result) }
 {
     check_workers(setting.workers)?;
     let decoded = read_all(rt, alloc, setting.hex, setting.workers, inputs)?;
     let case = case_of(alloc, decoded)?;
-    let loaded = with_symbols(alloc, setting, case, symbols)?;
+    let loaded = with_symbols(alloc, setting.complete, case, symbols)?;
     Ok(loaded)
 }
 
-/// The case with the symbols. A case with a gap is refused where the setting asks for a complete one.
-fn with_symbols(
+/// The case with the symbols. A case with a gap is refused where a complete one is asked for.
+pub(crate) fn with_symbols(
     alloc: Global,
-    setting: Setting,
+    complete: bool,
     case: Case,
     symbols: Option<&[u8]>,
 ) -> Result<Loaded, RunFault>
     ensures ok { IfOk result (λ loaded. (segments : List Content) → IsCaseOf segments case
-        → AreLoaded segments (option_copied symbols.entry) setting loaded.case
+        → AreLoaded segments (option_copied symbols.entry) complete loaded.case
         loaded.symbols) }
     ensures case { IfOk result (λ loaded. IsCase loaded.case) }
     ensures coverage { IfOk result (λ loaded. IsCoverage loaded.case loaded.coverage) }
     ensures err { IfErr result (λ fault. (segments : List Content) (job : Job)
-        → IsCaseOf segments case
-        → IsCauseAfter segments (option_copied symbols.entry) (in_setting setting job) fault) }
+        → IsCaseOf segments case → job.complete ≡ complete
+        → IsCauseAfter segments (option_copied symbols.entry) job fault) }
 {
     let missed = Missed::of_case(alloc, &case)?;
-    check_gaps(setting.complete, &missed)?;
+    check_gaps(complete, &missed)?;
     let symbols = read_symbols(alloc, symbols)?;
     let coverage = missed.coverage();
     Ok(Loaded {

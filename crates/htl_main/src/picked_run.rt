@@ -9,7 +9,7 @@ ghost use Rattle.htl_device.specs.Devices.{AppendsPrefix};
 ghost use Rattle.htl_segment.specs.Content.{Content};
 ghost use Rattle.htl_case.specs.Picked.{NeedsWhole};
 ghost use Rattle.htl_main.specs.Causes.{IsCauseAfter, Prints, PrintsPart};
-ghost use Rattle.htl_main.specs.Picked.{AskForWhole, Reports, asks_about, interest_of};
+ghost use Rattle.htl_main.specs.Picked.{AskForWhole, NeverCase, Reports, asks_about, interest_of};
 ghost use Rattle.htl_main.specs.Picking.{ArePickedFor, EndsPrinting, PrintsOf, ReportsOf};
 ghost use Rattle.htl_main.specs.Readings.{AreRead};
 ghost use Rattle.htl_main.specs.Sources.{IsSourcesCause};
@@ -21,7 +21,7 @@ use crate::picking::pick_all;
 use crate::printing::{check_workers, write_lines};
 use htl_case::PickedCase;
 use htl_command::{Job, Question};
-use htl_device::{Sink, Source};
+use htl_device::{Parted, Sink};
 use htl_event::Interest;
 use htl_segment::Picks;
 use std::alloc::Global;
@@ -53,7 +53,7 @@ pub fn interest(job: &Job) -> Option<Interest>
 /// It ends without an answer where only whole segments tell what comes of the inputs: where a key
 /// comes twice, of which the contents have to be compared, or where the segments are no case. Then
 /// nothing was written, and `run_from` answers over the same inputs, read again, or says why not.
-pub fn pick_from<Rt: Threads + Sync, R: Source, W: Sink>(
+pub fn pick_from<Rt: Threads + Sync, R: Parted, W: Sink>(
     rt: &Rt,
     alloc: Global,
     job: &Job,
@@ -84,7 +84,9 @@ pub fn pick_from<Rt: Threads + Sync, R: Source, W: Sink>(
         (W.contents out.old) (W.contents out.new) }
     ensures failed { result ≡ Err RunFault.Write → W.has_failed out.new ≡ true }
     ensures untouched { IfErr result (λ fault. fault ≢ RunFault.Write → out.new ≡ out.old) }
-    ensures reading { AreRead false job.now.workers R.has_failed R.has_ended R.good_reads R.remaining
+    // Which rule of a case is broken, only whole segments tell.
+    ensures no_case { NeverCase result }
+    ensures reading { AreRead false R.has_failed R.has_ended R.good_reads R.remaining
         inputs.old inputs.new result }
 {
     check_workers(job.workers)?;

@@ -4,21 +4,22 @@
 ghost use Rattle.std.specs.Prelude.{◌≡◌, ℕ, List, All, Some, false, map};
 ghost use Rattle.std.specs.Prelude.{IfErr, IfOk, IfSome};
 ghost use Rattle.htl_main.specs.Inputs.{StopsAt};
+ghost use Rattle.htl_main.specs.Picked.{NeverCase};
 ghost use Rattle.htl_main.specs.Picking.{ArePicksMore, ArePicksOfAll};
 ghost use Rattle.htl_main.specs.Reads.{IsRead, NeverWrite};
 ghost use Rattle.htl_main.specs.Readings.{AreRead};
 ghost use Rattle.htl_main.specs.Sources.{IsReportedAt, IsReportedOfSource};
 
 use crate::fault::RunFault;
-use htl_device::{MAX_READS, Source};
+use htl_device::{MAX_READS, Parted};
 use htl_event::Interest;
-use htl_reading::{BLOCK_LEN, gather_bundle};
+use htl_reading::gather_bundle;
 use htl_segment::Picks;
 use std::alloc::Global;
 use std::thread::Threads;
 
 /// Picks what is asked about from all sources. The first fault is reported, and ends the reading.
-pub(crate) fn pick_all<Rt: Threads + Sync, R: Source>(
+pub(crate) fn pick_all<Rt: Threads + Sync, R: Parted>(
     rt: &Rt,
     alloc: Global,
     interest: Interest,
@@ -32,9 +33,10 @@ pub(crate) fn pick_all<Rt: Threads + Sync, R: Source>(
     ensures err { (inputs : List (List ℕ)) → map R.remaining sources.old ≡ map Some inputs
         → IfErr result (StopsAt false (IsReportedAt false (map R.remaining sources.new)
         (map R.has_ended sources.new)) inputs) }
-    ensures reading { AreRead false workers R.has_failed R.has_ended R.good_reads R.remaining
+    ensures reading { AreRead false R.has_failed R.has_ended R.good_reads R.remaining
         sources.old sources.new result }
     ensures no_write { NeverWrite result }
+    ensures no_case { NeverCase result }
 {
     let mut picks = Picks::new(alloc, interest);
     for (place, source) in sources.iter_mut().enumerate() {
@@ -44,7 +46,7 @@ pub(crate) fn pick_all<Rt: Threads + Sync, R: Source>(
 }
 
 /// Adds to the picks what is asked about from the source at a place.
-fn pick_source<Rt: Threads + Sync, R: Source>(
+fn pick_source<Rt: Threads + Sync, R: Parted>(
     rt: &Rt,
     alloc: Global,
     workers: u32,
@@ -57,11 +59,12 @@ fn pick_source<Rt: Threads + Sync, R: Source>(
     ensures ok { IfOk result (λ new. IfSome (R.remaining source.old) (ArePicksMore picks new)) }
     ensures err { IfErr result (λ fault. IfSome (R.remaining source.old) (λ bytes.
         IsReportedOfSource false (R.remaining source.new) (R.has_ended source.new) place bytes fault)) }
-    ensures reading { IsRead false workers MAX_READS R.has_failed R.has_ended R.good_reads
+    ensures reading { IsRead false MAX_READS R.has_failed R.has_ended R.good_reads
         R.remaining place source.old source.new result }
     ensures no_write { NeverWrite result }
+    ensures no_case { NeverCase result }
 {
-    match gather_bundle(rt, alloc, workers, BLOCK_LEN, source, picks) {
+    match gather_bundle(rt, alloc, workers, source, picks) {
         Ok(picks) => Ok(picks),
         Err(fault) => Err(RunFault::of_source(place, fault)),
     }

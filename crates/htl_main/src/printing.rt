@@ -1,31 +1,28 @@
 //! The run over inputs that lie in memory, and the steps that both runs share.
 
-ghost use Rattle.std.specs.Prelude.{◌≡◌, ◌≢◌, ◌⊎◌, List, false, true, map, IfOk, IfErr, OnOk};
+ghost use Rattle.std.specs.Prelude.{◌≡◌, ◌≢◌, ◌⊎◌, false, true, map, IfOk, IfErr, OnOk};
 ghost use Rattle.std.specs.Io.KnownBytes.{Appends};
 ghost use Rattle.std.specs.Option.{option_copied};
 ghost use Rattle.htl_device.specs.Devices.{AppendsPrefix};
-ghost use Rattle.htl_segment.specs.Content.{Content};
 ghost use Rattle.htl_segment.specs.Traces.{Trace};
-ghost use Rattle.htl_case.specs.Cases.{IsCaseOf};
-ghost use Rattle.htl_main.specs.Answers.{Finds, FindsIn};
+ghost use Rattle.htl_main.specs.Answers.{Finds, FindsOver};
 ghost use Rattle.htl_main.specs.CaseOutlines.{IsMissed};
 ghost use Rattle.htl_main.specs.Completeness.{IsComplete, ReportsMissing};
-ghost use Rattle.htl_main.specs.Coverages.{Covers, CoversSegments};
-ghost use Rattle.htl_main.specs.Printed.{AreAnswerLines, HasSymbols, HasSymbolFault, WorkersFit};
-ghost use Rattle.htl_main.specs.Printed.{lines_of};
-ghost use Rattle.htl_main.specs.Causes.{Prints, PrintsPart, IsCause, IsCauseAfter};
+ghost use Rattle.htl_main.specs.Coverages.{Covers};
+ghost use Rattle.htl_main.specs.Printed.{HasSymbols, HasSymbolFault, IsText, WorkersFit, lines_of};
+ghost use Rattle.htl_main.specs.Causes.{Prints, PrintsPart, IsCause};
 ghost use Rattle.htl_main.specs.Origins.{IsBetween, by_fault};
 ghost use Rattle.htl_main.specs.Picking.{EndsAnswer};
-ghost use Rattle.htl_main.specs.Subjects.{ReportsSubject, has_subject as has_subject_of};
+ghost use Rattle.htl_main.specs.Subjects.{ReportsSubject};
 
 use crate::answering::answer;
 use crate::casing::case_of;
-use crate::completed::{Completed, has_finding, has_subject};
+use crate::completed::{Completed, has_finding};
 use crate::coverage::Missed;
 use crate::fault::RunFault;
 use crate::inputs::decode_all;
+use crate::loading::{Loaded, with_symbols};
 use crate::refused::Refused;
-use htl_case::Case;
 use htl_command::{Format, Job};
 use htl_device::{Sink, write_whole};
 use htl_event::NoMemory;
@@ -76,9 +73,10 @@ pub fn run<Rt: Threads + Sync, W: Sink>(
     check_workers(job.workers)?;
     let decoded = decode_all(alloc, job.hex, inputs)?;
     let case = case_of(alloc, decoded)?;
-    let (lines, completed) = answered(alloc, job, &case, symbols)?;
-    write_lines(out, &lines)?;
-    Ok(completed)
+    let loaded = with_symbols(alloc, job.complete, case, symbols)?;
+    let text = answer_text(alloc, job, &loaded)?;
+    write_lines(out, &text.lines)?;
+    Ok(Completed::of(job.question, &loaded, text.has_finding))
 }
 
 /// Tests the number of workers.
@@ -93,48 +91,31 @@ pub(crate) fn check_workers(workers: u32) -> Result<(), RunFault>
     }
 }
 
-/// The lines of the answer to the job's question over a case, and what is reported beside them. A case
-/// with a gap is refused where the job asks for a complete one.
-pub(crate) fn answered(
-    alloc: Global,
-    job: &Job,
-    case: &Case,
-    symbols: Option<&[u8]>,
-) -> Result<(Vec<u8>, Completed), RunFault>
-    requires { WorkersFit job.now.workers }
-    ensures ok { IfOk result (λ answered. (segments : List Content)
-        → IsCaseOf segments case.now
-        → AreAnswerLines segments (option_copied symbols.entry) job.now answered.0.items) }
-    ensures coverage { IfOk result (λ answered. (segments : List Content)
-        → IsCaseOf segments case.now → CoversSegments segments answered.1.coverage) }
-    ensures subject { IfOk result (λ answered. (segments : List Content)
-        → IsCaseOf segments case.now
-        → answered.1.has_subject ≡ has_subject_of job.now.question segments) }
-    ensures finding { IfOk result (λ answered. (segments : List Content)
-        → IsCaseOf segments case.now
-        → FindsIn segments job.now.question answered.1.has_finding) }
-    ensures err { IfErr result (λ fault. (segments : List Content) → IsCaseOf segments case.now
-        → IsCauseAfter segments (option_copied symbols.entry) job.now fault) }
+/// The lines of the answer to a question, and whether the answer finds something.
+#[derive(Drop)]
+pub struct AnswerText {
+    pub lines: Vec<u8>,
+    pub has_finding: bool,
+}
+
+/// Answers the job's question over what was loaded. A run prints these lines, whether it loaded for
+/// this question alone or for many.
+pub fn answer_text(alloc: Global, job: &Job, loaded: &Loaded) -> Result<AnswerText, NoMemory>
+    ensures lines { IfOk result (λ text.
+        IsText loaded.now.case loaded.now.symbols job.now text.lines.items) }
+    ensures finding { IfOk result (λ text.
+        FindsOver loaded.now.case job.now.question text.has_finding) }
 {
-    let missed = Missed::of_case(alloc, case)?;
-    check_gaps(job.complete, &missed)?;
-    let symbols = read_symbols(alloc, symbols)?;
-    let coverage = missed.coverage();
-    let answer = answer(alloc, job.question, case, missed)?;
-    let lines = lines(alloc, job, &answer, &symbols)?;
-    let has_subject = has_subject(job.question, case);
-    Ok((
+    let answer = answer(alloc, job.question, &loaded.case)?;
+    let lines = lines(alloc, job, &answer, &loaded.symbols)?;
+    Ok(AnswerText {
         lines,
-        Completed {
-            coverage,
-            has_subject,
-            has_finding: has_finding(&answer),
-        },
-    ))
+        has_finding: has_finding(&answer),
+    })
 }
 
 /// The lines of an answer in the job's form.
-pub fn lines(
+pub(crate) fn lines(
     alloc: Global,
     job: &Job,
     answer: &Answer,

@@ -2,6 +2,7 @@
 
 use crate::fault::RunFault;
 use crate::origin::Between;
+use htl_event::NoMemory;
 use thiserror::Error;
 
 /// Why a run ended, and which two segments its fault is about. Its text is the fault's line.
@@ -25,5 +26,19 @@ impl From<RunFault> for Refused {
             fault,
             between: Between::Nothing,
         }
+    }
+}
+
+/// Memory was refused, which is about no two segments.
+impl From<NoMemory> for Refused {
+    ghost use Rattle.std.specs.Prelude.{◌≡◌};
+    ghost use Rattle.htl_main.specs.declared.fault.RunFault.TheVariants.{Memory};
+    ghost use Rattle.htl_main.specs.declared.origin.Between.TheVariants.{Nothing};
+
+    ghost from_gives = { λ _ refused.
+        (refused.fault ≡ Memory) × (refused.between ≡ Nothing) };
+
+    fn from(_refused: NoMemory) -> Refused {
+        Refused::from(RunFault::Memory)
     }
 }

@@ -11,14 +11,13 @@ ghost use Rattle.htl_main.specs.Readings.{AreRead};
 ghost use Rattle.htl_main.specs.Sources.{IsSourcesCause};
 ghost use Rattle.htl_main.specs.Subjects.{ReportsSubject};
 
-use crate::casing::case_of;
 use crate::completed::Completed;
 use crate::fault::RunFault;
-use crate::printing::{answered, check_workers, write_lines};
+use crate::loading::load;
+use crate::printing::{answer_text, write_lines};
 use crate::refused::Refused;
-use crate::sources::read_all;
-use htl_command::Job;
-use htl_device::{Sink, Source};
+use htl_command::{Job, Setting};
+use htl_device::{Parted, Sink};
 use std::alloc::Global;
 use std::thread::Threads;
 
@@ -26,11 +25,10 @@ use std::thread::Threads;
 /// 65,536 bytes.
 ///
 /// A fault of a source ends the run: no later source is read, and of its own bytes, which are
-/// decoded as they come, none after the read that gave the fault, or after the block of reads that
-/// several workers decode together and the next one, which is read meanwhile. They report the
-/// fault that one worker reports, and a read that failed only where no fault comes before it. A text in
-/// hexadecimal is gathered whole first.
-pub fn run_from<Rt: Threads + Sync, R: Source, W: Sink>(
+/// decoded as they come, none after the read that gave the fault. A text in hexadecimal is gathered
+/// whole first. Several workers read parts of a source first, where it has some, and one worker
+/// reads it after that unless they took all of it: so they report the fault that one worker reports.
+pub fn run_from<Rt: Threads + Sync, R: Parted, W: Sink>(
     rt: &Rt,
     alloc: Global,
     job: &Job,
@@ -65,14 +63,17 @@ pub fn run_from<Rt: Threads + Sync, R: Source, W: Sink>(
         → IfErr result (λ refused.
         IsBetween job.now.hex texts refused.fault refused.between) }
     ensures failed { by_fault result ≡ Err RunFault.Write → W.has_failed out.new ≡ true }
-    ensures reading { AreRead job.now.hex job.now.workers R.has_failed R.has_ended R.good_reads
+    ensures reading { AreRead job.now.hex R.has_failed R.has_ended R.good_reads
         R.remaining inputs.old inputs.new (by_fault result) }
     ensures untouched { IfErr (by_fault result) (λ fault. fault ≢ RunFault.Write → out.new ≡ out.old) }
 {
-    check_workers(job.workers)?;
-    let decoded = read_all(rt, alloc, job.hex, job.workers, inputs)?;
-    let case = case_of(alloc, decoded)?;
-    let (lines, completed) = answered(alloc, job, &case, symbols)?;
-    write_lines(out, &lines)?;
-    Ok(completed)
+    let setting = Setting {
+        hex: job.hex,
+        workers: job.workers,
+        complete: job.complete,
+    };
+    let loaded = load(rt, alloc, setting, inputs, symbols)?;
+    let text = answer_text(alloc, job, &loaded)?;
+    write_lines(out, &text.lines)?;
+    Ok(Completed::of(job.question, &loaded, text.has_finding))
 }

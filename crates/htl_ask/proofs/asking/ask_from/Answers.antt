@@ -1,44 +1,32 @@
--- Each line's text is that of a run over what was loaded, the sources are read as by a run, and memory may be refused to a run where a session is refused it.
-use Rattle.std.proofs.Common.{Bool, false, map}
+-- Each line's text is that of a run over what was loaded, and the sources are read as by a run.
+use Rattle.std.proofs.Common.{◌≡◌, List, false}
 use Rattle.std.proofs.lemmas.Result.{err_from_is_err_and}
 use Rattle.std.specs.Option.{option_copied}
-use Rattle.htl_main.proofs.ReadingLaws.{ends_too, ill, read_then, well}
-use Rattle.htl_main.specs.Subjects.{ReportsSubject}
-use Rattle.htl_main.specs.declared.fault.RunFault.TheVariants.{Memory}
+use Rattle.htl_segment.specs.Content.{Content}
+use Rattle.htl_case.specs.Cases.{IsCaseOf}
+use Rattle.htl_main.specs.Printed.{IsText}
+use Rattle.htl_main.specs.Subjects.{ReportsSubject, has_subject}
+use Rattle.htl_main.proofs.AfterLoading.{runs_coverage, runs_subject, runs_text}
+use Rattle.htl_main.proofs.ReadingLaws.{ends_too, read_then, well}
 use Rattle.htl_ask.specs.Asking.{IsRunsText}
-use Rattle.htl_ask.specs.Sessions.{IsSessionText, ReportsSessionSubject}
-use Rattle.htl_ask.proofs.Asked.{converses, gets_after, memory_cause, runs_coverage, runs_subject, runs_text, same_fault, stops}
+use Rattle.htl_ask.proofs.Asked.{converses, gets_after, same_fault, stops}
 use Rattle.htl_ask.proofs.asking.ask_from.Goals as goal
-
-pub returns-in_err-session-clause-cause : goal.returns-in_err-session-clause-cause
-returns-in_err-session-clause-cause g c =
-    let p = err_from_is_err_and c.from_residual-in_err-session.result c.from_residual-in_err-session.ensures.1 in
-    λ texts all. rw (p.1, p.2) (memory_cause c.args.setting texts (option_copied c.args.symbols) c.in_ok-loaded.loaded.case
-    c.in_ok-loaded.loaded.symbols (map g.R.Source.remaining c.load.new.inputs)
-    (map g.R.Source.has_ended c.load.new.inputs) (c.in_ok-loaded.ensures.ok texts all))
 
 pub returns-in_err-loaded-clause-reading : goal.returns-in_err-loaded-clause-reading
 returns-in_err-loaded-clause-reading g c =
     let p = err_from_is_err_and c.from_residual.result c.from_residual.ensures.1 in
-    rw (p.1, p.2) (ends_too c.args.setting.hex c.args.setting.workers g.R.Source.has_failed g.R.Source.has_ended g.R.Source.good_reads g.R.Source.remaining
+    rw (p.1, p.2) (ends_too c.args.setting.hex g.R.Source.has_failed g.R.Source.has_ended g.R.Source.good_reads g.R.Source.remaining
     c.args.inputs.now c.load.new.inputs c.in_err-loaded.field-0.0.fault c.in_err-loaded.ensures.reading)
-
-pub returns-in_err-session-clause-reading : goal.returns-in_err-session-clause-reading
-returns-in_err-session-clause-reading g c =
-    let p = err_from_is_err_and c.from_residual-in_err-session.result c.from_residual-in_err-session.ensures.1 in
-    rw (p.1, p.2) (read_then c.args.setting.hex c.args.setting.workers g.R.Source.has_failed g.R.Source.has_ended g.R.Source.good_reads g.R.Source.remaining
-    c.args.inputs.now c.load.new.inputs c.in_ok-loaded.loaded (ill {S = Bool} Memory) c.in_ok-loaded.ensures.reading (λ at told. cc told)
-    (λ place before. before))
 
 pub returns-in_err-has_wrong-clause-reading : goal.returns-in_err-has_wrong-clause-reading
 returns-in_err-has_wrong-clause-reading g c =
     let p = err_from_is_err_and c.from_residual-in_err-has_wrong.result c.from_residual-in_err-has_wrong.ensures.1 in
-    rw (p.1, p.2) (read_then c.args.setting.hex c.args.setting.workers g.R.Source.has_failed g.R.Source.has_ended g.R.Source.good_reads g.R.Source.remaining
+    rw (p.1, p.2) (read_then c.args.setting.hex g.R.Source.has_failed g.R.Source.has_ended g.R.Source.good_reads g.R.Source.remaining
     c.args.inputs.now c.load.new.inputs c.in_ok-loaded.loaded (well false) c.in_ok-loaded.ensures.reading (λ at told. cc told) tt)
 
 pub returns-clause-reading : goal.returns-clause-reading
 returns-clause-reading g c =
-    read_then c.args.setting.hex c.args.setting.workers g.R.Source.has_failed g.R.Source.has_ended g.R.Source.good_reads g.R.Source.remaining c.args.inputs.now
+    read_then c.args.setting.hex g.R.Source.has_failed g.R.Source.has_ended g.R.Source.good_reads g.R.Source.remaining c.args.inputs.now
     c.load.new.inputs c.in_ok-loaded.loaded (well c.in_ok-has_wrong.has_wrong) c.in_ok-loaded.ensures.reading (λ at told. cc told) tt
 
 pub returns-in_err-has_wrong-clause-stops : goal.returns-in_err-has_wrong-clause-stops
@@ -46,19 +34,17 @@ returns-in_err-has_wrong-clause-stops g c =
     let p = err_from_is_err_and c.from_residual-in_err-has_wrong.result c.from_residual-in_err-has_wrong.ensures.1 in
     λ texts lines fault all known is.
     let same = same_fault c.from_residual-in_err-has_wrong.result p.0 c.in_err-has_wrong.field-0.0 fault p.1 p.2 is in
-    let session = c.in_ok-session.session in
     let symbols = option_copied c.args.symbols in
-    let T = c.in_ok-loaded.loaded.case in
-    let table = c.in_ok-loaded.loaded.symbols in
-    let loaded = c.in_ok-loaded.ensures.ok texts all in
-    let of = c.in_ok-session.ensures in
-    let coverage = c.coverage.result in (
+    let read = c.in_ok-loaded.loaded in
+    let T = read.case in
+    let table = read.symbols in
+    let coverage = read.coverage in
+    let loaded = c.in_ok-loaded.ensures.ok texts all in (
       coverage,
-      runs_coverage c.args.setting texts symbols T table session coverage loaded of c.coverage.ensures,
-      rw same (stops (IsSessionText session) (IsRunsText c.args.setting texts symbols)
-          (runs_text c.args.setting texts symbols T table session loaded of)
-          (ReportsSessionSubject session) (ReportsSubject c.args.setting.hex texts)
-          (runs_subject c.args.setting texts symbols T table session loaded of) _ _
+      runs_coverage c.args.setting texts symbols T table loaded coverage c.in_ok-loaded.ensures.coverage,
+      rw same (stops (IsText T table) (IsRunsText c.args.setting texts symbols) (runs_text c.args.setting texts symbols T table loaded)
+          (λ question found. (segments : List Content) → IsCaseOf segments T → found ≡ has_subject question segments)
+          (ReportsSubject c.args.setting.hex texts) (runs_subject c.args.setting texts symbols T table loaded) _ _
           (gets_after (g.W.Sink.contents c.args.out.now) (g.W.Sink.contents c.converse.new.out) g.H.Host.told c.args.audience.now
           c.begins.new.self c.converse.new.host coverage c.begins.ensures.told)
           (g.H.Host.wants_absence c.args.audience.now) lines (g.Q.Source.remaining c.converse.new.questions)
@@ -68,19 +54,17 @@ returns-in_err-has_wrong-clause-stops g c =
 
 pub returns-clause-ok : goal.returns-clause-ok
 returns-clause-ok g c = λ texts lines all known.
-    let session = c.in_ok-session.session in
     let symbols = option_copied c.args.symbols in
-    let T = c.in_ok-loaded.loaded.case in
-    let table = c.in_ok-loaded.loaded.symbols in
-    let loaded = c.in_ok-loaded.ensures.ok texts all in
-    let of = c.in_ok-session.ensures in
-    let coverage = c.coverage.result in (
+    let read = c.in_ok-loaded.loaded in
+    let T = read.case in
+    let table = read.symbols in
+    let coverage = read.coverage in
+    let loaded = c.in_ok-loaded.ensures.ok texts all in (
       coverage,
-      runs_coverage c.args.setting texts symbols T table session coverage loaded of c.coverage.ensures,
-      converses (IsSessionText session) (IsRunsText c.args.setting texts symbols)
-          (runs_text c.args.setting texts symbols T table session loaded of)
-          (ReportsSessionSubject session) (ReportsSubject c.args.setting.hex texts)
-          (runs_subject c.args.setting texts symbols T table session loaded of) _ _
+      runs_coverage c.args.setting texts symbols T table loaded coverage c.in_ok-loaded.ensures.coverage,
+      converses (IsText T table) (IsRunsText c.args.setting texts symbols) (runs_text c.args.setting texts symbols T table loaded)
+          (λ question found. (segments : List Content) → IsCaseOf segments T → found ≡ has_subject question segments)
+          (ReportsSubject c.args.setting.hex texts) (runs_subject c.args.setting texts symbols T table loaded) _ _
           (gets_after (g.W.Sink.contents c.args.out.now) (g.W.Sink.contents c.converse.new.out) g.H.Host.told c.args.audience.now
           c.begins.new.self c.converse.new.host coverage c.begins.ensures.told)
           (g.H.Host.wants_absence c.args.audience.now) lines c.in_ok-has_wrong.has_wrong

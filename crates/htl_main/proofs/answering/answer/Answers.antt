@@ -1,10 +1,16 @@
 -- The answer over the events of the case is the answer over the case.
 use Rattle.std.proofs.Common.{rules}
+use Rattle.std.proofs.lemmas.Result.{IfOk-weaker}
+use Rattle.htl_segment.specs.Traces.{all_events}
+use Rattle.htl_main.specs.Answers.{IsAnswer, IsAnswerOver}
 use Rattle.htl_main.specs.Questions.{IsOfParts}
 use Rattle.htl_main.proofs.WholeLaws.{over_events}
 use Rattle.htl_main.proofs.answering.answer.Goals as goal
 
-pub returns-in_ok-answer-in_default : goal.returns-in_ok-answer-in_default
-returns-in_ok-answer-in_default c =
-    let of : IsOfParts c.args.question = search (rules, c.in_default.not-Summary, c.in_default.not-Trace) in
-    over_events c.args.case.now c.args.question c.in_ok-answer-in_default.answer of c.in_ok-answer-in_default.ensures
+pub returns-in_default : goal.returns-in_default
+returns-in_default c =
+    let T = c.args.case.now in
+    let question = c.args.question in
+    let of : IsOfParts question = search (rules, c.in_default.not-Summary, c.in_default.not-Trace) in
+    IfOk-weaker c.answer_over.result (IsAnswerOver (all_events T.segments) question) (IsAnswer T question)
+    (λ answer over. over_events T question answer of over) c.answer_over.ensures

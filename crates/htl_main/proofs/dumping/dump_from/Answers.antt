@@ -11,7 +11,7 @@ use Rattle.htl_main.proofs.dumping.dump_from.Goals as goal
 
 pub loop-place-init : goal.loop-place-init
 loop-place-init g c = record {
-  before = none_before c.args.hex 1 g.R.Source.has_failed g.R.Source.has_ended g.R.Source.good_reads g.R.Source.remaining c.args.inputs.now
+  before = none_before c.args.hex g.R.Source.has_failed g.R.Source.has_ended g.R.Source.good_reads g.R.Source.remaining c.args.inputs.now
       c.requires.inputs;
   sound = c.requires.out;
   dumped = λ texts all. ([], refl, Appends-nil (g.W.Sink.contents c.args.out.now));
@@ -26,7 +26,7 @@ loop-place-preserved g c =
     let source = get_or c.loop-place.inputs place c.index-inputs-place.result in
     let here = slice_get-get_or c.loop-place.inputs place c.index-inputs-place.result within in
     record {
-      before = one_before c.args.hex 1 g.R.Source.has_failed g.R.Source.has_ended g.R.Source.good_reads g.R.Source.remaining
+      before = one_before c.args.hex g.R.Source.has_failed g.R.Source.has_ended g.R.Source.good_reads g.R.Source.remaining
           c.args.inputs.now c.loop-place.inputs place source c.dump_input.new.source inv.before within here _ is.reading;
       sound = is.failed;
       dumped = λ texts all.
@@ -77,11 +77,11 @@ returns-in_err-dump_input-clause-reading g c =
     let within : place < length c.loop-place.inputs = omega arith in
     let source = get_or c.loop-place.inputs place c.index-inputs-place.result in
     let here = slice_get-get_or c.loop-place.inputs place c.index-inputs-place.result within in
-    rw (p.1, p.2) (read_to c.args.hex 1 g.R.Source.has_failed g.R.Source.has_ended g.R.Source.good_reads g.R.Source.remaining
+    rw (p.1, p.2) (read_to c.args.hex g.R.Source.has_failed g.R.Source.has_ended g.R.Source.good_reads g.R.Source.remaining
     c.args.inputs.now c.loop-place.inputs place source c.dump_input.new.source c.loop-place.invariant.before within here
     c.in_err-dump_input.field-0.0 c.in_err-dump_input.ensures.reading)
 
 pub returns-clause-reading : goal.returns-clause-reading
 returns-clause-reading g c =
-    all_read c.args.hex 1 g.R.Source.has_failed g.R.Source.has_ended g.R.Source.good_reads g.R.Source.remaining c.args.inputs.now
+    all_read c.args.hex g.R.Source.has_failed g.R.Source.has_ended g.R.Source.good_reads g.R.Source.remaining c.args.inputs.now
     c.loop-place.inputs c.loop-place.place _ c.loop-place.invariant.before (omega arith)

@@ -6,7 +6,7 @@ use Rattle.htl_main.proofs.dumping.dump_from.Given as goal
 
 abbrev pub invariant-loop-place : goal.invariant-loop-place
 invariant-loop-place g l = record {
-  before : ReadBefore l.hex 1 g.R.Source.has_failed g.R.Source.has_ended g.R.Source.good_reads g.R.Source.remaining
+  before : ReadBefore l.hex g.R.Source.has_failed g.R.Source.has_ended g.R.Source.good_reads g.R.Source.remaining
       l.initial.inputs l.inputs l.place;
   sound : g.W.Sink.has_failed l.out ≡ false;
   dumped : (texts : List (List ℕ)) → map g.R.Source.remaining l.initial.inputs ≡ map Some texts

@@ -10,7 +10,7 @@ use Rattle.htl_main.proofs.encoding.encode_all.Goals as goal
 
 pub loop-place-init : goal.loop-place-init
 loop-place-init g c = record {
-  before = none_before true 1 g.R.Source.has_failed g.R.Source.has_ended g.R.Source.good_reads g.R.Source.remaining c.args.sources.now
+  before = none_before true g.R.Source.has_failed g.R.Source.has_ended g.R.Source.good_reads g.R.Source.remaining c.args.sources.now
       c.requires.fresh;
   encoded = λ texts all. ([], refl, c.new-bundle.ensures.items);
 }
@@ -24,7 +24,7 @@ loop-place-preserved g c =
     let source = get_or c.loop-place.sources place c.index-sources-place.result in
     let here = slice_get-get_or c.loop-place.sources place c.index-sources-place.result within in
     record {
-      before = one_before true 1 g.R.Source.has_failed g.R.Source.has_ended g.R.Source.good_reads g.R.Source.remaining
+      before = one_before true g.R.Source.has_failed g.R.Source.has_ended g.R.Source.good_reads g.R.Source.remaining
           c.args.sources.now c.loop-place.sources place source c.encode_input.new.source inv.before within here _ is.reading;
       encoded = λ texts all.
           let knows = knows_now g.R.Source.remaining c.args.sources.now c.loop-place.sources texts place source
@@ -97,7 +97,7 @@ returns-in_err-more-clause-reading g c =
     let within : place < length c.loop-place.sources = omega arith in
     let source = get_or c.loop-place.sources place c.index-sources-place.result in
     let here = slice_get-get_or c.loop-place.sources place c.index-sources-place.result within in
-    rw (p.1, p.2) (read_to true 1 g.R.Source.has_failed g.R.Source.has_ended g.R.Source.good_reads g.R.Source.remaining
+    rw (p.1, p.2) (read_to true g.R.Source.has_failed g.R.Source.has_ended g.R.Source.good_reads g.R.Source.remaining
     c.args.sources.now c.loop-place.sources place source c.encode_input.new.source c.loop-place.invariant.before within here
     c.in_err-more.field-0.0 c.in_err-more.ensures.reading)
 
@@ -108,11 +108,11 @@ returns-in_err-append-clause-reading g c =
     let within : place < length c.loop-place.sources = omega arith in
     let source = get_or c.loop-place.sources place c.index-sources-place.result in
     let here = slice_get-get_or c.loop-place.sources place c.index-sources-place.result within in
-    rw (p.1, p.2) (refused_after true 1 g.R.Source.has_failed g.R.Source.has_ended g.R.Source.good_reads g.R.Source.remaining
+    rw (p.1, p.2) (refused_after true g.R.Source.has_failed g.R.Source.has_ended g.R.Source.good_reads g.R.Source.remaining
     c.args.sources.now c.loop-place.sources place source c.encode_input.new.source c.loop-place.invariant.before within here _
     c.in_ok-more.ensures.reading)
 
 pub returns-clause-reading : goal.returns-clause-reading
 returns-clause-reading g c =
-    all_read true 1 g.R.Source.has_failed g.R.Source.has_ended g.R.Source.good_reads g.R.Source.remaining c.args.sources.now
+    all_read true g.R.Source.has_failed g.R.Source.has_ended g.R.Source.good_reads g.R.Source.remaining c.args.sources.now
     c.loop-place.sources c.loop-place.place _ c.loop-place.invariant.before (omega arith)

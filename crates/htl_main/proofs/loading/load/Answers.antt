@@ -1,6 +1,6 @@
 -- How load reads its sources, also where it ends after they were decoded, and why it ends then.
 use Rattle.std.proofs.lemmas.Result.{err_from_is_err_and}
-use Rattle.std.proofs.Common.{map}
+use Rattle.std.proofs.Common.{map, refl}
 use Rattle.std.specs.Option.{option_copied}
 use Rattle.htl_main.specs.Loading.{in_setting}
 use Rattle.htl_main.proofs.AfterDecoding.{not_write, reads_then, some_job, sources_cause_of}
@@ -11,13 +11,13 @@ use Rattle.htl_main.proofs.loading.load.Goals as goal
 pub returns-in_err-check_workers-clause-reading : goal.returns-in_err-check_workers-clause-reading
 returns-in_err-check_workers-clause-reading g c =
     let p = err_from_is_err_and c.from_residual.result c.from_residual.ensures.1 in
-    rw (p.1, p.2.0, c.in_err-check_workers.ensures.err.0) (unread c.args.setting.hex c.args.setting.workers
+    rw (p.1, p.2.0, c.in_err-check_workers.ensures.err.0) (unread c.args.setting.hex
     g.R.Source.has_failed g.R.Source.has_ended g.R.Source.good_reads g.R.Source.remaining c.args.inputs.now c.requires.fresh)
 
 pub returns-in_err-decoded-clause-reading : goal.returns-in_err-decoded-clause-reading
 returns-in_err-decoded-clause-reading g c =
     let p = err_from_is_err_and c.from_residual-in_err-decoded.result c.from_residual-in_err-decoded.ensures.1 in
-    rw (p.1, p.2.0) (ends_too c.args.setting.hex c.args.setting.workers
+    rw (p.1, p.2.0) (ends_too c.args.setting.hex
     g.R.Source.has_failed g.R.Source.has_ended g.R.Source.good_reads g.R.Source.remaining c.args.inputs.now c.read_all.new.sources c.in_err-decoded.field-0.0
     c.in_err-decoded.ensures.reading)
 
@@ -25,7 +25,7 @@ pub returns-in_err-case-clause-reading : goal.returns-in_err-case-clause-reading
 returns-in_err-case-clause-reading g c =
     let p = err_from_is_err_and c.from_residual-in_err-case.result c.from_residual-in_err-case.ensures.1 in
     let symbols = option_copied c.args.symbols in
-    rw (p.1, p.2) (reads_then c.args.setting.hex c.args.setting.workers
+    rw (p.1, p.2) (reads_then c.args.setting.hex
     g.R.Source.has_failed g.R.Source.has_ended g.R.Source.good_reads g.R.Source.remaining c.args.inputs.now c.read_all.new.sources c.in_ok-decoded.decoded
     c.in_ok-decoded.decoded.segments.items symbols some_job c.in_err-case.field-0.0.fault c.in_ok-decoded.ensures.reading
     (c.in_err-case.ensures.err symbols some_job))
@@ -51,10 +51,10 @@ returns-in_err-loaded-clause-reading g c =
     let p = err_from_is_err_and c.from_residual-in_err-loaded.result c.from_residual-in_err-loaded.ensures.1 in
     let segments = c.in_ok-decoded.decoded.segments.items in
     let job = in_setting c.args.setting some_job in
-    rw (p.1, p.2.0) (reads_then c.args.setting.hex c.args.setting.workers
+    rw (p.1, p.2.0) (reads_then c.args.setting.hex
     g.R.Source.has_failed g.R.Source.has_ended g.R.Source.good_reads g.R.Source.remaining c.args.inputs.now c.read_all.new.sources c.in_ok-decoded.decoded
     segments (option_copied c.args.symbols) job c.in_err-loaded.field-0.0 c.in_ok-decoded.ensures.reading
-    (c.in_err-loaded.ensures.err segments some_job c.in_ok-case.ensures.ok))
+    (c.in_err-loaded.ensures.err segments job c.in_ok-case.ensures.ok refl))
 
 pub returns-in_err-loaded-clause-cause : goal.returns-in_err-loaded-clause-cause
 returns-in_err-loaded-clause-cause g c =
@@ -63,14 +63,15 @@ returns-in_err-loaded-clause-cause g c =
     λ texts all. rw (p.1, p.2.0) (λ job. sources_cause_of (in_setting c.args.setting job) texts
     (map g.R.Source.remaining c.read_all.new.sources) (map g.R.Source.has_ended c.read_all.new.sources) (option_copied c.args.symbols)
     segments c.in_err-loaded.field-0.0 c.in_ok-check_workers.ensures.ok (c.in_ok-decoded.ensures.ok texts all)
-    (c.in_err-loaded.ensures.err segments job c.in_ok-case.ensures.ok))
+    (c.in_err-loaded.ensures.err segments (in_setting c.args.setting job) c.in_ok-case.ensures.ok refl))
 
 pub returns-in_err-loaded-clause-no_write : goal.returns-in_err-loaded-clause-no_write
 returns-in_err-loaded-clause-no_write g c =
     let p = err_from_is_err_and c.from_residual-in_err-loaded.result c.from_residual-in_err-loaded.ensures.1 in
     let segments = c.in_ok-decoded.decoded.segments.items in
-    rw (p.1, p.2.0) (not_write segments (option_copied c.args.symbols) (in_setting c.args.setting some_job)
-    c.in_err-loaded.field-0.0 (c.in_err-loaded.ensures.err segments some_job c.in_ok-case.ensures.ok))
+    let job = in_setting c.args.setting some_job in
+    rw (p.1, p.2.0) (not_write segments (option_copied c.args.symbols) job c.in_err-loaded.field-0.0
+    (c.in_err-loaded.ensures.err segments job c.in_ok-case.ensures.ok refl))
 
 pub returns-in_err-loaded-clause-between : goal.returns-in_err-loaded-clause-between
 returns-in_err-loaded-clause-between g c =
@@ -78,11 +79,11 @@ returns-in_err-loaded-clause-between g c =
     let segments = c.in_ok-decoded.decoded.segments.items in
     let job = in_setting c.args.setting some_job in
     λ texts all. rw (p.1, p.2.0, p.2.1) (none_after c.args.setting.hex texts segments c.in_ok-case.case (option_copied c.args.symbols)
-    job c.in_err-loaded.field-0.0 c.in_ok-case.ensures.ok (c.in_err-loaded.ensures.err segments some_job c.in_ok-case.ensures.ok))
+    job c.in_err-loaded.field-0.0 c.in_ok-case.ensures.ok (c.in_err-loaded.ensures.err segments job c.in_ok-case.ensures.ok refl))
 
 pub returns-clause-reading : goal.returns-clause-reading
 returns-clause-reading g c =
-    read_then c.args.setting.hex c.args.setting.workers g.R.Source.has_failed g.R.Source.has_ended g.R.Source.good_reads g.R.Source.remaining c.args.inputs.now
+    read_then c.args.setting.hex g.R.Source.has_failed g.R.Source.has_ended g.R.Source.good_reads g.R.Source.remaining c.args.inputs.now
     c.read_all.new.sources c.in_ok-decoded.decoded (well c.in_ok-loaded.loaded) c.in_ok-decoded.ensures.reading (λ at told. cc told) tt
 
 pub returns-clause-ok : goal.returns-clause-ok

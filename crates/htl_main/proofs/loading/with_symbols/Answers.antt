@@ -1,25 +1,25 @@
 -- For with_symbols the first fault of the symbols is a cause for whichever job, and so is memory that was refused for them or for the gaps.
+use Rattle.std.proofs.Common.{sym, ◌∙◌}
 use Rattle.std.proofs.lemmas.Result.{err_from_is_err_and}
 use Rattle.std.specs.Option.{option_copied}
-use Rattle.htl_main.specs.Loading.{in_setting}
 use Rattle.htl_main.proofs.Missing.{memory_cause, missing_cause, symbols_cause}
 use Rattle.htl_main.proofs.loading.with_symbols.Goals as goal
 
 pub returns-in_err-missed-clause-err : goal.returns-in_err-missed-clause-err
 returns-in_err-missed-clause-err c =
     let p = err_from_is_err_and c.from_residual.result c.from_residual.ensures.1 in
-    rw (p.1, p.2) (λ segments job is. memory_cause segments (option_copied c.args.symbols) (in_setting c.args.setting job) c.args.case is)
+    rw (p.1, p.2) (λ segments job is same. memory_cause segments (option_copied c.args.symbols) job c.args.case is)
 
 pub returns-in_err-check_gaps-clause-err : goal.returns-in_err-check_gaps-clause-err
 returns-in_err-check_gaps-clause-err c =
     let p = err_from_is_err_and c.from_residual-in_err-check_gaps.result c.from_residual-in_err-check_gaps.ensures.1 in
     let missing = c.in_err-check_gaps.ensures.err in
-    rw (p.1, p.2) (λ segments job is. missing_cause segments (option_copied c.args.symbols) (in_setting c.args.setting job) c.args.case
-    c.in_err-check_gaps.field-0.0 is missing.0 (missing.1 c.args.case c.in_ok-missed.ensures))
+    rw (p.1, p.2) (λ segments job is same. missing_cause segments (option_copied c.args.symbols) job c.args.case
+    c.in_err-check_gaps.field-0.0 is (same ∙ missing.0) (missing.1 c.args.case c.in_ok-missed.ensures))
 
 pub returns-in_err-symbols-clause-err : goal.returns-in_err-symbols-clause-err
 returns-in_err-symbols-clause-err c =
     let p = err_from_is_err_and c.from_residual-in_err-symbols.result c.from_residual-in_err-symbols.ensures.1 in
-    rw (p.1, p.2) (λ segments job is. symbols_cause segments (option_copied c.args.symbols) (in_setting c.args.setting job) c.args.case
-    c.in_err-symbols.field-0.0 is (λ complete. c.in_ok-check_gaps.ensures.ok complete c.args.case c.in_ok-missed.ensures)
+    rw (p.1, p.2) (λ segments job is same. symbols_cause segments (option_copied c.args.symbols) job c.args.case
+    c.in_err-symbols.field-0.0 is (λ whole. c.in_ok-check_gaps.ensures.ok (sym same ∙ whole) c.args.case c.in_ok-missed.ensures)
     c.in_err-symbols.ensures.err)

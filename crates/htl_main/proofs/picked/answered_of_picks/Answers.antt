@@ -50,5 +50,5 @@ returns-clause-reports c = λ segments is.
           ∙ same_subject c.args.job.now.question is.interest (all_events is.trace.segments) c.args.case.now.events is.about is.picked.events
           ∙ sym (any_event about is.trace.segments) ∙ same_any test is.trace.segments segments is.case_of.members
           ∙ any_event about segments;
-      finding = (is.trace, is.case_of, c.in_ok-answer.answer, c.in_ok-answer.ensures segments is, c.has_finding.ensures);
+      finding = (is.trace, is.case_of, (c.in_ok-answer.answer, c.in_ok-answer.ensures segments is, c.has_finding.ensures));
     }

@@ -8,15 +8,23 @@ use Rattle.htl_main.specs.Causes.{Prints}
 use Rattle.htl_main.specs.Picked.{AskForWhole, Reports}
 use Rattle.htl_main.specs.Picking.{PrintsOf, ReportsOf}
 use Rattle.htl_case.specs.Picked.{NeedsWhole}
-use Rattle.htl_main.proofs.AfterPicking.{ends_for, if_done, if_whole, picked_run, prints, prints_part, reports}
+use Rattle.htl_main.proofs.AfterPicking.{ends_for, ends_without_case, if_done, if_whole, picked_run, prints, prints_part, reports}
 use Rattle.htl_main.proofs.ReadingLaws.{unread}
 use Rattle.htl_main.proofs.picked_run.pick_from.Goals as goal
 
 pub returns-in_err-check_workers-clause-reading : goal.returns-in_err-check_workers-clause-reading
 returns-in_err-check_workers-clause-reading g c =
     let p = err_from_is_err_and c.from_residual.result c.from_residual.ensures.1 in
-    rw (p.1, p.2, c.in_err-check_workers.ensures.err.0) (unread false c.args.job.now.workers
+    rw (p.1, p.2, c.in_err-check_workers.ensures.err.0) (unread false
     g.R.Source.has_failed g.R.Source.has_ended g.R.Source.good_reads g.R.Source.remaining c.args.inputs.now c.requires.inputs)
+
+pub returns-in_err-check_workers-clause-no_case : goal.returns-in_err-check_workers-clause-no_case
+returns-in_err-check_workers-clause-no_case g c =
+    let p = err_from_is_err_and c.from_residual.result c.from_residual.ensures.1 in
+    rw (p.1, p.2, c.in_err-check_workers.ensures.err.0) (λ broken is. cc is)
+
+pub returns-clause-no_case : goal.returns-clause-no_case
+returns-clause-no_case g c = ends_without_case c.print_picks.result c.print_picks.ensures.after
 
 pub returns-clause-ok : goal.returns-clause-ok
 returns-clause-ok g c = λ texts all.

@@ -11,7 +11,7 @@ use Rattle.htl_main.proofs.picking.pick_all.Goals as goal
 
 pub loop-place-init : goal.loop-place-init
 loop-place-init g c = record {
-  before = none_before false c.args.workers g.R.Source.has_failed g.R.Source.has_ended g.R.Source.good_reads g.R.Source.remaining
+  before = none_before false g.R.Source.has_failed g.R.Source.has_ended g.R.Source.good_reads g.R.Source.remaining
       c.args.sources.now c.requires.fresh;
   picked = λ texts all. none_picked c.args.interest texts c.new-picks.result c.new-picks.ensures;
 }
@@ -25,7 +25,7 @@ loop-place-preserved g c =
     let source = get_or c.loop-place.sources place c.index-sources-place.result in
     let here = slice_get-get_or c.loop-place.sources place c.index-sources-place.result within in
     record {
-      before = one_before false c.args.workers g.R.Source.has_failed g.R.Source.has_ended g.R.Source.good_reads g.R.Source.remaining
+      before = one_before false g.R.Source.has_failed g.R.Source.has_ended g.R.Source.good_reads g.R.Source.remaining
           c.args.sources.now c.loop-place.sources place source c.pick_source.new.source inv.before within here _ is.reading;
       picked = λ texts all.
           let knows = knows_now g.R.Source.remaining c.args.sources.now c.loop-place.sources texts place source
@@ -65,11 +65,11 @@ returns-in_err-picks-clause-reading g c =
     let within : place < length c.loop-place.sources = omega arith in
     let source = get_or c.loop-place.sources place c.index-sources-place.result in
     let here = slice_get-get_or c.loop-place.sources place c.index-sources-place.result within in
-    rw (p.1, p.2) (read_to false c.args.workers g.R.Source.has_failed g.R.Source.has_ended g.R.Source.good_reads g.R.Source.remaining
+    rw (p.1, p.2) (read_to false g.R.Source.has_failed g.R.Source.has_ended g.R.Source.good_reads g.R.Source.remaining
     c.args.sources.now c.loop-place.sources place source c.pick_source.new.source c.loop-place.invariant.before within here
     c.in_err-picks.field-0.0 c.in_err-picks.ensures.reading)
 
 pub returns-clause-reading : goal.returns-clause-reading
 returns-clause-reading g c =
-    all_read false c.args.workers g.R.Source.has_failed g.R.Source.has_ended g.R.Source.good_reads g.R.Source.remaining c.args.sources.now
+    all_read false g.R.Source.has_failed g.R.Source.has_ended g.R.Source.good_reads g.R.Source.remaining c.args.sources.now
     c.loop-place.sources c.loop-place.place _ c.loop-place.invariant.before (omega arith)

@@ -6,7 +6,7 @@ use Rattle.htl_main.proofs.picking.pick_all.Given as goal
 
 abbrev pub invariant-loop-place : goal.invariant-loop-place
 invariant-loop-place g l = record {
-  before : ReadBefore false l.workers g.R.Source.has_failed g.R.Source.has_ended g.R.Source.good_reads g.R.Source.remaining
+  before : ReadBefore false g.R.Source.has_failed g.R.Source.has_ended g.R.Source.good_reads g.R.Source.remaining
       l.initial.sources l.sources l.place;
   picked : (texts : List (List ℕ)) → map g.R.Source.remaining l.initial.sources ≡ map Some texts
       → ArePicksOfAll l.fn.interest (take l.place texts) l.picks;

@@ -1,6 +1,6 @@
 -- What pick_source reports of the source's bytes, and how it reads them, as a source of the run.
 use Rattle.htl_main.proofs.OneSource.{decoded_ill, decoded_well, never_write, reported_bytes_of}
-use Rattle.htl_main.proofs.PickLaws.{known_more}
+use Rattle.htl_main.proofs.PickLaws.{known_more, never_case}
 use Rattle.htl_main.proofs.picking.pick_source.Goals as goal
 
 pub returns-in-Ok-clause-ok : goal.returns-in-Ok-clause-ok
@@ -9,7 +9,7 @@ returns-in-Ok-clause-ok g c = known_more (g.R.Source.remaining c.args.source.now
 pub returns-in-Ok-clause-reading : goal.returns-in-Ok-clause-reading
 returns-in-Ok-clause-reading g c =
     let is = c.in-Ok.ensures in
-    decoded_well c.args.workers g.R.Source.has_failed g.R.Source.has_ended g.R.Source.good_reads g.R.Source.remaining c.args.place
+    decoded_well g.R.Source.has_failed g.R.Source.has_ended g.R.Source.good_reads g.R.Source.remaining c.args.place
     c.args.source.now c.gather_bundle.new.source c.in-Ok.picks c.in-Ok.picks (record {
       ended = is.ended;
       reported = is.reported;
@@ -22,7 +22,7 @@ returns-in-Ok-clause-reading g c =
 pub returns-in-Err-clause-reading : goal.returns-in-Err-clause-reading
 returns-in-Err-clause-reading g c =
     let is = c.in-Err.ensures in
-    rw (c.of_source.ensures) (decoded_ill c.args.workers g.R.Source.has_failed g.R.Source.has_ended g.R.Source.good_reads
+    rw (c.of_source.ensures) (decoded_ill g.R.Source.has_failed g.R.Source.has_ended g.R.Source.good_reads
     g.R.Source.remaining c.args.place c.args.source.now c.gather_bundle.new.source c.in-Err.fault (record {
       ended = is.ended;
       reported = is.reported;
@@ -38,3 +38,6 @@ returns-in-Err-clause-err g c =
 
 pub returns-in-Err-clause-no_write : goal.returns-in-Err-clause-no_write
 returns-in-Err-clause-no_write g c = rw (c.of_source.ensures) (never_write c.args.place c.in-Err.fault)
+
+pub returns-in-Err-clause-no_case : goal.returns-in-Err-clause-no_case
+returns-in-Err-clause-no_case g c = rw (c.of_source.ensures) (never_case c.args.place c.in-Err.fault)

@@ -12,7 +12,7 @@ use Rattle.htl_main.proofs.sources.read_all.Goals as goal
 
 pub loop-place-init : goal.loop-place-init
 loop-place-init g c = record {
-  before = none_before c.args.hex c.args.workers g.R.Source.has_failed g.R.Source.has_ended g.R.Source.good_reads g.R.Source.remaining
+  before = none_before c.args.hex g.R.Source.has_failed g.R.Source.has_ended g.R.Source.good_reads g.R.Source.remaining
       c.args.sources.now c.requires.fresh;
   decoded = λ inputs all. c.new-decoded.ensures.segments;
   parts = λ inputs all. c.new-decoded.ensures.parts c.args.hex inputs;
@@ -26,7 +26,7 @@ loop-place-preserved g c =
     let source = get_or c.loop-place.sources place c.index-sources-place.result in
     let here = slice_get-get_or c.loop-place.sources place c.index-sources-place.result within in
     record {
-      before = one_before c.args.hex c.args.workers g.R.Source.has_failed g.R.Source.has_ended g.R.Source.good_reads g.R.Source.remaining
+      before = one_before c.args.hex g.R.Source.has_failed g.R.Source.has_ended g.R.Source.good_reads g.R.Source.remaining
           c.args.sources.now c.loop-place.sources place source c.read_input.new.source inv.before within here _ c.in_ok-more.ensures.reading;
       decoded = λ texts all.
           let knows = knows_now g.R.Source.remaining c.args.sources.now c.loop-place.sources texts place source
@@ -95,7 +95,7 @@ returns-in_err-more-clause-reading g c =
     let within : place < length c.loop-place.sources = omega arith in
     let source = get_or c.loop-place.sources place c.index-sources-place.result in
     let here = slice_get-get_or c.loop-place.sources place c.index-sources-place.result within in
-    rw (p.1, p.2) (read_to c.args.hex c.args.workers g.R.Source.has_failed g.R.Source.has_ended g.R.Source.good_reads g.R.Source.remaining
+    rw (p.1, p.2) (read_to c.args.hex g.R.Source.has_failed g.R.Source.has_ended g.R.Source.good_reads g.R.Source.remaining
     c.args.sources.now c.loop-place.sources place source c.read_input.new.source c.loop-place.invariant.before within here
     c.in_err-more.field-0.0 c.in_err-more.ensures.reading)
 
@@ -106,11 +106,11 @@ returns-in_err-add-clause-reading g c =
     let within : place < length c.loop-place.sources = omega arith in
     let source = get_or c.loop-place.sources place c.index-sources-place.result in
     let here = slice_get-get_or c.loop-place.sources place c.index-sources-place.result within in
-    rw (p.1, p.2) (refused_after c.args.hex c.args.workers g.R.Source.has_failed g.R.Source.has_ended g.R.Source.good_reads g.R.Source.remaining
+    rw (p.1, p.2) (refused_after c.args.hex g.R.Source.has_failed g.R.Source.has_ended g.R.Source.good_reads g.R.Source.remaining
     c.args.sources.now c.loop-place.sources place source c.read_input.new.source c.loop-place.invariant.before within here _
     c.in_ok-more.ensures.reading)
 
 pub returns-clause-reading : goal.returns-clause-reading
 returns-clause-reading g c =
-    all_read c.args.hex c.args.workers g.R.Source.has_failed g.R.Source.has_ended g.R.Source.good_reads g.R.Source.remaining c.args.sources.now
+    all_read c.args.hex g.R.Source.has_failed g.R.Source.has_ended g.R.Source.good_reads g.R.Source.remaining c.args.sources.now
     c.loop-place.sources c.loop-place.place _ c.loop-place.invariant.before (omega arith)

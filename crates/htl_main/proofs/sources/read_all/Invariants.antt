@@ -7,7 +7,7 @@ use Rattle.htl_main.proofs.sources.read_all.Given as goal
 
 abbrev pub invariant-loop-place : goal.invariant-loop-place
 invariant-loop-place g l = record {
-  before : ReadBefore l.hex l.workers g.R.Source.has_failed g.R.Source.has_ended g.R.Source.good_reads g.R.Source.remaining
+  before : ReadBefore l.hex g.R.Source.has_failed g.R.Source.has_ended g.R.Source.good_reads g.R.Source.remaining
       l.initial.sources l.sources l.place;
   decoded : (inputs : List (List ℕ)) → map g.R.Source.remaining l.initial.sources ≡ map Some inputs
       → DecodeAll l.hex (take l.place inputs) l.decoded.segments.items;

@@ -8,14 +8,23 @@ summarize-requires c =
     size_fits c.args.case.now _ c.segments.result.now c.new-part.ensures c.segments.ensures.value
     c.segments.ensures.is_case.trace
 
-pub summary_with-requires : goal.summary_with-requires
-summary_with-requires c =
+pub totals-requires : goal.totals-requires
+totals-requires c =
+    let T = c.args.case.now in
+    let are = are_events T _ c.segments.result.now c.new-part.ensures c.segments.ensures.value in
+    record {
+      complete_to = c.in_ok-gaps.ensures.complete_to;
+      objects = c.in_ok-objects.ensures.number (all_events T.segments) are;
+    }
+
+pub returns : goal.returns
+returns c =
     let T = c.args.case.now in
     let events = all_events T.segments in
     let are = are_events T _ c.segments.result.now c.new-part.ensures c.segments.ensures.value in
     record {
-      missed = c.requires;
-      processes = c.in_ok-objects.ensures.processes events are c.segments.ensures.is_case.trace.sequences;
-      number = c.in_ok-objects.ensures.number events are;
-      unbalanced = c.in_ok-objects.ensures.unbalanced events are;
+      totals_are = c.totals.ensures;
+      gaps_are = c.in_ok-gaps.ensures.gaps;
+      processes_are = c.in_ok-objects.ensures.processes events are c.segments.ensures.is_case.trace.sequences;
+      objects_are = c.in_ok-objects.ensures.unbalanced events are;
     }

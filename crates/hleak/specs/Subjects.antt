@@ -1,22 +1,33 @@
 -- What a fault is about, as a person calls it (this project's own).
-use Rattle.std.specs.Prelude.{ℕ, List, Option, None, codes, slice_get, string_bytes}
+use Rattle.std.specs.Prelude.{◌≡◌, ⊤, ℕ, List, Option, None, Some, codes, slice_get, string_bytes}
 use Rattle.std.specs.Option.{option_map_or}
+use Rattle.htl_command.specs.declared.command.Command.{Command}
+use Rattle.htl_command.specs.declared.command.Command.TheVariants as wish
 use Rattle.htl_main.specs.declared.fault.RunFault.{RunFault}
 use Rattle.htl_main.specs.declared.fault.RunFault.TheVariants.{Segment, Hex, Text, Symbols, Read}
 use Rattle.htl_main.specs.declared.fault.RunFault.TheVariants.{SymbolsRead, Write}
-use Rattle.hleak.specs.declared.task.Task.{Task}
-use Rattle.hleak.specs.declared.task.Task.TheVariants.{Answer, Convert, Converse}
+use Rattle.hleak.specs.declared.explaining.task.Task.{Task}
+use Rattle.hleak.specs.declared.explaining.task.Task.TheVariants.{Question, Convert, Ask}
+
+-- what is done for a command, where that has inputs
+abbrev pub IsTaskOf : Command → Option Task → Type 0
+IsTaskOf (wish.Question run) (Some (Question of)) = of.now ≡ run
+IsTaskOf (wish.Dump conversion) (Some (Convert of)) = of.now ≡ conversion
+IsTaskOf (wish.Encode conversion) (Some (Convert of)) = of.now ≡ conversion
+IsTaskOf (wish.Ask dialogue) (Some (Ask of)) = of.now ≡ dialogue
+IsTaskOf (wish.Explain code) None = ⊤
+IsTaskOf command other = ⊥
 
 -- the input at a place: the file of that place, or standard input where no file is named
 abbrev pub input_name : Task → ℕ → List ℕ
-input_name (Answer asked) place = option_map_or string_bytes (slice_get asked.now.files.items place) (codes "standard input")
+input_name (Question run) place = option_map_or string_bytes (slice_get run.now.files.items place) (codes "standard input")
 input_name (Convert of) place = option_map_or string_bytes (slice_get of.now.files.items place) (codes "standard input")
-input_name (Converse of) place = option_map_or string_bytes (slice_get of.now.files.items place) (codes "standard input")
+input_name (Ask of) place = option_map_or string_bytes (slice_get of.now.files.items place) (codes "standard input")
 
 -- the file with the symbols
 abbrev pub symbols_name : Task → List ℕ
-symbols_name (Answer asked) = option_map_or string_bytes asked.now.symbols (codes "the table of symbols")
-symbols_name (Converse of) = option_map_or string_bytes of.now.symbols (codes "the table of symbols")
+symbols_name (Question run) = option_map_or string_bytes run.now.symbols (codes "the table of symbols")
+symbols_name (Ask of) = option_map_or string_bytes of.now.symbols (codes "the table of symbols")
 symbols_name (Convert of) = codes "the table of symbols"
 
 -- the line of the event that a fault of a text is about

@@ -17,7 +17,7 @@ pub enum Subject {
 }
 
 impl Subject {
-    /// That of a question. A summary has none.
+    /// The subject of a question. A summary has none.
     pub fn of(question: Question) -> Option<Subject>
         ensures { result ≡ subject_of_question question }
     {
@@ -92,7 +92,7 @@ fn shown(byte: u8) -> char
     }
 }
 
-/// That what was asked about has no event.
+/// The note that what was asked about has no event.
 #[derive(Clone, Copy)]
 pub struct Absence {
     subject: Subject,

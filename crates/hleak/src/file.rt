@@ -6,7 +6,7 @@ ghost use Rattle.hleak.specs.Stages.{IsBegun, IsStageAfter, IsUnread};
 
 use std::fs::{File, Metadata};
 use std::io;
-use std::io::Read;
+use std::io::{Read, Seek, SeekFrom};
 
 /// How far the reading of a file has come.
 #[derive(Drop)]
@@ -59,6 +59,18 @@ impl InputFile {
         self.len
     }
 
+    /// Whether it is a regular file of which nothing was read.
+    pub fn is_unread(&self) -> bool {
+        matches!(self.stage, Stage::Found) && self.len.is_some()
+    }
+
+    /// The file from an offset on, opened once more.
+    pub fn tail(&self, offset: u64) -> io::Result<File> {
+        let mut file = File::open(&self.rt, &self.name)?;
+        file.seek(SeekFrom::Start(offset))?;
+        Ok(file)
+    }
+
     /// Opens the file, where that wasn't done.
     fn begin(&mut self) -> io::Result<()>
         ensures begun { OnOk result (IsBegun self.old.stage self.new.stage) }
@@ -108,7 +120,8 @@ pub fn known_len(metadata: &io::Result<Metadata>) -> Option<u64>
     }
 }
 
-/// Whether a file can't be opened once more in its place. A folder can, and can't be read.
+/// Whether a file stays open until it is read, since opening it once more would give other bytes. A
+/// folder is closed, though it can't be read.
 fn stays_open(metadata: &io::Result<Metadata>) -> bool
     ensures { StaysOpen metadata.now result }
 {

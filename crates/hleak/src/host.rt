@@ -8,7 +8,6 @@ ghost use Rattle.hleak.specs.Openings.{open_fault};
 use crate::file::{InputFile, known_len};
 use crate::input::{Device, Input};
 use crate::progress::Progress;
-use htl_main::Reading;
 use htl_program::{OpenFault, World};
 use std::{fs, io};
 
@@ -20,7 +19,7 @@ pub struct Host<'p> {
 }
 
 impl<'p> World for Host<'p> {
-    type Input = Reading<Input<'p, Device>>;
+    type Input = Input<'p, Device>;
 
     ghost holds = { λ _ _. None };
 
@@ -28,21 +27,21 @@ impl<'p> World for Host<'p> {
 
     ghost standard = { λ _. None };
 
-    fn open(&self, name: &str) -> Result<Reading<Input<'p, Device>>, OpenFault> {
+    fn open(&self, name: &str) -> Result<Input<'p, Device>, OpenFault> {
         let file = opened(InputFile::find(&self.rt, name))?;
-        Ok(Reading::new(Input::file(file, self.progress)))
+        Ok(Input::file(file, self.progress))
     }
 
     fn read(&self, name: &str) -> Result<Vec<u8>, OpenFault> {
         opened(fs::read(&self.rt, name))
     }
 
-    fn standard_input(&self) -> Reading<Input<'p, Device>> {
-        Reading::new(Input::standard(&self.rt, self.progress))
+    fn standard_input(&self) -> Input<'p, Device> {
+        Input::standard(&self.rt, self.progress)
     }
 
-    fn questions(&self) -> Reading<Input<'p, Device>> {
-        Reading::new(Input::standard(&self.rt, None))
+    fn questions(&self) -> Input<'p, Device> {
+        Input::standard(&self.rt, None)
     }
 
     fn can_be_read_again(&self, name: &str) -> bool {

@@ -9,6 +9,7 @@ use crate::shown::Shown;
 use htl_ask::Audience;
 use htl_dialogue::Host;
 use htl_main::{Coverage, ParseFault, Question};
+use htl_program::Speaker;
 use std::io::IsTerminal;
 
 /// Whoever reads standard error while a dialogue goes on.
@@ -24,7 +25,7 @@ pub struct Listener {
 }
 
 impl Listener {
-    /// Nothing was heard.
+    /// A listener who has heard nothing.
     pub fn new(rt: HostRuntime) -> Listener
         ensures { result.has_refused ≡ false }
     {
@@ -34,20 +35,6 @@ impl Listener {
             is_watched,
             is_typed: is_watched && rt.stdin().is_terminal(),
             has_refused: false,
-        }
-    }
-
-    /// Whether wrong lines make the status of a wrong command line: a person may ask for help.
-    pub fn counts_wrong(&self) -> bool
-        ensures { result ≡ (not self.now.is_typed || self.now.has_refused) }
-    {
-        !self.is_typed || self.has_refused
-    }
-
-    /// Ends the line where the end of the lines was typed.
-    pub fn ends_line(&self) {
-        if self.is_typed {
-            let _ = eprintln!(self.rt; "");
         }
     }
 
@@ -111,6 +98,22 @@ impl Audience for Listener {
             if let Some(note) = Note::on(coverage) {
                 let _ = eprintln!(self.rt; "{note}");
             }
+        }
+    }
+}
+
+impl Speaker for Listener {
+    // A person may ask for help.
+    ghost counts = { λ s. not s.is_typed || s.has_refused };
+
+    fn counts_wrong(&self) -> bool {
+        !self.is_typed || self.has_refused
+    }
+
+    /// A person who has typed the end of the lines gets a line of their own for what comes after.
+    fn leaves(&mut self, has_ended: bool) {
+        if has_ended && self.is_typed {
+            let _ = eprintln!(self.rt; "");
         }
     }
 }

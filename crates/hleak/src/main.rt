@@ -3,14 +3,13 @@
 //!
 //! What its arguments ask for is done by `htl_program`, for any world. Here is the world of the
 //! machine (`host.rt`), whose files (`file.rt`) are opened once they are read (`input.rt`), and the
-//! person who reads standard error (`terminal.rt`). What goes to standard error beside the replies of a
-//! dialogue is the matter of `listener.rt` and `conversing.rt`.
+//! person who reads standard error (`terminal.rt`). What goes there beside the replies of a dialogue is
+//! the matter of `listener.rt`.
 //!
 //! Where standard error is a terminal, a person reads more: `progress.rt` shows how much was read,
 //! `absence.rt` says that what was asked about has no event, `note.rt` that segments are missing, and
-//! `explanation.rt` and `meaning.rt` say a fault in words, of which file it is (`task.rt`) or of which
-//! two segments (`sides.rt`). `stopped.rt` says why a dialogue stopped. `shown.rt` keeps control
-//! characters of names from the terminal.
+//! `explaining.rt` says a fault in words. `shown.rt` keeps control characters of names from the
+//! terminal.
 #![tactic(auto)]
 
 ghost use Rattle.std.specs.Prelude.{⊤, IfErr, IfOk};
@@ -18,25 +17,20 @@ ghost use Rattle.htl_command.specs.Refusals.{IsUsageWith};
 ghost use Rattle.hleak.specs.Arguments.{AreArguments};
 
 mod absence;
-mod conversing;
-mod explanation;
+mod explaining;
 mod file;
 mod host;
 mod input;
 mod listener;
-mod meaning;
 mod note;
 mod progress;
 mod shown;
-mod sides;
-mod stopped;
-mod task;
 mod terminal;
 
 use host::Host;
 use htl_command::ParseFault;
 use htl_main::Writing;
-use htl_program::{program, refuse};
+use htl_program::{Inputs, program, refuse};
 use listener::Listener;
 use progress::Progress;
 use std::alloc::AllocError;
@@ -67,7 +61,7 @@ fn main(rt: HostRuntime) -> ExitCode {
             rt.alloc(),
             &world,
             arguments,
-            &mut Vec::new(rt.alloc()),
+            &mut Inputs::new(rt.alloc()),
             &mut out,
             &mut terminal,
             &mut Listener::new(rt),

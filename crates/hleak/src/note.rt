@@ -6,7 +6,7 @@ ghost use Rattle.hleak.specs.Notes.{gap_word as word_of};
 use htl_main::Coverage;
 use std::fmt;
 
-/// That segments are missing: the answer holds for those that are there.
+/// The note that segments are missing: the answer holds for those that are there.
 #[derive(Clone, Copy)]
 pub struct Note {
     coverage: Coverage,

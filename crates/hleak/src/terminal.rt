@@ -1,15 +1,13 @@
-//! What is read on standard error: the line of a fault, and at a terminal what a person reads more.
+//! What is read on standard error: the line of a fault, and what a person at a terminal reads beside it.
 
 ghost use Rattle.std.specs.Prelude.{None};
 
 use crate::absence::Absence;
-use crate::explanation::Explanation;
+use crate::explaining::{Explanation, Stopped, Task};
 use crate::note::Note;
 use crate::progress::Progress;
 use crate::shown::Shown;
-use crate::stopped::Stopped;
-use crate::task::Task;
-use htl_command::{Asked, Command, ParseFault};
+use htl_command::{Command, ParseFault, Run};
 use htl_dialogue::DialogueFault;
 use htl_main::{Completed, Refused, RunFault};
 use htl_program::Person;
@@ -48,7 +46,7 @@ impl Person for Terminal<'_> {
     /// How much was read isn't shown where a terminal gets the text of segments meanwhile.
     fn begins(&mut self, command: &Command) {
         match command {
-            Command::Answer(asked) if asked.files.is_empty() => self.await_typing("segments are"),
+            Command::Question(run) if run.files.is_empty() => self.await_typing("segments are"),
             Command::Dump(of) if of.files.is_empty() => self.await_typing("segments are"),
             Command::Encode(of) if of.files.is_empty() => self.await_typing("text is"),
             _ => {}
@@ -97,11 +95,11 @@ impl Person for Terminal<'_> {
         }
     }
 
-    fn notes(&mut self, asked: &Asked, completed: Completed) {
+    fn notes(&mut self, run: &Run, completed: Completed) {
         if !self.is_watched {
             return;
         }
-        if let Some(absence) = Absence::after(asked.job.question, completed) {
+        if let Some(absence) = Absence::after(run.job.question, completed) {
             let _ = eprintln!(self.rt; "{absence}");
         }
         if let Some(note) = Note::on(completed.coverage) {

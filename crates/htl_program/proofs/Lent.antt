@@ -24,6 +24,11 @@ is_ok : {S E : Type 0} → Result S E → Bool
 is_ok (Ok done) = true
 is_ok (Err fault) = false
 
+-- what ended well has no fault
+pub no_fault : {S E : Type 0} (done : S) (fault : E) → Ok done ≡ Err fault → ⊥
+unfolding is_ok
+no_fault done fault is = true≢false (ap is_ok is)
+
 -- inputs that were opened are all there
 pub all_opened : {S X : Type 0} (place : ℕ) (done : S) → IsUnopened place (Ok done) → X
 unfolding is_ok

@@ -1,5 +1,7 @@
 pub mod Names
+pub mod Told
 pub mod FirstAbsent
 pub mod Lent
 pub mod RanOut
+mod SourcesRead
 mod RunEnds

@@ -1,6 +1,7 @@
 -- What public contracts cite.
 pub mod Worlds
 pub mod Endings
+pub mod Readings
 pub mod Statuses
 pub mod Sayings
 pub mod Words

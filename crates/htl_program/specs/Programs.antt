@@ -1,38 +1,43 @@
 -- What the program does with its arguments (this project's own).
-use Rattle.std.specs.Prelude.{◌≡◌, ◌≢◌, ◌⊎◌, ◌&&◌, ⊤, not, ℕ, Bool, true, false, List, map, Option, Some, IfErr, IfOk}
-use Rattle.std.specs.Prelude.{Result, Ok, Err, String, string_bytes}
+use Rattle.std.specs.Prelude.{◌≡◌, ◌≢◌, ◌≤◌, ◌⊎◌, ◌&&◌, ⊤, not, ℕ, Bool, true, false, List, map, length, Option, Some}
+use Rattle.std.specs.Prelude.{IfErr, IfOk, IfSome, OnOk, Result, Ok, Err, String, string_bytes}
 use Rattle.std.specs.Io.KnownBytes.{Appends}
 use Rattle.htl_ask.specs.Asking.{BeginsAndGets, IsRunsCause, IsRunsText, before_dialogue}
 use Rattle.htl_ask.specs.declared.fault.AskFault.{AskFault}
 use Rattle.htl_ask.specs.declared.fault.AskFault.TheVariants as asks
 use Rattle.htl_command.specs.Refusals.{IsUsageWith, RefusesArguments}
 use Rattle.htl_command.specs.Requests.{request, requested}
-use Rattle.htl_command.specs.declared.asked.Asked.{Asked}
-use Rattle.htl_command.specs.declared.asked.Command.{Command}
-use Rattle.htl_command.specs.declared.asked.Command.TheVariants as wish
-use Rattle.htl_command.specs.declared.asked.Conversion.{Conversion}
-use Rattle.htl_command.specs.declared.asked.Dialogue.{Dialogue}
+use Rattle.htl_command.specs.declared.command.Run.{Run}
+use Rattle.htl_command.specs.declared.command.Command.{Command}
+use Rattle.htl_command.specs.declared.command.Command.TheVariants as wish
+use Rattle.htl_command.specs.declared.command.Conversion.{Conversion}
+use Rattle.htl_command.specs.declared.command.Dialogue.{Dialogue}
 use Rattle.htl_command.specs.declared.fault.ParseFault.{ParseFault}
 use Rattle.htl_command.specs.declared.fault.ParseFault.TheVariants.{Help, Usage, Memory}
 use Rattle.htl_device.specs.Devices.{AppendsPrefix}
+use Rattle.htl_device.specs.declared.whole.TheConstants.{MAX_READS}
 use Rattle.htl_dialogue.specs.Dialogues.{Converses, StopsAt}
 use Rattle.htl_dialogue.specs.Notes.{Note}
 use Rattle.htl_dialogue.specs.declared.dialogue.DialogueFault.{DialogueFault}
+use Rattle.htl_dialogue.specs.declared.dialogue.DialogueFault.TheVariants as dialogues
 use Rattle.htl_main.specs.Coverages.{Covers}
 use Rattle.htl_main.specs.Dumps.{is_failed_write}
-use Rattle.htl_main.specs.Origins.{by_fault}
+use Rattle.htl_main.specs.Origins.{IsBetween, by_fault}
 use Rattle.htl_main.specs.Sources.{IsEndless, IsTrueAt}
 use Rattle.htl_main.specs.Subjects.{ReportsSubject}
 use Rattle.htl_main.specs.declared.completed.Completed.{Completed}
 use Rattle.htl_main.specs.declared.coverage.Coverage.{Coverage}
 use Rattle.htl_main.specs.declared.fault.RunFault.{RunFault}
 use Rattle.htl_main.specs.declared.fault.RunFault.TheVariants as faults
+use Rattle.htl_main.specs.declared.origin.Between.TheVariants.{Nothing}
 use Rattle.htl_main.specs.declared.refused.Refused.{Refused}
 use Rattle.htl_program.specs.Endings.{Ends, EndsDump, EndsEncoding, IsUnopened, IsUntabled, RunsOut}
-use Rattle.htl_program.specs.Sayings.{Hears, Saying, answer, fault, no_memory, of_fault, stop, text, unwritten}
+use Rattle.htl_program.specs.Readings.{AreInputs}
+use Rattle.htl_program.specs.Sayings.{Hears, HearsRun, Saying, answer, fault, lone_fault, no_memory, stop, text, unwritten}
 use Rattle.htl_program.specs.Statuses.{conversion_status, dialogue_status, end_status}
 use Rattle.htl_program.specs.Words.{explained}
 use Rattle.htl_program.specs.Worlds.{IsFirstAbsent, IsFirstRefused, IsTable, IsTableAbsent, of_each, of_inputs}
+use Rattle.htl_program.specs.declared.inputs.Inputs.{Inputs}
 
 -- what is known of a world
 pub record Known : Type 0 where
@@ -45,19 +50,29 @@ known holds is_absent standard world = record { holds = holds world; is_absent =
 
 -- what became of the inputs that were opened: which bytes each has left, whether its end was found, whether a read of it failed, and how
 -- many reads of it gave bytes
-pub record Opened : Type 0 where
-  pub lefts : List (Option (List ℕ))
-  pub ends : List Bool
-  pub failed : List Bool
-  pub reads : List ℕ
+pub record Opened (R : Type 0) : Type 0 where
+  pub remaining : R → Option (List ℕ)
+  pub has_ended : R → Bool
+  pub has_failed : R → Bool
+  pub good_reads : R → ℕ
+  pub files : List R
+  pub questions : Option R
 
-abbrev pub opened : {R : Type 0} → (R → Option (List ℕ)) → (R → Bool) → (R → Bool) → (R → ℕ) → List R → Opened
+abbrev pub opened : {R : Type 0} → (R → Option (List ℕ)) → (R → Bool) → (R → Bool) → (R → ℕ) → Inputs R → Opened R
 opened remaining has_ended has_failed good_reads inputs = record {
-  lefts = map remaining inputs;
-  ends = map has_ended inputs;
-  failed = map has_failed inputs;
-  reads = map good_reads inputs;
+  remaining = remaining;
+  has_ended = has_ended;
+  has_failed = has_failed;
+  good_reads = good_reads;
+  files = inputs.files.items;
+  questions = inputs.questions;
 }
+
+abbrev pub lefts : {R : Type 0} → Opened R → List (Option (List ℕ))
+lefts inputs = map inputs.remaining inputs.files
+
+abbrev pub ends : {R : Type 0} → Opened R → List Bool
+ends inputs = map inputs.has_ended inputs.files
 
 -- what was written and said: which bytes the output holds, whether a write to it failed, and what a person heard
 pub record Told : Type 0 where
@@ -77,60 +92,82 @@ abbrev pub IsAbsentAt : {A : Type 0} → Known → List (String A) → ℕ → T
 IsAbsentAt world names place = IsFirstAbsent (of_each world.holds names) (of_each world.is_absent names) place
 
 -- a failed read is reported only of a name that was refused, or of an input whose read failed or that has no end
-abbrev pub ReportsRead : {A S : Type 0} → Known → Opened → List (String A) → Result S RunFault → Type 0
+abbrev pub ReportsRead : {A R S : Type 0} → Known → Opened R → List (String A) → Result S RunFault → Type 0
 ReportsRead world inputs names result =
     (place : ℕ) → result ≡ Err (faults.Read place)
     → IsFirstRefused (of_each world.holds names) (of_each world.is_absent names) place
-    ⊎ (IsTrueAt inputs.failed place ⊎ IsEndless inputs.reads (of_inputs world.holds world.standard names) place)
+    ⊎ (IsTrueAt (map inputs.has_failed inputs.files) place
+    ⊎ IsEndless (map inputs.good_reads inputs.files) (of_inputs world.holds world.standard names) place)
 
 -- the question was run so over its files and its table of symbols
-pub record IsAnswered (world : Known) (inputs : Opened) (old new : Told) (asked : Asked) (ended : Result Completed Refused) : Type 0 where
-  pub ends : (texts : List (List ℕ)) → (table : Option (List ℕ)) → HaveTexts world asked.files.items texts
-      → IsTable world.holds asked.symbols table
-      → Ends asked.job texts table inputs.lefts inputs.ends old.out new.out ended ⊎ RunsOut ended
-  pub absent : (place : ℕ) → IsAbsentAt world asked.files.items place → IsUnopened place (by_fault ended)
-  pub untabled : (texts : List (List ℕ)) → HaveTexts world asked.files.items texts → IsTableAbsent world.is_absent asked.symbols
+pub record IsAnswered {R : Type 0} (world : Known) (inputs : Opened R) (old new : Told) (run : Run) (ended : Result Completed Refused)
+    : Type 0 where
+  pub ends : (texts : List (List ℕ)) → (table : Option (List ℕ)) → HaveTexts world run.files.items texts
+      → IsTable world.holds run.symbols table
+      → Ends run.job texts table (lefts inputs) (ends inputs) old.out new.out ended ⊎ RunsOut ended
+  pub absent : (place : ℕ) → IsAbsentAt world run.files.items place → IsUnopened place (by_fault ended)
+  pub untabled : (texts : List (List ℕ)) → HaveTexts world run.files.items texts → IsTableAbsent world.is_absent run.symbols
       → IsUntabled (by_fault ended)
-  pub read : ReportsRead world inputs asked.files.items (by_fault ended)
+  pub reading : AreInputs run.job.hex inputs.has_failed inputs.has_ended inputs.good_reads inputs.remaining
+      (of_inputs world.holds world.standard run.files.items) inputs.files (by_fault ended)
+  pub read : ReportsRead world inputs run.files.items (by_fault ended)
   pub untouched : IfErr (by_fault ended) (λ reported. reported ≢ faults.Write → new.out ≡ old.out)
   pub failed : by_fault ended ≡ Err faults.Write → new.is_full ≡ true
+  pub fine : OnOk ended (new.is_full ≡ false)
 
--- How a question's end is said. A failed write is not where nobody reads any more.
-abbrev pub SaysAnswer : Option (List Saying) → Option (List Saying) → Result Completed Refused → Type 0
-SaysAnswer old new (Ok completed) = Hears old new (answer completed)
-SaysAnswer old new (Err refused) = Hears old new (fault refused) ⊎ ((refused.fault ≡ faults.Write) × (new ≡ old))
+-- The fault that ended a run is said, once. A failed write is not where nobody reads any more.
+abbrev pub SaysFault : Option (List Saying) → Option (List Saying) → Command → Refused → Type 0
+SaysFault old new command refused = Hears old new (fault command refused) ⊎ ((refused.fault ≡ faults.Write) × (new ≡ old))
 
-pub record DoesAnswer (world : Known) (inputs : Opened) (old new : Told) (asked : Asked) (status : ℕ) : Type 0 where
+-- how a question's end is said, once its run is over
+abbrev pub SaysAnswer : Option (List Saying) → Option (List Saying) → Command → Run → Result Completed Refused → Type 0
+SaysAnswer old new command run (Ok completed) = Hears old new (answer run completed)
+SaysAnswer old new command run (Err refused) = SaysFault old new command refused
+
+pub record DoesAnswer {R : Type 0} (world : Known) (inputs : Opened R) (old new : Told) (command : Command) (run : Run) (status : ℕ)
+    : Type 0 where
   pub ended : Result Completed Refused
-  pub is : IsAnswered world inputs old new asked ended
-  pub status_is : status ≡ end_status asked.job.exit_code (by_fault ended)
-  pub said : SaysAnswer old.heard new.heard ended
+  pub is : IsAnswered world inputs old new run ended
+  pub status_is : status ≡ end_status run.job.exit_code (by_fault ended)
+  pub after_run : Option (List Saying)
+  pub hears_run : HearsRun command old.heard after_run
+  pub said : SaysAnswer after_run new.heard command run ended
 
 -- how a conversion's end is said: nothing, if it ended well
-abbrev pub SaysConversion : {S : Type 0} → Option (List Saying) → Option (List Saying) → Result S RunFault → Type 0
-SaysConversion old new (Ok done) = new ≡ old
-SaysConversion old new (Err reported) = Hears old new (of_fault reported) ⊎ ((reported ≡ faults.Write) × (new ≡ old))
+abbrev pub SaysConversion : {S : Type 0} → Option (List Saying) → Option (List Saying) → Command → Result S RunFault → Type 0
+SaysConversion old new command (Ok done) = new ≡ old
+SaysConversion old new command (Err reported) = SaysFault old new command (record { fault = reported; between = Nothing })
 
-pub record DoesDump (world : Known) (inputs : Opened) (old new : Told) (of : Conversion) (status : ℕ) : Type 0 where
+pub record DoesDump {R : Type 0} (world : Known) (inputs : Opened R) (old new : Told) (command : Command) (of : Conversion) (status : ℕ)
+    : Type 0 where
   pub ended : Result (Unit {0}) RunFault
   pub ends : (texts : List (List ℕ)) → HaveTexts world of.files.items texts
-      → EndsDump of.hex texts inputs.lefts inputs.ends old.out new.out ended
+      → EndsDump of.hex texts (lefts inputs) (ends inputs) old.out new.out ended
   pub absent : (place : ℕ) → IsAbsentAt world of.files.items place → IsUnopened place ended × (new.out ≡ old.out)
+  pub reading : AreInputs of.hex inputs.has_failed inputs.has_ended inputs.good_reads inputs.remaining
+      (of_inputs world.holds world.standard of.files.items) inputs.files ended
   pub read : ReportsRead world inputs of.files.items ended
   pub failed : new.is_full ≡ is_failed_write ended
   pub status_is : status ≡ conversion_status ended
-  pub said : SaysConversion old.heard new.heard ended
+  pub after_run : Option (List Saying)
+  pub hears_run : HearsRun command old.heard after_run
+  pub said : SaysConversion after_run new.heard command ended
 
-pub record DoesEncode (world : Known) (inputs : Opened) (old new : Told) (of : Conversion) (status : ℕ) : Type 0 where
+pub record DoesEncode {R : Type 0} (world : Known) (inputs : Opened R) (old new : Told) (command : Command) (of : Conversion) (status : ℕ)
+    : Type 0 where
   pub ended : Result (Unit {0}) RunFault
   pub ends : (texts : List (List ℕ)) → HaveTexts world of.files.items texts
-      → EndsEncoding of.hex texts inputs.lefts inputs.ends old.out new.out ended
+      → EndsEncoding of.hex texts (lefts inputs) (ends inputs) old.out new.out ended
   pub absent : (place : ℕ) → IsAbsentAt world of.files.items place → IsUnopened place ended
+  pub reading : AreInputs true inputs.has_failed inputs.has_ended inputs.good_reads inputs.remaining
+      (of_inputs world.holds world.standard of.files.items) inputs.files ended
   pub read : ReportsRead world inputs of.files.items ended
   pub failed : new.is_full ≡ is_failed_write ended
   pub untouched : IfErr ended (λ reported. reported ≢ faults.Write → new.out ≡ old.out)
   pub status_is : status ≡ conversion_status ended
-  pub said : SaysConversion old.heard new.heard ended
+  pub after_run : Option (List Saying)
+  pub hears_run : HearsRun command old.heard after_run
+  pub said : SaysConversion after_run new.heard command ended
 
 -- A text that was asked for: it is written and nothing is said, with status 0; or its write fails, which is said, with status 5.
 abbrev pub IsPrinted : List ℕ → Told → Told → ℕ → Type 0
@@ -145,34 +182,37 @@ Refuses old new (Usage why) status = (status ≡ 2) × (new.out ≡ old.out) × 
 Refuses old new Memory status = (status ≡ 6) × (new.out ≡ old.out) × Hears old.heard new.heard no_memory
 
 -- a code is explained, unless memory is refused
-abbrev pub Explains : Told → Told → List ℕ → ℕ → Type 0
-Explains old new bytes status =
+abbrev pub Explains : Told → Told → Command → List ℕ → ℕ → Type 0
+Explains old new command bytes status =
     IsPrinted bytes old new status
-    ⊎ ((status ≡ 6) × (new.out ≡ old.out) × Hears old.heard new.heard (of_fault faults.Memory))
+    ⊎ ((status ≡ 6) × (new.out ≡ old.out) × Hears old.heard new.heard (lone_fault command faults.Memory))
 
 -- Segments are made of text, but their bytes aren't shown to a person.
-abbrev pub Encodes : Bool → Known → Opened → Told → Told → Conversion → ℕ → Type 0
-Encodes true world inputs old new of status = (why : ParseFault) × IsUsageWith ⊤ why × Refuses old new why status
-Encodes false world inputs old new of status = DoesEncode world inputs old new of status
+abbrev pub Encodes : {R : Type 0} → Bool → Known → Opened R → Told → Told → Command → Conversion → ℕ → Type 0
+Encodes true world inputs old new command of status = (why : ParseFault) × IsUsageWith ⊤ why × Refuses old new why status
+Encodes false world inputs old new command of status = DoesEncode world inputs old new command of status
 
--- how a dialogue's end is said: nothing, if it ended well
-abbrev pub SaysDialogue : {S : Type 0} → Option (List Saying) → Option (List Saying) → Result S AskFault → Type 0
-SaysDialogue old new (Ok done) = new ≡ old
-SaysDialogue old new (Err (asks.Run refused)) = Hears old new (fault refused) ⊎ ((refused.fault ≡ faults.Write) × (new ≡ old))
-SaysDialogue old new (Err (asks.Dialogue stopped)) = Hears old new (stop stopped) ⊎ (new ≡ old)
+-- how a dialogue's end is said, once it is over: nothing, if it ended well
+abbrev pub SaysDialogue : {S : Type 0} → Option (List Saying) → Option (List Saying) → Command → Result S AskFault → Type 0
+SaysDialogue old new command (Ok done) = new ≡ old
+SaysDialogue old new command (Err (asks.Run refused)) = SaysFault old new command refused
+SaysDialogue old new command (Err (asks.Dialogue stopped)) =
+    Hears old new (stop stopped) ⊎ ((stopped ≡ dialogues.Write) × (new ≡ old))
 
--- who types the lines of a dialogue, before it and after: what each note makes of them, whether they want to know what has no event, and
--- whether in the end their wrong lines count
+-- who types the lines of a dialogue, before it and after: what each note makes of them, what they are once there are no more replies,
+-- whether they want to know what has no event, and whether in the end their wrong lines count
 pub record Spoken (S : Type 0) : Type 0 where
   pub told : S → Note → S
+  pub left : S → Bool → S
   pub wants_absence : Bool
   pub counts_wrong : Bool
   pub before : S
   pub after : S
 
-abbrev pub spoken : {S : Type 0} → (S → Note → S) → (S → Bool) → (S → Bool) → S → S → Spoken S
-spoken told wants_absence counts_wrong before after = record {
+abbrev pub spoken : {S : Type 0} → (S → Note → S) → (S → Bool → S) → (S → Bool) → (S → Bool) → S → S → Spoken S
+spoken told left wants_absence counts_wrong before after = record {
   told = told;
+  left = left;
   wants_absence = wants_absence before;
   counts_wrong = counts_wrong after;
   before = before;
@@ -180,57 +220,81 @@ spoken told wants_absence counts_wrong before after = record {
 }
 
 -- the output got these replies, and who types the lines these notes, after they were told how much of its trace the case has
-abbrev pub HasGot : {S : Type 0} → Spoken S → Told → Told → Coverage → List ℕ → List Note → Type 0
-HasGot speaker old new coverage = BeginsAndGets old.out new.out speaker.told speaker.before speaker.after coverage
+abbrev pub HasGot : {S : Type 0} → Spoken S → S → Told → Told → Coverage → List ℕ → List Note → Type 0
+HasGot speaker listening old new coverage = BeginsAndGets old.out new.out speaker.told speaker.before listening coverage
 
--- The lines of standard input get their replies. What is left of these lines, and whether a read of them failed, is given too.
-pub record DoesConverse {S : Type 0} (speaker : Spoken S) (world : Known) (inputs : Opened) (old new : Told) (of : Dialogue) (status : ℕ)
-    : Type 0 where
+-- Nothing was read of the questions, of which these are the bytes.
+pub record IsUnread {R : Type 0} (inputs : Opened R) (questions : R) (bytes : Option (List ℕ)) : Type 0 where
+  pub whole : inputs.remaining questions ≡ bytes
+  pub fresh : inputs.has_failed questions ≡ false
+  pub inside : inputs.has_ended questions ≡ false
+
+-- The lines of standard input get their replies. The speaker is given as they were when the last reply had come.
+pub record DoesConverse {S R : Type 0} (speaker : Spoken S) (world : Known) (inputs : Opened R) (old new : Told) (command : Command)
+    (of : Dialogue) (status : ℕ) : Type 0 where
   pub ended : Result Bool AskFault
-  pub left : Option (List ℕ)
-  pub has_failed : Bool
+  pub listening : S
+  pub questions : R
+  pub asked : inputs.questions ≡ Some questions
   pub replies : (texts : List (List ℕ)) → (table : Option (List ℕ)) → (lines : List ℕ) → HaveTexts world of.files.items texts
       → IsTable world.holds of.symbols table → world.standard ≡ Some lines
       → IfOk ended (λ has_wrong. (coverage : Coverage) × Covers of.setting.hex texts coverage
       × Converses (IsRunsText of.setting texts table) (ReportsSubject of.setting.hex texts) speaker.wants_absence lines
-      (HasGot speaker old new coverage) has_wrong)
+      (HasGot speaker listening old new coverage) has_wrong)
   pub stops : (texts : List (List ℕ)) → (table : Option (List ℕ)) → (lines : List ℕ) → (stopped : DialogueFault)
       → HaveTexts world of.files.items texts → IsTable world.holds of.symbols table → world.standard ≡ Some lines
       → ended ≡ Err (asks.Dialogue stopped) → (coverage : Coverage) × Covers of.setting.hex texts coverage
-      × StopsAt (IsRunsText of.setting texts table) (ReportsSubject of.setting.hex texts) speaker.wants_absence lines left has_failed
-      (HasGot speaker old new coverage) stopped
+      × StopsAt (IsRunsText of.setting texts table) (ReportsSubject of.setting.hex texts) speaker.wants_absence lines
+      (inputs.remaining questions) (inputs.has_failed questions) (HasGot speaker listening old new coverage) stopped
+  -- What failed is reported, and nothing else is reported as failed.
+  pub lines : inputs.has_failed questions ≡ true → ended ≡ Err (asks.Dialogue dialogues.Questions)
+  pub unread : ended ≡ Err (asks.Dialogue dialogues.Questions)
+      → (inputs.has_failed questions ≡ true) ⊎ IfSome world.standard (λ bytes. MAX_READS ≤ length bytes)
+  pub full : new.is_full ≡ true → ended ≡ Err (asks.Dialogue dialogues.Write)
+  pub unwritten : ended ≡ Err (asks.Dialogue dialogues.Write) → new.is_full ≡ true
   pub cause : (texts : List (List ℕ)) → (table : Option (List ℕ)) → HaveTexts world of.files.items texts
       → IsTable world.holds of.symbols table
       → IfErr (by_fault (before_dialogue ended)) (λ reported.
-      IsRunsCause of.setting texts inputs.lefts inputs.ends table reported ⊎ (reported ≡ faults.Memory))
+      IsRunsCause of.setting texts (lefts inputs) (ends inputs) table reported ⊎ (reported ≡ faults.Memory))
+  pub between : (texts : List (List ℕ)) → HaveTexts world of.files.items texts
+      → IfErr (before_dialogue ended) (λ refused. IsBetween of.setting.hex texts refused.fault refused.between)
   pub absent : (place : ℕ) → IsAbsentAt world of.files.items place → IsUnopened place (by_fault (before_dialogue ended))
   pub untabled : (texts : List (List ℕ)) → HaveTexts world of.files.items texts → IsTableAbsent world.is_absent of.symbols
       → IsUntabled (by_fault (before_dialogue ended))
+  pub reading : AreInputs of.setting.hex inputs.has_failed inputs.has_ended inputs.good_reads inputs.remaining
+      (of_inputs world.holds world.standard of.files.items) inputs.files (by_fault (before_dialogue ended))
   pub read : ReportsRead world inputs of.files.items (by_fault (before_dialogue ended))
-  pub untouched : IfErr (before_dialogue ended) (λ refused. (new.out ≡ old.out) × (speaker.after ≡ speaker.before))
+  -- Before the files are read no line is, and nothing is written or told.
+  pub untouched : IfErr (before_dialogue ended) (λ refused.
+      IsUnread inputs questions world.standard × (new.out ≡ old.out) × (listening ≡ speaker.before))
+  pub after : speaker.after ≡ speaker.left listening (inputs.has_ended questions)
   pub status_is : status ≡ dialogue_status speaker.counts_wrong ended
-  pub said : SaysDialogue old.heard new.heard ended
+  pub after_run : Option (List Saying)
+  pub hears_run : HearsRun command old.heard after_run
+  pub said : SaysDialogue after_run new.heard command ended
 
 -- what is done for a command, and the status with which the program ends; whether a person sees the output is given first
-abbrev pub Does : {S : Type 0} → Bool → Spoken S → Known → Opened → Told → Told → Command → ℕ → Type 0
-Does sees speaker world inputs old new (wish.Answer asked) status = DoesAnswer world inputs old new asked status
-Does sees speaker world inputs old new (wish.Explain code) status = Explains old new (explained code) status
-Does sees speaker world inputs old new (wish.Dump of) status = DoesDump world inputs old new of status
-Does sees speaker world inputs old new (wish.Encode of) status = Encodes (not of.hex && sees) world inputs old new of status
-Does sees speaker world inputs old new (wish.Converse of) status = DoesConverse speaker world inputs old new of status
+abbrev pub Does : {S R : Type 0} → Bool → Spoken S → Known → Opened R → Told → Told → Command → ℕ → Type 0
+Does sees speaker world inputs old new (wish.Question run) status = DoesAnswer world inputs old new (wish.Question run) run status
+Does sees speaker world inputs old new (wish.Explain code) status = Explains old new (wish.Explain code) (explained code) status
+Does sees speaker world inputs old new (wish.Dump of) status = DoesDump world inputs old new (wish.Dump of) of status
+Does sees speaker world inputs old new (wish.Encode of) status =
+    Encodes (not of.hex && sees) world inputs old new (wish.Encode of) of status
+Does sees speaker world inputs old new (wish.Ask of) status =
+    DoesConverse speaker world inputs old new (wish.Ask of) of status
 
 -- what arguments give
 abbrev pub IsParsed : List (List ℕ) → Result Command ParseFault → Type 0
 IsParsed words (Ok command) = requested words ≡ Some (request command)
 IsParsed words (Err why) = RefusesArguments words why
 
-abbrev pub DoesParsed : {S : Type 0} → Bool → Spoken S → Known → Opened → Told → Told → Result Command ParseFault → ℕ → Type 0
+abbrev pub DoesParsed : {S R : Type 0} → Bool → Spoken S → Known → Opened R → Told → Told → Result Command ParseFault → ℕ → Type 0
 DoesParsed sees speaker world inputs old new (Ok command) status = Does sees speaker world inputs old new command status
 DoesParsed sees speaker world inputs old new (Err why) status = Refuses old new why status
 
 -- The program does what its arguments ask for.
-pub record Obeys {S : Type 0} (sees : Bool) (speaker : Spoken S) (world : Known) (inputs : Opened) (old new : Told) (words : List (List ℕ))
-    (status : ℕ) : Type 0 where
+pub record Obeys {S R : Type 0} (sees : Bool) (speaker : Spoken S) (world : Known) (inputs : Opened R) (old new : Told)
+    (words : List (List ℕ)) (status : ℕ) : Type 0 where
   pub parsed : Result Command ParseFault
   pub is : IsParsed words parsed
   pub does : DoesParsed sees speaker world inputs old new parsed status

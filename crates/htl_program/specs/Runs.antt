@@ -1,10 +1,10 @@
 -- For the clauses of private functions: what a run over opened inputs did with them, and with the sink that its answer went to.
-use Rattle.std.specs.Prelude.{◌≡◌, ◌≢◌, ◌⊎◌, ℕ, Bool, true, false, List, map, Option, Some, IfErr, OnOk, Result, Err}
+use Rattle.std.specs.Prelude.{◌≡◌, ◌≢◌, ℕ, Bool, true, false, List, map, Option, Some, IfErr, OnOk, Result, Err}
 use Rattle.htl_command.specs.declared.question.Job.{Job}
 use Rattle.htl_main.specs.Origins.{by_fault}
-use Rattle.htl_main.specs.Sources.{IsEndless, IsTrueAt}
+use Rattle.htl_main.specs.Readings.{AreRead}
 use Rattle.htl_main.specs.declared.completed.Completed.{Completed}
-use Rattle.htl_main.specs.declared.fault.RunFault.TheVariants.{Read, Write}
+use Rattle.htl_main.specs.declared.fault.RunFault.TheVariants.{Write}
 use Rattle.htl_main.specs.declared.refused.Refused.{Refused}
 use Rattle.htl_program.specs.Endings.{Ends}
 
@@ -15,9 +15,7 @@ pub record IsRun {R O : Type 0} (job : Job) (table : Option (List ℕ)) (has_fai
     (result : Result Completed Refused) : Type 0 where
   pub ends : (texts : List (List ℕ)) → map remaining old ≡ map Some texts
       → Ends job texts table (map remaining new) (map has_ended new) (contents before) (contents after) result
-  -- a failed read is reported only where one failed, or after too many reads
-  pub read : (place : ℕ) → by_fault result ≡ Err (Read place)
-      → IsTrueAt (map has_failed new) place ⊎ IsEndless (map good_reads new) (map remaining old) place
+  pub reading : AreRead job.hex has_failed has_ended good_reads remaining old new (by_fault result)
   pub untouched : IfErr (by_fault result) (λ fault. fault ≢ Write → after ≡ before)
   pub failed : by_fault result ≡ Err Write → is_full after ≡ true
   pub fine : OnOk result (is_full after ≡ false)

@@ -1,6 +1,6 @@
--- What each code means, and what to do (this project's own). A word in angle brackets stands for a number or a field
--- of the fault.
-use Rattle.std.specs.Prelude.{◌++◌, ◌∷◌, [], ℕ, List, codes}
+-- The words on each code: what is wrong, and what to do (this project's own). A word in angle brackets stands for a number or a
+-- field of the fault.
+use Rattle.std.specs.Prelude.{◌++◌, ◌∷◌, [], ℕ, List, Option, None, Some, codes}
 use Rattle.htl_command.specs.Codes.{code_name}
 use Rattle.htl_command.specs.declared.code.Code.{Code}
 use Rattle.htl_command.specs.declared.code.Code.TheVariants.{S1, S2, S3, S4, S5, S6, S7, S8, S9, S10, S11, S12, S13, S14, S15, S16, S17}
@@ -11,56 +11,79 @@ use Rattle.htl_command.specs.declared.code.Code.TheVariants.{E1, E2}
 use Rattle.htl_text.specs.declared.fault.FormFault.{FormFault}
 use Rattle.htl_text.specs.declared.fault.FormFault.TheVariants as forms
 
--- a line with none of the forms, and one that has a form but for a field
+-- the part of the inputs with which the words on a code begin, where its faults have numbers of their own
+abbrev pub part_of : Code → Option (List ℕ)
+part_of S11 = Some (codes "record <i>")
+part_of S12 = Some (codes "record <i>")
+part_of S13 = Some (codes "record <i>")
+part_of S14 = Some (codes "record <i>")
+part_of S15 = Some (codes "record <i>")
+part_of H1 = Some (codes "byte <place>")
+part_of C2 = Some (codes "segment <place> of all inputs")
+part_of C3 = Some (codes "segment <place> of all inputs")
+part_of C4 = Some (codes "segment <number> of processor <processor>")
+part_of C5 = Some (codes "sequence <sequence>")
+part_of C7 = Some (codes "segment <number> of processor <processor>")
+part_of C8 = Some (codes "segment <number> of processor <processor>")
+part_of Y2 = Some (codes "row <row>")
+part_of Y3 = Some (codes "row <row>")
+part_of Y4 = Some (codes "row <row>")
+part_of Y5 = Some (codes "row <row>")
+part_of Y6 = Some (codes "row <row>")
+part_of code = None
+
+-- a line with none of the forms, and what is wrong with a field of one that has a form
 abbrev pub no_form : List ℕ
 no_form = codes "the line has none of the forms of the text"
 
-abbrev pub bad_field : List ℕ
-bad_field = codes "the line's <field> isn't there, or has no value that fits"
+abbrev pub bad_value : List ℕ
+bad_value = codes "isn't there, or has no value that fits"
 
-abbrev pub form_meaning_of : FormFault → List ℕ
-form_meaning_of forms.Words = no_form
-form_meaning_of (forms.Field field) = bad_field
+abbrev pub form_wrong_of : FormFault → List ℕ
+form_wrong_of forms.Words = no_form
+form_wrong_of (forms.Field field) = bad_value
 
-unfoldable pub meaning_of : Code → List ℕ
-meaning_of S1 = codes "a segment has at least 32 bytes and begins with HLS1, and fewer are left"
-meaning_of S2 = codes "a segment begins with HLS1 (48 4c 53 31), and these bytes do not"
-meaning_of S3 = codes "the segment's version is neither 1 nor 2"
-meaning_of S4 = codes "the segment's version allows no such number of processors"
-meaning_of S5 = codes "the segment's processor isn't below their number"
-meaning_of S6 = codes "the header's reserved field isn't 0"
-meaning_of S7 = codes "no segment has the number 0xffffffff"
-meaning_of S8 = codes "a segment has at most 4096 records"
-meaning_of S9 = codes "the segment's version allows no such length of a segment"
-meaning_of S10 = codes "the file ends before its last segment does"
-meaning_of S11 = codes "record <i> is cut by the end of the segment's length"
-meaning_of S12 = codes "record <i> has sequence 0, or one not above that of the record before"
-meaning_of S13 = codes "record <i> is of no kind of the segment's version"
-meaning_of S14 = codes "record <i> has more frames than its version allows, or than fit in"
-meaning_of S15 = codes "record <i> has a reserved field, handle, object or tag that its kind doesn't allow"
-meaning_of S16 = codes "bytes are left in the segment after its last record"
-meaning_of S17 = codes "the system refused memory"
-meaning_of H1 = codes "byte <place> is no digit and no blank"
-meaning_of H2 = codes "the last byte has only one digit"
-meaning_of H3 = codes "the system refused memory"
-meaning_of C1 = codes "the inputs have no segments"
-meaning_of C2 = codes "segment <place> of all inputs is of another trace than segment 0"
-meaning_of C3 = codes "segment <place> of all inputs has another number of processors than segment 0"
-meaning_of C4 = codes "segment <number> of processor <processor> is there with two different contents"
-meaning_of C5 = codes "sequence <sequence> is that of an event in each of two different segments"
-meaning_of C6 = codes "the system refused memory"
-meaning_of C7 = codes "segment <number> of processor <processor> has an event that isn't above all in the processor's segments before"
-meaning_of C8 = codes "segment <number> of processor <processor> is missing"
-meaning_of Y1 = codes "the first line isn't start,end,module,name"
-meaning_of Y2 = codes "row <row> hasn't four fields"
-meaning_of Y3 = codes "row <row> has a start or an end that is no number"
-meaning_of Y4 = codes "row <row> ends at or below its start"
-meaning_of Y5 = codes "row <row> has an address of an earlier row"
-meaning_of Y6 = codes "row <row> can't be read"
-meaning_of Y7 = codes "the system refused memory"
-meaning_of E1 = no_form ++ (codes ", or " ++ bad_field)
-meaning_of E2 = codes "the line is an event or a frame before any segment, or a frame before any event"
+-- what is wrong with that part, or by itself
+unfoldable pub wrong_of : Code → List ℕ
+wrong_of S1 = codes "a segment has at least 32 bytes and begins with HLS1, and fewer are left"
+wrong_of S2 = codes "a segment begins with HLS1 (48 4c 53 31), and these bytes do not"
+wrong_of S3 = codes "the segment's version is neither 1 nor 2"
+wrong_of S4 = codes "the segment's version allows no such number of processors"
+wrong_of S5 = codes "the segment's processor isn't below their number"
+wrong_of S6 = codes "the header's reserved field isn't 0"
+wrong_of S7 = codes "no segment has the number 0xffffffff"
+wrong_of S8 = codes "a segment has at most 4096 records"
+wrong_of S9 = codes "the segment's version allows no such length of a segment"
+wrong_of S10 = codes "the file ends before its last segment does"
+wrong_of S11 = codes "is cut by the end of the segment's length"
+wrong_of S12 = codes "has sequence 0, or one not above that of the record before"
+wrong_of S13 = codes "is of no kind of the segment's version"
+wrong_of S14 = codes "has more frames than its version allows, or than fit in"
+wrong_of S15 = codes "has a reserved field, handle, object or tag that its kind doesn't allow"
+wrong_of S16 = codes "bytes are left in the segment after its last record"
+wrong_of S17 = codes "the system refused memory"
+wrong_of H1 = codes "is no digit and no blank"
+wrong_of H2 = codes "the last byte has only one digit"
+wrong_of H3 = codes "the system refused memory"
+wrong_of C1 = codes "the inputs have no segments"
+wrong_of C2 = codes "is of another trace than segment 0"
+wrong_of C3 = codes "has another number of processors than segment 0"
+wrong_of C4 = codes "is there with two different contents"
+wrong_of C5 = codes "is that of an event in each of two different segments"
+wrong_of C6 = codes "the system refused memory"
+wrong_of C7 = codes "has an event that isn't above all in the processor's segments before"
+wrong_of C8 = codes "is missing"
+wrong_of Y1 = codes "the first line isn't start,end,module,name"
+wrong_of Y2 = codes "hasn't four fields"
+wrong_of Y3 = codes "has a start or an end that is no number"
+wrong_of Y4 = codes "ends at or below its start"
+wrong_of Y5 = codes "has an address of an earlier row"
+wrong_of Y6 = codes "can't be read"
+wrong_of Y7 = codes "the system refused memory"
+wrong_of E1 = no_form ++ (codes ", or the line's <field> " ++ bad_value)
+wrong_of E2 = codes "the line is an event or a frame before any segment, or a frame before any event"
 
+-- what to do
 abbrev pub damaged : List ℕ
 damaged = codes "was the file changed, or is its writer at fault?"
 
@@ -112,6 +135,11 @@ advice_of Y7 = free_memory
 advice_of E1 = codes "is it written as dump prints it?"
 advice_of E2 = codes "is a line left out before it?"
 
--- what is printed of a code: its meaning in a line, and what to do in another
+-- what is wrong, after the part that it is wrong with
+abbrev pub with_part : Option (List ℕ) → List ℕ → List ℕ
+with_part None wrong = wrong
+with_part (Some part) wrong = part ++ (32 ∷ wrong)
+
+-- what is printed of a code: what is wrong in a line, and what to do in another
 unfoldable pub explained : Code → List ℕ
-explained code = code_name code ++ (codes ": " ++ (meaning_of code ++ (10 ∷ (advice_of code ++ (10 ∷ [])))))
+explained code = code_name code ++ (codes ": " ++ (with_part (part_of code) (wrong_of code) ++ (10 ∷ (advice_of code ++ (10 ∷ [])))))

@@ -6,13 +6,14 @@ ghost use Rattle.htl_main.specs.Origins.{by_fault};
 ghost use Rattle.htl_main.specs.Picked.{asks_about};
 ghost use Rattle.htl_main.specs.Sources.{IsEndless, IsTrueAt};
 ghost use Rattle.htl_program.specs.Endings.{Ends, IsUnopened, IsUntabled, RunsOut};
+ghost use Rattle.htl_program.specs.Readings.{AreInputs};
 ghost use Rattle.htl_program.specs.Worlds.{IsFirstAbsent, IsFirstRefused, IsTable, IsTableAbsent};
 ghost use Rattle.htl_program.specs.Worlds.{of_each, of_inputs};
 
 use crate::opening::{as_bytes, open_inputs, read_table};
 use crate::running::{pick_opened, run_opened};
 use crate::world::World;
-use htl_command::Asked;
+use htl_command::Run;
 use htl_device::Sink;
 use htl_main::{Completed, Interest, Refused, RunFault, interest};
 use std::alloc::Global;
@@ -30,48 +31,54 @@ pub fn answer<Rt: Threads + Sync, W: World, O: Sink>(
     rt: &Rt,
     alloc: Global,
     world: &W,
-    asked: &Asked,
+    run: &Run,
     inputs: &mut Vec<W::Input>,
     out: &mut O,
 ) -> Result<Completed, Refused>
     requires { O.has_failed out.old ≡ false }
     // The answer over what the names hold is printed, or what ends a run over it is reported.
     ensures ends { (texts : List (List ℕ)) → (table : Option (List ℕ))
-        → of_inputs (W.holds world.now) (W.standard world.now) asked.now.files.items ≡ map Some texts
-        → IsTable (W.holds world.now) asked.now.symbols table
-        → Ends asked.now.job texts table (map W.Input.remaining inputs.new.items)
+        → of_inputs (W.holds world.now) (W.standard world.now) run.now.files.items ≡ map Some texts
+        → IsTable (W.holds world.now) run.now.symbols table
+        → Ends run.now.job texts table (map W.Input.remaining inputs.new.items)
         (map W.Input.has_ended inputs.new.items) (O.contents out.old) (O.contents out.new) result
         ⊎ RunsOut result }
     // The first name for which there is nothing is reported by its place.
     ensures absent { (place : ℕ)
-        → IsFirstAbsent (of_each (W.holds world.now) asked.now.files.items)
-        (of_each (W.is_absent world.now) asked.now.files.items) place
+        → IsFirstAbsent (of_each (W.holds world.now) run.now.files.items)
+        (of_each (W.is_absent world.now) run.now.files.items) place
         → IsUnopened place (by_fault result) }
     ensures untabled { (texts : List (List ℕ))
-        → of_inputs (W.holds world.now) (W.standard world.now) asked.now.files.items ≡ map Some texts
-        → IsTableAbsent (W.is_absent world.now) asked.now.symbols → IsUntabled (by_fault result) }
+        → of_inputs (W.holds world.now) (W.standard world.now) run.now.files.items ≡ map Some texts
+        → IsTableAbsent (W.is_absent world.now) run.now.symbols → IsUntabled (by_fault result) }
+    // The inputs were read as any run reads its sources.
+    ensures reading { AreInputs run.now.job.hex W.Input.has_failed
+        W.Input.has_ended W.Input.good_reads W.Input.remaining
+        (of_inputs (W.holds world.now) (W.standard world.now) run.now.files.items)
+        inputs.new.items (by_fault result) }
     // A failed read is reported of a name that was refused, or of an input whose read failed.
     ensures read { (place : ℕ) → by_fault result ≡ Err (RunFault.Read place)
-        → IsFirstRefused (of_each (W.holds world.now) asked.now.files.items)
-        (of_each (W.is_absent world.now) asked.now.files.items) place
+        → IsFirstRefused (of_each (W.holds world.now) run.now.files.items)
+        (of_each (W.is_absent world.now) run.now.files.items) place
         ⊎ (IsTrueAt (map W.Input.has_failed inputs.new.items) place
         ⊎ IsEndless (map W.Input.good_reads inputs.new.items)
-        (of_inputs (W.holds world.now) (W.standard world.now) asked.now.files.items) place) }
+        (of_inputs (W.holds world.now) (W.standard world.now) run.now.files.items) place) }
     ensures untouched { IfErr (by_fault result) (λ fault. fault ≢ RunFault.Write → out.new ≡ out.old) }
     ensures failed { by_fault result ≡ Err RunFault.Write → O.has_failed out.new ≡ true }
     ensures fine { OnOk result (O.has_failed out.new ≡ false) }
 {
-    *inputs = open_inputs(alloc, world, &asked.files)?;
-    let table = read_table(world, asked.symbols.as_ref())?;
-    run_inputs(rt, alloc, world, asked, as_bytes(&table), inputs, out)
+    inputs.clear();
+    *inputs = open_inputs(alloc, world, &run.files)?;
+    let table = read_table(world, run.symbols.as_ref())?;
+    run_inputs(rt, alloc, world, run, as_bytes(&table), inputs, out)
 }
 
-/// Answers what is asked from its inputs, which were opened.
+/// Answers what is asked from opened inputs.
 fn run_inputs<Rt: Threads + Sync, W: World, O: Sink>(
     rt: &Rt,
     alloc: Global,
     world: &W,
-    asked: &Asked,
+    run: &Run,
     symbols: Option<&[u8]>,
     inputs: &mut Vec<W::Input>,
     out: &mut O,
@@ -79,40 +86,46 @@ fn run_inputs<Rt: Threads + Sync, W: World, O: Sink>(
     requires fresh { All (λ input. W.Input.has_failed input ≡ false) inputs.old.items }
     requires inside { All (λ input. W.Input.has_ended input ≡ false) inputs.old.items }
     requires bytes { map W.Input.remaining inputs.old.items
-        ≡ of_inputs (W.holds world.now) (W.standard world.now) asked.now.files.items }
+        ≡ of_inputs (W.holds world.now) (W.standard world.now) run.now.files.items }
     requires out { O.has_failed out.old ≡ false }
     ensures ends { (texts : List (List ℕ))
-        → of_inputs (W.holds world.now) (W.standard world.now) asked.now.files.items ≡ map Some texts
-        → Ends asked.now.job texts (option_copied symbols.entry)
+        → of_inputs (W.holds world.now) (W.standard world.now) run.now.files.items ≡ map Some texts
+        → Ends run.now.job texts (option_copied symbols.entry)
         (map W.Input.remaining inputs.new.items) (map W.Input.has_ended inputs.new.items)
         (O.contents out.old) (O.contents out.new) result ⊎ RunsOut result }
+    ensures reading { AreInputs run.now.job.hex W.Input.has_failed
+        W.Input.has_ended W.Input.good_reads W.Input.remaining
+        (of_inputs (W.holds world.now) (W.standard world.now) run.now.files.items)
+        inputs.new.items (by_fault result) }
     ensures read { (place : ℕ) → by_fault result ≡ Err (RunFault.Read place)
-        → IsFirstRefused (of_each (W.holds world.now) asked.now.files.items)
-        (of_each (W.is_absent world.now) asked.now.files.items) place
+        → IsFirstRefused (of_each (W.holds world.now) run.now.files.items)
+        (of_each (W.is_absent world.now) run.now.files.items) place
         ⊎ (IsTrueAt (map W.Input.has_failed inputs.new.items) place
         ⊎ IsEndless (map W.Input.good_reads inputs.new.items)
-        (of_inputs (W.holds world.now) (W.standard world.now) asked.now.files.items) place) }
+        (of_inputs (W.holds world.now) (W.standard world.now) run.now.files.items) place) }
     ensures untouched { IfErr (by_fault result) (λ fault. fault ≢ RunFault.Write → out.new ≡ out.old) }
     ensures failed { by_fault result ≡ Err RunFault.Write → O.has_failed out.new ≡ true }
     ensures fine { OnOk result (O.has_failed out.new ≡ false) }
 {
-    let Some(interest) = pickable(world, asked) else {
-        return run_opened(rt, alloc, &asked.job, inputs, symbols, out);
+    let Some(interest) = pickable(world, run) else {
+        return run_opened(rt, alloc, &run.job, inputs, symbols, out);
     };
-    if let Some(ended) = pick_opened(rt, alloc, &asked.job, interest, inputs, symbols, out) {
+    if let Some(ended) = pick_opened(rt, alloc, &run.job, interest, inputs, symbols, out) {
         return ended;
     }
-    *inputs = open_inputs(alloc, world, &asked.files)?;
-    run_opened(rt, alloc, &asked.job, inputs, symbols, out)
+    inputs.clear();
+    *inputs = open_inputs(alloc, world, &run.files)?;
+    run_opened(rt, alloc, &run.job, inputs, symbols, out)
 }
 
-/// What the question asks about, where that can be picked of its files and these read once more.
-fn pickable<W: World>(world: &W, asked: &Asked) -> Option<Interest>
+/// What the question asks about, where that alone can be kept of its files: they may have to be read
+/// once more.
+fn pickable<W: World>(world: &W, run: &Run) -> Option<Interest>
     ensures { IfSome result (λ interest.
-        asks_about asked.now.job.hex asked.now.job.question ≡ Some interest) }
+        asks_about run.now.job.hex run.now.job.question ≡ Some interest) }
 {
-    if can_be_read_again(world, &asked.files) {
-        interest(&asked.job)
+    if can_be_read_again(world, &run.files) {
+        interest(&run.job)
     } else {
         None
     }

@@ -1,16 +1,21 @@
 //! A dialogue in a world: the files are read once, and each line of standard input gets its reply.
 
-ghost use Rattle.std.specs.Prelude.{◌≡◌, ◌⊎◌, ℕ, All, Err, IfErr, IfOk, List, OnOk, Option, Some};
-ghost use Rattle.std.specs.Prelude.{false, map, option_copied, option_map, true};
+ghost use Rattle.std.specs.Prelude.{◌≡◌, ◌⊎◌, ℕ, All, Bool, Err, IfErr, IfOk, List, OnOk, Option, Some};
+ghost use Rattle.std.specs.Prelude.{IfSome, ◌≤◌, false, length, map, option_copied, option_map};
+ghost use Rattle.std.specs.Prelude.{true};
 ghost use Rattle.htl_ask.specs.Asking.{BeginsAndGets, IsRunsCause, IsRunsText, before_dialogue};
 ghost use Rattle.htl_dialogue.specs.Dialogues.{Converses, StopsAt};
+ghost use Rattle.htl_device.specs.declared.whole.TheConstants.{MAX_READS};
 ghost use Rattle.htl_dialogue.specs.declared.dialogue.DialogueFault.{DialogueFault};
+ghost use Rattle.htl_dialogue.specs.declared.dialogue.DialogueFault.TheVariants as dialogues;
 ghost use Rattle.htl_main.specs.Coverages.{Covers};
-ghost use Rattle.htl_main.specs.Origins.{by_fault};
+ghost use Rattle.htl_main.specs.Origins.{IsBetween, by_fault};
+ghost use Rattle.htl_main.specs.Readings.{AreRead};
 ghost use Rattle.htl_main.specs.Sources.{IsEndless, IsTrueAt};
 ghost use Rattle.htl_main.specs.Subjects.{ReportsSubject};
 ghost use Rattle.htl_main.specs.declared.coverage.Coverage.{Coverage};
 ghost use Rattle.htl_program.specs.Endings.{IsUnopened, IsUntabled};
+ghost use Rattle.htl_program.specs.Readings.{AreInputs};
 ghost use Rattle.htl_program.specs.Worlds.{IsFirstAbsent, IsFirstRefused, IsTable, IsTableAbsent};
 ghost use Rattle.htl_program.specs.Worlds.{of_each, of_inputs};
 
@@ -18,10 +23,9 @@ use crate::opening::{as_bytes, open_inputs, read_table};
 use crate::world::World;
 use htl_ask::{AskFault, Audience, ask_from};
 use htl_command::{Dialogue, Setting};
-use htl_device::{Sink, Source};
+use htl_device::{Parted, Sink, Source};
 use htl_main::{Between, Refused, RunFault};
 use std::alloc::Global;
-use std::sync::Wait;
 use std::thread::Threads;
 
 /// Replies to the lines of the questions, which are asked of the files and the table of symbols that
@@ -29,7 +33,7 @@ use std::thread::Threads;
 /// question is read before.
 ///
 /// `inputs` has then what was opened, as far as it was read.
-pub fn converse<Rt: Threads + Wait + Sync, W: World, Q: Source, O: Sink, H: Audience>(
+pub fn converse<Rt: Threads + Sync, W: World, Q: Source, O: Sink, H: Audience>(
     rt: &Rt,
     alloc: Global,
     world: &W,
@@ -62,12 +66,27 @@ pub fn converse<Rt: Threads + Wait + Sync, W: World, Q: Source, O: Sink, H: Audi
         (Q.remaining questions.new) (Q.has_failed questions.new)
         (BeginsAndGets (O.contents out.old) (O.contents out.new) H.told audience.old audience.new
         coverage) stopped }
+    // What failed is reported, and nothing else is reported as failed.
+    ensures lines { Q.has_failed questions.new ≡ true
+        → result ≡ Err (AskFault.Dialogue dialogues.Questions) }
+    ensures questions { result ≡ Err (AskFault.Dialogue dialogues.Questions)
+        → (Q.has_failed questions.new ≡ true)
+        ⊎ IfSome (Q.remaining questions.old) (λ text. MAX_READS ≤ length text) }
+    ensures write { O.has_failed out.new ≡ true
+        → result ≡ Err (AskFault.Dialogue dialogues.Write) }
+    ensures failed { result ≡ Err (AskFault.Dialogue dialogues.Write)
+        → O.has_failed out.new ≡ true }
     ensures cause { (texts : List (List ℕ)) → (table : Option (List ℕ))
         → of_inputs (W.holds world.now) (W.standard world.now) of.now.files.items ≡ map Some texts
         → IsTable (W.holds world.now) of.now.symbols table
         → IfErr (by_fault (before_dialogue result)) (λ fault. IsRunsCause of.now.setting texts
         (map W.Input.remaining inputs.new.items) (map W.Input.has_ended inputs.new.items) table fault
         ⊎ (fault ≡ RunFault.Memory)) }
+    // Where a fault is about two segments, they are named.
+    ensures between { (texts : List (List ℕ))
+        → of_inputs (W.holds world.now) (W.standard world.now) of.now.files.items ≡ map Some texts
+        → IfErr (before_dialogue result) (λ refused.
+        IsBetween of.now.setting.hex texts refused.fault refused.between) }
     // The first name for which there is nothing is reported by its place.
     ensures absent { (place : ℕ) → IsFirstAbsent (of_each (W.holds world.now) of.now.files.items)
         (of_each (W.is_absent world.now) of.now.files.items) place
@@ -76,6 +95,11 @@ pub fn converse<Rt: Threads + Wait + Sync, W: World, Q: Source, O: Sink, H: Audi
         → of_inputs (W.holds world.now) (W.standard world.now) of.now.files.items ≡ map Some texts
         → IsTableAbsent (W.is_absent world.now) of.now.symbols
         → IsUntabled (by_fault (before_dialogue result)) }
+    // The inputs were read as any run reads its sources.
+    ensures reading { AreInputs of.now.setting.hex W.Input.has_failed
+        W.Input.has_ended W.Input.good_reads W.Input.remaining
+        (of_inputs (W.holds world.now) (W.standard world.now) of.now.files.items)
+        inputs.new.items (by_fault (before_dialogue result)) }
     // A failed read is reported of a name that was refused, or of an input whose read failed.
     ensures read { (place : ℕ) → by_fault (before_dialogue result) ≡ Err (RunFault.Read place)
         → IsFirstRefused (of_each (W.holds world.now) of.now.files.items)
@@ -112,8 +136,8 @@ fn open_all<W: World>(
     of: &Dialogue,
     inputs: &mut Vec<W::Input>,
 ) -> Result<Option<Vec<u8>>, RunFault>
-    ensures fresh { OnOk result (All (λ input. W.Input.has_failed input ≡ false) inputs.new.items) }
-    ensures inside { OnOk result (All (λ input. W.Input.has_ended input ≡ false) inputs.new.items) }
+    ensures fresh { All (λ input. W.Input.has_failed input ≡ false) inputs.new.items }
+    ensures inside { All (λ input. W.Input.has_ended input ≡ false) inputs.new.items }
     ensures bytes { OnOk result (map W.Input.remaining inputs.new.items
         ≡ of_inputs (W.holds world.now) (W.standard world.now) of.now.files.items) }
     ensures table { IfOk result (λ read. (table : Option (List ℕ))
@@ -128,16 +152,19 @@ fn open_all<W: World>(
     ensures untabled { (texts : List (List ℕ))
         → of_inputs (W.holds world.now) (W.standard world.now) of.now.files.items ≡ map Some texts
         → IsTableAbsent (W.is_absent world.now) of.now.symbols → IsUntabled result }
+    ensures alone { (hex : Bool) → (texts : List (List ℕ)) → IfErr result (λ fault.
+        IsBetween hex texts fault Between.Nothing) }
     ensures read { (place : ℕ) → result ≡ Err (RunFault.Read place)
         → IsFirstRefused (of_each (W.holds world.now) of.now.files.items)
         (of_each (W.is_absent world.now) of.now.files.items) place }
 {
+    inputs.clear();
     *inputs = open_inputs(alloc, world, &of.files)?;
     read_table(world, of.symbols.as_ref())
 }
 
-/// Replies to the lines over inputs that were opened.
-fn ask_opened<Rt: Threads + Wait + Sync, R: Source, Q: Source, O: Sink, H: Audience>(
+/// Replies to the lines over opened inputs.
+fn ask_opened<Rt: Threads + Sync, R: Parted, Q: Source, O: Sink, H: Audience>(
     rt: &Rt,
     alloc: Global,
     setting: Setting,
@@ -168,13 +195,25 @@ fn ask_opened<Rt: Threads + Wait + Sync, R: Source, Q: Source, O: Sink, H: Audie
         (Q.remaining questions.new) (Q.has_failed questions.new)
         (BeginsAndGets (O.contents out.old) (O.contents out.new) H.told audience.old audience.new
         coverage) stopped }
+    // What failed is reported, and nothing else is reported as failed.
+    ensures lines { Q.has_failed questions.new ≡ true
+        → result ≡ Err (AskFault.Dialogue dialogues.Questions) }
+    ensures questions { result ≡ Err (AskFault.Dialogue dialogues.Questions)
+        → (Q.has_failed questions.new ≡ true)
+        ⊎ IfSome (Q.remaining questions.old) (λ text. MAX_READS ≤ length text) }
+    ensures write { O.has_failed out.new ≡ true
+        → result ≡ Err (AskFault.Dialogue dialogues.Write) }
+    ensures failed { result ≡ Err (AskFault.Dialogue dialogues.Write)
+        → O.has_failed out.new ≡ true }
     ensures cause { (texts : List (List ℕ)) → map R.remaining inputs.old.items ≡ map Some texts
         → IfErr (by_fault (before_dialogue result)) (IsRunsCause setting texts
         (map R.remaining inputs.new.items) (map R.has_ended inputs.new.items)
         (option_copied symbols.entry)) }
-    ensures read { (place : ℕ) → by_fault (before_dialogue result) ≡ Err (RunFault.Read place)
-        → IsTrueAt (map R.has_failed inputs.new.items) place
-        ⊎ IsEndless (map R.good_reads inputs.new.items) (map R.remaining inputs.old.items) place }
+    ensures between { (texts : List (List ℕ)) → map R.remaining inputs.old.items ≡ map Some texts
+        → IfErr (before_dialogue result) (λ refused.
+        IsBetween setting.hex texts refused.fault refused.between) }
+    ensures reading { AreRead setting.hex R.has_failed R.has_ended R.good_reads
+        R.remaining inputs.old.items inputs.new.items (by_fault (before_dialogue result)) }
     ensures untouched { IfErr (before_dialogue result)
         (λ _. (questions.new ≡ questions.old) × (out.new ≡ out.old)
         × (audience.new ≡ audience.old)) }

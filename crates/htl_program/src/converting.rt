@@ -1,9 +1,12 @@
 //! The runs that print the segments of files as text and make segments of texts, in a world.
 
 ghost use Rattle.std.specs.Prelude.{◌≡◌, ◌≢◌, ◌⊎◌, ℕ, All, IfErr, List, Some, Err, false, map};
+ghost use Rattle.std.specs.Prelude.{true};
 ghost use Rattle.htl_main.specs.Dumps.{is_failed_write};
+ghost use Rattle.htl_main.specs.Readings.{AreRead};
 ghost use Rattle.htl_main.specs.Sources.{IsEndless, IsTrueAt};
 ghost use Rattle.htl_program.specs.Endings.{EndsDump, EndsEncoding, IsUnopened};
+ghost use Rattle.htl_program.specs.Readings.{AreInputs};
 ghost use Rattle.htl_program.specs.Worlds.{IsFirstAbsent, IsFirstRefused, of_each, of_inputs};
 
 use crate::opening::open_inputs;
@@ -32,6 +35,11 @@ pub fn dump<W: World, O: Sink>(
     ensures absent { (place : ℕ) → IsFirstAbsent (of_each (W.holds world.now) of.now.files.items)
         (of_each (W.is_absent world.now) of.now.files.items) place
         → IsUnopened place result × (out.new ≡ out.old) }
+    // The inputs were read as any run reads its sources.
+    ensures reading { AreInputs of.now.hex W.Input.has_failed W.Input.has_ended
+        W.Input.good_reads W.Input.remaining
+        (of_inputs (W.holds world.now) (W.standard world.now) of.now.files.items)
+        inputs.new.items result }
     // A failed read is reported of a name that was refused, or of an input whose read failed.
     ensures read { (place : ℕ) → result ≡ Err (RunFault.Read place)
         → IsFirstRefused (of_each (W.holds world.now) of.now.files.items)
@@ -41,11 +49,12 @@ pub fn dump<W: World, O: Sink>(
         (of_inputs (W.holds world.now) (W.standard world.now) of.now.files.items) place) }
     ensures failed { O.has_failed out.new ≡ is_failed_write result }
 {
+    inputs.clear();
     *inputs = open_inputs(alloc, world, &of.files)?;
     dump_opened(alloc, of.hex, inputs, out)
 }
 
-/// Prints the segments of inputs that were opened as text.
+/// Prints the segments of opened inputs as text.
 fn dump_opened<R: Source, O: Sink>(
     alloc: Global,
     hex: bool,
@@ -58,9 +67,8 @@ fn dump_opened<R: Source, O: Sink>(
     ensures ends { (texts : List (List ℕ)) → map R.remaining inputs.old.items ≡ map Some texts
         → EndsDump hex texts (map R.remaining inputs.new.items) (map R.has_ended inputs.new.items)
         (O.contents out.old) (O.contents out.new) result }
-    ensures read { (place : ℕ) → result ≡ Err (RunFault.Read place)
-        → IsTrueAt (map R.has_failed inputs.new.items) place
-        ⊎ IsEndless (map R.good_reads inputs.new.items) (map R.remaining inputs.old.items) place }
+    ensures reading { AreRead hex R.has_failed R.has_ended R.good_reads R.remaining
+        inputs.old.items inputs.new.items result }
     ensures failed { O.has_failed out.new ≡ is_failed_write result }
 {
     dump_from(alloc, hex, inputs, out)
@@ -85,6 +93,11 @@ pub fn encode<W: World, O: Sink>(
     // The first name for which there is nothing is reported by its place.
     ensures absent { (place : ℕ) → IsFirstAbsent (of_each (W.holds world.now) of.now.files.items)
         (of_each (W.is_absent world.now) of.now.files.items) place → IsUnopened place result }
+    // The inputs were read as any run reads its sources.
+    ensures reading { AreInputs true W.Input.has_failed W.Input.has_ended
+        W.Input.good_reads W.Input.remaining
+        (of_inputs (W.holds world.now) (W.standard world.now) of.now.files.items)
+        inputs.new.items result }
     // A failed read is reported of a name that was refused, or of an input whose read failed.
     ensures read { (place : ℕ) → result ≡ Err (RunFault.Read place)
         → IsFirstRefused (of_each (W.holds world.now) of.now.files.items)
@@ -95,11 +108,12 @@ pub fn encode<W: World, O: Sink>(
     ensures failed { O.has_failed out.new ≡ is_failed_write result }
     ensures untouched { IfErr result (λ fault. fault ≢ RunFault.Write → out.new ≡ out.old) }
 {
+    inputs.clear();
     *inputs = open_inputs(alloc, world, &of.files)?;
     encode_opened(alloc, of.hex, inputs, out)
 }
 
-/// Writes the segments that the texts of inputs encode which were opened.
+/// Writes the segments that the texts of opened inputs encode.
 fn encode_opened<R: Source, O: Sink>(
     alloc: Global,
     hex: bool,
@@ -112,9 +126,8 @@ fn encode_opened<R: Source, O: Sink>(
     ensures ends { (texts : List (List ℕ)) → map R.remaining inputs.old.items ≡ map Some texts
         → EndsEncoding hex texts (map R.remaining inputs.new.items)
         (map R.has_ended inputs.new.items) (O.contents out.old) (O.contents out.new) result }
-    ensures read { (place : ℕ) → result ≡ Err (RunFault.Read place)
-        → IsTrueAt (map R.has_failed inputs.new.items) place
-        ⊎ IsEndless (map R.good_reads inputs.new.items) (map R.remaining inputs.old.items) place }
+    ensures reading { AreRead true R.has_failed R.has_ended R.good_reads R.remaining
+        inputs.old.items inputs.new.items result }
     ensures failed { O.has_failed out.new ≡ is_failed_write result }
     ensures untouched { IfErr result (λ fault. fault ≢ RunFault.Write → out.new ≡ out.old) }
 {

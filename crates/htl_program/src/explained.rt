@@ -2,11 +2,11 @@
 
 ghost use Rattle.std.specs.Prelude.{◌≡◌};
 
-use crate::words::{advice, meaning};
+use crate::words::{advice, part, wrong};
 use htl_command::Code;
 use std::fmt;
 
-/// What a code means, in a line after the code itself, and what to do, in another line.
+/// A code in words: what is wrong in a line after the code itself, and what to do in another line.
 #[derive(Clone, Copy)]
 pub struct Explained {
     pub code: Code,
@@ -20,7 +20,10 @@ impl fmt::Display for Explained {
 
     #[tactic(auto, unfolding(crate::specs::Words::explained))]
     fn fmt<W: fmt::Write>(&self, f: &mut fmt::Formatter<W>) -> fmt::Result {
-        let (code, meaning, advice) = (self.code.as_str(), meaning(self.code), advice(self.code));
-        write!(f, "{code}: {meaning}\n{advice}\n")
+        let (code, wrong, advice) = (self.code.as_str(), wrong(self.code), advice(self.code));
+        match part(self.code) {
+            Some(part) => write!(f, "{code}: {part} {wrong}\n{advice}\n"),
+            None => write!(f, "{code}: {wrong}\n{advice}\n"),
+        }
     }
 }

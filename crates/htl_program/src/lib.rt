@@ -4,30 +4,37 @@
 //! of a `World`, whose clauses say what each name holds where that is known, as it is of a world in
 //! memory, and that there is nothing for a name. The functions here are proved for every world.
 //!
-//! `program` does what the arguments of a command line ask for. Files, in reading order: `obeying.rt`,
-//! `person.rt` (who reads what is said beside the output), `ending.rt` (the statuses), `world.rt` (what
-//! is opened), `opening.rt` (the inputs of a run, each opened before any is read, and the table of
-//! symbols), `answering.rt` and `running.rt` (a question, from the names that it is asked of to its
-//! end), `converting.rt` (`dump` and `encode`), `conversing.rt` (a dialogue), `explained.rt` and
-//! `words.rt` (what a code means).
+//! `program` does what the arguments of a command line ask for. Files, in reading order: `commands.rt`,
+//! `output.rt` (where answers go), `person.rt` (who reads what is said beside the output), `speaker.rt`
+//! (who types the lines of a dialogue), `ending.rt` (the statuses), `world.rt` (what is opened),
+//! `inputs.rt` (what was), `opening.rt` (how: each file before any is read, and the table of symbols),
+//! `answering.rt` and `running.rt` (a question, from the names that it is asked of to its end),
+//! `converting.rt` (`dump` and `encode`), `conversing.rt` (a dialogue), `explained.rt` and `words.rt`
+//! (what a code means).
 #![tactic(auto)]
 
 mod answering;
+mod commands;
 mod conversing;
 mod converting;
 mod ending;
 mod explained;
-mod obeying;
+mod inputs;
 mod opening;
+mod output;
 mod person;
 mod running;
+mod speaker;
 mod words;
 mod world;
 
 pub use answering::answer;
+pub use commands::{program, refuse};
 pub use conversing::converse;
 pub use converting::{dump, encode};
-pub use obeying::{Output, Speaker, program, refuse};
+pub use inputs::Inputs;
+pub use output::Output;
 pub use person::Person;
-pub use words::{FREE_MEMORY, advice, form_meaning, meaning};
+pub use speaker::Speaker;
+pub use words::{FREE_MEMORY, advice, form_wrong, wrong};
 pub use world::{OpenFault, World};

@@ -9,8 +9,8 @@ use crate::world::{OpenFault, World};
 use htl_main::RunFault;
 use std::alloc::Global;
 
-/// The files of the names in order, or standard input where there is none. Every file is looked for
-/// before any is read; the first that is refused is reported.
+/// Opens the files of the names in order, or standard input where there is none. None is read, and the
+/// first that is refused is reported.
 pub(crate) fn open_inputs<W: World>(
     alloc: Global,
     world: &W,
@@ -37,7 +37,7 @@ pub(crate) fn open_inputs<W: World>(
     open_files(alloc, world, names)
 }
 
-/// The files of the names in order.
+/// Opens the files of the names in order.
 fn open_files<W: World>(
     alloc: Global,
     world: &W,
@@ -71,7 +71,7 @@ fn open_files<W: World>(
     Ok(inputs)
 }
 
-/// The bytes of the table of symbols, if one is named.
+/// Reads the table of symbols, if one is named.
 pub(crate) fn read_table<W: World>(
     world: &W,
     name: Option<&String>,

@@ -1,6 +1,6 @@
 //! Whoever reads standard error, at a terminal or not.
 
-use htl_command::{Asked, Command, ParseFault};
+use htl_command::{Command, ParseFault, Run};
 use htl_dialogue::DialogueFault;
 use htl_main::{Completed, Refused};
 
@@ -8,10 +8,10 @@ use htl_main::{Completed, Refused};
 /// is the matter of who says it.
 pub trait Person {
     ghost use Rattle.std.specs.Prelude.{◌≡◌, Bool, List, Option};
-    ghost use Rattle.htl_program.specs.Sayings.{Hears, Saying, answer, fault, refusal, stop};
-    ghost use Rattle.htl_program.specs.Sayings.{unwritten};
+    ghost use Rattle.htl_program.specs.Sayings.{Hears, Saying, answer, begun, fault, over};
+    ghost use Rattle.htl_program.specs.Sayings.{refusal, stop, unwritten};
 
-    // What was said, where that is known.
+    // What the person was told, where that is known.
     ghost heard: { Self → Option (List Saying) };
 
     // Whether a person is shown the bytes that go to standard output.
@@ -23,11 +23,11 @@ pub trait Person {
 
     /// The run of a command begins. How far it has come may be shown from now on.
     fn begins(&mut self, command: &Command)
-        ensures { heard self.new ≡ heard self.old };
+        ensures { Hears (heard self.old) (heard self.new) (begun command.now) };
 
     /// The run has ended, and how it has will be said.
     fn ends(&mut self)
-        ensures { heard self.new ≡ heard self.old };
+        ensures { Hears (heard self.old) (heard self.new) over };
 
     /// The arguments were refused.
     fn refuses(&mut self, refused: &ParseFault)
@@ -39,11 +39,11 @@ pub trait Person {
 
     /// A fault ended the run of the command.
     fn reports(&mut self, command: &Command, refused: Refused)
-        ensures { Hears (heard self.old) (heard self.new) (fault refused) };
+        ensures { Hears (heard self.old) (heard self.new) (fault command.now refused) };
 
     /// The question was answered.
-    fn notes(&mut self, asked: &Asked, completed: Completed)
-        ensures { Hears (heard self.old) (heard self.new) (answer completed) };
+    fn notes(&mut self, run: &Run, completed: Completed)
+        ensures { Hears (heard self.old) (heard self.new) (answer run.now completed) };
 
     /// The replies of a dialogue stopped.
     fn stops(&mut self, stopped: DialogueFault)

@@ -1,4 +1,4 @@
-//! The run of a question over inputs that were opened.
+//! The run of a question over opened inputs.
 
 ghost use Rattle.std.specs.Prelude.{◌≡◌, ◌≢◌, ℕ, All, Bool, IfNone, IfSome, List, Some, false};
 ghost use Rattle.std.specs.Option.{option_copied};
@@ -7,13 +7,13 @@ ghost use Rattle.htl_main.specs.Picked.{asks_about};
 ghost use Rattle.htl_program.specs.Runs.{IsRun};
 
 use htl_command::Job;
-use htl_device::{Sink, Source};
+use htl_device::{Parted, Sink};
 use htl_main::{Completed, Interest, Refused, RunFault, pick_from, run_from};
 use std::alloc::Global;
 use std::thread::Threads;
 
-/// The run over whole segments.
-pub(crate) fn run_opened<Rt: Threads + Sync, R: Source, O: Sink>(
+/// Runs the question over whole segments.
+pub(crate) fn run_opened<Rt: Threads + Sync, R: Parted, O: Sink>(
     rt: &Rt,
     alloc: Global,
     job: &Job,
@@ -30,10 +30,10 @@ pub(crate) fn run_opened<Rt: Threads + Sync, R: Source, O: Sink>(
     run_from(rt, alloc, job, inputs, symbols, out)
 }
 
-/// The run that keeps only what the question asks about. It has no end of its own, and has written
-/// nothing, where only whole segments tell what comes of the inputs. So it has none for a fault of all
-/// segments: which two of them it is about is what whole segments tell.
-pub(crate) fn pick_opened<Rt: Threads + Sync, R: Source, O: Sink>(
+/// Runs the question over what it asks about alone. The run has no end, and has written nothing, where
+/// only whole segments tell what comes of the inputs. So it has none for a fault of all segments, since
+/// whole segments tell which two of them it is about.
+pub(crate) fn pick_opened<Rt: Threads + Sync, R: Parted, O: Sink>(
     rt: &Rt,
     alloc: Global,
     job: &Job,
@@ -61,7 +61,7 @@ pub(crate) fn pick_opened<Rt: Threads + Sync, R: Source, O: Sink>(
     }
 }
 
-/// The fault as one that is about no two segments, unless it is of all segments.
+/// The end of a run by the fault, which is about no two segments. A fault of all segments is no end.
 fn about_no_two(fault: RunFault) -> Option<Refused>
     ensures some { (hex : Bool) → (texts : List (List ℕ)) → IfSome result (λ refused.
         (refused.fault ≡ fault) × IsBetween hex texts fault refused.between) }

@@ -1,10 +1,11 @@
-//! What each code means, and what to do about it. docs/FORMAT.md has the same words.
+//! The words on each code: what is wrong, and what to do about it. docs/FORMAT.md has the same words.
 //!
 //! "The segment" is the one at the offset in the fault's line. Records, rows and segments count
-//! from 0. A word in angle brackets stands for a number or a field of the fault.
+//! from 0. Where the faults of a code have numbers or a field of their own, the words begin with the
+//! part of the inputs that these name: "record 3" is wrong, and what is wrong with it follows.
 
-ghost use Rattle.std.specs.Prelude.{◌≡◌};
-ghost use Rattle.htl_program.specs.Words.{advice_of, form_meaning_of, meaning_of};
+ghost use Rattle.std.specs.Prelude.{◌≡◌, option_copied};
+ghost use Rattle.htl_program.specs.Words.{advice_of, form_wrong_of, part_of, wrong_of};
 
 use htl_command::Code;
 use htl_text::FormFault;
@@ -21,10 +22,26 @@ const ONE_TRACE: &str = "give the files of one trace";
 /// What to do where memory was refused.
 pub const FREE_MEMORY: &str = "free some, or raise its limit";
 
-/// What is wrong with what.
-#[tactic(auto, unfolding(crate::specs::Words::meaning_of))]
-pub fn meaning(code: Code) -> &'static str
-    ensures { result.now ≡ meaning_of code }
+/// The part of the inputs with which the words on a code begin, where they do. A word in angle
+/// brackets stands for a number of the fault.
+pub fn part(code: Code) -> Option<&'static str>
+    ensures { option_copied result ≡ part_of code }
+{
+    match code {
+        Code::S11 | Code::S12 | Code::S13 | Code::S14 | Code::S15 => Some("record <i>"),
+        Code::H1 => Some("byte <place>"),
+        Code::C2 | Code::C3 => Some("segment <place> of all inputs"),
+        Code::C4 | Code::C7 | Code::C8 => Some("segment <number> of processor <processor>"),
+        Code::C5 => Some("sequence <sequence>"),
+        Code::Y2 | Code::Y3 | Code::Y4 | Code::Y5 | Code::Y6 => Some("row <row>"),
+        _ => None,
+    }
+}
+
+/// What is wrong, with the part where the words begin with one.
+#[tactic(auto, unfolding(crate::specs::Words::wrong_of))]
+pub fn wrong(code: Code) -> &'static str
+    ensures { result.now ≡ wrong_of code }
 {
     match code {
         Code::S1 => "a segment has at least 32 bytes and begins with HLS1, and fewer are left",
@@ -37,34 +54,28 @@ pub fn meaning(code: Code) -> &'static str
         Code::S8 => "a segment has at most 4096 records",
         Code::S9 => "the segment's version allows no such length of a segment",
         Code::S10 => "the file ends before its last segment does",
-        Code::S11 => "record <i> is cut by the end of the segment's length",
-        Code::S12 => "record <i> has sequence 0, or one not above that of the record before",
-        Code::S13 => "record <i> is of no kind of the segment's version",
-        Code::S14 => "record <i> has more frames than its version allows, or than fit in",
-        Code::S15 =>
-            "record <i> has a reserved field, handle, object or tag that its kind doesn't allow",
+        Code::S11 => "is cut by the end of the segment's length",
+        Code::S12 => "has sequence 0, or one not above that of the record before",
+        Code::S13 => "is of no kind of the segment's version",
+        Code::S14 => "has more frames than its version allows, or than fit in",
+        Code::S15 => "has a reserved field, handle, object or tag that its kind doesn't allow",
         Code::S16 => "bytes are left in the segment after its last record",
         Code::S17 | Code::H3 | Code::C6 | Code::Y7 => "the system refused memory",
-        Code::H1 => "byte <place> is no digit and no blank",
+        Code::H1 => "is no digit and no blank",
         Code::H2 => "the last byte has only one digit",
         Code::C1 => "the inputs have no segments",
-        Code::C2 => "segment <place> of all inputs is of another trace than segment 0",
-        Code::C3 => "segment <place> of all inputs has another number of processors than segment 0",
-        Code::C4 =>
-            "segment <number> of processor <processor> is there with two different contents",
-        Code::C5 => "sequence <sequence> is that of an event in each of two different segments",
-        Code::C7 => {
-            "\
-segment <number> of processor <processor> has an event that isn't above all in the \
-processor's segments before"
-        }
-        Code::C8 => "segment <number> of processor <processor> is missing",
+        Code::C2 => "is of another trace than segment 0",
+        Code::C3 => "has another number of processors than segment 0",
+        Code::C4 => "is there with two different contents",
+        Code::C5 => "is that of an event in each of two different segments",
+        Code::C7 => "has an event that isn't above all in the processor's segments before",
+        Code::C8 => "is missing",
         Code::Y1 => "the first line isn't start,end,module,name",
-        Code::Y2 => "row <row> hasn't four fields",
-        Code::Y3 => "row <row> has a start or an end that is no number",
-        Code::Y4 => "row <row> ends at or below its start",
-        Code::Y5 => "row <row> has an address of an earlier row",
-        Code::Y6 => "row <row> can't be read",
+        Code::Y2 => "hasn't four fields",
+        Code::Y3 => "has a start or an end that is no number",
+        Code::Y4 => "ends at or below its start",
+        Code::Y5 => "has an address of an earlier row",
+        Code::Y6 => "can't be read",
         Code::E1 => {
             "\
 the line has none of the forms of the text, or the line's <field> isn't there, or has no value \
@@ -75,13 +86,14 @@ that fits"
     }
 }
 
-/// What is wrong with a line of text: the part of what E1 means that is about this fault.
-pub fn form_meaning(fault: FormFault) -> &'static str
-    ensures { result.now ≡ form_meaning_of fault }
+/// What is wrong with a line of text, with its field where the fault is about one. The words on E1
+/// are those on either fault.
+pub fn form_wrong(fault: FormFault) -> &'static str
+    ensures { result.now ≡ form_wrong_of fault }
 {
     match fault {
         FormFault::Words => "the line has none of the forms of the text",
-        FormFault::Field(_) => "the line's <field> isn't there, or has no value that fits",
+        FormFault::Field(_) => "isn't there, or has no value that fits",
     }
 }
 

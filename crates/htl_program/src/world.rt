@@ -3,7 +3,7 @@
 ghost use Rattle.std.specs.Prelude.{◌≡◌, ℕ, Bool, List, Option, None, Err, IfOk, IfSome, OnOk};
 ghost use Rattle.std.specs.Prelude.{false};
 
-use htl_device::Source;
+use htl_device::Parted;
 
 /// Why a name could not be opened.
 #[derive(Clone, Copy, Debug, PartialEq, Eq)]
@@ -16,7 +16,7 @@ pub enum OpenFault {
 
 /// What holds bytes under names, and has a standard input.
 pub trait World {
-    type Input: Source + Drop;
+    type Input: Parted + Drop;
 
     // The bytes that a name holds, where they are known.
     ghost holds: { Self → List ℕ → Option (List ℕ) };

@@ -6,10 +6,9 @@ use crate::devices::Narrow;
 use crate::texts::TEXTS;
 use crate::worlds::{Memory, Named, Said, Silent, Witness};
 use htl_main::{RunFault, Writing};
-use htl_program::program;
+use htl_program::{Inputs, program};
 use std::alloc::Global;
 use std::process::Abort;
-use std::sync::Wait;
 use std::thread::Threads;
 
 /// Words of a command line over the files `first`, `second`, `symbols` and `text`, and how the program
@@ -62,7 +61,7 @@ fn copy_of(rt: &impl Abort, alloc: Global, text: &str) -> Vec<u8> {
 }
 
 /// Whether the program ends so. At most one thing is said.
-fn is_obeyed(rt: &(impl Threads + Wait + Sync + Abort), alloc: Global, line: &Line) {
+fn is_obeyed(rt: &(impl Threads + Sync + Abort), alloc: Global, line: &Line) {
     let files = files(rt, alloc);
     let world = Memory {
         alloc,
@@ -85,7 +84,7 @@ fn is_obeyed(rt: &(impl Threads + Wait + Sync + Abort), alloc: Global, line: &Li
         alloc,
         &world,
         arguments,
-        &mut Vec::new(alloc),
+        &mut Inputs::new(alloc),
         &mut Writing::new(&mut held),
         &mut witness,
         &mut Silent,

@@ -4,7 +4,7 @@ ghost use Rattle.std.specs.Prelude.{◌≡◌, None, Some, find, is_none, option
 ghost use Rattle.std.specs.Str.{bytes_eq};
 
 use htl_ask::Audience;
-use htl_command::{Asked, Command, ParseFault, Question};
+use htl_command::{Command, ParseFault, Question, Run};
 use htl_dialogue::{DialogueFault, Host};
 use htl_main::{Completed, Coverage, Reading, Refused, RunFault};
 use htl_program::{OpenFault, Person, Speaker, World};
@@ -136,7 +136,7 @@ impl Person for Witness {
         self.hears(Said::Fault(refused.fault));
     }
 
-    fn notes(&mut self, _asked: &Asked, completed: Completed) {
+    fn notes(&mut self, _run: &Run, completed: Completed) {
         self.hears(Said::Answer(completed));
     }
 

@@ -1,5 +1,5 @@
 -- What ends the opening of the files ends the dialogue.
-use Rattle.std.proofs.Common.{◌∙◌, inr, sym}
+use Rattle.std.proofs.Common.{◌∙◌, inr}
 use Rattle.htl_main.specs.Origins.{by_fault}
 use Rattle.htl_ask.specs.Asking.{before_dialogue}
 use Rattle.htl_program.proofs.Lent.{all_opened, same_end}

@@ -1,6 +1,7 @@
--- A fault of what was picked is that of the run.
-use Rattle.std.proofs.Common.{◌≡◌, ◌∙◌, Err, ap, drop, [], length, refl, rules, sym}
-use Rattle.htl_program.proofs.Lent.{same_fault, take_front}
+-- An answer over what was picked is that of the run, and so is a fault.
+use Rattle.std.proofs.Common.{◌≡◌, ◌∙◌, Err, ap, drop, [], false, length, refl, rules, sym}
+use Rattle.htl_program.proofs.Lent.{no_fault, same_fault, take_front}
+use Rattle.htl_program.proofs.SourcesRead.{as_answered, as_refused, picks_bytes}
 use Rattle.htl_program.proofs.running.pick_opened.Goals as goal
 
 pub returns-in-Some-clause-ended : goal.returns-in-Some-clause-ended
@@ -14,8 +15,24 @@ returns-in-Some-clause-ended g c =
         between = rw (same) (c.in-Some.ensures.some c.args.job.now.hex texts).1;
         written = λ is. c.in-Err.ensures.write texts all (ap Err (sym same ∙ is));
       };
-      read = λ place is. c.in-Err.ensures.reading.read place (ap Err (sym same ∙ same_fault _ _ _ refl is));
+      reading = rw (same, picks_bytes _ _ _ c.requires.about) (as_refused false _ _ _ _ _ _ _ c.in-Err.ensures.reading);
       untouched = rw (same) c.in-Err.ensures.untouched;
       failed = λ is. c.in-Err.ensures.failed (ap Err (sym same ∙ same_fault _ _ _ refl is));
       fine = tt;
+    }
+
+pub returns-in-Ok-Some-clause-ended : goal.returns-in-Ok-Some-clause-ended
+returns-in-Ok-Some-clause-ended g c =
+    let kept : length c.pick_from.new.inputs ≡ c.args.inputs.now.len = search rules in
+    let back = take_front c.pick_from.new.inputs (drop (length c.pick_from.new.inputs) c.args.inputs.now.items) c.args.inputs.now.len kept in
+    rw (back, ← c.deref_mut.ensures.value) record {
+      ends = λ texts all. (
+        rw c.in-Ok-Some.field-0-is at (c.in-Ok-Some.ensures.ok texts all),
+        rw c.in-Ok-Some.field-0-is at (c.in-Ok-Some.ensures.reports texts all),
+      );
+      reading = rw (picks_bytes _ _ _ c.requires.about)
+          (as_answered false _ _ _ _ _ _ _ _ c.in-Ok-Some.ensures.reading);
+      untouched = tt;
+      failed = λ is. absurd (no_fault _ _ is);
+      fine = c.in-Ok-Some.ensures.fine;
     }

@@ -15,7 +15,7 @@ returns g c =
           c.run_from.result (c.run_from.ensures.ok texts all) (c.run_from.ensures.coverage texts all)
           (c.run_from.ensures.subject texts all) (c.run_from.ensures.finding texts all) (c.run_from.ensures.cause texts all)
           (c.run_from.ensures.write texts all) (c.run_from.ensures.between texts all);
-      read = c.run_from.ensures.reading.read;
+      reading = c.run_from.ensures.reading;
       untouched = c.run_from.ensures.untouched;
       failed = c.run_from.ensures.failed;
       fine = c.run_from.ensures.fine;

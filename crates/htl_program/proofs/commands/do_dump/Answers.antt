@@ -1,6 +1,7 @@
 -- What is said of a dump is how it ended.
-use Rattle.std.proofs.Common.{ap, rules}
-use Rattle.htl_program.proofs.obeying.do_dump.Goals as goal
+use Rattle.std.proofs.Common.{ap}
+use Rattle.htl_program.proofs.Told.{run_told}
+use Rattle.htl_program.proofs.commands.do_dump.Goals as goal
 
 pub returns : goal.returns
 returns g c = record {
@@ -10,8 +11,11 @@ returns g c = record {
     (c.dump-ended.ensures.absent place absent).0,
     ap g.O.Sink.contents (c.dump-ended.ensures.absent place absent).1,
   );
+  reading = c.dump-ended.ensures.reading;
   read = c.dump-ended.ensures.read;
   failed = c.dump-ended.ensures.failed;
   status_is = c.end_conversion.ensures.status;
-  said = search rules;
+  after_run = g.P.Person.heard c.ends.new.self;
+  hears_run = run_told _ _ _ c.args.command.now c.begins.ensures c.ends.ensures;
+  said = c.end_conversion.ensures.said;
 }

@@ -1,18 +1,20 @@
-//! What a person at a terminal reads after a fault's line.
+//! The fault of a run in words.
 
 ghost use Rattle.std.specs.Prelude.{◌≡◌};
+ghost use Rattle.hleak.specs.Explanations.{about, about_text, meaning_text};
+ghost use Rattle.hleak.specs.Meanings.{text_of};
 ghost use Rattle.hleak.specs.Subjects.{event_line_of, subject_of};
 
-use crate::meaning::Meaning;
+use crate::explaining::advice::{memory_advice, thread_advice};
+use crate::explaining::meaning::Meaning;
+use crate::explaining::side::Side;
+use crate::explaining::task::Task;
 use crate::shown::Shown;
-use crate::sides::Side;
-use crate::task::Task;
-use htl_main::{Between, Question, RunFault};
-use htl_program::FREE_MEMORY;
+use htl_main::{Between, RunFault};
 use std::fmt;
 
 /// A fault in words: the file or the two segments that it is about, the line of the event in a text
-/// if it is about one, what its code means, and what to do.
+/// if it is about one, what is wrong, and what to do.
 #[derive(Clone, Copy)]
 pub struct Explanation<'a> {
     pub task: Task<'a>,
@@ -22,67 +24,62 @@ pub struct Explanation<'a> {
 }
 
 impl fmt::Display for Explanation<'_> {
+    ghost use Rattle.std.specs.Prelude.{Some};
+    ghost use Rattle.hleak.specs.Explanations.{explanation_text};
+
+    ghost output = { λ of. Some (explanation_text of.task of.fault of.between) };
+
     fn fmt<W: fmt::Write>(&self, f: &mut fmt::Formatter<W>) -> fmt::Result {
-        match (self.fault, self.between) {
-            (RunFault::Case(fault), Between::Two(first, second)) => {
-                let (first, second) = (
-                    Side::of(self.task, fault, first),
-                    Side::of(self.task, fault, second),
-                );
-                write!(f, "{first} and {second}")?;
-            }
-            _ => write!(f, "{}", Shown::name(self.subject()))?,
-        }
-        if let Some(line) = self.event_line() {
-            write!(f, ": line {line}")?;
-        }
-        write!(f, ": {}", self.meaning())
-    }
-}
-
-/// What helps where memory is refused.
-fn memory_advice(task: Task) -> &'static str {
-    match task {
-        Task::Answer(asked) => question_advice(asked.job.question, asked.job.workers),
-        Task::Convert(_) => FREE_MEMORY,
-        Task::Converse(_) => {
-            "free some, raise its limit, or ask each question alone, which takes less"
+        let (about, meaning) = (self.about(), self.meaning());
+        match self.event_line() {
+            Some(line) => write!(f, "{about}: line {line}: {meaning}"),
+            None => write!(f, "{about}: {meaning}"),
         }
     }
 }
 
-/// What helps where memory is refused to the answer to one question. A summary takes more of it than
-/// other questions do, and alone has workers.
-fn question_advice(question: Question, workers: u32) -> &'static str {
-    match (question, workers) {
-        (Question::Summary, 0..=1) => {
-            "free some, raise its limit, or ask about one process or object, which takes less"
-        }
-        (Question::Summary, _) => {
-            "free some, raise its limit, ask for fewer workers, or about one process or object"
-        }
-        _ => FREE_MEMORY,
-    }
+/// What a fault is about.
+#[derive(Clone, Copy)]
+enum About<'a> {
+    /// A file, a device or the program.
+    One(Shown<'a>),
+    /// Two segments, of which the first breaks a rule against the second.
+    Two(Side<'a>, Side<'a>),
 }
 
-/// What helps where no thread is started.
-fn thread_advice(task: Task) -> &'static str {
-    let workers = match task {
-        Task::Answer(asked) => asked.job.workers,
-        Task::Convert(_) => 1,
-        Task::Converse(of) => of.setting.workers,
-    };
-    match workers {
-        2.. => "ask for fewer workers, or raise the limit of threads",
-        _ => "raise the limit of threads, or end some other program",
+impl fmt::Display for About<'_> {
+    ghost use Rattle.std.specs.Prelude.{Some};
+
+    ghost output = { λ about. Some (about_text about) };
+
+    fn fmt<W: fmt::Write>(&self, f: &mut fmt::Formatter<W>) -> fmt::Result {
+        match *self {
+            About::One(name) => write!(f, "{name}"),
+            About::Two(first, second) => write!(f, "{first} and {second}"),
+        }
     }
 }
 
 impl<'a> Explanation<'a> {
+    /// What the fault is about.
+    fn about(&self) -> About<'a>
+        ensures { about_text result ≡ about self.now.task self.now.fault self.now.between }
+    {
+        match (self.fault, self.between) {
+            (RunFault::Case(fault), Between::Two(first, second)) => About::Two(
+                Side::of(self.task, fault, first),
+                Side::of(self.task, fault, second),
+            ),
+            _ => About::One(Shown::name(self.subject())),
+        }
+    }
+
     /// What is wrong, and what to do.
-    fn meaning(&self) -> Meaning {
+    fn meaning(&self) -> Meaning
+        ensures { text_of result ≡ meaning_text self.now.task self.now.fault }
+    {
         match self.fault {
-            RunFault::Workers => Meaning::new("so many workers there can't be", "give 1 to 8"),
+            RunFault::Workers => Meaning::new("there can't be so many workers", "give 1 to 8"),
             RunFault::Segment { fault, .. } => Meaning::of_segment(fault),
             RunFault::Hex { fault, .. } => Meaning::of_hex(fault),
             RunFault::Text { fault, .. } => Meaning::of_line(fault),
@@ -109,7 +106,7 @@ impl<'a> Explanation<'a> {
         }
     }
 
-    /// What the fault is about.
+    /// The file, the device or the program that the fault is about.
     fn subject(&self) -> &'a str
         ensures { result.now ≡ subject_of self.now.task self.now.fault }
     {

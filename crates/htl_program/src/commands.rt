@@ -1,10 +1,10 @@
-//! The program: from its arguments to its status.
+//! What the program does: from its arguments, through the command that they give, to its status.
 
 ghost use Rattle.std.specs.Prelude.{◌≡◌, ◌⊎◌, ◌&&◌, Bool, false, map, not, string_bytes};
-ghost use Rattle.htl_program.specs.Programs.{Does, DoesAnswer, DoesConverse, DoesDump, Encodes};
-ghost use Rattle.htl_program.specs.Programs.{Explains, IsPrinted, Obeys, Refuses, SaysConversion};
-ghost use Rattle.htl_program.specs.Programs.{SaysDialogue, known, opened, spoken, told};
-ghost use Rattle.htl_program.specs.Sayings.{Hears, fault};
+ghost use Rattle.htl_program.specs.Programs.{Does, DoesAnswer, DoesConverse, DoesDump, DoesEncode};
+ghost use Rattle.htl_program.specs.Programs.{Encodes, Explains, IsPrinted, Obeys, Refuses, SaysAnswer};
+ghost use Rattle.htl_program.specs.Programs.{SaysConversion, SaysDialogue, SaysFault};
+ghost use Rattle.htl_program.specs.Programs.{known, opened, spoken, told};
 ghost use Rattle.htl_program.specs.Statuses.{conversion_status};
 ghost use Rattle.htl_program.specs.Words.{explained};
 
@@ -13,61 +13,36 @@ use crate::conversing::converse;
 use crate::converting::{dump, encode};
 use crate::ending::{status_after, status_of_answer};
 use crate::explained::Explained;
+use crate::inputs::Inputs;
+use crate::output::Output;
 use crate::person::Person;
+use crate::speaker::Speaker;
 use crate::world::World;
-use htl_ask::{AskFault, Audience};
-use htl_command::{Asked, Code, Command, Conversion, Dialogue, ParseFault, parse};
-use htl_device::{Sink, Source, Writing, write_whole};
-use htl_main::{Between, Refused, RunFault};
+use htl_ask::AskFault;
+use htl_command::{Code, Command, Conversion, Dialogue, ParseFault, Run, parse};
+use htl_device::{Sink, Source, write_whole};
+use htl_dialogue::DialogueFault;
+use htl_main::{Between, Completed, Refused, RunFault};
 use std::alloc::Global;
-use std::io::Write;
-use std::sync::Wait;
 use std::thread::Threads;
 
-/// Where the answer goes.
-pub trait Output: Sink {
-    /// Whether a write failed because nobody reads any more, as after `head`. That is no news to
-    /// anybody.
-    fn has_lost_reader(&self) -> bool;
-}
-
-impl<W: Write> Output for Writing<W> {
-    fn has_lost_reader(&self) -> bool {
-        self.is_pipe_broken()
-    }
-}
-
-/// Who types the lines of a dialogue, and is told of it.
-pub trait Speaker: Audience {
-    // Whether a wrong line makes the status of a wrong command line.
-    ghost counts: { Self → Bool };
-
-    /// Whether a wrong line makes the status of a wrong command line.
-    fn counts_wrong(&self) -> bool
-        ensures { result ≡ counts self.now };
-
-    /// There are no more replies. The lines may have come to their end.
-    fn leaves(&mut self, has_ended: bool)
-        ensures { self.new ≡ self.old };
-}
-
 /// Does what the arguments ask for, and says with which status the program ends.
-pub fn program<Rt: Threads + Wait + Sync, W: World, O: Output, P: Person, S: Speaker>(
+pub fn program<Rt: Threads + Sync, W: World, O: Output, P: Person, S: Speaker>(
     rt: &Rt,
     alloc: Global,
     world: &W,
     arguments: Vec<String>,
-    inputs: &mut Vec<W::Input>,
+    inputs: &mut Inputs<W::Input>,
     out: &mut O,
     person: &mut P,
     speaker: &mut S,
 ) -> u8
     requires { O.has_failed out.old ≡ false }
     ensures { Obeys (P.sees_output person.old)
-        (spoken S.told S.wants_absence S.counts speaker.old speaker.new)
+        (spoken S.told S.left S.wants_absence S.counts speaker.old speaker.new)
         (known W.holds W.is_absent W.standard world.now)
         (opened W.Input.remaining W.Input.has_ended W.Input.has_failed W.Input.good_reads
-        inputs.new.items)
+        inputs.new)
         (told O.contents O.has_failed P.heard out.old person.old)
         (told O.contents O.has_failed P.heard out.new person.new)
         (map string_bytes arguments.items) result }
@@ -110,31 +85,31 @@ fn print<O: Sink, P: Person>(text: &str, out: &mut O, person: &mut P) -> u8
 }
 
 /// Does what the command is for.
-fn obey<Rt: Threads + Wait + Sync, W: World, O: Output, P: Person, S: Speaker>(
+fn obey<Rt: Threads + Sync, W: World, O: Output, P: Person, S: Speaker>(
     rt: &Rt,
     alloc: Global,
     world: &W,
     command: &Command,
-    inputs: &mut Vec<W::Input>,
+    inputs: &mut Inputs<W::Input>,
     out: &mut O,
     person: &mut P,
     speaker: &mut S,
 ) -> u8
     requires { O.has_failed out.old ≡ false }
     ensures { Does (P.sees_output person.old)
-        (spoken S.told S.wants_absence S.counts speaker.old speaker.new)
+        (spoken S.told S.left S.wants_absence S.counts speaker.old speaker.new)
         (known W.holds W.is_absent W.standard world.now)
         (opened W.Input.remaining W.Input.has_ended W.Input.has_failed W.Input.good_reads
-        inputs.new.items)
+        inputs.new)
         (told O.contents O.has_failed P.heard out.old person.old)
         (told O.contents O.has_failed P.heard out.new person.new) command.now result }
 {
     match command {
-        Command::Answer(asked) => do_answer(rt, alloc, world, command, asked, inputs, out, person),
+        Command::Question(run) => do_answer(rt, alloc, world, command, run, inputs, out, person),
         Command::Explain(code) => do_explain(alloc, command, *code, out, person),
         Command::Dump(of) => do_dump(alloc, world, command, of, inputs, out, person),
         Command::Encode(of) => do_encode(alloc, world, command, of, inputs, out, person),
-        Command::Converse(of) => {
+        Command::Ask(of) => {
             do_converse(rt, alloc, world, command, of, inputs, out, person, speaker)
         }
     }
@@ -146,39 +121,49 @@ fn do_answer<Rt: Threads + Sync, W: World, O: Output, P: Person>(
     alloc: Global,
     world: &W,
     command: &Command,
-    asked: &Asked,
-    inputs: &mut Vec<W::Input>,
+    run: &Run,
+    inputs: &mut Inputs<W::Input>,
     out: &mut O,
     person: &mut P,
 ) -> u8
     requires { O.has_failed out.old ≡ false }
     ensures { DoesAnswer (known W.holds W.is_absent W.standard world.now)
         (opened W.Input.remaining W.Input.has_ended W.Input.has_failed W.Input.good_reads
-        inputs.new.items)
+        inputs.new)
         (told O.contents O.has_failed P.heard out.old person.old)
-        (told O.contents O.has_failed P.heard out.new person.new) asked.now result }
+        (told O.contents O.has_failed P.heard out.new person.new) command.now run.now result }
 {
     person.begins(command);
-    let ended = answer(rt, alloc, world, asked, inputs, out);
+    let ended = answer(rt, alloc, world, run, &mut inputs.files, out);
     person.ends();
+    say_answer(command, run, ended, out, person);
+    status_of_answer(run.job.exit_code, ended)
+}
+
+/// Says how the run of a question ended.
+fn say_answer<O: Output, P: Person>(
+    command: &Command,
+    run: &Run,
+    ended: Result<Completed, Refused>,
+    out: &O,
+    person: &mut P,
+)
+    ensures { SaysAnswer (P.heard person.old) (P.heard person.new) command.now run.now ended }
+{
     match ended {
-        Ok(completed) => person.notes(asked, completed),
+        Ok(completed) => person.notes(run, completed),
         Err(refused) => report(command, refused, out, person),
     }
-    status_of_answer(asked.job.exit_code, ended)
 }
 
 /// Says which fault ended the run of the command.
 fn report<O: Output, P: Person>(command: &Command, refused: Refused, out: &O, person: &mut P)
-    ensures { Hears (P.heard person.old) (P.heard person.new) (fault refused)
-        ⊎ ((refused.fault ≡ RunFault.Write) × (P.heard person.new ≡ P.heard person.old)) }
+    ensures { SaysFault (P.heard person.old) (P.heard person.new) command.now refused }
 {
-    if let RunFault::Write = refused.fault {
-        if out.has_lost_reader() {
-            return;
-        }
+    match refused.fault {
+        RunFault::Write if out.has_lost_reader() => {}
+        _ => person.reports(command, refused),
     }
-    person.reports(command, refused);
 }
 
 /// Prints what the code means.
@@ -191,7 +176,8 @@ fn do_explain<O: Output, P: Person>(
 ) -> u8
     requires { O.has_failed out.old ≡ false }
     ensures { Explains (told O.contents O.has_failed P.heard out.old person.old)
-        (told O.contents O.has_failed P.heard out.new person.new) (explained code) result }
+        (told O.contents O.has_failed P.heard out.new person.new) command.now (explained code)
+        result }
 {
     let explained = Explained { code };
     match format!(in alloc; "{explained}") {
@@ -209,19 +195,19 @@ fn do_dump<W: World, O: Output, P: Person>(
     world: &W,
     command: &Command,
     of: &Conversion,
-    inputs: &mut Vec<W::Input>,
+    inputs: &mut Inputs<W::Input>,
     out: &mut O,
     person: &mut P,
 ) -> u8
     requires { O.has_failed out.old ≡ false }
     ensures { DoesDump (known W.holds W.is_absent W.standard world.now)
         (opened W.Input.remaining W.Input.has_ended W.Input.has_failed W.Input.good_reads
-        inputs.new.items)
+        inputs.new)
         (told O.contents O.has_failed P.heard out.old person.old)
-        (told O.contents O.has_failed P.heard out.new person.new) of.now result }
+        (told O.contents O.has_failed P.heard out.new person.new) command.now of.now result }
 {
     person.begins(command);
-    let ended = dump(alloc, world, of, inputs, out);
+    let ended = dump(alloc, world, of, &mut inputs.files, out);
     person.ends();
     end_conversion(command, ended, out, person)
 }
@@ -232,7 +218,7 @@ fn do_encode<W: World, O: Output, P: Person>(
     world: &W,
     command: &Command,
     of: &Conversion,
-    inputs: &mut Vec<W::Input>,
+    inputs: &mut Inputs<W::Input>,
     out: &mut O,
     person: &mut P,
 ) -> u8
@@ -240,15 +226,35 @@ fn do_encode<W: World, O: Output, P: Person>(
     ensures { Encodes (not of.now.hex && P.sees_output person.old)
         (known W.holds W.is_absent W.standard world.now)
         (opened W.Input.remaining W.Input.has_ended W.Input.has_failed W.Input.good_reads
-        inputs.new.items)
+        inputs.new)
         (told O.contents O.has_failed P.heard out.old person.old)
-        (told O.contents O.has_failed P.heard out.new person.new) of.now result }
+        (told O.contents O.has_failed P.heard out.new person.new) command.now of.now result }
 {
     if !of.hex && person.sees_output() {
         return refuse(&ParseFault::bytes_at_terminal(alloc), out, person);
     }
+    encode_into(alloc, world, command, of, inputs, out, person)
+}
+
+/// Makes segments of text for whoever takes their bytes.
+fn encode_into<W: World, O: Output, P: Person>(
+    alloc: Global,
+    world: &W,
+    command: &Command,
+    of: &Conversion,
+    inputs: &mut Inputs<W::Input>,
+    out: &mut O,
+    person: &mut P,
+) -> u8
+    requires { O.has_failed out.old ≡ false }
+    ensures { DoesEncode (known W.holds W.is_absent W.standard world.now)
+        (opened W.Input.remaining W.Input.has_ended W.Input.has_failed W.Input.good_reads
+        inputs.new)
+        (told O.contents O.has_failed P.heard out.old person.old)
+        (told O.contents O.has_failed P.heard out.new person.new) command.now of.now result }
+{
     person.begins(command);
-    let ended = encode(alloc, world, of, inputs, out);
+    let ended = encode(alloc, world, of, &mut inputs.files, out);
     person.ends();
     end_conversion(command, ended, out, person)
 }
@@ -271,7 +277,7 @@ fn end_conversion<O: Output, P: Person>(
     person: &mut P,
 ) -> u8
     ensures status { result ≡ conversion_status ended }
-    ensures said { SaysConversion (P.heard person.old) (P.heard person.new) ended }
+    ensures said { SaysConversion (P.heard person.old) (P.heard person.new) command.now ended }
 {
     let Err(fault) = ended else {
         return 0;
@@ -281,50 +287,57 @@ fn end_conversion<O: Output, P: Person>(
 }
 
 /// Replies to the lines of standard input.
-fn do_converse<Rt: Threads + Wait + Sync, W: World, O: Output, P: Person, S: Speaker>(
+fn do_converse<Rt: Threads + Sync, W: World, O: Output, P: Person, S: Speaker>(
     rt: &Rt,
     alloc: Global,
     world: &W,
     command: &Command,
     of: &Dialogue,
-    inputs: &mut Vec<W::Input>,
+    inputs: &mut Inputs<W::Input>,
     out: &mut O,
     person: &mut P,
     speaker: &mut S,
 ) -> u8
     requires { O.has_failed out.old ≡ false }
-    ensures { DoesConverse (spoken S.told S.wants_absence S.counts speaker.old speaker.new)
+    ensures { DoesConverse (spoken S.told S.left S.wants_absence S.counts speaker.old speaker.new)
         (known W.holds W.is_absent W.standard world.now)
         (opened W.Input.remaining W.Input.has_ended W.Input.has_failed W.Input.good_reads
-        inputs.new.items)
+        inputs.new)
         (told O.contents O.has_failed P.heard out.old person.old)
-        (told O.contents O.has_failed P.heard out.new person.new) of.now result }
+        (told O.contents O.has_failed P.heard out.new person.new) command.now of.now result }
 {
     person.begins(command);
     let mut questions = world.questions();
-    let ended = converse(rt, alloc, world, of, inputs, &mut questions, out, speaker);
+    let ended = converse(
+        rt,
+        alloc,
+        world,
+        of,
+        &mut inputs.files,
+        &mut questions,
+        out,
+        speaker,
+    );
     speaker.leaves(questions.ended());
+    inputs.questions = Some(questions);
     person.ends();
-    say_end(command, ended, out, person);
+    say_dialogue(command, ended, out, person);
     status_after(speaker.counts_wrong(), ended)
 }
 
 /// Says why a dialogue ended, where it has no good end.
-fn say_end<O: Output, P: Person>(
+fn say_dialogue<O: Output, P: Person>(
     command: &Command,
     ended: Result<bool, AskFault>,
     out: &O,
     person: &mut P,
 )
-    ensures { SaysDialogue (P.heard person.old) (P.heard person.new) ended }
+    ensures { SaysDialogue (P.heard person.old) (P.heard person.new) command.now ended }
 {
     match ended {
         Ok(_) => {}
         Err(AskFault::Run(refused)) => report(command, refused, out, person),
-        Err(AskFault::Dialogue(fault)) => {
-            if !out.has_lost_reader() {
-                person.stops(fault);
-            }
-        }
+        Err(AskFault::Dialogue(DialogueFault::Write)) if out.has_lost_reader() => {}
+        Err(AskFault::Dialogue(fault)) => person.stops(fault),
     }
 }

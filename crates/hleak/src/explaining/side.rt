@@ -1,11 +1,11 @@
-//! The two segments that a fault is about, as a person finds them.
+//! A segment that a fault sets against another, as a person finds it.
 
 ghost use Rattle.std.specs.Prelude.{◌≡◌};
 ghost use Rattle.hleak.specs.Subjects.{input_name};
-ghost use Rattle.hleak.specs.Sides.{sign_of};
+ghost use Rattle.hleak.specs.Sides.{processor_word, sign_of};
 
+use crate::explaining::task::Task;
 use crate::shown::Shown;
-use crate::task::Task;
 use htl_case::CaseFault;
 use htl_main::Origin;
 use std::fmt;
@@ -19,6 +19,7 @@ pub enum Sign {
 }
 
 impl Sign {
+    /// What tells the segment from the other one, by what the fault says of both.
     fn of(fault: CaseFault, origin: Origin) -> Sign
         ensures { result ≡ sign_of fault origin }
     {
@@ -34,15 +35,31 @@ impl Sign {
 }
 
 impl fmt::Display for Sign {
+    ghost use Rattle.std.specs.Prelude.{Some};
+    ghost use Rattle.hleak.specs.Sides.{sign_text};
+
+    ghost output = { λ sign. Some (sign_text sign) };
+
+    #[tactic(auto, using(crate::proofs::Padding::padded_16))]
     fn fmt<W: fmt::Write>(&self, f: &mut fmt::Formatter<W>) -> fmt::Result {
         match *self {
             Sign::Trace(id) => write!(f, "trace 0x{id:016x}"),
-            Sign::Processors(1) => f.write_str("1 processor"),
-            Sign::Processors(count) => write!(f, "{count} processors"),
+            Sign::Processors(count) => write!(f, "{count} {}", processor_word(count)),
             Sign::Key { processor, number } => {
                 write!(f, "processor {processor}, segment {number}")
             }
         }
+    }
+}
+
+/// What so many processors are called.
+fn processor_word(count: u16) -> &'static str
+    ensures { result.now ≡ processor_word count }
+{
+    if count == 1 {
+        "processor"
+    } else {
+        "processors"
     }
 }
 
@@ -54,6 +71,7 @@ pub struct Side<'a> {
 }
 
 impl<'a> Side<'a> {
+    /// The segment from this origin, as the fault sees it.
     pub fn of(task: Task<'a>, fault: CaseFault, origin: Origin) -> Side<'a>
         ensures file { result.file.now ≡ input_name task.entry origin.input }
         ensures sign { result.sign ≡ sign_of fault origin }
@@ -66,6 +84,11 @@ impl<'a> Side<'a> {
 }
 
 impl fmt::Display for Side<'_> {
+    ghost use Rattle.std.specs.Prelude.{Some};
+    ghost use Rattle.hleak.specs.Sides.{side_text};
+
+    ghost output = { λ side. Some (side_text side.file.now side.sign) };
+
     fn fmt<W: fmt::Write>(&self, f: &mut fmt::Formatter<W>) -> fmt::Result {
         write!(f, "{} ({})", Shown::name(self.file), self.sign)
     }

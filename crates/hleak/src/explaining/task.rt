@@ -1,25 +1,27 @@
 //! What the program was doing, and what a person calls its inputs.
 
 ghost use Rattle.std.specs.Prelude.{◌≡◌};
-ghost use Rattle.hleak.specs.Subjects.{input_name, symbols_name};
+ghost use Rattle.hleak.specs.Subjects.{IsTaskOf, input_name, symbols_name};
 
-use htl_command::{Asked, Command, Conversion, Dialogue};
+use htl_command::{Command, Conversion, Dialogue, Run};
 
-/// What was being done.
+/// What the program was doing.
 #[derive(Clone, Copy)]
 pub enum Task<'a> {
-    Answer(&'a Asked),
+    Question(&'a Run),
     Convert(&'a Conversion),
-    Converse(&'a Dialogue),
+    Ask(&'a Dialogue),
 }
 
 impl<'a> Task<'a> {
-    /// That of a command. A code is explained without any input.
-    pub fn of(command: &'a Command) -> Option<Task<'a>> {
+    /// What the program does for a command, where it has inputs. A code is explained without any.
+    pub fn of(command: &'a Command) -> Option<Task<'a>>
+        ensures { IsTaskOf command.now result }
+    {
         match command {
-            Command::Answer(asked) => Some(Task::Answer(asked)),
+            Command::Question(run) => Some(Task::Question(run)),
             Command::Dump(of) | Command::Encode(of) => Some(Task::Convert(of)),
-            Command::Converse(of) => Some(Task::Converse(of)),
+            Command::Ask(of) => Some(Task::Ask(of)),
             Command::Explain(_) => None,
         }
     }
@@ -29,9 +31,9 @@ impl<'a> Task<'a> {
         ensures { result.now ≡ input_name self.entry place }
     {
         let files = match self {
-            Task::Answer(asked) => &asked.files,
+            Task::Question(run) => &run.files,
             Task::Convert(of) => &of.files,
-            Task::Converse(of) => &of.files,
+            Task::Ask(of) => &of.files,
         };
         match files.get(place as usize) {
             Some(name) => name.as_str(),
@@ -44,13 +46,13 @@ impl<'a> Task<'a> {
         ensures { result.now ≡ symbols_name self.entry }
     {
         match self {
-            Task::Answer(
-                Asked {
+            Task::Question(
+                Run {
                     symbols: Some(name),
                     ..
                 },
             ) => name.as_str(),
-            Task::Converse(
+            Task::Ask(
                 Dialogue {
                     symbols: Some(name),
                     ..

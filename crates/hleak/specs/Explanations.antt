@@ -1,0 +1,60 @@
+-- What a person at a terminal reads after the line of a fault (this project's own).
+use Rattle.std.specs.Prelude.{◌++◌, ℕ, List, Option, None, Some, codes}
+use Rattle.std.specs.Fmt.{decimal}
+use Rattle.htl_dialogue.specs.declared.dialogue.DialogueFault.{DialogueFault}
+use Rattle.htl_dialogue.specs.declared.dialogue.DialogueFault.TheVariants as stops
+use Rattle.htl_main.specs.declared.fault.RunFault.{RunFault}
+use Rattle.htl_main.specs.declared.fault.RunFault.TheVariants.{Workers, Segment, Hex, Text, Case, Incomplete, Symbols, Read, SymbolsRead}
+use Rattle.htl_main.specs.declared.fault.RunFault.TheVariants.{Write, Memory, NoThread}
+use Rattle.htl_main.specs.declared.origin.Between.{Between}
+use Rattle.htl_main.specs.declared.origin.Between.TheVariants.{Two}
+use Rattle.htl_program.specs.Words.{free_memory}
+use Rattle.hleak.specs.Advice.{memory_advice, thread_advice}
+use Rattle.hleak.specs.Meanings.{case_text, hex_text, line_text, missing_text, no_memory, said, segment_text, symbols_text, unread, untaken}
+use Rattle.hleak.specs.Shown.{shown_name, shown_text}
+use Rattle.hleak.specs.Sides.{side_text, sign_of}
+use Rattle.hleak.specs.Subjects.{event_line_of, input_name, subject_of}
+use Rattle.hleak.specs.declared.explaining.explanation.About as declared
+use Rattle.hleak.specs.declared.explaining.explanation.About.TheVariants as abouts
+use Rattle.hleak.specs.declared.explaining.task.Task.{Task}
+
+-- what is wrong, and what to do
+abbrev pub meaning_text : Task → RunFault → List ℕ
+meaning_text task Workers = said None (codes "there can't be so many workers") (codes "give 1 to 8")
+meaning_text task (Segment input offset fault) = segment_text fault
+meaning_text task (Hex input fault) = hex_text fault
+meaning_text task (Text input line fault event) = line_text fault
+meaning_text task (Case fault) = case_text fault
+meaning_text task (Incomplete processor number) = missing_text processor number
+meaning_text task (Symbols fault) = symbols_text fault
+meaning_text task (Read input) = unread
+meaning_text task SymbolsRead = unread
+meaning_text task Write = untaken
+meaning_text task Memory = no_memory (memory_advice task)
+meaning_text task NoThread = said None (codes "the system started no thread") (thread_advice task)
+
+-- what a fault is about: two segments where it sets one against the other, and else a file, a device or the program
+abbrev pub about : Task → RunFault → Between → List ℕ
+about task (Case fault) (Two first second) =
+    side_text (input_name task first.input) (sign_of fault first)
+    ++ (codes " and " ++ side_text (input_name task second.input) (sign_of fault second))
+about task fault between = shown_name (subject_of task fault)
+
+abbrev pub about_text : declared.About → List ℕ
+about_text (abouts.One name) = shown_text name.has_lines name.text.now
+about_text (abouts.Two first second) =
+    side_text first.file.now first.sign ++ (codes " and " ++ side_text second.file.now second.sign)
+
+-- after the line of the event, where the fault is about one
+abbrev pub at_line : Option ℕ → List ℕ → List ℕ
+at_line None meaning = codes ": " ++ meaning
+at_line (Some line) meaning = codes ": line " ++ (decimal line ++ (codes ": " ++ meaning))
+
+abbrev pub explanation_text : Task → RunFault → Between → List ℕ
+explanation_text task fault between = about task fault between ++ at_line (event_line_of fault) (meaning_text task fault)
+
+-- the same where the replies of a dialogue stopped
+abbrev pub stopped_text : DialogueFault → List ℕ
+stopped_text stops.Questions = codes "standard input: " ++ unread
+stopped_text stops.Write = codes "standard output: " ++ untaken
+stopped_text stops.NoMemory = codes "hleak: " ++ no_memory free_memory

@@ -1,0 +1,111 @@
+-- What faults mean, in words (this project's own): what is wrong, with the part of the inputs that the fault names, and what to do.
+use Rattle.std.specs.Prelude.{◌++◌, ℕ, List, Option, None, Some, codes, option_map}
+use Rattle.std.specs.Fmt.{decimal}
+use Rattle.htl_case.specs.declared.fault.CaseFault.{CaseFault}
+use Rattle.htl_case.specs.declared.fault.CaseFault.TheVariants as cases
+use Rattle.htl_command.specs.declared.code.Code.{Code}
+use Rattle.htl_command.specs.declared.code.Code.TheVariants.{S1, S2, S3, S4, S5, S6, S7, S8, S9, S10, S11, S12, S13, S14, S15, S16, S17}
+use Rattle.htl_command.specs.declared.code.Code.TheVariants.{H1, H2, H3}
+use Rattle.htl_command.specs.declared.code.Code.TheVariants.{C1, C2, C3, C4, C5, C6, C7, C8}
+use Rattle.htl_command.specs.declared.code.Code.TheVariants.{Y1, Y2, Y3, Y4, Y5, Y6, Y7}
+use Rattle.htl_command.specs.declared.code.Code.TheVariants.{E1, E2}
+use Rattle.htl_program.specs.Words.{advice_of, form_wrong_of, with_part, wrong_of}
+use Rattle.htl_segment.specs.declared.fault.Fault.{Fault}
+use Rattle.htl_segment.specs.declared.fault.Fault.TheVariants as segments
+use Rattle.htl_segment.specs.declared.hexadecimal.HexFault.{HexFault}
+use Rattle.htl_segment.specs.declared.hexadecimal.HexFault.TheVariants as hexes
+use Rattle.htl_symbols.specs.declared.fault.SymbolFault.{SymbolFault}
+use Rattle.htl_symbols.specs.declared.fault.SymbolFault.TheVariants as symbols
+use Rattle.htl_text.specs.Fields.{field_name}
+use Rattle.htl_text.specs.declared.fault.FormFault.{FormFault}
+use Rattle.htl_text.specs.declared.fault.FormFault.TheVariants as forms
+use Rattle.htl_text.specs.declared.fault.LineFault.{LineFault}
+use Rattle.htl_text.specs.declared.fault.LineFault.TheVariants as lines
+use Rattle.hleak.specs.declared.explaining.meaning.Meaning.{Meaning}
+use Rattle.hleak.specs.declared.explaining.part.Part.{Part}
+use Rattle.hleak.specs.declared.explaining.part.Part.TheVariants as parts
+
+-- a part of the inputs, by its number or its field
+abbrev pub part_text : Part → List ℕ
+part_text (parts.Record i) = codes "record " ++ decimal i
+part_text (parts.Byte place) = codes "byte " ++ decimal place
+part_text (parts.Segment place) = codes "segment " ++ (decimal place ++ codes " of all inputs")
+part_text (parts.Key processor number) = codes "segment " ++ (decimal number ++ (codes " of processor " ++ decimal processor))
+part_text (parts.Sequence sequence) = codes "sequence " ++ decimal sequence
+part_text (parts.Row row) = codes "row " ++ decimal row
+part_text (parts.Field field) = codes "the line's " ++ field_name field
+
+-- what is wrong with a part, or by itself, and what to do
+abbrev pub said : Option Part → List ℕ → List ℕ → List ℕ
+said part wrong advice = with_part (option_map part_text part) wrong ++ (codes ": " ++ advice)
+
+abbrev pub text_of : Meaning → List ℕ
+text_of meaning = said meaning.part meaning.wrong.now meaning.advice.now
+
+-- the words on a code, of a part that the fault names
+unfoldable pub coded : Code → Option Part → List ℕ
+coded code part = said part (wrong_of code) (advice_of code)
+
+abbrev pub segment_text : Fault → List ℕ
+segment_text segments.Short = coded S1 None
+segment_text segments.Magic = coded S2 None
+segment_text segments.Version = coded S3 None
+segment_text segments.Processors = coded S4 None
+segment_text segments.Processor = coded S5 None
+segment_text segments.Reserved = coded S6 None
+segment_text segments.Number = coded S7 None
+segment_text segments.Count = coded S8 None
+segment_text segments.Length = coded S9 None
+segment_text segments.Cut = coded S10 None
+segment_text (segments.RecordShort i) = coded S11 (Some (parts.Record i))
+segment_text (segments.Sequence i) = coded S12 (Some (parts.Record i))
+segment_text (segments.Kind i) = coded S13 (Some (parts.Record i))
+segment_text (segments.Frames i) = coded S14 (Some (parts.Record i))
+segment_text (segments.Field i) = coded S15 (Some (parts.Record i))
+segment_text segments.Excess = coded S16 None
+segment_text segments.NoMemory = coded S17 None
+
+abbrev pub hex_text : HexFault → List ℕ
+hex_text (hexes.BadDigit place) = coded H1 (Some (parts.Byte place))
+hex_text hexes.Odd = coded H2 None
+hex_text hexes.NoMemory = coded H3 None
+
+abbrev pub form_text : FormFault → List ℕ
+form_text forms.Words = said None (form_wrong_of forms.Words) (advice_of E1)
+form_text (forms.Field field) = said (Some (parts.Field field)) (form_wrong_of (forms.Field field)) (advice_of E1)
+
+abbrev pub line_text : LineFault → List ℕ
+line_text (lines.Form fault) = form_text fault
+line_text lines.Order = coded E2 None
+line_text (lines.Segment fault) = segment_text fault
+
+abbrev pub case_text : CaseFault → List ℕ
+case_text cases.Empty = coded C1 None
+case_text (cases.OtherTrace place) = coded C2 (Some (parts.Segment place))
+case_text (cases.OtherProcessors place) = coded C3 (Some (parts.Segment place))
+case_text (cases.TwoContents processor number) = coded C4 (Some (parts.Key processor number))
+case_text (cases.SequenceTwice sequence) = coded C5 (Some (parts.Sequence sequence))
+case_text cases.NoMemory = coded C6 None
+case_text (cases.Falling processor number) = coded C7 (Some (parts.Key processor number))
+
+abbrev pub missing_text : ℕ → ℕ → List ℕ
+missing_text processor number = coded C8 (Some (parts.Key processor number))
+
+abbrev pub symbols_text : SymbolFault → List ℕ
+symbols_text symbols.Header = coded Y1 None
+symbols_text (symbols.Fields row) = coded Y2 (Some (parts.Row row))
+symbols_text (symbols.Number row) = coded Y3 (Some (parts.Row row))
+symbols_text (symbols.EmptyRange row) = coded Y4 (Some (parts.Row row))
+symbols_text (symbols.Overlap row) = coded Y5 (Some (parts.Row row))
+symbols_text (symbols.Csv row) = coded Y6 (Some (parts.Row row))
+symbols_text symbols.NoMemory = coded Y7 None
+
+-- faults without a code: an input that isn't read, an output that fails, and refused memory
+abbrev pub unread : List ℕ
+unread = said None (codes "it can't be opened or read") (codes "is it a file, is it there, and may you read it?")
+
+abbrev pub untaken : List ℕ
+untaken = said None (codes "it didn't take the whole answer") (codes "is a disk full, or its reader gone?")
+
+abbrev pub no_memory : List ℕ → List ℕ
+no_memory advice = said None (codes "the system refused memory") advice

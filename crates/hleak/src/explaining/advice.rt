@@ -1,0 +1,58 @@
+//! What helps where the system refuses memory or a thread.
+
+ghost use Rattle.std.specs.Prelude.{◌≡◌};
+ghost use Rattle.hleak.specs.Advice.{memory_advice, question_advice, thread_advice, workers_of};
+
+use crate::explaining::task::Task;
+use htl_main::Question;
+use htl_program::FREE_MEMORY;
+
+/// What helps where memory is refused.
+pub fn memory_advice(task: Task) -> &'static str
+    ensures { result.now ≡ memory_advice task.entry }
+{
+    match task {
+        Task::Question(run) => question_advice(run.job.question, run.job.workers),
+        Task::Convert(_) => FREE_MEMORY,
+        Task::Ask(_) => {
+            "free some, raise its limit, or ask each question alone, which takes less"
+        }
+    }
+}
+
+/// What helps where memory is refused to the answer to one question. A summary takes more of it than
+/// other questions do, and alone has workers.
+fn question_advice(question: Question, workers: u32) -> &'static str
+    ensures { result.now ≡ question_advice question workers }
+{
+    match (question, workers) {
+        (Question::Summary, 0..=1) => {
+            "free some, raise its limit, or ask about one process or object, which takes less"
+        }
+        (Question::Summary, _) => {
+            "free some, raise its limit, ask for fewer workers, or about one process or object"
+        }
+        _ => FREE_MEMORY,
+    }
+}
+
+/// What helps where no thread is started.
+pub fn thread_advice(task: Task) -> &'static str
+    ensures { result.now ≡ thread_advice task.entry }
+{
+    match workers_of(task) {
+        2.. => "ask for fewer workers, or raise the limit of threads",
+        _ => "raise the limit of threads, or end some other program",
+    }
+}
+
+/// How many workers there are.
+fn workers_of(task: Task) -> u32
+    ensures { result ≡ workers_of task.entry }
+{
+    match task {
+        Task::Question(run) => run.job.workers,
+        Task::Convert(_) => 1,
+        Task::Ask(of) => of.setting.workers,
+    }
+}

@@ -1,0 +1,200 @@
+//! What a fault means, in words.
+
+ghost use Rattle.std.specs.Prelude.{◌≡◌, None, Some};
+ghost use Rattle.hleak.specs.Meanings.{case_text, coded, hex_text, line_text, missing_text, said};
+ghost use Rattle.hleak.specs.Meanings.{form_text, no_memory, segment_text, symbols_text, text_of};
+ghost use Rattle.hleak.specs.Meanings.{unread, untaken};
+
+use crate::explaining::part::Part;
+use htl_case::CaseFault;
+use htl_command::Code;
+use htl_program::{advice, form_wrong, wrong};
+use htl_segment::{Fault, HexFault};
+use htl_symbols::SymbolFault;
+use htl_text::{FormFault, LineFault};
+use std::fmt;
+
+/// What is wrong with which part of the inputs, and what to do.
+#[derive(Clone, Copy)]
+pub struct Meaning {
+    part: Option<Part>,
+    wrong: &'static str,
+    advice: &'static str,
+}
+
+impl Meaning {
+    /// What a fault without a code means.
+    pub fn new(wrong: &'static str, advice: &'static str) -> Meaning
+        ensures { text_of result ≡ said None wrong.now advice.now }
+    {
+        Meaning {
+            part: None,
+            wrong,
+            advice,
+        }
+    }
+
+    /// A file can't be read, or what stands on standard input.
+    pub fn unread() -> Meaning
+        ensures { text_of result ≡ unread }
+    {
+        Meaning::new(
+            "it can't be opened or read",
+            "is it a file, is it there, and may you read it?",
+        )
+    }
+
+    /// Standard output failed.
+    pub fn untaken() -> Meaning
+        ensures { text_of result ≡ untaken }
+    {
+        Meaning::new(
+            "it didn't take the whole answer",
+            "is a disk full, or its reader gone?",
+        )
+    }
+
+    /// Memory is refused, where this helps.
+    pub fn no_memory(advice: &'static str) -> Meaning
+        ensures { text_of result ≡ no_memory advice.now }
+    {
+        Meaning::new("the system refused memory", advice)
+    }
+
+    /// What a fault means that has this code, and names no part of the inputs.
+    #[tactic(auto, unfolding(crate::specs::Meanings::coded))]
+    fn of_code(code: Code) -> Meaning
+        ensures { text_of result ≡ coded code None }
+    {
+        Meaning::new(wrong(code), advice(code))
+    }
+
+    /// What a fault means that has this code, and names this part of the inputs.
+    #[tactic(auto, unfolding(crate::specs::Meanings::coded))]
+    fn of_part(code: Code, part: Part) -> Meaning
+        ensures { text_of result ≡ coded code (Some part) }
+    {
+        Meaning {
+            part: Some(part),
+            wrong: wrong(code),
+            advice: advice(code),
+        }
+    }
+
+    /// What a fault of a segment means.
+    pub fn of_segment(fault: Fault) -> Meaning
+        ensures { text_of result ≡ segment_text fault }
+    {
+        match fault {
+            Fault::Short => Meaning::of_code(Code::S1),
+            Fault::Magic => Meaning::of_code(Code::S2),
+            Fault::Version => Meaning::of_code(Code::S3),
+            Fault::Processors => Meaning::of_code(Code::S4),
+            Fault::Processor => Meaning::of_code(Code::S5),
+            Fault::Reserved => Meaning::of_code(Code::S6),
+            Fault::Number => Meaning::of_code(Code::S7),
+            Fault::Count => Meaning::of_code(Code::S8),
+            Fault::Length => Meaning::of_code(Code::S9),
+            Fault::Cut => Meaning::of_code(Code::S10),
+            Fault::RecordShort(record) => Meaning::of_part(Code::S11, Part::Record(record)),
+            Fault::Sequence(record) => Meaning::of_part(Code::S12, Part::Record(record)),
+            Fault::Kind(record) => Meaning::of_part(Code::S13, Part::Record(record)),
+            Fault::Frames(record) => Meaning::of_part(Code::S14, Part::Record(record)),
+            Fault::Field(record) => Meaning::of_part(Code::S15, Part::Record(record)),
+            Fault::Excess => Meaning::of_code(Code::S16),
+            Fault::NoMemory => Meaning::of_code(Code::S17),
+        }
+    }
+
+    /// What a fault of a text in hexadecimal means.
+    pub fn of_hex(fault: HexFault) -> Meaning
+        ensures { text_of result ≡ hex_text fault }
+    {
+        match fault {
+            HexFault::BadDigit(place) => Meaning::of_part(Code::H1, Part::Byte(place)),
+            HexFault::Odd => Meaning::of_code(Code::H2),
+            HexFault::NoMemory => Meaning::of_code(Code::H3),
+        }
+    }
+
+    /// What a fault of a line of text means.
+    pub fn of_line(fault: LineFault) -> Meaning
+        ensures { text_of result ≡ line_text fault }
+    {
+        match fault {
+            LineFault::Form(fault) => Meaning::of_form(fault),
+            LineFault::Order => Meaning::of_code(Code::E2),
+            LineFault::Segment(fault) => Meaning::of_segment(fault),
+        }
+    }
+
+    /// What it means that a line has none of the forms.
+    fn of_form(fault: FormFault) -> Meaning
+        ensures { text_of result ≡ form_text fault }
+    {
+        let part = match fault {
+            FormFault::Words => None,
+            FormFault::Field(field) => Some(Part::Field(field)),
+        };
+        Meaning {
+            part,
+            wrong: form_wrong(fault),
+            advice: advice(Code::E1),
+        }
+    }
+
+    /// What a fault of all segments means.
+    pub fn of_case(fault: CaseFault) -> Meaning
+        ensures { text_of result ≡ case_text fault }
+    {
+        match fault {
+            CaseFault::Empty => Meaning::of_code(Code::C1),
+            CaseFault::OtherTrace(place) => Meaning::of_part(Code::C2, Part::Segment(place)),
+            CaseFault::OtherProcessors(place) => Meaning::of_part(Code::C3, Part::Segment(place)),
+            CaseFault::TwoContents(processor, number) => {
+                Meaning::of_part(Code::C4, Part::Key { processor, number })
+            }
+            CaseFault::SequenceTwice(sequence) => {
+                Meaning::of_part(Code::C5, Part::Sequence(sequence))
+            }
+            CaseFault::NoMemory => Meaning::of_code(Code::C6),
+            CaseFault::Falling(processor, number) => {
+                Meaning::of_part(Code::C7, Part::Key { processor, number })
+            }
+        }
+    }
+
+    /// What it means that a case misses a segment, where a complete one is asked for.
+    pub fn of_missing(processor: u16, number: u32) -> Meaning
+        ensures { text_of result ≡ missing_text processor number }
+    {
+        Meaning::of_part(Code::C8, Part::Key { processor, number })
+    }
+
+    /// What a fault of a symbol table means.
+    pub fn of_symbols(fault: SymbolFault) -> Meaning
+        ensures { text_of result ≡ symbols_text fault }
+    {
+        match fault {
+            SymbolFault::Header => Meaning::of_code(Code::Y1),
+            SymbolFault::Fields(row) => Meaning::of_part(Code::Y2, Part::Row(row)),
+            SymbolFault::Number(row) => Meaning::of_part(Code::Y3, Part::Row(row)),
+            SymbolFault::EmptyRange(row) => Meaning::of_part(Code::Y4, Part::Row(row)),
+            SymbolFault::Overlap(row) => Meaning::of_part(Code::Y5, Part::Row(row)),
+            SymbolFault::Csv(row) => Meaning::of_part(Code::Y6, Part::Row(row)),
+            SymbolFault::NoMemory => Meaning::of_code(Code::Y7),
+        }
+    }
+}
+
+impl fmt::Display for Meaning {
+    ghost output = { λ meaning. Some (text_of meaning) };
+
+    fn fmt<W: fmt::Write>(&self, f: &mut fmt::Formatter<W>) -> fmt::Result {
+        let (wrong, advice) = (self.wrong, self.advice);
+        match self.part {
+            Some(part) => write!(f, "{part} {wrong}: {advice}"),
+            None => write!(f, "{wrong}: {advice}"),
+        }
+    }
+}

@@ -1,0 +1,45 @@
+-- How sources were read doesn't depend on what a run that ended well answers, or on what a run that ended by a fault would have.
+use Rattle.std.proofs.Common.{◌≡◌, Bool, List, ℕ, ap, false, inl, inr, refl, true}
+use Rattle.std.proofs.lemmas.Option.{none-some}
+use Rattle.std.specs.Prelude.{Option, Some, Ok, Err}
+use Rattle.htl_event.specs.declared.interest.Interest.{Interest}
+use Rattle.htl_command.specs.declared.question.Question.{Question}
+use Rattle.htl_main.specs.Picked.{asks_about}
+use Rattle.htl_main.specs.Readings.{AreRead}
+use Rattle.htl_main.specs.declared.fault.RunFault.{RunFault}
+use Rattle.htl_program.proofs.Lent.{no_fault, same_fault}
+
+pub as_answered : {R S T : Type 0} (is_text : Bool) (has_failed has_ended : R → Bool) (good_reads : R → ℕ)
+    (remaining : R → Option (List ℕ)) (old new : List R) (done : S) (other : T)
+    → AreRead is_text has_failed has_ended good_reads remaining old new (Ok done)
+    → AreRead is_text has_failed has_ended good_reads remaining old new (Ok other)
+as_answered is_text has_failed has_ended good_reads remaining old new done other read = record {
+  ended = read.ended;
+  in_order = read.in_order;
+  reported = λ place failed. absurd (no_fault done _ (read.reported place failed));
+  read = λ place is. absurd (no_fault other _ is);
+  no_fault = λ place is. absurd (no_fault other _ is);
+  bounded = read.bounded;
+  unread = tt;
+  to_fault = read.to_fault;
+}
+
+pub as_refused : {R S T : Type 0} (is_text : Bool) (has_failed has_ended : R → Bool) (good_reads : R → ℕ)
+    (remaining : R → Option (List ℕ)) (old new : List R) (fault : RunFault)
+    → AreRead {S = S} is_text has_failed has_ended good_reads remaining old new (Err fault)
+    → AreRead {S = T} is_text has_failed has_ended good_reads remaining old new (Err fault)
+as_refused is_text has_failed has_ended good_reads remaining old new fault read = record {
+  ended = tt;
+  in_order = read.in_order;
+  reported = λ place failed. ap Err (same_fault _ _ _ refl (read.reported place failed));
+  read = λ place is. read.read place (ap Err (same_fault _ _ _ refl is));
+  no_fault = λ place is. read.no_fault place (ap Err (same_fault _ _ _ refl is));
+  bounded = read.bounded;
+  unread = read.unread;
+  to_fault = read.to_fault;
+}
+
+-- What is asked about is picked of bytes alone.
+pub picks_bytes : (hex : Bool) (question : Question) (interest : Interest) → asks_about hex question ≡ Some interest → hex ≡ false
+picks_bytes false question interest is = refl
+picks_bytes true question interest is = absurd (none-some _ is)

@@ -1,0 +1,14 @@
+-- What is said of a question's run is how it ended.
+use Rattle.std.proofs.Common.{rules}
+use Rattle.htl_program.proofs.Told.{run_told}
+use Rattle.htl_program.proofs.commands.do_answer.Goals as goal
+
+pub returns : goal.returns
+returns g c = record {
+  ended = c.answer-ended.result;
+  is = search rules;
+  status_is = search rules;
+  after_run = g.P.Person.heard c.ends.new.self;
+  hears_run = run_told _ _ _ c.args.command.now c.begins.ensures c.ends.ensures;
+  said = c.say_answer.ensures;
+}

@@ -1,0 +1,32 @@
+-- A dialogue's end is said, and what its speaker heard is what the dialogue told.
+use Rattle.std.proofs.Common.{◌∙◌, rules}
+use Rattle.htl_program.proofs.Told.{run_told}
+use Rattle.htl_program.proofs.commands.do_converse.Goals as goal
+
+pub returns : goal.returns
+returns g c = record {
+  ended = c.converse-ended.result;
+  listening = c.converse-ended.new.audience;
+  questions = c.converse-ended.new.questions;
+  asked = search rules;
+  replies = λ texts table lines all has known.
+      c.converse-ended.ensures.replies texts table lines all has (c.questions-questions.ensures.bytes ∙ known);
+  stops = λ texts table lines stopped all has known is.
+      c.converse-ended.ensures.stops texts table lines stopped all has (c.questions-questions.ensures.bytes ∙ known) is;
+  lines = search rules;
+  unread = search rules;
+  full = search rules;
+  unwritten = search rules;
+  cause = search rules;
+  between = search rules;
+  absent = search rules;
+  untabled = search rules;
+  reading = search rules;
+  read = search rules;
+  untouched = search rules;
+  after = search rules;
+  status_is = search rules;
+  after_run = g.P.Person.heard c.ends.new.self;
+  hears_run = run_told _ _ _ c.args.command.now c.begins.ensures c.ends.ensures;
+  said = search rules;
+}

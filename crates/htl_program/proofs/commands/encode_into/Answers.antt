@@ -1,0 +1,19 @@
+-- What is said of an encoding is how it ended.
+use Rattle.std.proofs.Common.{rules}
+use Rattle.htl_program.proofs.Told.{run_told}
+use Rattle.htl_program.proofs.commands.encode_into.Goals as goal
+
+pub returns : goal.returns
+returns g c = record {
+  ended = c.encode-ended.result;
+  ends = c.encode-ended.ensures.ends;
+  absent = c.encode-ended.ensures.absent;
+  reading = c.encode-ended.ensures.reading;
+  read = c.encode-ended.ensures.read;
+  failed = c.encode-ended.ensures.failed;
+  untouched = search rules;
+  status_is = c.end_conversion.ensures.status;
+  after_run = g.P.Person.heard c.ends.new.self;
+  hears_run = run_told _ _ _ c.args.command.now c.begins.ensures c.ends.ensures;
+  said = c.end_conversion.ensures.said;
+}

@@ -1,0 +1,17 @@
+//! Where answers go.
+
+use htl_device::{Sink, Writing};
+use std::io::Write;
+
+/// Where the answer goes.
+pub trait Output: Sink {
+    /// Whether a write failed because nobody reads any more, as after `head`. That is no news to
+    /// anybody.
+    fn has_lost_reader(&self) -> bool;
+}
+
+impl<W: Write> Output for Writing<W> {
+    fn has_lost_reader(&self) -> bool {
+        self.is_pipe_broken()
+    }
+}

@@ -1,0 +1,22 @@
+//! Who types the lines of a dialogue.
+
+use htl_ask::Audience;
+
+/// Who types the lines of a dialogue, and is told of it.
+pub trait Speaker: Audience {
+    ghost use Rattle.std.specs.Prelude.{◌≡◌, Bool};
+
+    // Whether a wrong line makes the status of a wrong command line.
+    ghost counts: { Self → Bool };
+
+    // The speaker once there are no more replies, because the lines came to their end or not.
+    ghost left: { Self → Bool → Self } = { λ speaker _. speaker };
+
+    /// Whether a wrong line makes the status of a wrong command line.
+    fn counts_wrong(&self) -> bool
+        ensures { result ≡ counts self.now };
+
+    /// There are no more replies. The lines may have come to their end.
+    fn leaves(&mut self, has_ended: bool)
+        ensures { self.new ≡ left self.old has_ended };
+}

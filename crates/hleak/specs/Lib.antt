@@ -8,5 +8,6 @@ pub mod Openings
 pub mod Shown
 pub mod Sides
 pub mod Stages
+pub mod Inputs
 pub mod Subjects
 pub mod Wrongs

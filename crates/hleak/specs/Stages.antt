@@ -1,5 +1,5 @@
 -- When an input's file is open (this project's own).
-use Rattle.std.specs.Prelude.{◌≡◌, ◌<◌, ◌⊎◌, ⊤, ℕ}
+use Rattle.std.specs.Prelude.{◌≡◌, ◌<◌, ◌⊎◌, ◌&&◌, ⊤, ℕ, Bool, true, false, Option, is_some}
 use Rattle.hleak.specs.declared.file.Stage.{Stage}
 use Rattle.hleak.specs.declared.file.Stage.TheVariants.{Found, Open, Ended}
 
@@ -8,6 +8,16 @@ abbrev pub IsUnread : Stage → Type 0
 IsUnread Found = ⊤
 IsUnread (Open file) = ⊤
 IsUnread Ended = ⊥
+
+-- nothing was read, and the file isn't open
+abbrev pub is_found : Stage → Bool
+is_found Found = true
+is_found (Open file) = false
+is_found Ended = false
+
+-- nothing was read of a regular file: one whose length is known
+abbrev pub is_unread : Stage → Option ℕ → Bool
+is_unread stage len = is_found stage && is_some len
 
 -- a file that wasn't open is, and all else is as it was
 abbrev pub IsBegun : Stage → Stage → Type 0

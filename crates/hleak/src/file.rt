@@ -2,7 +2,7 @@
 
 ghost use Rattle.std.specs.Prelude.{◌≡◌, ◌≤◌, IfOk, OnErr, OnOk, Ok, length, string_bytes};
 ghost use Rattle.hleak.specs.Openings.{IsKnownLen, StaysOpen};
-ghost use Rattle.hleak.specs.Stages.{IsBegun, IsStageAfter, IsUnread};
+ghost use Rattle.hleak.specs.Stages.{IsBegun, IsStageAfter, IsUnread, is_unread};
 
 use std::fs::{File, Metadata};
 use std::io;
@@ -60,11 +60,14 @@ impl InputFile {
     }
 
     /// Whether it is a regular file of which nothing was read.
-    pub fn is_unread(&self) -> bool {
+    pub fn is_unread(&self) -> bool
+        ensures { result ≡ is_unread self.now.stage self.now.len }
+    {
         matches!(self.stage, Stage::Found) && self.len.is_some()
     }
 
-    /// The file from an offset on, opened once more.
+    /// The file from an offset on, opened once more. No contract knows what a file holds, so none says
+    /// where it is read from.
     pub fn tail(&self, offset: u64) -> io::Result<File> {
         let mut file = File::open(&self.rt, &self.name)?;
         file.seek(SeekFrom::Start(offset))?;

@@ -6,7 +6,8 @@ ghost use Rattle.std_io.specs.IoError.{error_kind};
 ghost use Rattle.hleak.specs.Openings.{open_fault};
 
 use crate::file::{InputFile, known_len};
-use crate::input::{Device, Input};
+use crate::input::Input;
+use crate::input_source::InputSource;
 use crate::progress::Progress;
 use htl_program::{OpenFault, World};
 use std::{fs, io};
@@ -19,7 +20,7 @@ pub struct Host<'p> {
 }
 
 impl<'p> World for Host<'p> {
-    type Input = Input<'p, Device>;
+    type Input = InputSource<'p>;
 
     ghost holds = { λ _ _. None };
 
@@ -27,21 +28,21 @@ impl<'p> World for Host<'p> {
 
     ghost standard = { λ _. None };
 
-    fn open(&self, name: &str) -> Result<Input<'p, Device>, OpenFault> {
+    fn open(&self, name: &str) -> Result<InputSource<'p>, OpenFault> {
         let file = opened(InputFile::find(&self.rt, name))?;
-        Ok(Input::file(file, self.progress))
+        Ok(InputSource::new(Input::file(file, self.progress)))
     }
 
     fn read(&self, name: &str) -> Result<Vec<u8>, OpenFault> {
         opened(fs::read(&self.rt, name))
     }
 
-    fn standard_input(&self) -> Input<'p, Device> {
-        Input::standard(&self.rt, self.progress)
+    fn standard_input(&self) -> InputSource<'p> {
+        InputSource::new(Input::standard(&self.rt, self.progress))
     }
 
-    fn questions(&self) -> Input<'p, Device> {
-        Input::standard(&self.rt, None)
+    fn questions(&self) -> InputSource<'p> {
+        InputSource::new(Input::standard(&self.rt, None))
     }
 
     fn can_be_read_again(&self, name: &str) -> bool {

@@ -1,11 +1,10 @@
-//! What the program reads from.
+//! What the program reads: files and standard input, as readers.
 
-ghost use Rattle.std.specs.Prelude.{◌≡◌, ◌⊎◌, None, false};
+ghost use Rattle.std.specs.Prelude.{◌≡◌, ◌⊎◌, None, option_map};
+ghost use Rattle.hleak.specs.Inputs.{unread_file};
 
 use crate::file::{InputFile, known_len};
 use crate::progress::Progress;
-use htl_device::{Failed, Parted, Reading, Source};
-use std::fs::File;
 use std::io::{IsTerminal, Read, Stdin};
 use std::{fs, io};
 
@@ -13,21 +12,24 @@ use std::{fs, io};
 /// somebody watches.
 #[derive(Drop)]
 pub struct Input<'a, D> {
-    device: Reading<D>,
+    device: D,
     progress: Option<&'a Progress>,
 }
 
 impl<'a, D: Read> Input<'a, D> {
     /// The device as an input.
     pub fn new(device: D, progress: Option<&'a Progress>) -> Input<'a, D>
-        ensures bytes { ⟦<Input<'a, D> as Source>⟧.remaining result ≡ D.remaining device }
-        ensures fresh { ⟦<Input<'a, D> as Source>⟧.has_failed result ≡ false }
-        ensures inside { ⟦<Input<'a, D> as Source>⟧.has_ended result ≡ false }
+        ensures bytes { ⟦<Input<'a, D> as Read>⟧.remaining result ≡ D.remaining device }
+        ensures device { result.device ≡ device }
         ensures watched { result.progress ≡ progress.entry }
     {
-        Input {
-            device: Reading::new(device),
-            progress,
+        Input { device, progress }
+    }
+
+    /// Nothing more will be read of it.
+    pub fn end(&self) {
+        if let Some(progress) = self.progress {
+            progress.end();
         }
     }
 }
@@ -35,8 +37,7 @@ impl<'a, D: Read> Input<'a, D> {
 impl<'a> Input<'a, Device> {
     /// A file, of which nothing was read.
     pub fn file(file: InputFile, progress: Option<&'a Progress>) -> Input<'a, Device>
-        ensures fresh { ⟦<Input<'a, Device> as Source>⟧.has_failed result ≡ false }
-        ensures inside { ⟦<Input<'a, Device> as Source>⟧.has_ended result ≡ false }
+        ensures device { result.device ≡ Device.File file }
         ensures watched { result.progress ≡ progress.entry }
     {
         if let Some(progress) = progress {
@@ -47,8 +48,7 @@ impl<'a> Input<'a, Device> {
 
     /// Standard input. What a person types is not counted.
     pub fn standard(rt: &HostRuntime, progress: Option<&'a Progress>) -> Input<'a, Device>
-        ensures fresh { ⟦<Input<'a, Device> as Source>⟧.has_failed result ≡ false }
-        ensures inside { ⟦<Input<'a, Device> as Source>⟧.has_ended result ≡ false }
+        ensures device { (standard : Stdin) × (result.device ≡ Device.Standard standard) }
         ensures watched { (result.progress ≡ None) ⊎ (result.progress ≡ progress.entry) }
     {
         let standard = rt.stdin();
@@ -58,50 +58,30 @@ impl<'a> Input<'a, Device> {
         }
         Input::new(Device::Standard(standard), progress)
     }
+
+    /// The file, where it is a regular one of which nothing was read.
+    pub fn unread_file(&self) -> Option<&InputFile>
+        ensures { option_map (λ file. file.now) result ≡ unread_file self.now.device }
+    {
+        match &self.device {
+            Device::File(file) if file.is_unread() => Some(file),
+            _ => None,
+        }
+    }
 }
 
-impl<D: Read> Source for Input<'_, D> {
-    ghost remaining = { λ s. ⟦<Reading<D> as Source>⟧.remaining s.device };
+impl<D: Read> Read for Input<'_, D> {
+    ghost remaining = { λ s. D.remaining s.device };
 
-    ghost has_failed = { λ s. ⟦<Reading<D> as Source>⟧.has_failed s.device };
-
-    ghost good_reads = { λ s. ⟦<Reading<D> as Source>⟧.good_reads s.device };
-
-    ghost has_ended = { λ s. ⟦<Reading<D> as Source>⟧.has_ended s.device };
-
-    fn ended(&self) -> bool {
-        self.device.ended()
-    }
-
-    fn read(&mut self, buffer: &mut [u8]) -> Result<usize, Failed> {
+    fn read(&mut self, buffer: &mut [u8]) -> io::Result<usize> {
         let read = self.device.read(buffer);
         if let Some(progress) = self.progress {
             match read {
-                Ok(0) | Err(Failed) => progress.end(),
+                Ok(0) | Err(_) => progress.end(),
                 Ok(count) => progress.count(count as u64),
             }
         }
         read
-    }
-}
-
-/// A file can be opened once more for each part.
-impl Parted for Input<'_, Device> {
-    type Tail = File;
-
-    fn len(&self) -> Option<u64> {
-        self.device.reader().file()?.len()
-    }
-
-    fn tail(&self, offset: u64) -> Option<File> {
-        self.device.reader().file()?.tail(offset).ok()
-    }
-
-    fn finish(&mut self) {
-        self.device.finish();
-        if let Some(progress) = self.progress {
-            progress.end();
-        }
     }
 }
 
@@ -110,16 +90,6 @@ impl Parted for Input<'_, Device> {
 pub enum Device {
     File(InputFile),
     Standard(Stdin),
-}
-
-impl Device {
-    /// The file, where it is a regular one of which nothing was read.
-    fn file(&self) -> Option<&InputFile> {
-        match self {
-            Device::File(file) if file.is_unread() => Some(file),
-            _ => None,
-        }
-    }
 }
 
 impl Read for Device {

@@ -2,9 +2,9 @@
 //! over those in files, prints segments as text or makes them of text, or explains a code.
 //!
 //! What its arguments ask for is done by `htl_program`, for any world. Here is the world of the
-//! machine (`host.rt`), whose files (`file.rt`) are opened once they are read (`input.rt`), and the
-//! person who reads standard error (`terminal.rt`). What goes there beside the replies of a dialogue is
-//! the matter of `listener.rt`.
+//! machine (`host.rt`), whose files (`file.rt`) are opened once they are read (`input.rt`), also by
+//! several workers (`input_source.rt`), and the person who reads standard error (`terminal.rt`). What
+//! goes there beside the replies of a dialogue is the matter of `listener.rt`.
 //!
 //! Where standard error is a terminal, a person reads more: `progress.rt` shows how much was read,
 //! `absence.rt` says that what was asked about has no event, `note.rt` that segments are missing, and
@@ -21,6 +21,7 @@ mod explaining;
 mod file;
 mod host;
 mod input;
+mod input_source;
 mod listener;
 mod note;
 mod progress;

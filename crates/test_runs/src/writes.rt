@@ -15,7 +15,7 @@ use std::thread::Threads;
 enum Failure {
     /// By an error.
     Error,
-    /// It takes none of the bytes.
+    /// It accepts no byte.
     Nothing,
 }
 

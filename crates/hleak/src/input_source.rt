@@ -1,0 +1,61 @@
+//! The inputs of the program as sources, of which several workers may read parts.
+
+ghost use Rattle.std.specs.Prelude.{◌≡◌, false};
+
+use crate::input::{Device, Input};
+use htl_device::{Failed, Parted, Reading, Source};
+use std::fs::File;
+
+/// An input of the program as a source.
+#[derive(Drop)]
+pub struct InputSource<'a> {
+    reading: Reading<Input<'a, Device>>,
+}
+
+impl<'a> InputSource<'a> {
+    /// The input as a source that was not read yet.
+    pub fn new(input: Input<'a, Device>) -> InputSource<'a>
+        ensures fresh { ⟦<InputSource<'a> as Source>⟧.has_failed result ≡ false }
+        ensures inside { ⟦<InputSource<'a> as Source>⟧.has_ended result ≡ false }
+    {
+        InputSource {
+            reading: Reading::new(input),
+        }
+    }
+}
+
+impl<'a> Source for InputSource<'a> {
+    ghost remaining = { λ s. ⟦<Reading<Input<'a, Device>> as Source>⟧.remaining s.reading };
+
+    ghost has_failed = { λ s. ⟦<Reading<Input<'a, Device>> as Source>⟧.has_failed s.reading };
+
+    ghost good_reads = { λ s. ⟦<Reading<Input<'a, Device>> as Source>⟧.good_reads s.reading };
+
+    ghost has_ended = { λ s. ⟦<Reading<Input<'a, Device>> as Source>⟧.has_ended s.reading };
+
+    fn ended(&self) -> bool {
+        self.reading.ended()
+    }
+
+    fn read(&mut self, buffer: &mut [u8]) -> Result<usize, Failed> {
+        self.reading.read(buffer)
+    }
+}
+
+/// A file can be opened once more for each part.
+impl Parted for InputSource<'_> {
+    type Tail = File;
+
+    fn len(&self) -> Option<u64> {
+        self.reading.reader().unread_file()?.len()
+    }
+
+    fn tail(&self, offset: u64) -> Option<File> {
+        self.reading.reader().unread_file()?.tail(offset).ok()
+    }
+
+    fn finish(&mut self) {
+        self.reading.reader().end();
+        self.reading.finish();
+    }
+}

@@ -74,7 +74,7 @@ fn case_of(
 /// Lists the events of a handle.
 fn list(watch: &mut Stopwatch<'_>, case: &Case, events: u64) -> Result<()> {
     watch.restart();
-    let rows = case.trace(watch.alloc(), 4, 8)?;
+    let rows = case.trace(watch.alloc(), 4, 8, None)?;
     watch.lap("events gone through for a listing", events);
     watch.print("listed", rows.len());
     Ok(())

@@ -32,8 +32,11 @@ fn measure_answer(watch: &mut Stopwatch<'_>, symbols: &Symbols, size: u32) -> Re
         rows: rows(alloc, size)?,
     };
     watch.restart();
-    watch.lap_list("bytes of text", text(alloc, &answer, symbols, None));
-    watch.lap_list("bytes of JSON", json_lines(alloc, &answer, symbols, None));
+    watch.lap_list("bytes of text", text(alloc, &answer, symbols, None, None));
+    watch.lap_list(
+        "bytes of JSON",
+        json_lines(alloc, &answer, symbols, None, None),
+    );
     Ok(())
 }
 

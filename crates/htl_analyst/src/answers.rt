@@ -125,7 +125,7 @@ impl<A: Allocator + Clone> Analyst<A> {
         ensures { IfOk result (λ rows. (T : Trace) → IsTrace T → IsRight self.now T
             → IsLeaks (Contains (taken_events T self.now)) process rows.items) }
     {
-        let rows = answers::leaks(alloc, &self.parts, process)?;
+        let rows = answers::leaks(alloc, &self.parts, process, None, 1)?;
         Ok(rows)
     }
 

@@ -1,8 +1,11 @@
 -- What an optional row of each element comes to: its members, its order, and one element more.
-use Rattle.std.proofs.Common.{◌≡◌, List, [], ◌∷◌, ◌++◌, Option, Some, None, refl, ap, ◌∙◌, append-nil, inl, inr}
+use Rattle.std.proofs.Common.{◌≡◌, ℕ, ◌+◌, ◌<◌, List, [], ◌∷◌, ◌++◌, length, take, get_or, Option, Some, None, refl, sym, ap, ◌∙◌}
+use Rattle.std.proofs.Common.{append-nil, append_assoc, inl, inr}
+use Rattle.std.proofs.lemmas.List.{take_more}
 use Rattle.std.proofs.lemmas.List.Elements.{filter_map-append}
 use Rattle.std.specs.Prelude.{Contains}
-use Rattle.std.specs.List.{filter_map, cons_option}
+use Rattle.std.specs.List.{filter_map, cons_option, flat_map}
+use Rattle.htl_tables.proofs.FlatPlaces.{flat_map-take}
 use Rattle.htl_event.specs.Members.{IsRising}
 use Rattle.htl_event.proofs.Members.{Contains-here, Contains-there, Contains-cases, Contains-nil, at_member, each_member}
 
@@ -70,3 +73,21 @@ pub no_row_more : {X Y : Type 0} (f : X → Option Y) (xs : List X) (x : X) → 
     → filter_map f (xs ++ x ∷ []) ≡ filter_map f xs
 no_row_more f xs x none = filter_map-append f xs (x ∷ []) ∙ ap (λ o. filter_map f xs ++ cons_option o []) (none_of (f x) none)
     ∙ append-nil (filter_map f xs)
+
+-- what the next element gives is added to what the elements so far gave
+pub rows_more : {X Y : Type 0} (f : X → Option Y) (xs : List X) (i : ℕ) (x : X) → i < length xs → x ≡ get_or xs i x
+    → (old so_far new : List Y) → so_far ≡ old ++ filter_map f (take i xs) → new ≡ so_far ++ filter_map f (x ∷ [])
+    → new ≡ old ++ filter_map f (take (i + 1) xs)
+rows_more f xs i x lt is old so_far new kept more =
+    let longer = take_more xs i x lt ∙ ap (λ y. take i xs ++ y ∷ []) (sym is) in
+    let both = ap (filter_map f) longer ∙ filter_map-append f (take i xs) (x ∷ []) in
+    more ∙ ap (λ ys. ys ++ filter_map f (x ∷ [])) kept ∙ append_assoc old (filter_map f (take i xs)) (filter_map f (x ∷ []))
+    ∙ ap (λ ys. old ++ ys) (sym both)
+
+-- what the elements of the next list give is added to what those of the lists so far gave
+pub rows_of_lists_more : {Z X Y : Type 0} (f : X → Option Y) (of : Z → List X) (lists : List Z) (i : ℕ) (z : Z) → i < length lists
+    → z ≡ get_or lists i z → (so_far new : List Y) (xs : List X) → xs ≡ of z → so_far ≡ filter_map f (flat_map of (take i lists))
+    → new ≡ so_far ++ filter_map f xs → new ≡ filter_map f (flat_map of (take (i + 1) lists))
+rows_of_lists_more f of lists i z lt is so_far new xs are kept more =
+    more ∙ ap (λ ys. ys ++ filter_map f xs) kept ∙ ap (λ ys. filter_map f (flat_map of (take i lists)) ++ filter_map f ys) are
+    ∙ sym (ap (filter_map f) (flat_map-take of lists i z lt is) ∙ filter_map-append f (flat_map of (take i lists)) (of z))

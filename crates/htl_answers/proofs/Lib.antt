@@ -18,3 +18,8 @@ pub mod SlotLists
 pub mod Opens
 pub mod TagLemmas
 pub mod BadLemmas
+pub mod NumbersTo
+pub mod ChangeOrder
+pub mod LifeLemmas
+pub mod OpenLives
+pub mod PointLemmas

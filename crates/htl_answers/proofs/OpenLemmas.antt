@@ -81,7 +81,7 @@ rising-filter before p (x ∷ xs) rising =
       | inr fails ↦ rw (filter-skip p x xs fails) (rising-filter before p xs rising.1)
     ]
 
-opened : (kind : Kind) → is_open_kind kind ≡ true → kind ≡ Opened
+pub opened : (kind : Kind) → is_open_kind kind ≡ true → kind ≡ Opened
 opened Opened e = refl
 opened kind e = absurd cc
 

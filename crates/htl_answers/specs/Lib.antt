@@ -7,5 +7,7 @@ pub mod Rows
 pub mod RowOrder
 pub mod Open
 pub mod Leaks
+pub mod Lives
+pub mod Points
 pub mod Tags
 pub mod Bad

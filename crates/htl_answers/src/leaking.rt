@@ -1,52 +1,80 @@
 //! Leaks: the stacks that opened outstanding handles.
 
-ghost use Rattle.std.specs.Prelude.{◌≡◌, ◌↔◌, List, Contains, map, IfOk};
+ghost use Rattle.std.specs.Prelude.{◌≡◌, ◌↔◌, List, Contains, filter, map, IfOk};
 ghost use Rattle.std.specs.declared.cmp.Ordering.TheVariants.{Less, Equal};
 ghost use Rattle.htl_event.specs.Events.{Event};
 ghost use Rattle.htl_event.specs.Members.{IsRising};
 ghost use Rattle.htl_event.specs.Handles.{HaveOwnSequences};
-ghost use Rattle.htl_event.specs.Tallies.{IsLeaks};
+ghost use Rattle.htl_event.specs.Tallies.{IsLeaksSince, AreOpenSince};
 ghost use Rattle.htl_answers.specs.Parts.{AreEventsOf};
-ghost use Rattle.htl_answers.specs.Leaks.{counted_first, stack_before_number};
+ghost use Rattle.htl_answers.specs.Leaks.{opens_many, counted_first, stack_before_number};
 
 use crate::asked::counts_of_events;
 use crate::counted_by::BySlotAndStack;
-use crate::open::outstanding;
+use crate::open::{diff, outstanding};
 use crate::part::Part;
-use htl_event::{Count, NoMemory, SharedStack, Slot};
+use htl_event::{Count, NoMemory, SharedEvent, SharedStack, Slot};
 use htl_tree::Slots;
 use std::alloc::Global;
 use std::cmp::Reverse;
 
 /// The stacks that opened outstanding handles of the process, each with their number, the greatest
-/// number first and then in stack order.
+/// number first and then in stack order. Where a moment is given, only handles that were opened after
+/// it count. A stack with fewer than so many of them is left out.
 pub fn leaks<P: Part>(
     alloc: Global,
     parts: &[P],
     process: u32,
+    since: Option<u64>,
+    at_least: u64,
 ) -> Result<Vec<(SharedStack, u64)>, NoMemory>
     ensures { IfOk result (λ rows. (events : List Event)
         → AreEventsOf (map P.contents parts.now) events
-        → HaveOwnSequences events → IsLeaks (Contains events) process rows.items) }
+        → HaveOwnSequences events
+        → IsLeaksSince (Contains events) process since at_least rows.items) }
 {
-    let opens = outstanding(alloc, parts, process)?;
+    let opens = open_since(alloc, parts, process, since)?;
     let slots = Slots::One(Slot::Handles { process });
     let counts = counts_of_events::<BySlotAndStack>(alloc, &opens, slots)?;
-    let mut leaks = number_first(alloc, &counts)?;
+    let mut leaks = number_first(alloc, &counts, at_least)?;
     put_in_order(&mut leaks);
     stack_first(alloc, &leaks)
 }
 
-/// The rows with the number of opens first. It is reversed, so that a sort puts the greatest first.
+/// The outstanding handles of the process, or those of them that were opened after a moment, where
+/// one is given.
+fn open_since<P: Part>(
+    alloc: Global,
+    parts: &[P],
+    process: u32,
+    since: Option<u64>,
+) -> Result<Vec<SharedEvent>, NoMemory>
+    ensures { IfOk result (λ rows. (events : List Event)
+        → AreEventsOf (map P.contents parts.now) events
+        → HaveOwnSequences events
+        → AreOpenSince (Contains events) process since rows.items) }
+{
+    match since {
+        None => outstanding(alloc, parts, process),
+        Some(moment) => diff(alloc, parts, process, moment),
+    }
+}
+
+/// The rows with so many opens at least, the number of opens first. It is reversed, so that a sort
+/// puts the greatest first.
 fn number_first(
     alloc: Global,
     counts: &[((Slot, SharedStack), Count)],
+    at_least: u64,
 ) -> Result<Vec<(Reverse<u64>, SharedStack)>, NoMemory>
-    ensures { IfOk result (λ rows. rows.items ≡ map counted_first counts.now) }
+    ensures { IfOk result (λ rows.
+        rows.items ≡ map counted_first (filter (opens_many at_least) counts.now)) }
 {
-    let mut rows = Vec::with_capacity(alloc, counts.len())?;
+    let mut rows = Vec::new(alloc);
     for ((_, stack), count) in counts {
-        rows.push((Reverse(count.plus), stack.copy()?))?;
+        if count.plus >= at_least {
+            rows.push((Reverse(count.plus), stack.copy()?))?;
+        }
     }
     Ok(rows)
 }

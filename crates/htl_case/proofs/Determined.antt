@@ -1,5 +1,5 @@
 -- A question has one answer over a set of keys of a trace.
-use Rattle.std.proofs.Common.{◌≡◌, ℕ, Bool, true, List, Option, Vec, Global, refl, sym, subst, ◌∙◌}
+use Rattle.std.proofs.Common.{◌≡◌, ℕ, Bool, true, List, Option, None, Vec, Global, refl, sym, subst, ◌∙◌}
 use Rattle.std.specs.Prelude.{Contains, count_by}
 use Rattle.std.proofs.Math.Path.{fun_ext}
 use Rattle.std.proofs.lemmas.List.Sorted.{IsPermutation-refl}
@@ -91,7 +91,7 @@ module _ (T : Trace) (trace : IsTrace T) (S : ℕ → ℕ → Bool) where
 
   same_leaks : (process : ℕ) (a : Vec (List ℕ × ℕ) Global) → IsLeaks (Contains events) process a.items
       → (y : AnalystAnswer) → IsAnswer T S (asked.Leaks process) y → IsSameAnswer (answered.Leaks a) y
-  same_leaks process a is (answered.Leaks b) other = handles.leaks process a.items b.items is other
+  same_leaks process a is (answered.Leaks b) other = handles.leaks process None 1 a.items b.items is other
   same_leaks process a is y other = absurd other
 
   same_bad : (process : ℕ) (a : Vec (ℕ × List ℕ × ℕ) Global) → IsBad events process a.items

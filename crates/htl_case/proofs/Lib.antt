@@ -4,11 +4,13 @@ pub mod KeyOrder
 pub mod Repeats
 pub mod Gathered
 pub mod Twice
-pub mod Spans
+pub mod SegmentSpans
 pub mod Scanned
+pub mod SpanLaws
 pub mod Outlined
 pub mod Moved
 pub mod Listings
+pub mod Counted
 pub mod Refusals
 pub mod Outcomes
 pub mod Pickings
@@ -19,3 +21,4 @@ pub mod Played
 pub mod Sizes
 pub mod Determined
 pub mod Headlines
+pub mod FinalAnswers

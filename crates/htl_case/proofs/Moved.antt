@@ -74,7 +74,7 @@ module _ {X Y : Type 0} (f : X → List Y) where
   flat_moved xs ys = IsPermutation-keeps xs (λ l. IsPermutation (flat_map f xs) (flat_map f l)) (IsPermutation-refl (flat_map f xs))
       (λ l i j p q so_far. IsPermutation-trans _ _ _ so_far (swap_flat l i j p q)) ys
 
-  filter_flat : (p : Y → Bool) (xs : List X) → filter p (flat_map f xs) ≡ flat_map (λ x. filter p (f x)) xs
+  pub filter_flat : (p : Y → Bool) (xs : List X) → filter p (flat_map f xs) ≡ flat_map (λ x. filter p (f x)) xs
   filter_flat p [] = refl
   filter_flat p (x ∷ xs) = filter-append p (f x) (flat_map f xs) ∙ ap (λ l. filter p (f x) ++ l) (filter_flat p xs)
 
@@ -82,3 +82,10 @@ module _ {X Y : Type 0} (f : X → List Y) (p : Y → Bool) where
   -- what passes a test changes places with the rest
   pub filter_moved : (xs ys : List X) → IsPermutation xs ys → IsPermutation (filter p (flat_map f xs)) (filter p (flat_map f ys))
   filter_moved xs ys moved = rw (filter_flat f p xs, filter_flat f p ys) (flat_moved (λ x. filter p (f x)) xs ys moved)
+
+singles : {X : Type 0} (xs : List X) → flat_map (λ x. x ∷ []) xs ≡ xs
+singles [] = refl
+singles (x ∷ xs) = ap (λ l. x ∷ l) (singles xs)
+
+pub kept_moved : {X : Type 0} (p : X → Bool) (xs ys : List X) → IsPermutation xs ys → IsPermutation (filter p xs) (filter p ys)
+kept_moved p xs ys moved = rw (singles xs, singles ys) at (filter_moved (λ x. x ∷ []) p xs ys moved)

@@ -9,6 +9,7 @@ use Rattle.std.proofs.lemmas.List.Sorted.{All-permutation, Contains-permutation,
 use Rattle.std.proofs.lemmas.List.Sorted.{sum_by-IsPermutation}
 use Rattle.htl_event.specs.Handles.{HaveOwnSequences}
 use Rattle.htl_event.specs.Interests.{wants, wanted}
+use Rattle.htl_event.specs.Moments.{counted_events}
 use Rattle.htl_event.specs.declared.interest.Interest.{Interest}
 use Rattle.htl_event.specs.Members.{IsRising, IsLeastSuch}
 use Rattle.htl_event.proofs.Members.{Contains-map, Contains-from_map, at_member, each_member}
@@ -25,7 +26,8 @@ use Rattle.htl_case.specs.Cases.{IsCaseOf}
 use Rattle.htl_case.specs.Faults.{Falls, key_of}
 use Rattle.htl_case.specs.Ordered.{AreOf, IsInOrder}
 use Rattle.htl_case.specs.Outlined.{IsOutlineBefore, has_key, times_key, AreOfOne}
-use Rattle.htl_case.specs.Picked.{Picked, picked, IsPickedOf, KeyComesTwice, NeedsWhole}
+use Rattle.htl_case.specs.Picked.{Picked, picked, IsPickedOf, IsPickedUntil, KeyComesTwice, NeedsWhole}
+use Rattle.htl_case.proofs.Counted.{own_until, wanted_until}
 use Rattle.htl_case.proofs.KeyOrder.{same_pair}
 use Rattle.htl_case.proofs.Listings.{fewer, times-moved}
 use Rattle.htl_case.proofs.Moved.{AreImages, images_moved, flat_moved, filter_moved}
@@ -221,11 +223,23 @@ module _ (interest : Interest) (picks : Picks) (segments : List Content) (are : 
 -- ---- what was picked of a trace
 
 -- the events of a picked case have sequences of their own
-pub picked_own : (interest : Interest) (T : Trace) (case : Picked) → IsTrace T → IsPickedOf interest T case → HaveOwnSequences case.events
-picked_own interest T case is of = own_from_times case.events (λ n.
+pub picked_own : (interest : Interest) (T : Trace) (until : Option ℕ) (case : Picked) → IsTrace T → IsPickedUntil interest T until case
+    → HaveOwnSequences case.events
+picked_own interest T until case is of =
+    let counted = counted_events until (all_events T.segments) in
+    own_from_times case.events (λ n.
     omega (
       arith,
-      times-moved n (wanted interest (all_events T.segments)) case.events of.events,
-      fewer (wants interest) n (all_events T.segments),
-      times_from_own (all_events T.segments) is.sequences n,
+      times-moved n (wanted interest counted) case.events of.events,
+      fewer (wants interest) n counted,
+      times_from_own counted (own_until until (all_events T.segments) is.sequences) n,
     ))
+
+-- the events until a moment are left of those that were picked of all
+pub picked_until : (interest : Interest) (T : Trace) (until : Option ℕ) (case : Picked) → IsPickedOf interest T case
+    → IsPickedUntil interest T until (picked case.processors case.outlines (counted_events until case.events))
+picked_until interest T until case of = record {
+  processors = of.processors;
+  outlines = of.outlines;
+  events = wanted_until interest until (all_events T.segments) case.events of.events;
+}

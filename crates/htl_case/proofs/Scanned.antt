@@ -9,7 +9,7 @@ use Rattle.std.proofs.lemmas.List.Elements.{Contains-append_right}
 use Rattle.htl_event.specs.Events.{Event}
 use Rattle.htl_event.proofs.Members.{Contains-here, Contains-cases, Contains-nil, at_member}
 use Rattle.htl_segment.specs.Content.{Content, Fits}
-use Rattle.htl_segment.specs.Outlines.{outline_of, last_sequence}
+use Rattle.htl_segment.specs.Outlines.{outline_of, first_sequence, last_sequence}
 use Rattle.htl_segment.specs.declared.outline.Outline.{Outline}
 use Rattle.htl_segment.specs.Traces.{AreInOrder, IsBefore}
 use Rattle.htl_segment.specs.Rising.{IsKeyBefore, SequencesRise}
@@ -17,7 +17,8 @@ use Rattle.htl_event.specs.Members.{IsLeastSuch}
 use Rattle.htl_case.specs.Faults.{Falls, key_of}
 use Rattle.htl_case.specs.Outlined.{outline_key}
 use Rattle.htl_case.proofs.KeyOrder.{not_itself, before_before}
-use Rattle.htl_case.proofs.Spans.{IsSpan, none_or_some}
+use Rattle.htl_case.specs.Spans.{IsSpanOf}
+use Rattle.htl_case.proofs.SegmentSpans.{from_to, none_or_some}
 use Rattle.htl_segment.proofs.Spans.{above}
 
 pub falls_moved : (a b : List Content) (key : ℕ × ℕ) → ((s : Content) → Contains a s → Contains b s) → Falls a key → Falls b key
@@ -175,7 +176,7 @@ below_more seen s left place t h =
 
 scanned_some : (seen : List Content) (s : Content) (left : List Content) (floor first last : ℕ) → IsAmong seen s left
     → IsFloor seen s.processor floor → ((key : ℕ × ℕ) → Falls seen key → ⊥)
-    → IsSpan s.events first last → floor < first → AreScanned (seen ++ s ∷ []) left s.processor last
+    → IsSpanOf s.events (from_to first last) → floor < first → AreScanned (seen ++ s ∷ []) left s.processor last
 scanned_some seen s left floor first last place low none span above_floor = record {
   none = falls_more seen s left floor place low none (λ e h. let least = (span.between e h).0 in omega (arith, above_floor, least));
   bound = λ t f h at in_t. elim (Contains-push_cases seen s t h) [
@@ -225,7 +226,7 @@ seen_before seen s left place t h before =
 
 fall_found : (seen : List Content) (s : Content) (left : List Content) (floor first last : ℕ) → IsAmong seen s left
     → IsFloor seen s.processor floor → ((key : ℕ × ℕ) → Falls seen key → ⊥)
-    → Fits s → IsSpan s.events first last → first ≤ floor → IsLeastSuch IsKeyBefore (Falls (seen ++ s ∷ left)) (key_of s)
+    → Fits s → IsSpanOf s.events (from_to first last) → first ≤ floor → IsLeastSuch IsKeyBefore (Falls (seen ++ s ∷ left)) (key_of s)
 fall_found seen s left floor first last place low none fit span le = record {
   holds = elim low.reached [
     | inl none ↦
@@ -319,7 +320,8 @@ module _ (ss : List Content) (ordered : AreInOrder ss) (i : ℕ) (s : Content) (
             let (e, in_s, e_is) = some.span.has_first in
             let under = (some.span.between e in_s).1 in
             let top : max o.last floor ≡ last_sequence 0 s.events = omega (arith, last, first, up, e_is, under) in
-            rw top (scanned_some (take i ss) s (drop (i + 1) ss) floor _ _ place low scanned.none some.span (omega (arith, up, first)))
+            rw top (scanned_some (take i ss) s (drop (i + 1) ss) floor (first_sequence s.events) (last_sequence 0 s.events) place low
+            scanned.none some.span (omega (arith, up, first)))
       ])
 
   found_here : (processor highest floor : ℕ) (o : Outline) → Fits s → o ≡ outline_of s
@@ -332,18 +334,19 @@ module _ (ss : List Content) (ordered : AreInOrder ss) (i : ℕ) (s : Content) (
       elim (none_or_some s fit) [
         | inl empty ↦ absurd (let none_first = empty.first in omega (arith, first, none_first, begun))
         | inr some ↦ subst (λ (all : List Content). IsLeastSuch IsKeyBefore (Falls all) (key_of s)) whole
-            (fall_found (take i ss) s (drop (i + 1) ss) floor _ _ place low scanned.none fit some.span (omega (arith, le, first)))
+            (fall_found (take i ss) s (drop (i + 1) ss) floor (first_sequence s.events) (last_sequence 0 s.events) place low scanned.none
+            fit some.span (omega (arith, le, first)))
       ]
 
 -- ---- the segment behind an outline
 
-record IsBehind (ss : List Content) (i : ℕ) (o : Outline) : Type 0 where
+pub record IsBehind (ss : List Content) (i : ℕ) (o : Outline) : Type 0 where
   pub segment : Content
   pub within : i < length ss
   pub here : segment ≡ get_or ss i segment
   pub outlined : o ≡ outline_of segment
 
-behind : (ss : List Content) (i : ℕ) (o d : Outline) → i < length (map outline_of ss) → o ≡ get_or (map outline_of ss) i d → IsBehind ss i o
+pub behind : (ss : List Content) (i : ℕ) (o d : Outline) → i < length (map outline_of ss) → o ≡ get_or (map outline_of ss) i d → IsBehind ss i o
 behind [] i o d lt is = absurd (omega (arith, lt))
 behind (s ∷ ss) zero o d lt is = record { segment = s; within = omega arith; here = refl; outlined = is }
 behind (s ∷ ss) (suc i) o d lt is =

@@ -2,12 +2,15 @@
 pub mod Cases
 pub mod Faults
 pub mod Picked
+pub mod Spans
+pub mod Complete
 pub mod Plays
 pub mod Reached
 pub mod Answers
 pub mod Asked
 pub mod Histories
 pub mod Headline
+pub mod Final
 -- cited by private contracts alone
 pub mod Ordered
 pub mod Outlined

@@ -1,8 +1,9 @@
 -- Picked cases (this project's own word): of a case what a question about a process or an object needs.
-use Rattle.std.specs.Prelude.{◌≡◌, ℕ, ◌<◌, ◌⊎◌, List, Some, map, slice_get}
+use Rattle.std.specs.Prelude.{◌≡◌, ℕ, ◌<◌, ◌⊎◌, List, Option, Some, None, map, slice_get}
 use Rattle.std.specs.List.Sorted.{IsPermutation}
 use Rattle.htl_event.specs.Events.{Event}
 use Rattle.htl_event.specs.Interests.{wanted}
+use Rattle.htl_event.specs.Moments.{counted_events}
 use Rattle.htl_event.specs.declared.interest.Interest.{Interest}
 use Rattle.htl_segment.specs.Content.{Content}
 use Rattle.htl_segment.specs.Outlines.{outline_of}
@@ -19,11 +20,16 @@ pub record Picked : Type 0 where
 abbrev pub picked : ℕ → List Outline → List Event → Picked
 picked processors outlines events = record { processors = processors; outlines = outlines; events = events }
 
--- what was picked of the trace: the outlines in the order of their keys, and the events that are asked about, in any order
-pub record IsPickedOf (interest : Interest) (T : Trace) (case : Picked) : Type 0 where
+-- What was picked of the trace, as of a moment where one is given: the outlines in the order of their keys, and of the events until the
+-- moment those that are asked about, in any order.
+pub record IsPickedUntil (interest : Interest) (T : Trace) (until : Option ℕ) (case : Picked) : Type 0 where
   pub processors : case.processors ≡ T.processors
   pub outlines : case.outlines ≡ map outline_of T.segments
-  pub events : IsPermutation (wanted interest (all_events T.segments)) case.events
+  pub events : IsPermutation (wanted interest (counted_events until (all_events T.segments))) case.events
+
+-- what was picked of all events of the trace
+abbrev pub IsPickedOf : Interest → Trace → Picked → Type 0
+IsPickedOf interest T case = IsPickedUntil interest T None case
 
 -- segments at two places of the list have one key
 pub record KeyComesTwice (segments : List Content) : Type 0 where

@@ -5,7 +5,7 @@ use crate::ordering::{check_one_trace, in_order};
 use crate::outlines::outlines_of;
 use crate::rising::falling;
 use crate::sequences::repeated_sequence;
-use htl_event::NoMemory;
+use htl_event::{EventList, NoMemory, Until};
 use htl_segment::{Outline, Segment};
 use std::alloc::Global;
 use std::marker::Model;
@@ -30,9 +30,10 @@ impl Model for Case {
 }
 
 impl Case {
-    ghost use Rattle.std.specs.Prelude.{◌≡◌, ◌⊎◌, Result, IfOk, IfErr, map};
+    ghost use Rattle.std.specs.Prelude.{◌≡◌, ◌⊎◌, Result, IfOk, IfErr, map, flat_map};
+    ghost use Rattle.htl_event.specs.Moments.{counted_events};
     ghost use Rattle.htl_segment.specs.Outlines.{outline_of};
-    ghost use Rattle.htl_segment.specs.Traces.{Trace};
+    ghost use Rattle.htl_segment.specs.Traces.{Trace, all_events};
     ghost use Rattle.htl_case.specs.declared.fault.CaseFault.{CaseFault};
     ghost use Rattle.htl_case.specs.Cases.{IsCase, IsCaseOf};
     ghost use Rattle.htl_case.specs.Faults.{IsRefusal, IsOutcome};
@@ -85,6 +86,27 @@ impl Case {
         ensures is_case { IsCase self.now }
     {
         self.segments.as_slice()
+    }
+
+    /// The events until the moment, or all where none is given, in the order of the segments. They
+    /// stay where they lie.
+    pub fn until<'a>(
+        &'a self,
+        alloc: Global,
+        until: Option<u64>,
+    ) -> Result<Vec<Until<'a>>, NoMemory>
+        ensures value { IfOk result (λ lists.
+            flat_map ⟦<Until<'a> as EventList>⟧.events_of lists.items
+            ≡ counted_events until (all_events self.now.segments)) }
+        // What every case keeps, so that callers have it too.
+        ensures is_case { IsCase self.now }
+    {
+        let segments = self.segments();
+        let mut lists = Vec::with_capacity(alloc, segments.len())?;
+        for segment in segments {
+            lists.push(Until::new(segment.events(), until))?;
+        }
+        Ok(lists)
     }
 
     /// The outlines of the segments, in the same order.

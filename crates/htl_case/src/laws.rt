@@ -1,6 +1,8 @@
-//! The law that this project is about, and its premise. Each function does nothing when it runs.
+//! The law that this project is about, its premise, and when an answer is final. Each function does
+//! nothing when it runs.
 
 ghost use Rattle.htl_case.specs.Answers.{AnswersAreDetermined};
+ghost use Rattle.htl_case.specs.Final.{AnswersAreFinal};
 ghost use Rattle.htl_case.specs.Headline.{Headline, AnySegmentsCanBeTaken, AreSameOnceWhole};
 
 /// Take a trace, and any number of analysts that begin with nothing. They take its segments, merge
@@ -32,4 +34,12 @@ pub fn same_once_whole()
 /// wherever the steps bring the same keys to both analysts.
 pub fn answers_are_determined()
     ensures { AnswersAreDetermined }
+{}
+
+/// An answer as of a moment is final where no segment is missing up to it. Take a case of some
+/// segments of a trace, and such a moment. The events of the case until then are those of the whole
+/// trace, so an answer over them is the trace's, whatever the missing segments hold and however
+/// many come later.
+pub fn answers_are_final()
+    ensures { AnswersAreFinal }
 {}

@@ -7,25 +7,29 @@
 //! an object, unless only whole segments tell. `answer_after` does a list of takes, merges and
 //! compactions over a case, and asks one of the analysts: its answer is the definition's over
 //! exactly the segments that reached it. `play` hands out the analysts. `laws` has the headline,
-//! which says the same of every trace, and the laws of merge.
+//! which says the same of every trace, the laws of merge, and when an answer as of a moment is
+//! final.
 //!
 //! Files, in reading order: `case.rt` (a case), `fault.rt` (why a list is refused), `picked.rt` (a
 //! case of which only what is asked about is in hand), `ordering.rt`, `sequences.rt`, `outlines.rt`
-//! and `rising.rt` (the tests that make a list of segments a case), `listing.rt` (the events of a
-//! handle), `step.rt` and `question.rt` (steps, questions and answers), `asking.rt` (an analyst's
-//! answer after steps), `playing.rt` (lists of steps), `laws.rt`.
+//! and `rising.rt` (the tests that make a list of segments a case), `spans.rt` (the first and the
+//! last sequence), `listing.rt` (the events of a handle), `step.rt` and `question.rt` (steps,
+//! questions and answers), `asking.rt` (an analyst's answer after steps), `playing.rt` (lists of
+//! steps), `laws.rt`.
 //!
 //! `specs/` is read in this order: `Cases` (what a case is), `Faults` (the rules that a list of
-//! segments may break), `Picked` (what is picked of a case); `Reached` (which keys a list of steps
-//! brings to an analyst), `Answers` (the answers to its questions) and `Plays` (why steps aren't
-//! played), which are all that `answer_after` says; `Asked`, `Histories` and `Headline`, which
-//! speak of states. `Ordered`, `Outlined`, `Listed` and `Changes` serve private clauses alone. In
-//! `proofs/`, `KeyOrder` shows what a sort by key leaves, `Repeats` what is left without equal
-//! repeats, `Twice` which sequences come twice, `Scanned` where they fall, `Outcomes` that a list
-//! is one case or breaks one rule first, `Outlined` which keys come twice, `Moved` what stays
-//! where elements change places, `Pickings` what was picked of segments, `Stepped` what a step
-//! leaves of each analyst, `Histories` what a history does, `Determined` that a question has one
-//! answer, and `Headlines` the headline.
+//! segments may break), `Picked` (what is picked of a case), `Spans` (the first and the last
+//! sequence), `Complete` (up to which moment no segment is missing); `Reached` (which keys a list
+//! of steps brings to an analyst), `Answers` (the answers to its questions) and `Plays` (why steps
+//! aren't played), which are all that `answer_after` says; `Asked`, `Histories` and `Headline`,
+//! which speak of states; `Final` (when an answer is final). `Ordered`, `Outlined`, `Listed` and
+//! `Changes` serve private clauses alone. In `proofs/`, `KeyOrder` shows what a sort by key leaves,
+//! `Repeats` what is left without equal repeats, `Twice` which sequences come twice, `Scanned`
+//! where they fall, `Outcomes` that a list is one case or breaks one rule first, `Outlined` which
+//! keys come twice, `Moved` what stays where elements change places, `Counted` which events there
+//! are until a moment, `SpanLaws` what their span is, `Pickings` what was picked of segments,
+//! `Stepped` what a step leaves of each analyst, `Histories` what a history does, `Determined` that
+//! a question has one answer, `Headlines` the headline, and `FinalAnswers` which answers are final.
 #![tactic(auto)]
 
 mod asking;
@@ -40,6 +44,7 @@ mod playing;
 mod question;
 mod rising;
 mod sequences;
+mod spans;
 mod step;
 
 pub use asking::{answer_after, ask};

@@ -8,30 +8,34 @@ ghost use Rattle.htl_case.specs.Listed.{is_of_handle, IsNewestFirst};
 
 use crate::case::Case;
 use crate::picked::PickedCase;
-use htl_event::{Kind, NoMemory, SharedEvent, base};
+use htl_event::{EventList, Kind, NoMemory, SharedEvent, Until, base};
 use std::alloc::Global;
 use std::cmp::Reverse;
 
 impl Case {
     ghost use Rattle.std.specs.Prelude.{Contains, IfOk};
     ghost use Rattle.htl_event.specs.Handles.{IsListing};
+    ghost use Rattle.htl_event.specs.Moments.{counted_events};
     ghost use Rattle.htl_segment.specs.Traces.{all_events};
 
     /// The opens, closes and bad references of a process with the same base handle, the newest
-    /// first. Only the events that are listed are copied.
+    /// first. Where a moment is given, those until then. Only the events that are listed are copied.
     pub fn trace(
         &self,
         alloc: Global,
         process: u32,
         handle: u32,
+        until: Option<u64>,
     ) -> Result<Vec<SharedEvent>, NoMemory>
         ensures { IfOk result (λ rows.
-            IsListing (Contains (all_events self.now.segments)) process handle rows.items) }
+            IsListing (Contains (counted_events until (all_events self.now.segments)))
+            process handle rows.items) }
     {
         let base = base(handle);
         let mut rows = Vec::new(alloc);
         for segment in self.segments() {
-            push_rows(&mut rows, segment.events(), process, base)?;
+            let counted = Until::new(segment.events(), until);
+            push_rows(&mut rows, counted.events(), process, base)?;
         }
         newest_first(&mut rows);
         Ok(rows)
@@ -40,20 +44,16 @@ impl Case {
 
 impl PickedCase {
     ghost use Rattle.std.specs.Prelude.{Contains, IfOk};
-    ghost use Rattle.htl_event.specs.Handles.{IsListing};
-    ghost use Rattle.htl_event.specs.declared.interest.Interest.{Interest};
-    ghost use Rattle.htl_segment.specs.Traces.{Trace, IsTrace};
-    ghost use Rattle.htl_case.specs.Picked.{IsPickedOf};
+    ghost use Rattle.htl_event.specs.Handles.{HaveOwnSequences, IsListing};
 
-    /// The same listing, over the events that the question asks about.
+    /// The same listing, over the events in hand.
     pub fn trace(
         &self,
         alloc: Global,
         process: u32,
         handle: u32,
     ) -> Result<Vec<SharedEvent>, NoMemory>
-        ensures { (interest : Interest) (T : Trace) → IsTrace T → IsPickedOf interest T self.now
-            → IfOk result (λ rows.
+        ensures { HaveOwnSequences self.now.events → IfOk result (λ rows.
             IsListing (Contains self.now.events) process handle rows.items) }
     {
         let mut rows = Vec::new(alloc);

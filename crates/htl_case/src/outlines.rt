@@ -59,6 +59,7 @@ fn is_of(outline: &Outline, trace_id: u64, processors: u16) -> bool
     outline.trace_id == trace_id && outline.processors == processors
 }
 
+/// Puts the outlines in the order of their keys.
 pub fn sort_by_key(outlines: &mut Vec<Outline>)
     ensures moved { IsPermutation outlines.old.items outlines.new.items }
     ensures sorted { AreSortedBy outline_key outlines.new.items }

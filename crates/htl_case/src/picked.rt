@@ -1,5 +1,8 @@
 //! Picked cases: of these only what a question asks about is in hand.
 
+ghost use Rattle.std.specs.Prelude.{◌≡◌};
+ghost use Rattle.htl_event.specs.Moments.{events_until};
+
 use crate::outlines::{key_comes_twice, processors_of, sort_by_key};
 use crate::rising::falling;
 use htl_event::SharedEvent;
@@ -25,12 +28,13 @@ impl Model for PickedCase {
 
 impl PickedCase {
     ghost use Rattle.std.specs.Prelude.{◌≡◌, List, All, IfSome, IfNone};
+    ghost use Rattle.htl_event.specs.Moments.{counted_events};
     ghost use Rattle.htl_event.specs.declared.interest.Interest.{Interest};
     ghost use Rattle.htl_segment.specs.Content.{Content, Fits};
     ghost use Rattle.htl_segment.specs.Picks.{ArePicksOf};
     ghost use Rattle.htl_segment.specs.Traces.{Trace};
     ghost use Rattle.htl_case.specs.Cases.{IsCaseOf};
-    ghost use Rattle.htl_case.specs.Picked.{IsPickedOf, NeedsWhole};
+    ghost use Rattle.htl_case.specs.Picked.{picked, IsPickedOf, IsPickedUntil, NeedsWhole};
 
     /// The case of what was picked of segments, which may come in any order. It takes no memory. It is
     /// none where a key comes twice or the segments are no case: which of these holds, and why, only
@@ -62,6 +66,18 @@ impl PickedCase {
         })
     }
 
+    /// Drops the events after the moment, where one is given. Nothing else changes.
+    pub fn keep_until(&mut self, until: Option<u64>)
+        ensures value { self.new
+            ≡ picked self.old.processors self.old.outlines (counted_events until self.old.events) }
+        ensures until { (interest : Interest) (T : Trace) → IsPickedOf interest T self.old
+            → IsPickedUntil interest T until self.new }
+    {
+        if let Some(moment) = until {
+            drop_after(&mut self.events, moment);
+        }
+    }
+
     /// The number of processors of the trace.
     pub fn processors(&self) -> u16
         ensures { result ≡ self.now.processors }
@@ -76,10 +92,17 @@ impl PickedCase {
         self.outlines.as_slice()
     }
 
-    /// The events that the question asks about, in any order.
+    /// The events in hand, in any order: those that the question asks about, less what was dropped.
     pub fn events(&self) -> &Vec<SharedEvent>
         ensures { result.now.items ≡ self.now.events }
     {
         &self.events
     }
+}
+
+/// Drops the events after the moment.
+fn drop_after(events: &mut Vec<SharedEvent>, moment: u64)
+    ensures { events.new.items ≡ events_until moment events.old.items }
+{
+    events.retain(|event| event.sequence <= moment);
 }

@@ -1,12 +1,12 @@
 -- Answers about counts, computed: a function for each, whose value is the answer wherever it rises.
-use Rattle.std.proofs.Common.{◌≡◌, ℕ, ◌+◌, ◌<◌, Bool, true, cond, List, [], ◌∷◌, refl, sym, ap, subst, arith, inl, inr, ◌&&◌, nat_eq}
-use Rattle.std.specs.Prelude.{Contains, ◌==◌, nat_lt, count_by, map}
+use Rattle.std.proofs.Common.{◌≡◌, ℕ, ◌+◌, ◌<◌, ◌≤◌, Bool, true, cond, List, [], ◌∷◌, Option, refl, sym, ap, subst, arith, inl, inr, ◌&&◌, nat_eq}
+use Rattle.std.specs.Prelude.{Contains, ◌==◌, ◌↔◌, nat_lt, nat_le, if◌then◌else◌, count_by, map}
 use Rattle.std.specs.Ordering.{nat_cmp, is_lt, ordering_then}
 use Rattle.std.specs.Cmp.{unsigned_Decides}
 use Rattle.std.specs.Cmp.Lexicographic.{slice_cmp, pointwise, pointwise_decides}
 use Rattle.std.specs.declared.cmp.Ordering.{Ordering}
 use Rattle.std.specs.declared.cmp.Ordering.TheVariants.{Less}
-use Rattle.std.proofs.lemmas.Bool.{and_parts, cases_lt, cases_Bool, eqb-true, ltb-true, lt-ltb}
+use Rattle.std.proofs.lemmas.Bool.{and_parts, cases_lt, cases_Bool, eqb-true, leb-true, leb-false, ltb-true, lt-ltb}
 use Rattle.std.proofs.lemmas.List.Sums.{sum_by-cons}
 use Rattle.htl_event.specs.Events.{Event}
 use Rattle.htl_event.specs.declared.kind.Kind.{Kind}
@@ -19,10 +19,10 @@ use Rattle.htl_event.specs.declared.slot.Count.{Count}
 use Rattle.htl_event.specs.Slots.{slot_by_kind, is_slot, is_counted}
 use Rattle.htl_event.specs.Stacks.{stack_cmp}
 use Rattle.htl_event.specs.Members.{Lists}
-use Rattle.htl_event.specs.Tallies.{total_of, times, count_where, has_stack, tally, balance, IsTags, IsStacks, IsBad, IsLeaks}
+use Rattle.htl_event.specs.Tallies.{total_of, times, count_where, has_stack, tally, balance, IsTags, IsStacks, IsBad}
+use Rattle.htl_event.specs.Tallies.{MostFirst, AreOpenSince, IsLeaksSince}
 use Rattle.htl_event.proofs.Members.{Contains-here, Contains-there, Contains-map}
 use Rattle.htl_event.proofs.Ordered.{is_rising, ordered, rows_where, Contains-rows_where, Lists-ordered}
-use Rattle.htl_event.proofs.ComputedHandles.{by_base, outstanding_of, IsOutstanding-outstanding_of}
 
 -- ---- keys of what was counted
 
@@ -135,23 +135,50 @@ IsStacks-stacks_of es object tag =
 abbrev pub most_first : List ℕ × ℕ → List ℕ × ℕ → Ordering
 most_first a b = ordering_then (nat_cmp b.1 a.1) (stack_cmp a.0 b.0)
 
--- those of the outstanding handles
-abbrev pub leaks_of : List Event → List (List ℕ × ℕ)
-leaks_of rows = rows_of most_first (λ k. count_by (has_stack k) rows) (λ n. n) (map (λ e. e.stack) rows)
+-- the number, where it is so great at least
+abbrev enough : ℕ → ℕ → ℕ
+enough least n = if nat_le least n then n else 0
 
-Lists-leaks_of : (rows : List Event) → is_rising (comes_first most_first) (leaks_of rows) ≡ true
-    → Lists (λ a b. most_first a b ≡ Less) (λ row. (row.1 ≡ count_by (has_stack row.0) rows) × (0 < row.1)) (leaks_of rows)
-Lists-leaks_of rows =
-    Lists-rows_of most_first (λ k. count_by (has_stack k) rows) (λ n. n) (map (λ e. e.stack) rows) (
-    key_counted has_stack (λ e. e.stack) (λ k e. same_list-exact e.stack k) rows)
+enough-is : (least n : ℕ) → (0 < enough least n) ↔ ((0 < n) × (least ≤ n))
+enough-is least n = elim (cases_Bool (nat_le least n)) [
+  | inl great ↦ rw great (λ h. (h, leb-true least n great), λ h. h.0)
+  | inr small ↦ rw small (
+    λ h. absurd (omega (arith, h)),
+    λ h. (
+        let low = leb-false least n small in let up = h.1 in absurd (omega (arith, low, up))),
+  )
+]
 
-pub IsLeaks-leaks_of : (es : List Event) (process : ℕ) → is_rising by_base (outstanding_of es process) ≡ true
-    → is_rising (comes_first most_first) (leaks_of (outstanding_of es process)) ≡ true
-    → IsLeaks (Contains es) process (leaks_of (outstanding_of es process))
-IsLeaks-leaks_of es process rises most_rises = record {
-  outstanding = outstanding_of es process;
-  is = IsOutstanding-outstanding_of es process rises;
-  stacks = Lists-leaks_of (outstanding_of es process) most_rises;
+key_of_enough : (least : ℕ) (rows : List Event) (k : List ℕ) → 0 < enough least (count_by (has_stack k) rows)
+    → Contains (map (λ e. e.stack) rows) k
+key_of_enough least rows k h =
+    key_counted has_stack (λ e. e.stack) (λ j e. same_list-exact e.stack j) rows k
+    ((enough-is least (count_by (has_stack k) rows)).0 h).0
+
+-- the stacks of so many of these handles at least
+abbrev pub leaks_of : ℕ → List Event → List (List ℕ × ℕ)
+leaks_of least rows = rows_of most_first (λ k. count_by (has_stack k) rows) (enough least) (map (λ e. e.stack) rows)
+
+Lists-leaks_of : (least : ℕ) (rows : List Event) → is_rising (comes_first most_first) (leaks_of least rows) ≡ true
+    → Lists MostFirst (λ row. (row.1 ≡ count_by (has_stack row.0) rows) × ((0 < row.1) × (least ≤ row.1))) (leaks_of least rows)
+Lists-leaks_of least rows rises =
+    let l = Lists-rows_of most_first (λ k. count_by (has_stack k) rows) (enough least) (map (λ e. e.stack) rows)
+    (key_of_enough least rows) rises in
+    record {
+      rising = l.rising;
+      members = λ row. (
+        λ h. (let of = (l.members row).0 h in (of.0, (enough-is least row.1).0 of.1)),
+        λ h. (l.members row).1 (h.0, (enough-is least row.1).1 h.1),
+      );
+    }
+
+pub IsLeaksSince-leaks_of : (es : List Event) (process : ℕ) (since : Option ℕ) (least : ℕ) (opens : List Event)
+    → AreOpenSince (Contains es) process since opens → is_rising (comes_first most_first) (leaks_of least opens) ≡ true
+    → IsLeaksSince (Contains es) process since least (leaks_of least opens)
+IsLeaksSince-leaks_of es process since least opens are rises = record {
+  handles = opens;
+  are = are;
+  stacks = Lists-leaks_of least opens rises;
 }
 
 -- ---- bad references

@@ -5,11 +5,16 @@ use Rattle.htl_event.specs.declared.kind.Kind.TheVariants.{Snapshot, Exited}
 use Rattle.htl_event.specs.Events.{Event}
 use Rattle.htl_event.specs.Slots.{base_of}
 use Rattle.htl_event.specs.Handles.{IsLatest, LatestIs, IsGreatestSequence, IsOf, IsOpen}
-use Rattle.htl_event.specs.Handles.{ByBase, IsOutstanding, IsOfHandle, NewestFirst, HaveOwnSequences}
-use Rattle.htl_event.specs.Tallies.{has_stack, MostFirst, IsLeaks}
+use Rattle.htl_event.specs.Handles.{ByBase, IsOutstanding, IsDiff, IsOfHandle, NewestFirst, HaveOwnSequences}
+use Rattle.htl_event.specs.Growth.{EarlierFirst, IsPoint, IsGrowth}
+use Rattle.htl_event.specs.Moments.{events_until}
+use Rattle.htl_event.specs.Tallies.{has_stack, MostFirst, AreOpenSince, IsLeaksSince}
+use Rattle.htl_event.specs.declared.growth.Point.{Point}
+use Rattle.htl_event.specs.declared.growth.Span.{Span}
 use Rattle.htl_event.specs.Laws.{HaveSame, HandlesAreDetermined}
 use Rattle.htl_event.proofs.Members.{Contains-cases, Contains-nil, at_member, Lists-same}
-use Rattle.htl_event.proofs.Orders.{ByBase-strict, NewestFirst-strict, MostFirst-strict}
+use Rattle.htl_event.proofs.Orders.{ByBase-strict, NewestFirst-strict, MostFirst-strict, EarlierFirst-strict}
+use Rattle.htl_event.proofs.Untils.{until_same}
 
 -- ---- the same members
 
@@ -105,14 +110,55 @@ outstanding_same xs ys same process a b =
 sequence_same : (A B : Event → Type 0) → ((e : Event) → A e ↔ B e) → (a b : ℕ) → IsGreatestSequence A a → IsGreatestSequence B b → a ≡ b
 sequence_same A B same a b p q = IsGreatestSequence-unique B a b (IsGreatestSequence-same A B same a p) q
 
-leaks_same : (xs ys : List Event) → HaveSame xs ys → (process : ℕ) (a b : List (List ℕ × ℕ)) → IsLeaks (Contains xs) process a
-    → IsLeaks (Contains ys) process b → a ≡ b
-leaks_same xs ys same process a b p q =
-    let one : p.outstanding ≡ q.outstanding = outstanding_same xs ys same process p.outstanding q.outstanding p.is q.is in
-    let times : (row : List ℕ × ℕ) → count_by (has_stack row.0) p.outstanding ≡ count_by (has_stack row.0) q.outstanding =
+diff_same : (xs ys : List Event) → HaveSame xs ys → (process since : ℕ) (a b : List Event) → IsDiff (Contains xs) process since a
+    → IsDiff (Contains ys) process since b → a ≡ b
+diff_same xs ys same process since a b = Lists-same ByBase ByBase-strict _ _ a b (λ e.
+    (λ h. ((open_in_both xs ys same process e).0 h.0, h.1), λ h. ((open_in_both xs ys same process e).1 h.0, h.1)))
+
+since_same : (xs ys : List Event) → HaveSame xs ys → (process : ℕ) (since : Option ℕ) (a b : List Event)
+    → AreOpenSince (Contains xs) process since a → AreOpenSince (Contains ys) process since b → a ≡ b
+since_same xs ys same process None a b p q = outstanding_same xs ys same process a b p q
+since_same xs ys same process (Some moment) a b p q = diff_same xs ys same process moment a b p q
+
+leaks_same : (xs ys : List Event) → HaveSame xs ys → (process : ℕ) (since : Option ℕ) (least : ℕ) (a b : List (List ℕ × ℕ))
+    → IsLeaksSince (Contains xs) process since least a → IsLeaksSince (Contains ys) process since least b → a ≡ b
+leaks_same xs ys same process since least a b p q =
+    let one : p.handles ≡ q.handles = since_same xs ys same process since p.handles q.handles p.are q.are in
+    let times : (row : List ℕ × ℕ) → count_by (has_stack row.0) p.handles ≡ count_by (has_stack row.0) q.handles =
     (λ row. ap (count_by (has_stack row.0)) one) in
     Lists-same MostFirst MostFirst-strict _ _ a b
     (λ row. (λ h. (h.0 ∙ times row, h.1), λ h. (h.0 ∙ sym (times row), h.1))) p.stacks q.stacks
+
+outstanding_moved : (xs ys : List Event) → HaveSame xs ys → (process : ℕ) (rows : List Event) → IsOutstanding (Contains xs) process rows
+    → IsOutstanding (Contains ys) process rows
+outstanding_moved xs ys same process rows l = record {
+  rising = l.rising;
+  members = λ e. (
+    λ h. (open_in_both xs ys same process e).0 ((l.members e).0 h),
+    λ h. (l.members e).1 ((open_in_both xs ys same process e).1 h),
+  );
+}
+
+point_moved : (xs ys : List Event) → HaveSame xs ys → (process : ℕ) (span : Span) (points : ℕ) (point : Point)
+    → IsPoint span points xs process point → IsPoint span points ys process point
+point_moved xs ys same process span points point is = record {
+  moment = is.moment;
+  handles = (
+    is.handles.0,
+    outstanding_moved (events_until point.sequence xs) (events_until point.sequence ys) (until_same point.sequence xs ys same) process
+        is.handles.0 is.handles.1,
+    is.handles.2,
+  );
+}
+
+growth_same : (xs ys : List Event) → HaveSame xs ys → (process : ℕ) (span : Option Span) (points : ℕ) (a b : List Point)
+    → IsGrowth span points xs process a → IsGrowth span points ys process b → a ≡ b
+growth_same xs ys same process None points a b p q = p ∙ sym q
+growth_same xs ys same process (Some span) points a b p q =
+    Lists-same EarlierFirst EarlierFirst-strict (IsPoint span points xs process) (IsPoint span points ys process) a b
+    (λ point.
+    (point_moved xs ys same process span points point, point_moved ys xs (λ e. ((same e).1, (same e).0)) process span points point))
+    p q
 
 pub handles_are_determined : (xs ys : List Event) → HaveSame xs ys → HandlesAreDetermined xs ys
 handles_are_determined xs ys same = record {
@@ -123,9 +169,9 @@ handles_are_determined xs ys same = record {
   mark = λ process. sequence_same _ _ (same_where (Contains xs) (Contains ys) (IsOf Snapshot process) same);
   last_exit = λ process. sequence_same _ _ (same_where (Contains xs) (Contains ys) (IsOf Exited process) same);
   outstanding = outstanding_same xs ys same;
-  diff = λ process since a b. Lists-same ByBase ByBase-strict _ _ a b (λ e.
-      (λ h. ((open_in_both xs ys same process e).0 h.0, h.1), λ h. ((open_in_both xs ys same process e).1 h.0, h.1)));
+  diff = diff_same xs ys same;
   listing = λ process handle a b. Lists-same NewestFirst NewestFirst-strict _ _ a b
       (same_where (Contains xs) (Contains ys) (IsOfHandle process (base_of handle)) same);
   leaks = leaks_same xs ys same;
+  growth = growth_same xs ys same;
 }

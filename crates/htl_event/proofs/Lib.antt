@@ -2,6 +2,7 @@ pub mod Members
 pub mod Orders
 pub mod Determined
 pub mod Unions
+pub mod Untils
 pub mod Counts
 pub mod Ordered
 pub mod EventTests

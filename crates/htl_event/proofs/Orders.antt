@@ -8,6 +8,7 @@ use Rattle.htl_event.specs.declared.slot.Count.{Count}
 use Rattle.htl_event.specs.Members.{IsStrictOrder}
 use Rattle.htl_event.specs.OrderLaws.{stack_total}
 use Rattle.htl_event.specs.Handles.{ByBase, NewestFirst}
+use Rattle.htl_event.specs.Growth.{EarlierFirst}
 use Rattle.htl_event.specs.Tallies.{ByTag, ByStack, ByHandleAndStack, MostFirst}
 
 -- what a total order puts first comes strictly before
@@ -22,6 +23,9 @@ ByBase-strict = record { irreflexive = λ x h. omega arith; transitive = λ x y 
 
 pub NewestFirst-strict : IsStrictOrder NewestFirst
 NewestFirst-strict = record { irreflexive = λ x h. omega arith; transitive = λ x y z p q. omega arith }
+
+pub EarlierFirst-strict : IsStrictOrder EarlierFirst
+EarlierFirst-strict = record { irreflexive = λ x h. omega arith; transitive = λ x y z p q. omega arith }
 
 pub ByTag-strict : IsStrictOrder ByTag
 ByTag-strict = strict_from_total (on_total (λ (row : List ℕ × Count). row.0) nat_list_cmp_total)

@@ -1,5 +1,5 @@
 -- Worked answers about counts, by the definitions.
-use Rattle.std.proofs.Common.{◌≡◌, ℕ, List, [], ◌∷◌, refl}
+use Rattle.std.proofs.Common.{◌≡◌, ℕ, List, [], ◌∷◌, Some, None, refl}
 use Rattle.std.specs.Prelude.{Contains, codes}
 use Rattle.htl_event.specs.Events.{Event}
 use Rattle.htl_event.specs.declared.kind.Kind.{Kind}
@@ -7,8 +7,9 @@ use Rattle.htl_event.specs.declared.kind.Kind.TheVariants.{Opened, BadRef, Ref, 
 use Rattle.htl_event.specs.declared.slot.Slot.{Slot}
 use Rattle.htl_event.specs.declared.slot.Slot.TheVariants.{Tagged}
 use Rattle.htl_event.specs.declared.slot.Count.{Count}
-use Rattle.htl_event.specs.Tallies.{tally, under, IsTags, IsStacks, IsBad, IsLeaks}
-use Rattle.htl_event.proofs.ComputedCounts.{IsTags-tags_of, IsStacks-stacks_of, IsBad-bad_of, IsLeaks-leaks_of}
+use Rattle.htl_event.specs.Tallies.{tally, under, IsTags, IsStacks, IsBad, IsLeaks, IsLeaksSince}
+use Rattle.htl_event.proofs.ComputedCounts.{IsTags-tags_of, IsStacks-stacks_of, IsBad-bad_of, IsLeaksSince-leaks_of}
+use Rattle.htl_event.proofs.ComputedHandles.{outstanding_of, diff_of, IsOutstanding-outstanding_of, IsDiff-diff_of}
 
 abbrev counts : ℕ → ℕ → Count
 counts plus minus = record { plus = plus; minus = minus }
@@ -105,7 +106,14 @@ leaking =
     ∷ []
 
 pub leaking_stacks : IsLeaks (Contains leaking) 4 ((0x60 ∷ [], 2) ∷ (0x50 ∷ 0x20 ∷ [], 1) ∷ (0x30 ∷ 0x40 ∷ [], 1) ∷ [])
-leaking_stacks = IsLeaks-leaks_of leaking 4 refl refl
+leaking_stacks = IsLeaksSince-leaks_of leaking 4 None 1 (outstanding_of leaking 4) (IsOutstanding-outstanding_of leaking 4 refl) refl
+
+-- those that opened two handles at least, or one after a moment
+pub leaking_often : IsLeaksSince (Contains leaking) 4 None 2 ((0x60 ∷ [], 2) ∷ [])
+leaking_often = IsLeaksSince-leaks_of leaking 4 None 2 (outstanding_of leaking 4) (IsOutstanding-outstanding_of leaking 4 refl) refl
+
+pub leaking_since : IsLeaksSince (Contains leaking) 4 (Some 2) 1 ((0x60 ∷ [], 2) ∷ [])
+leaking_since = IsLeaksSince-leaks_of leaking 4 (Some 2) 1 (diff_of leaking 4 2) (IsDiff-diff_of leaking 4 2 refl) refl
 
 pub leaking_bad : IsBad leaking 4 ((0x0, [], 1) ∷ (0x7, 0x10 ∷ [], 2) ∷ [])
 leaking_bad = IsBad-bad_of leaking 4 refl

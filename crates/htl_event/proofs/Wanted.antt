@@ -1,6 +1,6 @@
 -- Answers over events that agree on a process or an object are the same.
-use Rattle.std.proofs.Common.{IsPermutation, ◌≡◌, ℕ, ◌+◌, ◌<◌, Bool, true, cond, List, [], ◌∷◌, refl, sym, ap, ◌∙◌, inl, inr, ◌&&◌, arith}
-use Rattle.std.specs.Prelude.{Contains, filter, count_by, ◌↔◌}
+use Rattle.std.proofs.Common.{IsPermutation, ◌≡◌, ℕ, ◌+◌, ◌<◌, Bool, true, cond, List, [], ◌∷◌, Option, Some, None, refl, sym, ap, ◌∙◌, inl, inr, ◌&&◌, arith}
+use Rattle.std.specs.Prelude.{Contains, filter, count_by, nat_le, ◌↔◌}
 use Rattle.std.proofs.lemmas.Bool.{cases_Bool, eqb-true, eq-eqb, and_parts}
 use Rattle.std.proofs.lemmas.List.Sorted.{Contains-permutation, IsPermutation-sym}
 use Rattle.std.proofs.lemmas.List.Sums.{sum_by-cons}
@@ -14,8 +14,12 @@ use Rattle.htl_event.specs.declared.slot.Sign.{Sign}
 use Rattle.htl_event.specs.declared.slot.Sign.TheVariants.{Plus, Minus}
 use Rattle.htl_event.specs.declared.slot.Count.{Count}
 use Rattle.htl_event.specs.Members.{Lists}
-use Rattle.htl_event.specs.Handles.{IsGreatestSequence, IsOf, IsLatest, IsOpen, IsOutstanding, IsOfHandle}
-use Rattle.htl_event.specs.Tallies.{count_where, times, has_stack, tally, balance, IsPositive, IsLeaks}
+use Rattle.htl_event.specs.Handles.{IsGreatestSequence, IsOf, IsLatest, IsOpen, IsOutstanding, IsDiff, IsOfHandle}
+use Rattle.htl_event.specs.Tallies.{count_where, times, has_stack, tally, balance, IsPositive, AreOpenSince, IsLeaksSince}
+use Rattle.htl_event.specs.Growth.{IsPoint, IsGrowth}
+use Rattle.htl_event.specs.Moments.{events_until}
+use Rattle.htl_event.specs.declared.growth.Point.{Point}
+use Rattle.htl_event.specs.declared.growth.Span.{Span}
 use Rattle.htl_event.proofs.Counts.{count_where-IsPermutation, same_rows}
 use Rattle.htl_event.proofs.Members.{filter-pass, filter-skip, Contains-filter, Contains-from_filter}
 use Rattle.htl_event.specs.declared.interest.Interest.TheVariants.{Process, Object}
@@ -70,12 +74,51 @@ lists_same P Q rows same = (lists_too P Q rows same, lists_too Q P rows (λ x. (
 outstanding_too : (p : ℕ) (A B : Event → Type 0) (rows : List Event) → Agree p A B → IsOutstanding A p rows → IsOutstanding B p rows
 outstanding_too p A B rows same = lists_too (IsOpen A p) (IsOpen B p) rows (λ e. open_same p A B e same)
 
-leaks_too : (p : ℕ) (A B : Event → Type 0) (rows : List (List ℕ × ℕ)) → Agree p A B → IsLeaks A p rows → IsLeaks B p rows
-leaks_too p A B rows same l = record {
-  outstanding = l.outstanding;
-  is = outstanding_too p A B l.outstanding same l.is;
+diff_too : (p since : ℕ) (A B : Event → Type 0) (rows : List Event) → Agree p A B → IsDiff A p since rows → IsDiff B p since rows
+diff_too p since A B rows same = lists_too (λ e. IsOpen A p e × (since < e.sequence)) (λ e. IsOpen B p e × (since < e.sequence)) rows
+    (λ e. (λ h. ((open_same p A B e same).0 h.0, h.1), λ h. ((open_same p A B e same).1 h.0, h.1)))
+
+since_too : (p : ℕ) (since : Option ℕ) (A B : Event → Type 0) (rows : List Event) → Agree p A B → AreOpenSince A p since rows
+    → AreOpenSince B p since rows
+since_too p None A B = outstanding_too p A B
+since_too p (Some moment) A B = diff_too p moment A B
+
+leaks_too : (p : ℕ) (since : Option ℕ) (least : ℕ) (A B : Event → Type 0) (rows : List (List ℕ × ℕ)) → Agree p A B
+    → IsLeaksSince A p since least rows → IsLeaksSince B p since least rows
+leaks_too p since least A B rows same l = record {
+  handles = l.handles;
+  are = since_too p since A B l.handles same l.are;
   stacks = l.stacks;
 }
+
+agree_until : (p moment : ℕ) (xs ys : List Event) → Agree p (Contains xs) (Contains ys)
+    → Agree p (Contains (events_until moment xs)) (Contains (events_until moment ys))
+agree_until p moment xs ys same x owner =
+    let test : Event → Bool = λ e. nat_le e.sequence moment in (
+      λ h. (let of = Contains-from_filter test xs x h in Contains-filter test ys x ((same x owner).0 of.0) of.1),
+      λ h. (let of = Contains-from_filter test ys x h in Contains-filter test xs x ((same x owner).1 of.0) of.1),
+    )
+
+point_too : (p : ℕ) (span : Span) (points : ℕ) (xs ys : List Event) (point : Point) → Agree p (Contains xs) (Contains ys)
+    → IsPoint span points xs p point → IsPoint span points ys p point
+point_too p span points xs ys point same is = record {
+  moment = is.moment;
+  handles = (
+    is.handles.0,
+    outstanding_too p (Contains (events_until point.sequence xs)) (Contains (events_until point.sequence ys)) is.handles.0
+        (agree_until p point.sequence xs ys same) is.handles.1,
+    is.handles.2,
+  );
+}
+
+growth_same : (p : ℕ) (span : Option Span) (points : ℕ) (xs ys : List Event) (rows : List Point) → Agree p (Contains xs) (Contains ys)
+    → IsGrowth span points xs p rows ↔ IsGrowth span points ys p rows
+growth_same p None points xs ys rows same = (λ h. h, λ h. h)
+growth_same p (Some span) points xs ys rows same =
+    lists_same (IsPoint span points xs p) (IsPoint span points ys p) rows (λ point. (
+      point_too p span points xs ys point same,
+      point_too p span points ys xs point (turned p (Contains xs) (Contains ys) same),
+    ))
 
 -- ---- counts of what passes another test too
 
@@ -145,11 +188,11 @@ process_needs_its_own p es own moved =
     record {
       outstanding = λ rows. (outstanding_too p A B rows same, outstanding_too p B A rows back);
       mark = λ n. (greatest p A B Snapshot n same, greatest p B A Snapshot n back);
-      diff = λ since rows. lists_same (λ e. IsOpen A p e × (since < e.sequence)) (λ e. IsOpen B p e × (since < e.sequence)) rows
-          (λ e. (λ h. ((open_same p A B e same).0 h.0, h.1), λ h. ((open_same p A B e same).1 h.0, h.1)));
+      diff = λ since rows. (diff_too p since A B rows same, diff_too p since B A rows back);
       listing = λ handle rows. lists_same (λ e. A e × IsOfHandle p (base_of handle) e) (λ e. B e × IsOfHandle p (base_of handle) e) rows
           (λ e. (λ h. ((same e h.1.owner).0 h.0, h.1), λ h. ((same e h.1.owner).1 h.0, h.1)));
-      leaks = λ rows. (leaks_too p A B rows same, leaks_too p B A rows back);
+      leaks = λ since least rows. (leaks_too p since least A B rows same, leaks_too p since least B A rows back);
+      growth = λ span points rows. growth_same p span points es own rows same;
       bad = λ rows. lists_same _ _ rows (λ row.
           let counts = count_where_same (has_stack row.1) (wants (Process p)) (Bad p row.0)
           (λ sign e counted. eq-eqb _ _ (sym (bad_owner e.kind p row.0 sign e counted))) es

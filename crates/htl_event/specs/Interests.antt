@@ -1,11 +1,14 @@
 -- What a question asks about, a process or an object, and that its answer depends on the events of that alone.
-use Rattle.std.specs.Prelude.{ℕ, Bool, List, ◌==◌, ◌↔◌, Contains, filter}
+use Rattle.std.specs.Prelude.{ℕ, Bool, List, Option, ◌==◌, ◌↔◌, Contains, filter}
 use Rattle.htl_event.specs.Events.{Event}
 use Rattle.htl_event.specs.declared.interest.Interest.{Interest}
 use Rattle.htl_event.specs.declared.interest.Interest.TheVariants.{Process, Object}
+use Rattle.htl_event.specs.declared.growth.Point.{Point}
+use Rattle.htl_event.specs.declared.growth.Span.{Span}
 use Rattle.htl_event.specs.declared.slot.Count.{Count}
 use Rattle.htl_event.specs.Handles.{IsOutstanding, IsMark, IsDiff, IsListing}
-use Rattle.htl_event.specs.Tallies.{IsTags, IsStacks, IsBad, IsLeaks}
+use Rattle.htl_event.specs.Growth.{IsGrowth}
+use Rattle.htl_event.specs.Tallies.{IsTags, IsStacks, IsBad, IsLeaksSince}
 
 -- the event is one of those that are asked about
 abbrev pub wants : Interest → Event → Bool
@@ -24,7 +27,12 @@ pub record ProcessNeedsItsOwn (process : ℕ) (events own : List Event) : Type 0
   pub listing :
       (handle : ℕ) (rows : List Event) → IsListing (Contains events) process handle rows
       ↔ IsListing (Contains own) process handle rows
-  pub leaks : (rows : List (List ℕ × ℕ)) → IsLeaks (Contains events) process rows ↔ IsLeaks (Contains own) process rows
+  pub leaks :
+      (since : Option ℕ) (at_least : ℕ) (rows : List (List ℕ × ℕ)) → IsLeaksSince (Contains events) process since at_least rows
+      ↔ IsLeaksSince (Contains own) process since at_least rows
+  pub growth :
+      (span : Option Span) (points : ℕ) (rows : List Point) → IsGrowth span points events process rows
+      ↔ IsGrowth span points own process rows
   pub bad : (rows : List (ℕ × List ℕ × ℕ)) → IsBad events process rows ↔ IsBad own process rows
 
 -- the answers about an object over all events are those over its own events, in whatever order

@@ -6,13 +6,16 @@ use Rattle.htl_event.specs.Events.{Event}
 use Rattle.htl_event.specs.declared.slot.Slot.{Slot}
 use Rattle.htl_event.specs.declared.slot.Slot.TheVariants.{Tagged}
 use Rattle.htl_event.specs.declared.slot.Sign.{Sign}
+use Rattle.htl_event.specs.declared.growth.Point.{Point}
+use Rattle.htl_event.specs.declared.growth.Span.{Span}
 use Rattle.htl_event.specs.declared.slot.Count.{Count}
 use Rattle.htl_event.specs.Slots.{is_counted}
 use Rattle.htl_event.specs.Stacks.{outer}
 use Rattle.htl_event.specs.Members.{IsRising}
 use Rattle.htl_event.specs.Handles.{LatestIs, later, IsGreatestSequence, IsMark, IsLastExit}
 use Rattle.htl_event.specs.Handles.{IsOutstanding, IsDiff, IsListing, HaveOwnSequences}
-use Rattle.htl_event.specs.Tallies.{zero_count, plus_count, count_where, tally, under, balance, IsTags, IsStacks, IsBad, IsLeaks}
+use Rattle.htl_event.specs.Tallies.{zero_count, plus_count, count_where, tally, under, balance, IsTags, IsStacks, IsBad, IsLeaksSince}
+use Rattle.htl_event.specs.Growth.{IsGrowth}
 
 -- the same events are in both lists, in whatever order
 abbrev pub HaveSame : List Event → List Event → Type 0
@@ -33,7 +36,10 @@ pub record HandlesAreDetermined (xs ys : List Event) : Type 0 where
   pub diff : (process since : ℕ) (a b : List Event) → IsDiff (Contains xs) process since a → IsDiff (Contains ys) process since b → a ≡ b
   pub listing : (process handle : ℕ) (a b : List Event)
       → IsListing (Contains xs) process handle a → IsListing (Contains ys) process handle b → a ≡ b
-  pub leaks : (process : ℕ) (a b : List (List ℕ × ℕ)) → IsLeaks (Contains xs) process a → IsLeaks (Contains ys) process b → a ≡ b
+  pub leaks : (process : ℕ) (since : Option ℕ) (at_least : ℕ) (a b : List (List ℕ × ℕ))
+      → IsLeaksSince (Contains xs) process since at_least a → IsLeaksSince (Contains ys) process since at_least b → a ≡ b
+  pub growth : (process : ℕ) (span : Option Span) (points : ℕ) (a b : List Point)
+      → IsGrowth span points xs process a → IsGrowth span points ys process b → a ≡ b
 
 -- of two lists with the same events at other places, each count is one, and so is each answer about counts
 pub record CountsAreDetermined (xs ys : List Event) : Type 0 where

@@ -10,6 +10,8 @@ pub mod Members
 pub mod Handles
 pub mod Tallies
 pub mod Summaries
+pub mod Moments
+pub mod Growth
 pub mod Interests
 pub mod Words
 pub mod Laws

@@ -1,5 +1,5 @@
 -- How often slots came, over a list of events.
-use Rattle.std.specs.Prelude.{◌≡◌, ℕ, ◌+◌, ◌<◌, Bool, true, ◌&&◌, nat_eq, List, count_by}
+use Rattle.std.specs.Prelude.{◌≡◌, ℕ, ◌+◌, ◌<◌, ◌≤◌, Bool, true, ◌&&◌, nat_eq, List, Option, Some, None, count_by}
 use Rattle.std.specs.List.{starts_with}
 use Rattle.std.specs.Ordering.{nat_cmp, ordering_then}
 use Rattle.std.specs.Cmp.Lexicographic.{pointwise, slice_cmp}
@@ -13,7 +13,7 @@ use Rattle.htl_event.specs.declared.slot.Count.{Count}
 use Rattle.htl_event.specs.Slots.{is_counted}
 use Rattle.htl_event.specs.Stacks.{outer, stack_cmp}
 use Rattle.htl_event.specs.Members.{Lists}
-use Rattle.htl_event.specs.Handles.{IsOutstanding}
+use Rattle.htl_event.specs.Handles.{IsOutstanding, IsDiff}
 
 abbrev pub zero_count : Count
 zero_count = record { plus = 0; minus = 0 }
@@ -80,9 +80,19 @@ IsBad events process rows =
 abbrev pub MostFirst : List ℕ × ℕ → List ℕ × ℕ → Type 0
 MostFirst a b = ordering_then (nat_cmp b.1 a.1) (stack_cmp a.0 b.0) ≡ Less
 
--- Leaking stacks (this project's own): each stack that opened outstanding handles of the process, with
--- their number, the greatest number first and then in stack order.
-pub record IsLeaks (among : Event → Type 0) (process : ℕ) (rows : List (List ℕ × ℕ)) : Type 0 where
-  pub outstanding : List Event
-  pub is : IsOutstanding among process outstanding
-  pub stacks : Lists MostFirst (λ row. (row.1 ≡ count_by (has_stack row.0) outstanding) × (0 < row.1)) rows
+-- the outstanding handles, or those of them that were opened after a moment
+abbrev pub AreOpenSince : (Event → Type 0) → ℕ → Option ℕ → List Event → Type 0
+AreOpenSince among process None rows = IsOutstanding among process rows
+AreOpenSince among process (Some moment) rows = IsDiff among process moment rows
+
+-- Leaking stacks (this project's own): each stack that opened so many of these handles at least, with their number, the greatest
+-- number first and then in stack order.
+pub record IsLeaksSince (among : Event → Type 0) (process : ℕ) (since : Option ℕ) (at_least : ℕ) (rows : List (List ℕ × ℕ)) : Type 0 where
+  pub handles : List Event
+  pub are : AreOpenSince among process since handles
+  pub stacks :
+      Lists MostFirst (λ row. (row.1 ≡ count_by (has_stack row.0) handles) × ((0 < row.1) × (at_least ≤ row.1))) rows
+
+-- the stacks of all outstanding handles
+abbrev pub IsLeaks : (Event → Type 0) → ℕ → List (List ℕ × ℕ) → Type 0
+IsLeaks among process rows = IsLeaksSince among process None 1 rows

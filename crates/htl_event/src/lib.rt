@@ -20,6 +20,7 @@
 
 mod event;
 mod event_list;
+mod growth;
 mod interest;
 mod kind;
 pub mod laws;
@@ -28,12 +29,14 @@ mod shared_stack;
 mod slot;
 mod stack;
 mod summary;
+mod until;
 
 ghost use Rattle.std.specs.Prelude.{◌≡◌};
 ghost use Rattle.htl_event.specs.Slots.{base_of};
 
 pub use event::{Event, SharedEvent};
 pub use event_list::{EventList, number_of_events};
+pub use growth::{Point, Span};
 pub use interest::Interest;
 pub use kind::Kind;
 pub use memory::NoMemory;
@@ -41,6 +44,7 @@ pub use shared_stack::SharedStack;
 pub use slot::{Count, Sign, Slot};
 pub use stack::{MAX_FRAMES, Stack};
 pub use summary::{ObjectRow, ProcessRow};
+pub use until::Until;
 
 /// A handle with its low two bits cleared: the entry of the handle table that it names. That
 /// Windows ignores the low two bits of a handle is this project's own rule for traces.

@@ -1,5 +1,5 @@
 -- The value of an answer's first line, with the fields of the text's first line.
-use Rattle.std.specs.Prelude.{◌++◌, ◌∷◌, [], ℕ, List, codes}
+use Rattle.std.specs.Prelude.{◌++◌, ◌∷◌, [], ℕ, List, Option, Some, None, codes}
 use Rattle.htl_event.specs.Slots.{base_of}
 use Rattle.json.specs.Json.{Json, string}
 use Rattle.htl_json.specs.Records.{Field, quantity, record_of, shown_address, shown_handle, tag_fields}
@@ -16,28 +16,38 @@ object_fields word object = (codes "answer", string word) ∷ (codes "object", s
 unfoldable pub count_field : ℕ → List Field
 count_field count = (codes "count", quantity count) ∷ []
 
-unfoldable pub since_field : ℕ → List Field
-since_field since = (codes "since", quantity since) ∷ []
+-- the sequence after which handles were opened, where one was given
+unfoldable pub since_fields : Option ℕ → List Field
+since_fields None = []
+since_fields (Some since) = (codes "since", quantity since) ∷ []
+
+-- the moment up to which events count, where one was given
+unfoldable pub until_fields : Option ℕ → List Field
+until_fields None = []
+until_fields (Some moment) = (codes "until", quantity moment) ∷ []
+
+-- the end of a first line: the moment, and the number of rows
+abbrev pub end_fields : Option ℕ → ℕ → List Field
+end_fields until count = until_fields until ++ count_field count
 
 unfoldable pub handle_field : ℕ → List Field
 handle_field handle = (codes "handle", shown_handle handle) ∷ []
 
-abbrev pub process_head : List ℕ → ℕ → ℕ → Json
-process_head word process count = record_of (process_fields word process ++ count_field count)
-
-abbrev pub diff_head : ℕ → ℕ → ℕ → Json
-diff_head process since count = record_of (process_fields (codes "diff") process ++ (since_field since ++ count_field count))
+abbrev pub process_head : List ℕ → ℕ → Option ℕ → Option ℕ → ℕ → Json
+process_head word process since until count =
+    record_of (process_fields word process ++ (since_fields since ++ end_fields until count))
 
 -- the base handle
-abbrev pub trace_head : ℕ → ℕ → ℕ → Json
-trace_head process handle count =
-    record_of (process_fields (codes "trace") process ++ (handle_field (base_of handle) ++ count_field count))
+abbrev pub trace_head : ℕ → ℕ → Option ℕ → ℕ → Json
+trace_head process handle until count =
+    record_of (process_fields (codes "trace") process ++ (handle_field (base_of handle) ++ end_fields until count))
 
-abbrev pub tags_head : ℕ → ℕ → Json
-tags_head object count = record_of (object_fields (codes "tags") object ++ count_field count)
+abbrev pub tags_head : ℕ → Option ℕ → ℕ → Json
+tags_head object until count = record_of (object_fields (codes "tags") object ++ end_fields until count)
 
-abbrev pub stacks_head : ℕ → List ℕ → ℕ → Json
-stacks_head object tag count = record_of (object_fields (codes "stacks") object ++ (tag_fields tag ++ count_field count))
+abbrev pub stacks_head : ℕ → List ℕ → Option ℕ → ℕ → Json
+stacks_head object tag until count =
+    record_of (object_fields (codes "stacks") object ++ (tag_fields tag ++ end_fields until count))
 
 -- what there is
 unfoldable pub totals_fields : Totals → List Field
@@ -51,5 +61,6 @@ lines_fields gaps processes objects unbalanced =
     (codes "gaps", quantity gaps) ∷ (codes "processes", quantity processes) ∷ (codes "objects", quantity objects)
     ∷ (codes "unbalanced", quantity unbalanced) ∷ []
 
-abbrev pub summary_head : Totals → ℕ → ℕ → ℕ → Json
-summary_head t gaps processes unbalanced = record_of (totals_fields t ++ lines_fields gaps processes t.objects unbalanced)
+abbrev pub summary_head : Option ℕ → Totals → ℕ → ℕ → ℕ → Json
+summary_head until t gaps processes unbalanced =
+    record_of (totals_fields t ++ (lines_fields gaps processes t.objects unbalanced ++ until_fields until))

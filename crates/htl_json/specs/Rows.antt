@@ -2,6 +2,7 @@
 use Rattle.std.specs.Prelude.{◌++◌, ◌-◌, ◌∷◌, [], ℕ, List, codes}
 use Rattle.htl_event.specs.Events.{Event}
 use Rattle.htl_event.specs.Slots.{base_of}
+use Rattle.htl_event.specs.declared.growth.Point.{Point}
 use Rattle.htl_event.specs.declared.slot.Count.{Count}
 use Rattle.htl_event.specs.declared.summary.ObjectRow.{ObjectRow}
 use Rattle.htl_event.specs.declared.summary.ProcessRow.{ProcessRow}
@@ -51,6 +52,13 @@ balance_fields c = (codes "over", quantity (c.plus - c.minus)) ∷ (codes "under
 
 abbrev pub tag_balance : List ℕ × Count → Json
 tag_balance row = record_of (tag_fields row.0 ++ (count_fields row.1.plus row.1.minus ++ balance_fields row.1))
+
+-- a moment, and how many handles were outstanding then
+unfoldable pub point_fields : Point → List Field
+point_fields point = (codes "sequence", quantity point.sequence) ∷ (codes "outstanding", quantity point.outstanding) ∷ []
+
+abbrev pub point_row : Point → Json
+point_row point = record_of (point_fields point)
 
 -- the segments of a processor that are missing, from one number to another
 unfoldable pub between_fields : ℕ → ℕ → ℕ → List Field

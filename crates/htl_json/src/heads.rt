@@ -1,10 +1,10 @@
 //! The first line of each answer.
 
 ghost use Rattle.std.specs.Prelude.{◌≡◌, ◌∷◌, [], OnOk, codes};
-ghost use Rattle.htl_json.specs.Heads.{count_field, diff_head, handle_field, lines_fields};
-ghost use Rattle.htl_json.specs.Heads.{object_fields, process_fields, process_head, since_field};
+ghost use Rattle.htl_json.specs.Heads.{count_field, end_fields, handle_field, lines_fields};
+ghost use Rattle.htl_json.specs.Heads.{object_fields, process_fields, process_head, since_fields};
 ghost use Rattle.htl_json.specs.Heads.{stacks_head, summary_head, tags_head, totals_fields};
-ghost use Rattle.htl_json.specs.Heads.{trace_head};
+ghost use Rattle.htl_json.specs.Heads.{trace_head, until_fields};
 ghost use Rattle.htl_json.specs.Writing.{AddsFields, AddsLine};
 
 use crate::lines::Lines;
@@ -16,32 +16,18 @@ pub(crate) fn write_process_head(
     lines: &mut Lines,
     word: &str,
     process: u32,
+    since: Option<u64>,
+    until: Option<u64>,
     count: usize,
 ) -> Result<(), AllocError>
     requires { lines.old.writer.tokens ≡ [] }
     ensures { OnOk result
-        (AddsLine lines.old lines.new (process_head word.now process count)) }
+        (AddsLine lines.old lines.new (process_head word.now process since until count)) }
 {
     lines.begin_object()?;
     write_process(lines, word, process)?;
-    write_count(lines, count)?;
-    lines.end_line()
-}
-
-pub(crate) fn write_diff_head(
-    lines: &mut Lines,
-    process: u32,
-    since: u64,
-    count: usize,
-) -> Result<(), AllocError>
-    requires { lines.old.writer.tokens ≡ [] }
-    ensures { OnOk result
-        (AddsLine lines.old lines.new (diff_head process since count)) }
-{
-    lines.begin_object()?;
-    write_process(lines, "diff", process)?;
     write_since(lines, since)?;
-    write_count(lines, count)?;
+    write_end(lines, until, count)?;
     lines.end_line()
 }
 
@@ -50,30 +36,32 @@ pub(crate) fn write_trace_head(
     lines: &mut Lines,
     process: u32,
     handle: u32,
+    until: Option<u64>,
     count: usize,
 ) -> Result<(), AllocError>
     requires { lines.old.writer.tokens ≡ [] }
     ensures { OnOk result
-        (AddsLine lines.old lines.new (trace_head process handle count)) }
+        (AddsLine lines.old lines.new (trace_head process handle until count)) }
 {
     lines.begin_object()?;
     write_process(lines, "trace", process)?;
     write_handle(lines, base(handle))?;
-    write_count(lines, count)?;
+    write_end(lines, until, count)?;
     lines.end_line()
 }
 
 pub(crate) fn write_tags_head(
     lines: &mut Lines,
     object: u64,
+    until: Option<u64>,
     count: usize,
 ) -> Result<(), AllocError>
     requires { lines.old.writer.tokens ≡ [] }
-    ensures { OnOk result (AddsLine lines.old lines.new (tags_head object count)) }
+    ensures { OnOk result (AddsLine lines.old lines.new (tags_head object until count)) }
 {
     lines.begin_object()?;
     write_object(lines, "tags", object)?;
-    write_count(lines, count)?;
+    write_end(lines, until, count)?;
     lines.end_line()
 }
 
@@ -81,21 +69,23 @@ pub(crate) fn write_stacks_head(
     lines: &mut Lines,
     object: u64,
     tag: [u8; 4],
+    until: Option<u64>,
     count: usize,
 ) -> Result<(), AllocError>
     requires { lines.old.writer.tokens ≡ [] }
     ensures { OnOk result
-        (AddsLine lines.old lines.new (stacks_head object tag count)) }
+        (AddsLine lines.old lines.new (stacks_head object tag until count)) }
 {
     lines.begin_object()?;
     write_object(lines, "stacks", object)?;
     lines.tag(tag)?;
-    write_count(lines, count)?;
+    write_end(lines, until, count)?;
     lines.end_line()
 }
 
 pub(crate) fn write_summary_head(
     lines: &mut Lines,
+    until: Option<u64>,
     totals: &Totals,
     gaps: usize,
     processes: usize,
@@ -103,11 +93,12 @@ pub(crate) fn write_summary_head(
 ) -> Result<(), AllocError>
     requires { lines.old.writer.tokens ≡ [] }
     ensures { OnOk result (AddsLine lines.old lines.new
-        (summary_head totals.now gaps processes unbalanced)) }
+        (summary_head until totals.now gaps processes unbalanced)) }
 {
     lines.begin_object()?;
     write_totals(lines, totals)?;
     write_lines(lines, gaps, processes, totals.objects, unbalanced)?;
+    write_until(lines, until)?;
     lines.end_line()
 }
 
@@ -135,11 +126,34 @@ fn write_count(lines: &mut Lines, count: usize) -> Result<(), AllocError>
     lines.number("count", count as u64)
 }
 
-#[tactic(auto, unfolding(crate::specs::Heads::since_field))]
-fn write_since(lines: &mut Lines, since: u64) -> Result<(), AllocError>
-    ensures { OnOk result (AddsFields lines.old lines.new (since_field since)) }
+/// Writes the sequence after which handles were opened, where one is given.
+#[tactic(auto, unfolding(crate::specs::Heads::since_fields))]
+fn write_since(lines: &mut Lines, since: Option<u64>) -> Result<(), AllocError>
+    ensures { OnOk result (AddsFields lines.old lines.new (since_fields since)) }
 {
-    lines.number("since", since)
+    match since {
+        Some(since) => lines.number("since", since),
+        None => Ok(()),
+    }
+}
+
+/// Writes the moment up to which events count, where one is given.
+#[tactic(auto, unfolding(crate::specs::Heads::until_fields))]
+fn write_until(lines: &mut Lines, until: Option<u64>) -> Result<(), AllocError>
+    ensures { OnOk result (AddsFields lines.old lines.new (until_fields until)) }
+{
+    match until {
+        Some(moment) => lines.number("until", moment),
+        None => Ok(()),
+    }
+}
+
+/// Writes the end of a first line: the moment, and the number of rows.
+fn write_end(lines: &mut Lines, until: Option<u64>, count: usize) -> Result<(), AllocError>
+    ensures { OnOk result (AddsFields lines.old lines.new (end_fields until count)) }
+{
+    write_until(lines, until)?;
+    write_count(lines, count)
 }
 
 #[tactic(auto, unfolding(crate::specs::Heads::handle_field))]

@@ -5,7 +5,8 @@
 //!
 //! Files, in reading order: `answer.rt` (the lines of each answer); `heads.rt` (their first
 //! lines); a file for the rows of each kind of answer: `events.rt`, `bad.rt`, `counts.rt`,
-//! `summary.rt`; what several of them have: `frames.rt`; and how a line is written: `lines.rt`.
+//! `growths.rt`, `summary.rt`; what several of them have: `frames.rt`; how a line is written:
+//! `lines.rt`; and that a line has one value (`laws.rt`).
 #![tactic(auto)]
 
 mod answer;
@@ -13,7 +14,9 @@ mod bad;
 mod counts;
 mod events;
 mod frames;
+mod growths;
 mod heads;
+pub mod laws;
 mod lines;
 mod summary;
 

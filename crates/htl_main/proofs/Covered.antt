@@ -23,7 +23,7 @@ use Rattle.htl_taken.specs.declared.gap.Gap.TheVariants.{Between, Absent}
 use Rattle.htl_taken.proofs.GapLists.{gaps_more}
 use Rattle.htl_taken.proofs.Reaching.{before_reach, reach-next, reach-stop, reach_absent}
 use Rattle.htl_taken.proofs.Rising.{Rises-member}
-use Rattle.htl_main.specs.Summaries.{IsCompleteTo, IsFirstMissing, IsUnbrokenTo}
+use Rattle.htl_case.specs.Complete.{IsCompleteTo, IsFirstMissing, IsUnbrokenTo}
 
 -- ---- the segments of one processor
 

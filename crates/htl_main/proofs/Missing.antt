@@ -22,7 +22,7 @@ use Rattle.htl_command.specs.declared.question.Job.{Job}
 use Rattle.htl_main.specs.CaseOutlines.{BeginWithFirst, IsMissed, numbers_of}
 use Rattle.htl_main.specs.Causes.{IsCauseAfter}
 use Rattle.htl_main.specs.Completeness.{IsComplete, IsLeastMissing, ReportsMissing}
-use Rattle.htl_main.specs.Summaries.{IsFirstMissing}
+use Rattle.htl_case.specs.Complete.{IsFirstMissing}
 use Rattle.htl_main.specs.declared.coverage.Missed.{Missed}
 use Rattle.htl_main.specs.declared.fault.RunFault.{RunFault}
 use Rattle.htl_main.specs.declared.fault.RunFault.TheVariants.{Incomplete, Memory}

@@ -11,7 +11,8 @@ use Rattle.htl_segment.specs.Traces.{Trace, all_events}
 use Rattle.htl_symbols.specs.Ranges.{Range}
 use Rattle.htl_report.specs.Texts.{text_of}
 use Rattle.htl_report.specs.declared.answer.Answer.{Answer}
-use Rattle.htl_report.specs.declared.answer.Answer.TheVariants.{Outstanding, Diff, Tags, Bad, Leaks, Stacks, Trace as Listing, Summary}
+use Rattle.htl_report.specs.declared.answer.Answer.TheVariants.{Outstanding, Diff, Tags, Bad, Leaks, Stacks, Growth}
+use Rattle.htl_report.specs.declared.answer.Answer.TheVariants.{Trace as Listing, Summary}
 use Rattle.htl_command.specs.declared.question.Question.{Question}
 use Rattle.htl_command.specs.declared.question.Question.TheVariants as questions
 use Rattle.htl_command.specs.declared.question.Format.{Format}
@@ -26,9 +27,10 @@ AreSame (Outstanding p rs) (Outstanding q ss) = (p ≡ q) × (rs.items ≡ ss.it
 AreSame (Diff p m rs) (Diff q n ss) = (p ≡ q) × (m ≡ n) × (rs.items ≡ ss.items)
 AreSame (Tags p rs) (Tags q ss) = (p ≡ q) × (rs.items ≡ ss.items)
 AreSame (Bad p rs) (Bad q ss) = (p ≡ q) × (rs.items ≡ ss.items)
-AreSame (Leaks p rs) (Leaks q ss) = (p ≡ q) × (rs.items ≡ ss.items)
+AreSame (Leaks p m rs) (Leaks q n ss) = (p ≡ q) × (m ≡ n) × (rs.items ≡ ss.items)
 AreSame (Stacks p m rs) (Stacks q n ss) = (p ≡ q) × (m ≡ n) × (rs.items ≡ ss.items)
 AreSame (Listing p m rs) (Listing q n ss) = (p ≡ q) × (m ≡ n) × (rs.items ≡ ss.items)
+AreSame (Growth p rs) (Growth q ss) = (p ≡ q) × (rs.items ≡ ss.items)
 AreSame (Summary t gs ps os) (Summary u hs qs ns) = (t ≡ u) × (gs.items ≡ hs.items) × (ps.items ≡ qs.items) × (os.items ≡ ns.items)
 AreSame a b = ⊥
 
@@ -64,9 +66,9 @@ over_events events (questions.Bad process) (Bad x rs) (Bad y ss) p q =
     (p.0 ∙ sym q.0, (counts events).bad process rs.items ss.items p.1 q.1)
 over_events events (questions.Bad process) (Bad x rs) other p q = absurd q
 over_events events (questions.Bad process) other b p q = absurd p
-over_events events (questions.Leaks process) (Leaks x rs) (Leaks y ss) p q =
-    (p.0 ∙ sym q.0, (handles events).leaks process rs.items ss.items p.1 q.1)
-over_events events (questions.Leaks process) (Leaks x rs) other p q = absurd q
+over_events events (questions.Leaks process) (Leaks x m rs) (Leaks y n ss) p q =
+    (p.0 ∙ sym q.0, p.1 ∙ sym q.1, (handles events).leaks process None 1 rs.items ss.items p.2 q.2)
+over_events events (questions.Leaks process) (Leaks x m rs) other p q = absurd q
 over_events events (questions.Leaks process) other b p q = absurd p
 over_events events (questions.Stacks object tag) (Stacks x m rs) (Stacks y n ss) p q =
     (p.0 ∙ sym q.0, p.1 ∙ sym q.1, (counts events).stacks object tag rs.items ss.items p.2 q.2)
@@ -95,7 +97,7 @@ one_answer T (questions.Leaks process) a b p q = over_events (all_events T.segme
 one_answer T (questions.Stacks object tag) a b p q = over_events (all_events T.segments) (questions.Stacks object tag) a b p q
 one_answer T (questions.Trace process handle) a b p q = over_events (all_events T.segments) (questions.Trace process handle) a b p q
 
-same_text : (table : List Range) (top : Option ℕ) (a b : Answer) → AreSame a b → text_of table top a ≡ text_of table top b
+same_text : (table : List Range) (top : Option ℕ) (a b : Answer) → AreSame a b → text_of table None top a ≡ text_of table None top b
 same_text table top (Outstanding p rs) (Outstanding q ss) same = rw (same.0, same.1) refl
 same_text table top (Outstanding p rs) other same = absurd same
 same_text table top (Diff p m rs) (Diff q n ss) same = rw (same.0, same.1, same.2) refl
@@ -104,12 +106,14 @@ same_text table top (Tags p rs) (Tags q ss) same = rw (same.0, same.1) refl
 same_text table top (Tags p rs) other same = absurd same
 same_text table top (Bad p rs) (Bad q ss) same = rw (same.0, same.1) refl
 same_text table top (Bad p rs) other same = absurd same
-same_text table top (Leaks p rs) (Leaks q ss) same = rw (same.0, same.1) refl
-same_text table top (Leaks p rs) other same = absurd same
+same_text table top (Leaks p m rs) (Leaks q n ss) same = rw (same.0, same.1, same.2) refl
+same_text table top (Leaks p m rs) other same = absurd same
 same_text table top (Stacks p m rs) (Stacks q n ss) same = rw (same.0, same.1, same.2) refl
 same_text table top (Stacks p m rs) other same = absurd same
 same_text table top (Listing p m rs) (Listing q n ss) same = rw (same.0, same.1, same.2) refl
 same_text table top (Listing p m rs) other same = absurd same
+same_text table top (Growth p rs) (Growth q ss) same = rw (same.0, same.1) refl
+same_text table top (Growth p rs) other same = absurd same
 same_text table top (Summary t gs ps os) (Summary u hs qs ns) same = rw (same.0, same.1, same.2, same.3) refl
 same_text table top (Summary t gs ps os) other same = absurd same
 
@@ -122,16 +126,19 @@ same_finding (Tags p rs) (Tags q ss) same = rw (same.1) refl
 same_finding (Tags p rs) other same = absurd same
 same_finding (Bad p rs) (Bad q ss) same = rw (same.1) refl
 same_finding (Bad p rs) other same = absurd same
-same_finding (Leaks p rs) (Leaks q ss) same = rw (same.1) refl
-same_finding (Leaks p rs) other same = absurd same
+same_finding (Leaks p m rs) (Leaks q n ss) same = rw (same.2) refl
+same_finding (Leaks p m rs) other same = absurd same
 same_finding (Stacks p m rs) (Stacks q n ss) same = rw (same.2) refl
 same_finding (Stacks p m rs) other same = absurd same
 same_finding (Listing p m rs) (Listing q n ss) same = rw (same.2) refl
 same_finding (Listing p m rs) other same = absurd same
+same_finding (Growth p rs) (Growth q ss) same = rw (same.1) refl
+same_finding (Growth p rs) other same = absurd same
 same_finding (Summary t gs ps os) (Summary u hs qs ns) same = rw (same.2, same.3) refl
 same_finding (Summary t gs ps os) other same = absurd same
 
-same_values : (table : List Range) (top : Option ℕ) (a b : Answer) → AreSame a b → values_of table top a ≡ values_of table top b
+same_values : (table : List Range) (top : Option ℕ) (a b : Answer) → AreSame a b
+    → values_of table None top a ≡ values_of table None top b
 same_values table top (Outstanding p rs) (Outstanding q ss) same = rw (same.0, same.1) refl
 same_values table top (Outstanding p rs) other same = absurd same
 same_values table top (Diff p m rs) (Diff q n ss) same = rw (same.0, same.1, same.2) refl
@@ -140,18 +147,20 @@ same_values table top (Tags p rs) (Tags q ss) same = rw (same.0, same.1) refl
 same_values table top (Tags p rs) other same = absurd same
 same_values table top (Bad p rs) (Bad q ss) same = rw (same.0, same.1) refl
 same_values table top (Bad p rs) other same = absurd same
-same_values table top (Leaks p rs) (Leaks q ss) same = rw (same.0, same.1) refl
-same_values table top (Leaks p rs) other same = absurd same
+same_values table top (Leaks p m rs) (Leaks q n ss) same = rw (same.0, same.1, same.2) refl
+same_values table top (Leaks p m rs) other same = absurd same
 same_values table top (Stacks p m rs) (Stacks q n ss) same = rw (same.0, same.1, same.2) refl
 same_values table top (Stacks p m rs) other same = absurd same
 same_values table top (Listing p m rs) (Listing q n ss) same = rw (same.0, same.1, same.2) refl
 same_values table top (Listing p m rs) other same = absurd same
+same_values table top (Growth p rs) (Growth q ss) same = rw (same.0, same.1) refl
+same_values table top (Growth p rs) other same = absurd same
 same_values table top (Summary t gs ps os) (Summary u hs qs ns) same = rw (same.0, same.1, same.2, same.3) refl
 same_values table top (Summary t gs ps os) other same = absurd same
 
 same_folded : (table : List Range) (top : Option ℕ) (a b : Answer) → AreSame a b → lines_of Folded table top a ≡ lines_of Folded table top b
-same_folded table top (Leaks p rs) (Leaks q ss) same = rw (same.1) refl
-same_folded table top (Leaks p rs) other same = absurd same
+same_folded table top (Leaks p m rs) (Leaks q n ss) same = rw (same.2) refl
+same_folded table top (Leaks p m rs) other same = absurd same
 same_folded table top (Outstanding p rs) (Outstanding q ss) same = same_text table top (Outstanding p rs) (Outstanding q ss) same
 same_folded table top (Outstanding p rs) other same = absurd same
 same_folded table top (Diff p m rs) (Diff q n ss) same = same_text table top (Diff p m rs) (Diff q n ss) same
@@ -164,6 +173,8 @@ same_folded table top (Stacks p m rs) (Stacks q n ss) same = same_text table top
 same_folded table top (Stacks p m rs) other same = absurd same
 same_folded table top (Listing p m rs) (Listing q n ss) same = same_text table top (Listing p m rs) (Listing q n ss) same
 same_folded table top (Listing p m rs) other same = absurd same
+same_folded table top (Growth p rs) (Growth q ss) same = same_text table top (Growth p rs) (Growth q ss) same
+same_folded table top (Growth p rs) other same = absurd same
 same_folded table top (Summary t gs ps os) (Summary u hs qs ns) same = same_text table top (Summary t gs ps os) (Summary u hs qs ns) same
 same_folded table top (Summary t gs ps os) other same = absurd same
 

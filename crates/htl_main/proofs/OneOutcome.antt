@@ -25,7 +25,7 @@ use Rattle.htl_main.specs.Inputs.{HasBytes, Decodes, DecodeAll, HasBundleFault, 
 use Rattle.htl_main.specs.Answers.{Finds, FindsIn, FindsOver}
 use Rattle.htl_main.specs.Completeness.{IsComplete, IsLeastMissing}
 use Rattle.htl_main.specs.Printed.{IsText, IsTaken, HasSymbols, HasSymbolFault, AreAnswerLines, IsPrinted, WorkersFit, Printed}
-use Rattle.htl_main.specs.Summaries.{IsFirstMissing}
+use Rattle.htl_case.specs.Complete.{IsFirstMissing}
 use Rattle.htl_main.specs.declared.fault.RunFault.{RunFault}
 use Rattle.htl_main.specs.declared.fault.RunFault.TheVariants.{Workers, Segment, Hex, Case, Incomplete, Symbols, Memory}
 use Rattle.htl_main.proofs.Covered.{one_first}

@@ -11,7 +11,8 @@ use Rattle.htl_taken.specs.Gaps.{IsGap, IsGapBefore, IsGaps}
 use Rattle.htl_taken.specs.declared.gap.Gap.{Gap}
 use Rattle.htl_taken.proofs.Gaps.{IsGapBefore-strict}
 use Rattle.htl_report.specs.declared.summary.Totals.{Totals}
-use Rattle.htl_main.specs.Summaries.{AreTotals, IsCompleteTo}
+use Rattle.htl_case.specs.Complete.{IsCompleteTo}
+use Rattle.htl_main.specs.Summaries.{AreTotals}
 
 determined : (T : Trace) → SummariesAreDetermined (all_events T.segments) (all_events T.segments)
 determined T = summaries_are_determined (all_events T.segments) (all_events T.segments) (IsPermutation-refl (all_events T.segments))

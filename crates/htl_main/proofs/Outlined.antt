@@ -20,7 +20,7 @@ use Rattle.htl_taken.specs.GapLists.{gaps_of}
 use Rattle.htl_taken.specs.Rising.{Rises, reach_from}
 use Rattle.htl_taken.specs.declared.gap.Gap.{Gap}
 use Rattle.htl_main.specs.CaseOutlines.{AreOutlinesOf, greatest_from, numbers_of}
-use Rattle.htl_main.specs.Summaries.{IsFirstMissing, IsUnbrokenTo}
+use Rattle.htl_case.specs.Complete.{IsFirstMissing, IsUnbrokenTo}
 use Rattle.htl_main.proofs.Covered.{AreFrom, AreOwn, segment_numbers, cut, first_is, from_first, more_gaps, next_back, own_front, rises}
 use Rattle.htl_main.proofs.Covered.{unbroken_to}
 use Rattle.htl_case.proofs.Scanned.{processor_rises}

@@ -65,8 +65,8 @@ over_all (questions.Tags o) interest es own (Tags of rows) is moved over =
     (over.0, ((of_object o interest es own is moved).tags rows.items).1 over.1)
 over_all (questions.Bad p) interest es own (Bad of rows) is moved over =
     (over.0, ((of_process p interest es own is moved).bad rows.items).1 over.1)
-over_all (questions.Leaks p) interest es own (Leaks of rows) is moved over =
-    (over.0, ((of_process p interest es own is moved).leaks rows.items).1 over.1)
+over_all (questions.Leaks p) interest es own (Leaks of since rows) is moved over =
+    (over.0, over.1, ((of_process p interest es own is moved).leaks None 1 rows.items).1 over.2)
 over_all (questions.Stacks o tag) interest es own (Stacks of under rows) is moved over =
     (over.0, over.1, ((of_object o interest es own is moved).stacks tag rows.items).1 over.2)
 over_all (questions.Trace p handle) interest es own (Listing of under rows) is moved over =

@@ -8,7 +8,8 @@ use Rattle.htl_segment.specs.Content.{Content}
 use Rattle.htl_segment.specs.Traces.{Trace, all_events}
 use Rattle.htl_case.specs.Cases.{IsCaseOf}
 use Rattle.htl_report.specs.declared.answer.Answer.{Answer}
-use Rattle.htl_report.specs.declared.answer.Answer.TheVariants.{Outstanding, Diff, Tags, Bad, Leaks, Stacks, Trace as Listing, Summary}
+use Rattle.htl_report.specs.declared.answer.Answer.TheVariants.{Outstanding, Diff, Tags, Bad, Leaks, Stacks, Growth}
+use Rattle.htl_report.specs.declared.answer.Answer.TheVariants.{Trace as Listing, Summary}
 use Rattle.htl_command.specs.declared.question.Question.{Question}
 use Rattle.htl_command.specs.declared.question.Question.TheVariants as questions
 use Rattle.htl_main.specs.Inputs.{DecodeAll}
@@ -26,7 +27,8 @@ IsAnswerOver events (questions.Outstanding process) (Outstanding of rows) =
 IsAnswerOver events (questions.Diff process since) (Diff of from rows) = (of ≡ process) × IsDiffSince events process since from rows.items
 IsAnswerOver events (questions.Tags object) (Tags of rows) = (of ≡ object) × IsTags events object rows.items
 IsAnswerOver events (questions.Bad process) (Bad of rows) = (of ≡ process) × IsBad events process rows.items
-IsAnswerOver events (questions.Leaks process) (Leaks of rows) = (of ≡ process) × IsLeaks (Contains events) process rows.items
+IsAnswerOver events (questions.Leaks process) (Leaks of since rows) =
+    (of ≡ process) × (since ≡ None) × IsLeaks (Contains events) process rows.items
 IsAnswerOver events (questions.Stacks object tag) (Stacks of under rows) =
     (of ≡ object) × (under ≡ tag) × IsStacks events object tag rows.items
 IsAnswerOver events (questions.Trace process handle) (Listing of under rows) =
@@ -48,9 +50,10 @@ has_finding (Outstanding process rows) = has_rows rows.items
 has_finding (Diff process since rows) = has_rows rows.items
 has_finding (Tags object rows) = list_any (λ row. not (row.1.plus == row.1.minus)) rows.items
 has_finding (Bad process rows) = has_rows rows.items
-has_finding (Leaks process rows) = has_rows rows.items
+has_finding (Leaks process since rows) = has_rows rows.items
 has_finding (Stacks object tag rows) = has_rows rows.items
 has_finding (Listing process handle rows) = has_rows rows.items
+has_finding (Growth process rows) = has_rows rows.items
 has_finding (Summary totals gaps processes objects) =
     list_any (λ row. not (row.outstanding == 0) || not (row.bad == 0)) processes.items || has_rows objects.items
 

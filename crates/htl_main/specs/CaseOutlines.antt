@@ -3,10 +3,10 @@ use Rattle.std.specs.Prelude.{◌≡◌, ℕ, List, [], ◌∷◌, map, max}
 use Rattle.htl_segment.specs.Outlines.{outline_of}
 use Rattle.htl_segment.specs.Traces.{HasKey, Trace}
 use Rattle.htl_segment.specs.declared.outline.Outline.{Outline}
+use Rattle.htl_case.specs.Complete.{IsCompleteTo, IsFirstMissing}
 use Rattle.htl_case.specs.Cases.{IsCase}
 use Rattle.htl_taken.specs.Gaps.{IsGaps, first_of, processor_of}
 use Rattle.htl_taken.specs.declared.gap.Gap.{Gap}
-use Rattle.htl_main.specs.Summaries.{IsCompleteTo, IsFirstMissing}
 use Rattle.htl_main.specs.declared.coverage.Missed.{Missed}
 
 -- the trace is a case of so many processors, and these are the outlines of its segments, in their order

@@ -1,9 +1,9 @@
 -- Whether segments of a trace are missing (this project's own), and which is the least.
 use Rattle.std.specs.Prelude.{◌≡◌, ◌≤◌, ℕ}
 use Rattle.htl_segment.specs.Traces.{Trace, HasKey}
+use Rattle.htl_case.specs.Complete.{IsFirstMissing}
 use Rattle.htl_taken.specs.Gaps.{IsGap, processor_of}
 use Rattle.htl_taken.specs.declared.gap.Gap.{Gap}
-use Rattle.htl_main.specs.Summaries.{IsFirstMissing}
 use Rattle.htl_main.specs.declared.fault.RunFault.{RunFault}
 use Rattle.htl_main.specs.declared.fault.RunFault.TheVariants.{Incomplete}
 

@@ -3,11 +3,11 @@
 use Rattle.std.specs.Prelude.{◌≡◌, ℕ, Bool, List, length}
 use Rattle.htl_segment.specs.Content.{Content}
 use Rattle.htl_segment.specs.Traces.{Trace, HasKey}
+use Rattle.htl_case.specs.Complete.{IsCompleteTo}
 use Rattle.htl_taken.specs.Gaps.{IsGaps}
 use Rattle.htl_taken.specs.declared.gap.Gap.{Gap}
 use Rattle.htl_case.specs.Cases.{IsCaseOf}
 use Rattle.htl_main.specs.Inputs.{DecodeAll}
-use Rattle.htl_main.specs.Summaries.{IsCompleteTo}
 use Rattle.htl_main.specs.declared.coverage.Coverage.{Coverage}
 
 -- Coverage: the number of the gaps of a trace's keys, and what the trace is complete to.

@@ -24,9 +24,9 @@ use Rattle.htl_main.specs.declared.fault.RunFault.TheVariants.{Workers, Segment,
 
 -- the lines of an answer in each form, with all rows or the first so many; only leaking stacks are folded
 abbrev pub lines_of : Format → List Range → Option ℕ → Answer → List ℕ
-lines_of Json table top answer = flat_map json_line (values_of table top answer)
-lines_of Folded table top (Leaks process rows) = folded_text table top rows.items
-lines_of format table top answer = text_of table top answer
+lines_of Json table top answer = flat_map json_line (values_of table None top answer)
+lines_of Folded table top (Leaks process since rows) = folded_text table top rows.items
+lines_of format table top answer = text_of table None top answer
 
 -- those of the answer to the job's question over a trace
 abbrev pub IsText : Trace → List Range → Job → List ℕ → Type 0

@@ -26,7 +26,7 @@ pub(crate) fn answer(alloc: Global, question: Question, case: &Case) -> Result<A
         Question::Trace { process, handle } => Ok(Answer::Trace {
             process,
             handle,
-            rows: case.trace(alloc, process, handle)?,
+            rows: case.trace(alloc, process, handle, None)?,
         }),
         Question::Summary => summary(alloc, case),
         question => answer_over(alloc, case, question),
@@ -77,7 +77,8 @@ pub(crate) fn answer_of<P: Part>(
         },
         Question::Leaks { process } => Answer::Leaks {
             process,
-            rows: leaks(alloc, parts, process)?,
+            since: None,
+            rows: leaks(alloc, parts, process, None, 1)?,
         },
         Question::Stacks { object, tag } => Answer::Stacks {
             object,

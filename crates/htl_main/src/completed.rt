@@ -63,6 +63,7 @@ pub(crate) fn has_finding(answer: &Answer) -> bool
         Answer::Leaks { rows, .. } => !rows.is_empty(),
         Answer::Stacks { rows, .. } => !rows.is_empty(),
         Answer::Trace { rows, .. } => !rows.is_empty(),
+        Answer::Growth { rows, .. } => !rows.is_empty(),
         Answer::Summary {
             processes,
             objects,

@@ -1,7 +1,7 @@
 //! Laws of what a run comes to. Each function's contract is the law; none does anything when it
 //! runs.
 
-ghost use Rattle.std.specs.Prelude.{◌≡◌, ◌↔◌, ℕ, Bool, List, Option, Some, Result, length};
+ghost use Rattle.std.specs.Prelude.{◌≡◌, ◌↔◌, ℕ, Bool, List, Option, None, Some, Result, length};
 ghost use Rattle.std.specs.Global.{Vec};
 ghost use Rattle.htl_event.specs.Events.{Event};
 ghost use Rattle.htl_event.specs.declared.slot.Count.{Count};
@@ -59,7 +59,7 @@ pub fn analysts_agree()
         → IsAnswerOver events (questions.Bad process) (answers.Bad process rows)
         ↔ IsAnalystsOver events (analysts.Bad process) (found.Bad rows) }
     ensures leaks { (events : List Event) (process : ℕ) (rows : Vec (List ℕ × ℕ))
-        → IsAnswerOver events (questions.Leaks process) (answers.Leaks process rows)
+        → IsAnswerOver events (questions.Leaks process) (answers.Leaks process None rows)
         ↔ IsAnalystsOver events (analysts.Leaks process) (found.Leaks rows) }
     ensures stacks { (events : List Event) (object : ℕ) (tag : List ℕ)
         (rows : Vec (List ℕ × Count))

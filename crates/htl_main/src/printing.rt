@@ -125,9 +125,9 @@ pub(crate) fn lines(
         lines.items ≡ lines_of job.now.format symbols.now job.now.top answer.now) }
 {
     match (job.format, answer) {
-        (Format::Json, _) => json_lines(alloc, answer, symbols, job.top),
+        (Format::Json, _) => json_lines(alloc, answer, symbols, None, job.top),
         (Format::Folded, Answer::Leaks { rows, .. }) => folded(alloc, rows, symbols, job.top),
-        (Format::Plain | Format::Folded, _) => text(alloc, answer, symbols, job.top),
+        (Format::Plain | Format::Folded, _) => text(alloc, answer, symbols, None, job.top),
     }
 }
 

@@ -4,7 +4,8 @@ ghost use Rattle.std.specs.Prelude.{◌≡◌, ◌<◌, ◌^◌, IfOk, length};
 ghost use Rattle.htl_segment.specs.Traces.{all_events};
 ghost use Rattle.htl_event.specs.Summaries.{IsNumberOfObjects};
 ghost use Rattle.htl_main.specs.Answers.{IsAnswer};
-ghost use Rattle.htl_main.specs.Summaries.{AreTotals, IsCompleteTo};
+ghost use Rattle.htl_case.specs.Complete.{IsCompleteTo};
+ghost use Rattle.htl_main.specs.Summaries.{AreTotals};
 ghost use Rattle.htl_command.specs.declared.question.Question.TheVariants as questions;
 
 use crate::coverage::Missed;

@@ -1,5 +1,5 @@
 -- The text of a process's bad references, as bytes.
-use Rattle.std.specs.Prelude.{◌++◌, ℕ, List, Option, codes, flat_map, length}
+use Rattle.std.specs.Prelude.{◌++◌, ℕ, List, Option, None, codes, flat_map, length}
 use Rattle.std.specs.Fmt.{decimal}
 use Rattle.htl_symbols.specs.Ranges.{Range}
 use Rattle.htl_numbers.specs.Written.{hex}
@@ -16,6 +16,6 @@ abbrev pub bad_lines : List Range → ℕ × List ℕ × ℕ → List ℕ
 bad_lines symbols row = bad_line row.0 row.2 ++ stack_lines symbols row.1
 
 -- the bad references of a process
-unfoldable pub bad_text : List Range → Option ℕ → ℕ → List (ℕ × List ℕ × ℕ) → List ℕ
-bad_text symbols top process rows =
-    process_head (codes "bad") process (length rows) ++ flat_map (bad_lines symbols) (first_rows top rows)
+unfoldable pub bad_text : List Range → Option ℕ → Option ℕ → ℕ → List (ℕ × List ℕ × ℕ) → List ℕ
+bad_text symbols until top process rows =
+    process_head (codes "bad") process None until (length rows) ++ flat_map (bad_lines symbols) (first_rows top rows)

@@ -14,7 +14,7 @@ leak_line handles = codes "LEAK handles=" ++ (decimal handles ++ line_feed)
 abbrev pub leak_lines : List Range → List ℕ × ℕ → List ℕ
 leak_lines symbols row = leak_line row.1 ++ stack_lines symbols row.0
 
--- the leaking stacks of a process
-unfoldable pub leaks_text : List Range → Option ℕ → ℕ → List (List ℕ × ℕ) → List ℕ
-leaks_text symbols top process rows =
-    process_head (codes "leaks") process (length rows) ++ flat_map (leak_lines symbols) (first_rows top rows)
+-- the leaking stacks of a process, of all outstanding handles or of those that were opened after a sequence
+unfoldable pub leaks_text : List Range → Option ℕ → Option ℕ → ℕ → Option ℕ → List (List ℕ × ℕ) → List ℕ
+leaks_text symbols until top process since rows =
+    process_head (codes "leaks") process since until (length rows) ++ flat_map (leak_lines symbols) (first_rows top rows)

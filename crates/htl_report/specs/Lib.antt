@@ -4,6 +4,7 @@ pub mod Parts
 pub mod Rows
 pub mod Opens
 pub mod Listings
+pub mod Growths
 pub mod BadReferences
 pub mod Leaks
 pub mod Folded

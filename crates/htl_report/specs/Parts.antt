@@ -1,23 +1,36 @@
 -- Parts of lines that several answers print, as bytes.
-use Rattle.std.specs.Prelude.{◌++◌, ◌&&◌, ℕ, List, codes, if◌then◌else◌, map, nat_le}
+use Rattle.std.specs.Prelude.{◌++◌, ◌&&◌, [], ℕ, List, Option, Some, None, codes, if◌then◌else◌, map, nat_le}
 use Rattle.std.specs.Fmt.{decimal}
 use Rattle.htl_event.specs.Events.{Event}
 use Rattle.htl_event.specs.declared.slot.Count.{Count}
 use Rattle.htl_numbers.specs.Written.{hex, padded}
 use Rattle.htl_report.specs.Addresses.{line_feed}
 
--- the first line of an answer about a process, by its word
-unfoldable pub process_head : List ℕ → ℕ → ℕ → List ℕ
-process_head word process count =
-    word ++ (codes " process=" ++ (decimal process ++ (codes " count=" ++ (decimal count ++ line_feed))))
+-- the start of the first line of an answer about a process, by its word
+unfoldable pub process_part : List ℕ → ℕ → List ℕ
+process_part word process = word ++ (codes " process=" ++ decimal process)
 
 -- the start of the first line of one about an object
 unfoldable pub object_part : List ℕ → ℕ → List ℕ
 object_part word object = word ++ (codes " object=0x" ++ padded 16 object)
 
--- its end: the number of rows
-unfoldable pub count_part : ℕ → List ℕ
-count_part count = codes " count=" ++ (decimal count ++ line_feed)
+-- the sequence after which handles were opened, where one was given
+unfoldable pub since_part : Option ℕ → List ℕ
+since_part None = []
+since_part (Some since) = codes " since=" ++ decimal since
+
+-- the moment up to which events count, where one was given
+unfoldable pub until_part : Option ℕ → List ℕ
+until_part None = []
+until_part (Some moment) = codes " until=" ++ decimal moment
+
+-- the end of a first line: the moment, and the number of rows
+unfoldable pub count_part : Option ℕ → ℕ → List ℕ
+count_part until count = until_part until ++ (codes " count=" ++ (decimal count ++ line_feed))
+
+-- the first line of an answer about a process, by its word
+abbrev pub process_head : List ℕ → ℕ → Option ℕ → Option ℕ → ℕ → List ℕ
+process_head word process since until count = process_part word process ++ (since_part since ++ count_part until count)
 
 -- the line of an event, by this word and this handle
 unfoldable pub event_line : List ℕ → ℕ → Event → List ℕ

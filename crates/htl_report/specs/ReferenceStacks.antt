@@ -13,10 +13,11 @@ stack_line c = codes "STACK " ++ (counts c ++ line_feed)
 abbrev pub stacks_lines : List Range → List ℕ × Count → List ℕ
 stacks_lines symbols row = stack_line row.1 ++ stack_lines symbols row.0
 
-abbrev pub stacks_head : ℕ → List ℕ → ℕ → List ℕ
-stacks_head object tag count = object_part (codes "stacks") object ++ (codes " tag=" ++ (shown_tag tag ++ count_part count))
+abbrev pub stacks_head : ℕ → List ℕ → Option ℕ → ℕ → List ℕ
+stacks_head object tag until count =
+    object_part (codes "stacks") object ++ (codes " tag=" ++ (shown_tag tag ++ count_part until count))
 
 -- the stacks of an object's references and dereferences under a tag
-unfoldable pub stacks_text : List Range → Option ℕ → ℕ → List ℕ → List (List ℕ × Count) → List ℕ
-stacks_text symbols top object tag rows =
-    stacks_head object tag (length rows) ++ flat_map (stacks_lines symbols) (first_rows top rows)
+unfoldable pub stacks_text : List Range → Option ℕ → Option ℕ → ℕ → List ℕ → List (List ℕ × Count) → List ℕ
+stacks_text symbols until top object tag rows =
+    stacks_head object tag until (length rows) ++ flat_map (stacks_lines symbols) (first_rows top rows)

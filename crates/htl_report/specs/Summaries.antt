@@ -6,7 +6,7 @@ use Rattle.htl_event.specs.declared.summary.ProcessRow.{ProcessRow}
 use Rattle.htl_taken.specs.declared.gap.Gap.{Gap}
 use Rattle.htl_taken.specs.declared.gap.Gap.TheVariants.{Between, Absent}
 use Rattle.htl_report.specs.Addresses.{line_feed}
-use Rattle.htl_report.specs.Parts.{object_part}
+use Rattle.htl_report.specs.Parts.{object_part, until_part}
 use Rattle.htl_report.specs.Rows.{first_rows}
 use Rattle.htl_report.specs.declared.summary.Totals.{Totals}
 
@@ -20,10 +20,11 @@ totals_part t =
 unfoldable pub lines_part : ℕ → ℕ → ℕ → ℕ → List ℕ
 lines_part gaps processes objects unbalanced =
     codes " gaps=" ++ (decimal gaps ++ (codes " processes=" ++ (decimal processes ++ (codes " objects=" ++ (decimal objects
-    ++ (codes " unbalanced=" ++ (decimal unbalanced ++ line_feed)))))))
+    ++ (codes " unbalanced=" ++ decimal unbalanced))))))
 
-abbrev pub summary_head : Totals → ℕ → ℕ → ℕ → List ℕ
-summary_head t gaps processes unbalanced = totals_part t ++ lines_part gaps processes t.objects unbalanced
+abbrev pub summary_head : Option ℕ → Totals → ℕ → ℕ → ℕ → List ℕ
+summary_head until t gaps processes unbalanced =
+    totals_part t ++ (lines_part gaps processes t.objects unbalanced ++ (until_part until ++ line_feed))
 
 -- the segments of a processor that are missing, from one number to another
 unfoldable pub between_line : ℕ → ℕ → ℕ → List ℕ
@@ -65,8 +66,8 @@ abbrev pub object_line : ObjectRow → List ℕ
 object_line row = object_part (codes "OBJECT") row.object ++ tags_part row
 
 -- what leaks at all: all gaps, and the first processes and the first objects
-unfoldable pub summary_text : Option ℕ → Totals → List Gap → List ProcessRow → List ObjectRow → List ℕ
-summary_text top t gaps processes objects =
-    summary_head t (length gaps) (length processes) (length objects)
+unfoldable pub summary_text : Option ℕ → Option ℕ → Totals → List Gap → List ProcessRow → List ObjectRow → List ℕ
+summary_text until top t gaps processes objects =
+    summary_head until t (length gaps) (length processes) (length objects)
     ++ (flat_map gap_line gaps
     ++ (flat_map process_line (first_rows top processes) ++ flat_map object_line (first_rows top objects)))

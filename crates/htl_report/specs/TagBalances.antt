@@ -18,9 +18,9 @@ tag_line tag c = codes "TAG " ++ (shown_tag tag ++ (codes " " ++ (counts c ++ (c
 abbrev pub tag_row : List ℕ × Count → List ℕ
 tag_row row = tag_line row.0 row.1
 
-abbrev pub tags_head : ℕ → ℕ → List ℕ
-tags_head object count = object_part (codes "tags") object ++ count_part count
+abbrev pub tags_head : ℕ → Option ℕ → ℕ → List ℕ
+tags_head object until count = object_part (codes "tags") object ++ count_part until count
 
 -- the tags of an object
-unfoldable pub tags_text : Option ℕ → ℕ → List (List ℕ × Count) → List ℕ
-tags_text top object rows = tags_head object (length rows) ++ flat_map tag_row (first_rows top rows)
+unfoldable pub tags_text : Option ℕ → Option ℕ → ℕ → List (List ℕ × Count) → List ℕ
+tags_text until top object rows = tags_head object until (length rows) ++ flat_map tag_row (first_rows top rows)

@@ -14,14 +14,15 @@ use std::alloc::AllocError;
 pub(crate) fn write_bad(
     out: &mut String,
     symbols: &Symbols,
+    until: Option<u64>,
     top: Option<u32>,
     process: u32,
     rows: &[(u32, SharedStack, u64)],
 ) -> Result<(), AllocError>
     ensures { OnOk result (string_bytes out.new
-        ≡ string_bytes out.old ++ bad_text symbols.now top process rows.now) }
+        ≡ string_bytes out.old ++ bad_text symbols.now until top process rows.now) }
 {
-    write_process_head(out, "bad", process, rows.len())?;
+    write_process_head(out, "bad", process, None, until, rows.len())?;
     write_rows(out, symbols, first_rows(top, rows))
 }
 

@@ -14,14 +14,16 @@ use std::alloc::AllocError;
 pub(crate) fn write_leaks(
     out: &mut String,
     symbols: &Symbols,
+    until: Option<u64>,
     top: Option<u32>,
     process: u32,
+    since: Option<u64>,
     rows: &[(SharedStack, u64)],
 ) -> Result<(), AllocError>
     ensures { OnOk result (string_bytes out.new
-        ≡ string_bytes out.old ++ leaks_text symbols.now top process rows.now) }
+        ≡ string_bytes out.old ++ leaks_text symbols.now until top process since rows.now) }
 {
-    write_process_head(out, "leaks", process, rows.len())?;
+    write_process_head(out, "leaks", process, since, until, rows.len())?;
     write_rows(out, symbols, first_rows(top, rows))
 }
 

@@ -3,17 +3,18 @@
 //! `specs/Texts` says what is printed, with one function of data for each answer; `text` writes
 //! just that, into one buffer.
 //!
-//! Files, in reading order: `answer.rt` (the eight answers and their text); one file for each kind
+//! Files, in reading order: `answer.rt` (the nine answers and their text); one file for each kind
 //! of answer, here and in `specs/`, with its first line, the line of a row, and the whole:
-//! `opens.rt`, `tags.rt`, `bad.rt`, `leaks.rt`, `stacks.rt`, `listing.rt`, `summary.rt`; what
-//! several kinds print: `address.rt`, `parts.rt`, and the number of rows (`rows.rt`); and the leaking
-//! stacks once more, for flame graph programs (`flame_graph.rt`).
+//! `opens.rt`, `tags.rt`, `bad.rt`, `leaks.rt`, `stacks.rt`, `listing.rt`, `growths.rt`,
+//! `summary.rt`; what several kinds print: `address.rt`, `parts.rt`, and the number of rows
+//! (`rows.rt`); and the leaking stacks once more, for flame graph programs (`flame_graph.rt`).
 #![tactic(auto)]
 
 mod address;
 mod answer;
 mod bad;
 mod flame_graph;
+mod growths;
 mod leaks;
 mod listing;
 mod opens;

@@ -4,7 +4,7 @@ ghost use Rattle.std.specs.Prelude.{◌≡◌, ◌++◌, OnOk, flat_map, string_
 ghost use Rattle.htl_report.specs.Listings.{listed_lines, trace_head, trace_text};
 
 use crate::address::write_stack;
-use crate::parts::write_event;
+use crate::parts::{write_count, write_event, write_process};
 use crate::rows::first_rows;
 use htl_event::{SharedEvent, base};
 use htl_symbols::Symbols;
@@ -14,32 +14,32 @@ use std::alloc::AllocError;
 pub(crate) fn write_trace(
     out: &mut String,
     symbols: &Symbols,
+    until: Option<u64>,
     top: Option<u32>,
     process: u32,
     handle: u32,
     rows: &[SharedEvent],
 ) -> Result<(), AllocError>
     ensures { OnOk result (string_bytes out.new
-        ≡ string_bytes out.old ++ trace_text symbols.now top process handle rows.now) }
+        ≡ string_bytes out.old ++ trace_text symbols.now until top process handle rows.now) }
 {
-    write_trace_head(out, process, base(handle), rows.len())?;
+    write_trace_head(out, process, base(handle), until, rows.len())?;
     write_listing(out, symbols, first_rows(top, rows))
 }
 
-#[tactic(auto, unfolding(crate::specs::Listings::trace_head))]
 fn write_trace_head(
     out: &mut String,
     process: u32,
     base: u32,
+    until: Option<u64>,
     count: usize,
 ) -> Result<(), AllocError>
     ensures { OnOk result (string_bytes out.new
-        ≡ string_bytes out.old ++ trace_head process base count) }
+        ≡ string_bytes out.old ++ trace_head process base until count) }
 {
-    writeln!(
-        out,
-        "trace process={process} handle=0x{base:x} count={count}"
-    )
+    write_process(out, "trace", process)?;
+    write!(out, " handle=0x{base:x}")?;
+    write_count(out, until, count)
 }
 
 fn write_listing(

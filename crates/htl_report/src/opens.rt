@@ -1,8 +1,8 @@
 //! Outstanding handles and differences: each handle by the event that opened it.
 
 ghost use Rattle.std.specs.Prelude.{◌≡◌, ◌++◌, OnOk, flat_map, string_bytes};
-ghost use Rattle.htl_report.specs.Opens.{diff_head, diff_text, open_lines};
-ghost use Rattle.htl_report.specs.Opens.{outstanding_head, outstanding_text};
+ghost use Rattle.htl_report.specs.Opens.{diff_text, open_lines, outstanding_head};
+ghost use Rattle.htl_report.specs.Opens.{outstanding_text};
 
 use crate::address::write_stack;
 use crate::parts::{write_event, write_process_head};
@@ -15,52 +15,46 @@ use std::alloc::AllocError;
 pub(crate) fn write_outstanding(
     out: &mut String,
     symbols: &Symbols,
+    until: Option<u64>,
     top: Option<u32>,
     process: u32,
     rows: &[SharedEvent],
 ) -> Result<(), AllocError>
     ensures { OnOk result (string_bytes out.new
-        ≡ string_bytes out.old ++ outstanding_text symbols.now top process rows.now) }
+        ≡ string_bytes out.old ++ outstanding_text symbols.now until top process rows.now) }
 {
-    write_outstanding_head(out, process, rows.len())?;
+    write_outstanding_head(out, process, until, rows.len())?;
     write_opens(out, symbols, first_rows(top, rows))
 }
 
 #[tactic(auto, unfolding(crate::specs::Opens::outstanding_head))]
-fn write_outstanding_head(out: &mut String, process: u32, count: usize) -> Result<(), AllocError>
+fn write_outstanding_head(
+    out: &mut String,
+    process: u32,
+    until: Option<u64>,
+    count: usize,
+) -> Result<(), AllocError>
     ensures { OnOk result (string_bytes out.new
-        ≡ string_bytes out.old ++ outstanding_head process count) }
+        ≡ string_bytes out.old ++ outstanding_head process until count) }
 {
-    write_process_head(out, "outstanding", process, count)
+    write_process_head(out, "outstanding", process, None, until, count)
 }
 
 #[tactic(auto, unfolding(crate::specs::Opens::diff_text))]
 pub(crate) fn write_diff(
     out: &mut String,
     symbols: &Symbols,
+    until: Option<u64>,
     top: Option<u32>,
     process: u32,
     since: u64,
     rows: &[SharedEvent],
 ) -> Result<(), AllocError>
     ensures { OnOk result (string_bytes out.new
-        ≡ string_bytes out.old ++ diff_text symbols.now top process since rows.now) }
+        ≡ string_bytes out.old ++ diff_text symbols.now until top process since rows.now) }
 {
-    write_diff_head(out, process, since, rows.len())?;
+    write_process_head(out, "diff", process, Some(since), until, rows.len())?;
     write_opens(out, symbols, first_rows(top, rows))
-}
-
-#[tactic(auto, unfolding(crate::specs::Opens::diff_head))]
-fn write_diff_head(
-    out: &mut String,
-    process: u32,
-    since: u64,
-    count: usize,
-) -> Result<(), AllocError>
-    ensures { OnOk result (string_bytes out.new
-        ≡ string_bytes out.old ++ diff_head process since count) }
-{
-    writeln!(out, "diff process={process} since={since} count={count}")
 }
 
 fn write_opens(out: &mut String, symbols: &Symbols, rows: &[SharedEvent]) -> Result<(), AllocError>

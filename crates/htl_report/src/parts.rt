@@ -2,24 +2,37 @@
 
 ghost use Rattle.std.specs.Prelude.{◌≡◌, ◌++◌, ◌<◌, OnOk, string_bytes};
 ghost use Rattle.htl_report.specs.Parts.{count_part, counts, event_line, object_part};
-ghost use Rattle.htl_report.specs.Parts.{process_head, shown_byte, shown_tag};
+ghost use Rattle.htl_report.specs.Parts.{process_head, process_part, shown_byte, shown_tag};
+ghost use Rattle.htl_report.specs.Parts.{since_part, until_part};
 
 use crate::address::write_padded;
 use htl_event::{Count, SharedEvent};
 use std::alloc::AllocError;
 
 /// Writes the first line of an answer about a process.
-#[tactic(auto, unfolding(crate::specs::Parts::process_head))]
 pub(crate) fn write_process_head(
     out: &mut String,
     word: &str,
     process: u32,
+    since: Option<u64>,
+    until: Option<u64>,
     count: usize,
 ) -> Result<(), AllocError>
     ensures { OnOk result (string_bytes out.new
-        ≡ string_bytes out.old ++ process_head word.now process count) }
+        ≡ string_bytes out.old ++ process_head word.now process since until count) }
 {
-    writeln!(out, "{word} process={process} count={count}")
+    write_process(out, word, process)?;
+    write_since(out, since)?;
+    write_count(out, until, count)
+}
+
+/// Writes the start of the first line of an answer about a process.
+#[tactic(auto, unfolding(crate::specs::Parts::process_part))]
+pub(crate) fn write_process(out: &mut String, word: &str, process: u32) -> Result<(), AllocError>
+    ensures { OnOk result (string_bytes out.new
+        ≡ string_bytes out.old ++ process_part word.now process) }
+{
+    write!(out, "{word} process={process}")
 }
 
 /// Writes the start of the first line of an answer about an object.
@@ -33,12 +46,41 @@ pub(crate) fn write_object(out: &mut String, word: &str, object: u64) -> Result<
     write_padded(out, object)
 }
 
-/// Writes the end of a first line: the number of rows.
-#[tactic(auto, unfolding(crate::specs::Parts::count_part))]
-pub(crate) fn write_count(out: &mut String, count: usize) -> Result<(), AllocError>
+/// Writes the sequence after which handles were opened, where one is given.
+#[tactic(auto, unfolding(crate::specs::Parts::since_part))]
+fn write_since(out: &mut String, since: Option<u64>) -> Result<(), AllocError>
     ensures { OnOk result (string_bytes out.new
-        ≡ string_bytes out.old ++ count_part count) }
+        ≡ string_bytes out.old ++ since_part since) }
 {
+    match since {
+        Some(since) => write!(out, " since={since}"),
+        None => Ok(()),
+    }
+}
+
+/// Writes the moment up to which events count, where one is given.
+#[tactic(auto, unfolding(crate::specs::Parts::until_part))]
+pub(crate) fn write_until(out: &mut String, until: Option<u64>) -> Result<(), AllocError>
+    ensures { OnOk result (string_bytes out.new
+        ≡ string_bytes out.old ++ until_part until) }
+{
+    match until {
+        Some(moment) => write!(out, " until={moment}"),
+        None => Ok(()),
+    }
+}
+
+/// Writes the end of a first line: the moment, and the number of rows.
+#[tactic(auto, unfolding(crate::specs::Parts::count_part))]
+pub(crate) fn write_count(
+    out: &mut String,
+    until: Option<u64>,
+    count: usize,
+) -> Result<(), AllocError>
+    ensures { OnOk result (string_bytes out.new
+        ≡ string_bytes out.old ++ count_part until count) }
+{
+    write_until(out, until)?;
     writeln!(out, " count={count}")
 }
 

@@ -15,26 +15,33 @@ use std::alloc::AllocError;
 pub(crate) fn write_stacks(
     out: &mut String,
     symbols: &Symbols,
+    until: Option<u64>,
     top: Option<u32>,
     object: u64,
     tag: &[u8],
     rows: &[(SharedStack, Count)],
 ) -> Result<(), AllocError>
     ensures { OnOk result (string_bytes out.new
-        ≡ string_bytes out.old ++ stacks_text symbols.now top object tag.now rows.now) }
+        ≡ string_bytes out.old ++ stacks_text symbols.now until top object tag.now rows.now) }
 {
-    write_head(out, object, tag, rows.len())?;
+    write_head(out, object, tag, until, rows.len())?;
     write_rows(out, symbols, first_rows(top, rows))
 }
 
-fn write_head(out: &mut String, object: u64, tag: &[u8], count: usize) -> Result<(), AllocError>
+fn write_head(
+    out: &mut String,
+    object: u64,
+    tag: &[u8],
+    until: Option<u64>,
+    count: usize,
+) -> Result<(), AllocError>
     ensures { OnOk result (string_bytes out.new
-        ≡ string_bytes out.old ++ stacks_head object tag.now count) }
+        ≡ string_bytes out.old ++ stacks_head object tag.now until count) }
 {
     write_object(out, "stacks", object)?;
     out.push_str(" tag=")?;
     write_tag(out, tag)?;
-    write_count(out, count)
+    write_count(out, until, count)
 }
 
 fn write_rows(

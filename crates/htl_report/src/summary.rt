@@ -6,7 +6,7 @@ ghost use Rattle.htl_report.specs.Summaries.{gap_line, handles_part, lines_part,
 ghost use Rattle.htl_report.specs.Summaries.{object_line, process_line, summary_head};
 ghost use Rattle.htl_report.specs.Summaries.{summary_text, tags_part, totals_part};
 
-use crate::parts::write_object;
+use crate::parts::{write_object, write_until};
 use crate::rows::first_rows;
 use htl_event::{ObjectRow, ProcessRow};
 use htl_taken::Gap;
@@ -26,6 +26,7 @@ pub struct Totals {
 #[tactic(auto, unfolding(crate::specs::Summaries::summary_text))]
 pub(crate) fn write_summary(
     out: &mut String,
+    until: Option<u64>,
     top: Option<u32>,
     totals: &Totals,
     gaps: &[Gap],
@@ -33,9 +34,17 @@ pub(crate) fn write_summary(
     objects: &[ObjectRow],
 ) -> Result<(), AllocError>
     ensures { OnOk result (string_bytes out.new
-        ≡ string_bytes out.old ++ summary_text top totals.now gaps.now processes.now objects.now) }
+        ≡ string_bytes out.old
+        ++ summary_text until top totals.now gaps.now processes.now objects.now) }
 {
-    write_head(out, totals, gaps.len(), processes.len(), objects.len())?;
+    write_head(
+        out,
+        until,
+        totals,
+        gaps.len(),
+        processes.len(),
+        objects.len(),
+    )?;
     write_gaps(out, gaps)?;
     write_processes(out, first_rows(top, processes))?;
     write_objects(out, first_rows(top, objects))
@@ -43,16 +52,19 @@ pub(crate) fn write_summary(
 
 fn write_head(
     out: &mut String,
+    until: Option<u64>,
     totals: &Totals,
     gaps: usize,
     processes: usize,
     unbalanced: usize,
 ) -> Result<(), AllocError>
     ensures { OnOk result (string_bytes out.new
-        ≡ string_bytes out.old ++ summary_head totals.now gaps processes unbalanced) }
+        ≡ string_bytes out.old ++ summary_head until totals.now gaps processes unbalanced) }
 {
     write_totals(out, totals)?;
-    write_lines(out, gaps, processes, totals.objects, unbalanced)
+    write_lines(out, gaps, processes, totals.objects, unbalanced)?;
+    write_until(out, until)?;
+    out.push('\n')
 }
 
 #[tactic(auto, unfolding(crate::specs::Summaries::totals_part))]
@@ -84,7 +96,7 @@ fn write_lines(
     ensures { OnOk result (string_bytes out.new
         ≡ string_bytes out.old ++ lines_part gaps processes objects unbalanced) }
 {
-    writeln!(
+    write!(
         out,
         " gaps={gaps} processes={processes} objects={objects} unbalanced={unbalanced}"
     )

@@ -11,23 +11,29 @@ use std::alloc::AllocError;
 #[tactic(auto, unfolding(crate::specs::TagBalances::tags_text))]
 pub(crate) fn write_tags(
     out: &mut String,
+    until: Option<u64>,
     top: Option<u32>,
     object: u64,
     rows: &[([u8; 4], Count)],
 ) -> Result<(), AllocError>
     ensures { OnOk result (string_bytes out.new
-        ≡ string_bytes out.old ++ tags_text top object rows.now) }
+        ≡ string_bytes out.old ++ tags_text until top object rows.now) }
 {
-    write_head(out, object, rows.len())?;
+    write_head(out, object, until, rows.len())?;
     write_rows(out, first_rows(top, rows))
 }
 
-fn write_head(out: &mut String, object: u64, count: usize) -> Result<(), AllocError>
+fn write_head(
+    out: &mut String,
+    object: u64,
+    until: Option<u64>,
+    count: usize,
+) -> Result<(), AllocError>
     ensures { OnOk result (string_bytes out.new
-        ≡ string_bytes out.old ++ tags_head object count) }
+        ≡ string_bytes out.old ++ tags_head object until count) }
 {
     write_object(out, "tags", object)?;
-    write_count(out, count)
+    write_count(out, until, count)
 }
 
 fn write_rows(out: &mut String, rows: &[([u8; 4], Count)]) -> Result<(), AllocError>

@@ -75,7 +75,7 @@ pub fn case(alloc: Global) -> Result<Case, Refusal> {
 }
 
 fn trace(alloc: Global, case: &Case) -> Result<Equal<Vec<SharedEvent>>, Refusal> {
-    Equal::of(case.trace(alloc, 4, 8))
+    Equal::of(case.trace(alloc, 4, 8, None))
 }
 
 fn played(alloc: Global, case: &Case) -> Result<Vec<Analyst<Global>>, Refusal> {

@@ -2,6 +2,7 @@
 
 use crate::rows::{assert_code, assert_row};
 use htl_case::{Case, CaseFault};
+use htl_event::{EventList, SharedEvent};
 use htl_samples::{TRACE, Trace};
 use htl_segment::Segment;
 use std::alloc::Global;
@@ -145,38 +146,75 @@ fn case_of(rt: &impl Abort, alloc: Global, lines: &[&str]) -> Case {
 
 const HANDLE: &str = "0/0: O 1 0x44 [0x10], B 2 0x45, C 3 0x46";
 
+const HANDLE_LATER: &str = "0/1: O 4 0x44";
+
 const OTHER_HANDLES: &str = "1/0: O 5 0x44, O 6 0x44 process=8, S 7, B 8 0x40";
 
-/// The lines of a case's segments, a process, a handle, and the sequences that are listed of it.
-const LISTINGS: &[(&[&str], u32, u32, &[u64])] = &[
-    (&[HANDLE], 4, 0x44, &[3, 2, 1]),
-    (&[OTHER_HANDLES, HANDLE], 4, 0x47, &[5, 3, 2, 1]),
-    (&[OTHER_HANDLES, HANDLE], 8, 0x44, &[6]),
-    (&[OTHER_HANDLES, HANDLE], 5, 0x44, &[]),
+/// The lines of a case's segments, a process, a handle, a moment, and the sequences that are listed
+/// of the handle until then.
+const LISTINGS: &[(&[&str], u32, u32, Option<u64>, &[u64])] = &[
+    (&[HANDLE], 4, 0x44, None, &[3, 2, 1]),
+    (&[OTHER_HANDLES, HANDLE], 4, 0x47, None, &[5, 3, 2, 1]),
+    (&[OTHER_HANDLES, HANDLE], 4, 0x47, Some(4), &[3, 2, 1]),
+    (&[OTHER_HANDLES, HANDLE], 4, 0x47, Some(2), &[2, 1]),
+    (&[OTHER_HANDLES, HANDLE], 4, 0x47, Some(0), &[]),
+    (&[OTHER_HANDLES, HANDLE], 8, 0x44, None, &[6]),
+    (&[OTHER_HANDLES, HANDLE], 5, 0x44, None, &[]),
 ];
 
 #[test]
 fn listings_of_handles(rt: HostRuntime) {
-    for (lines, process, handle, sequences) in LISTINGS {
+    for (lines, process, handle, until, sequences) in LISTINGS {
         let case = case_of(&rt, rt.alloc(), lines);
-        is_listed(&rt, rt.alloc(), &case, (*process, *handle), sequences);
+        let rows = case
+            .trace(rt.alloc(), *process, *handle, *until)
+            .expect(&rt, "the memory");
+        are_sequences(&rt, &rows, sequences);
     }
 }
 
-/// The listing of a process's handle has these sequences.
-fn is_listed(
-    rt: &impl Abort,
-    alloc: Global,
-    case: &Case,
-    (process, handle): (u32, u32),
-    sequences: &[u64],
-) {
-    let rows = case.trace(alloc, process, handle).expect(rt, "the memory");
-    let listed = rows.iter().map(|row| row.sequence);
-    assert!(rt;
-        listed.eq(sequences.iter().copied()),
-        "{process} {handle:x}"
-    );
+/// The events have these sequences.
+fn are_sequences(rt: &impl Abort, events: &[SharedEvent], sequences: &[u64]) {
+    let have = events.iter().map(|event| event.sequence);
+    assert!(rt; have.eq(sequences.iter().copied()), "{sequences:?}");
+}
+
+/// A moment, and the sequences until then in each segment of a case.
+const MOMENTS: &[(Option<u64>, [&[u64]; 2])] = &[
+    (None, [&[1, 2, 3], &[5, 6, 7, 8]]),
+    (Some(8), [&[1, 2, 3], &[5, 6, 7, 8]]),
+    (Some(6), [&[1, 2, 3], &[5, 6]]),
+    (Some(4), [&[1, 2, 3], &[]]),
+    (Some(0), [&[], &[]]),
+];
+
+#[test]
+fn events_until_a_moment(rt: HostRuntime) {
+    let case = case_of(&rt, rt.alloc(), &[OTHER_HANDLES, HANDLE]);
+    for (until, wanted) in MOMENTS {
+        let lists = case.until(rt.alloc(), *until).expect(&rt, "the memory");
+        assert!(&rt; lists.len() == wanted.len());
+        for (list, sequences) in lists.iter().zip(wanted.iter()) {
+            are_sequences(&rt, list.events(), sequences);
+        }
+    }
+}
+
+/// The lines of a case's segments, and the first and the last sequence.
+const SPANS: &[(&[&str], Option<(u64, u64)>)] = &[
+    (&["0/0:"], None),
+    (&["0/0:", HANDLE_LATER], Some((4, 4))),
+    (&[OTHER_HANDLES, HANDLE], Some((1, 8))),
+    (&["1/0: O 2 0x44", "0/0: O 9 0x44", "0/1:"], Some((2, 9))),
+];
+
+#[test]
+fn spans(rt: HostRuntime) {
+    for (lines, wanted) in SPANS {
+        let span = case_of(&rt, rt.alloc(), lines).span();
+        let found = span.map(|span| (span.first, span.last));
+        assert_row(&rt, *lines, found, *wanted);
+    }
 }
 
 #[test]

@@ -1,5 +1,5 @@
 //! Tests of the crates that read and write bytes and texts: segments, samples, symbol tables, texts
-//! of answers, devices and the command line.
+//! and JSON of answers, devices and the command line.
 //!
 //! Each file tests the crate of its name by what that crate makes public: outside vectors, printed
 //! texts and faults. They stand here, over proved crates, so that no crate is proved a second time
@@ -10,6 +10,8 @@
 mod command;
 #[cfg(test)]
 mod devices;
+#[cfg(test)]
+mod json;
 #[cfg(test)]
 mod parts;
 #[cfg(test)]

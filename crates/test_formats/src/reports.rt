@@ -1,6 +1,6 @@
-//! The eight texts, and how addresses print.
+//! The nine texts, what a moment changes in them, and how addresses print.
 use crate::rows::assert_row;
-use htl_event::{Count, ObjectRow, ProcessRow, SharedEvent, SharedStack};
+use htl_event::{Count, ObjectRow, Point, ProcessRow, SharedEvent, SharedStack};
 use htl_report::{Answer, Totals, text};
 use htl_samples::{shared_events, shared_stack};
 use htl_symbols::Symbols;
@@ -98,7 +98,11 @@ fn leaks(rt: &impl Abort, alloc: Global) -> (Answer, &'static str) {
             .expect(rt, "the memory");
     }
     (
-        Answer::Leaks { process: 4, rows },
+        Answer::Leaks {
+            process: 4,
+            since: None,
+            rows,
+        },
         "leaks process=4 count=3
 LEAK handles=2
   0x0000000000000060
@@ -108,6 +112,40 @@ LEAK handles=1
 LEAK handles=1
   0x0000000000000030
   0x0000000000000040
+",
+    )
+}
+
+fn leaks_since(rt: &impl Abort, alloc: Global) -> (Answer, &'static str) {
+    let rows = list(rt, alloc, [(stack(rt, alloc, &[0x60]), 2)]);
+    (
+        Answer::Leaks {
+            process: 4,
+            since: Some(3),
+            rows,
+        },
+        "leaks process=4 since=3 count=1
+LEAK handles=2
+  0x0000000000000060
+",
+    )
+}
+
+fn point(sequence: u64, outstanding: u64) -> Point {
+    Point {
+        sequence,
+        outstanding,
+    }
+}
+
+fn growth(rt: &impl Abort, alloc: Global) -> (Answer, &'static str) {
+    let rows = list(rt, alloc, [point(1, 0), point(7, 2), point(u64::MAX, 1)]);
+    (
+        Answer::Growth { process: 4, rows },
+        "growth process=4 count=3
+AT seq=1 outstanding=0
+AT seq=7 outstanding=2
+AT seq=18446744073709551615 outstanding=1
 ",
     )
 }
@@ -229,7 +267,7 @@ OBJECT object=0xffffa00000001000 tags=3 unbalanced=2 refs=6 derefs=5
 
 /// The answer's text, without symbols, is the one beside it.
 fn assert_text(rt: &impl Abort, alloc: Global, (answer, wanted): (Answer, &str)) {
-    let bytes = text(alloc, &answer, &Symbols::none(alloc), None).expect(rt, "the text");
+    let bytes = text(alloc, &answer, &Symbols::none(alloc), None, None).expect(rt, "the text");
     assert_row(rt, wanted, bytes.as_slice(), wanted.as_bytes());
 }
 
@@ -238,6 +276,8 @@ fn texts_of_handles(rt: HostRuntime) {
     assert_text(&rt, rt.alloc(), outstanding(&rt, rt.alloc()));
     assert_text(&rt, rt.alloc(), diff(&rt, rt.alloc()));
     assert_text(&rt, rt.alloc(), leaks(&rt, rt.alloc()));
+    assert_text(&rt, rt.alloc(), leaks_since(&rt, rt.alloc()));
+    assert_text(&rt, rt.alloc(), growth(&rt, rt.alloc()));
     assert_text(&rt, rt.alloc(), bad(&rt, rt.alloc()));
 }
 
@@ -253,6 +293,45 @@ fn texts_of_a_trace(rt: HostRuntime) {
     assert_text(&rt, rt.alloc(), summary(&rt, rt.alloc()));
 }
 
+/// The text of the answer as of the moment 12, without rows, is the one that is wanted.
+fn assert_moment(rt: &impl Abort, alloc: Global, (answer, _): (Answer, &str), wanted: &str) {
+    let bytes = text(alloc, &answer, &Symbols::none(alloc), Some(12), Some(0));
+    let bytes = bytes.expect(rt, "the text");
+    assert_row(rt, wanted, bytes.as_slice(), wanted.as_bytes());
+}
+
+#[test]
+fn moments_of_handles(rt: HostRuntime) {
+    let alloc = rt.alloc();
+    let wanted = "outstanding process=4 until=12 count=2\n";
+    assert_moment(&rt, alloc, outstanding(&rt, alloc), wanted);
+    let wanted = "diff process=4 since=10 until=12 count=2\n";
+    assert_moment(&rt, alloc, diff(&rt, alloc), wanted);
+    let wanted = "leaks process=4 since=3 until=12 count=1\n";
+    assert_moment(&rt, alloc, leaks_since(&rt, alloc), wanted);
+    let wanted = "growth process=4 until=12 count=3\n";
+    assert_moment(&rt, alloc, growth(&rt, alloc), wanted);
+    let wanted = "bad process=4 until=12 count=2\n";
+    assert_moment(&rt, alloc, bad(&rt, alloc), wanted);
+    let wanted = "trace process=4 handle=0x44 until=12 count=7\n";
+    assert_moment(&rt, alloc, trace(&rt, alloc), wanted);
+}
+
+#[test]
+fn moments_of_references(rt: HostRuntime) {
+    let alloc = rt.alloc();
+    let wanted = "tags object=0xffffa00000001000 until=12 count=3\n";
+    assert_moment(&rt, alloc, tags(&rt, alloc), wanted);
+    let wanted = "stacks object=0x0000000000001000 tag=Lky8 until=12 count=3\n";
+    assert_moment(&rt, alloc, stacks(&rt, alloc), wanted);
+    let wanted = "summary processors=2 segments=1 events=19 complete_to=0 \
+gaps=2 processes=2 objects=4 unbalanced=1 until=12
+GAP processor=0 from=0 to=4294967292
+GAP processor=1 from=0
+";
+    assert_moment(&rt, alloc, summary(&rt, alloc), wanted);
+}
+
 /// The table of these rows.
 fn symbols_of(rt: &impl Abort, alloc: Global, rows: &[u8]) -> Symbols {
     let mut table = Vec::from_slice(alloc, b"start,end,module,name\n").expect(rt, "the memory");
@@ -263,13 +342,18 @@ fn symbols_of(rt: &impl Abort, alloc: Global, rows: &[u8]) -> Symbols {
 /// A leak of a stack of these addresses.
 fn leak_of(rt: &impl Abort, alloc: Global, addresses: &[u64]) -> Answer {
     let rows = list(rt, alloc, [(stack(rt, alloc, addresses), 1)]);
-    Answer::Leaks { process: 4, rows }
+    Answer::Leaks {
+        process: 4,
+        since: None,
+        rows,
+    }
 }
 
 /// What each address prints under these rows of a table.
 fn names_of(rt: &impl Abort, alloc: Global, rows: &[u8], addresses: &[u64]) -> Vec<u8> {
     let symbols = symbols_of(rt, alloc, rows);
-    text(alloc, &leak_of(rt, alloc, addresses), &symbols, None).expect(rt, "the text")
+    let answer = leak_of(rt, alloc, addresses);
+    text(alloc, &answer, &symbols, None, None).expect(rt, "the text")
 }
 
 /// Rows of a table, addresses, and what is printed of these.

@@ -7,9 +7,9 @@ ghost use Rattle.htl_answers.specs.Parts.{size_of_all};
 use crate::lines::events_of;
 use crate::rows::{assert_counted, assert_is, assert_list};
 use htl_answers::{
-    Part, bad, diff, latest, leaks, mark, outstanding, stacks, tags, under, whole_tree,
+    Part, bad, diff, growth, latest, leaks, mark, outstanding, stacks, tags, under, whole_tree,
 };
-use htl_event::{Count, NoMemory, SharedEvent, SharedStack, Slot};
+use htl_event::{Count, NoMemory, SharedEvent, SharedStack, Slot, Span};
 use htl_tables::{Exits, Latest, Marks};
 use htl_tree::StackTree;
 use std::alloc::Global;
@@ -162,8 +162,28 @@ fn process_exit(rt: HostRuntime) {
     have_exit(&rt, rt.alloc(), &parts);
 }
 
-/// Stacks, and how many handles each leaked.
-const LEAKS: &[(&[u64], u64)] = &[(&[0x60], 2), (&[0x50, 0x20], 1), (&[0x30, 0x40], 1)];
+/// After which moment, how many handles at least, and the stacks that leaked so many, each with their
+/// number.
+type LeaksRow = (Option<u64>, u64, &'static [(&'static [u64], u64)]);
+
+const LEAKS: &[LeaksRow] = &[
+    (
+        None,
+        1,
+        &[(&[0x60], 2), (&[0x50, 0x20], 1), (&[0x30, 0x40], 1)],
+    ),
+    (
+        None,
+        0,
+        &[(&[0x60], 2), (&[0x50, 0x20], 1), (&[0x30, 0x40], 1)],
+    ),
+    (None, 2, &[(&[0x60], 2)]),
+    (None, 3, &[]),
+    (Some(1), 1, &[(&[0x60], 2), (&[0x30, 0x40], 1)]),
+    (Some(2), 1, &[(&[0x60], 2)]),
+    (Some(3), 1, &[(&[0x60], 1)]),
+    (Some(3), 2, &[]),
+];
 
 // Two opens of one stack, one folded and one held, and two of other stacks.
 #[test]
@@ -171,7 +191,90 @@ fn leaking_stacks(rt: HostRuntime) {
     let folded = "O 1 0x44 [0x50 0x20], O 3 0x4c [0x60]";
     let held = "O 2 0x48 [0x30 0x40], O 4 0x50 [0x60]";
     let parts = folded_and_held(&rt, rt.alloc(), folded, held);
-    assert_counted(&rt, leaks(rt.alloc(), &parts, 4), LEAKS);
+    for (since, at_least, stacks) in LEAKS {
+        assert_counted(
+            &rt,
+            leaks(rt.alloc(), &parts, 4, *since, *at_least),
+            *stacks,
+        );
+    }
+}
+
+/// Events of which an exit of sequence 5 closes two handles, the events of another process among
+/// them, and a close of sequence 8 closes a third.
+const WITH_EXIT: &str =
+    "O 1 0x44, O 2 0x48, O 3 0x50 process=5, exit 5, O 6 0x4c, C 8 0x4c, O 9 0x44";
+
+/// Events, the first and last moment, how many moments, and how many handles were open at each.
+type GrowthRow = (&'static str, Option<(u64, u64)>, u32, &'static [(u64, u64)]);
+
+/// In the first two rows a process ends in the middle. Then a handle is opened twice without a close,
+/// moments fall together, and there is one moment, none, or a last one below the first. A handle that
+/// was opened at sequence 0 is not outstanding.
+const GROWTH: &[GrowthRow] = &[
+    (
+        WITH_EXIT,
+        Some((1, 9)),
+        5,
+        &[(1, 1), (3, 2), (5, 0), (7, 1), (9, 1)],
+    ),
+    (WITH_EXIT, Some((4, 8)), 3, &[(4, 2), (6, 1), (8, 0)]),
+    (
+        "O 1 0x44, O 3 0x46",
+        Some((1, 3)),
+        3,
+        &[(1, 1), (2, 1), (3, 1)],
+    ),
+    (
+        "O 1 0x44, C 3 0x46",
+        Some((1, 3)),
+        20,
+        &[(1, 1), (2, 1), (3, 0)],
+    ),
+    (
+        "O 1 0x44, O 9 0x48",
+        Some((0, 9)),
+        4,
+        &[(0, 0), (3, 1), (6, 1), (9, 2)],
+    ),
+    (
+        "O 1 0x44, O 9 0x48",
+        Some((1, 10)),
+        3,
+        &[(1, 1), (5, 1), (10, 2)],
+    ),
+    ("O 1 0x44, O 3 0x48", Some((3, 9)), 1, &[(3, 2)]),
+    ("O 1 0x44, O 3 0x48", Some((1, 3)), 0, &[]),
+    ("O 1 0x44, O 3 0x48", Some((2, 1)), 4, &[(2, 1)]),
+    ("O 0 0x44, O 3 0x48", Some((0, 3)), 2, &[(0, 0), (3, 1)]),
+    ("O 1 0x44", None, 20, &[]),
+    ("", Some((1, 2)), 2, &[(1, 0), (2, 0)]),
+];
+
+// How many handles of process 4 were open as of each moment, over two lists of events.
+fn has_growth(rt: &impl Abort, alloc: Global, row: &GrowthRow) {
+    let (events, span, points, wanted) = row;
+    let lists = [
+        events_of(rt, alloc, events),
+        events_of(rt, alloc, "O 7 0x70 process=6"),
+    ];
+    let span = span.map(|(first, last)| Span { first, last });
+    let rows = growth(alloc, &lists, 4, span, *points).expect(rt, "the memory");
+    assert_is(rt, rows.len(), wanted.len());
+    for (row, (sequence, outstanding)) in rows.iter().zip(*wanted) {
+        assert_is(
+            rt,
+            (row.sequence, row.outstanding),
+            (*sequence, *outstanding),
+        );
+    }
+}
+
+#[test]
+fn growth_over_moments(rt: HostRuntime) {
+    for row in GROWTH {
+        has_growth(&rt, rt.alloc(), row);
+    }
 }
 
 // References under two tags and two bad references, of which one part folded some and another holds

@@ -2,15 +2,15 @@
 use Rattle.std.proofs.Common.{◌++◌, codes}
 use Rattle.std.proofs.lemmas.Result.{on_ok_weaker}
 use Rattle.htl_json.proofs.Line.{fields_then, line_added}
-use Rattle.htl_json.specs.Heads.{count_field, object_fields}
+use Rattle.htl_json.specs.Heads.{end_fields, object_fields}
 use Rattle.htl_json.proofs.heads.write_tags_head.Goals as goal
 
 pub returns : goal.returns
 returns c =
     let a = object_fields (codes "tags") c.args.object in
-    let b = count_field c.args.count in
-    let fields = fields_then a b c.begin_object.new.self c.write_object.new.lines c.write_count.new.lines c.in_ok-write_object.ensures
-    c.in_ok-write_count.ensures in
+    let b = end_fields c.args.until c.args.count in
+    let fields = fields_then a b c.begin_object.new.self c.write_object.new.lines c.write_end.new.lines c.in_ok-write_object.ensures
+    c.in_ok-write_end.ensures in
     on_ok_weaker c.end_line.result
-    (line_added (a ++ b) c.args.lines.now c.begin_object.new.self c.write_count.new.lines c.end_line.new.self c.requires c.in_ok-begin_object.ensures fields)
+    (line_added (a ++ b) c.args.lines.now c.begin_object.new.self c.write_end.new.lines c.end_line.new.self c.requires c.in_ok-begin_object.ensures fields)
     c.end_line.ensures

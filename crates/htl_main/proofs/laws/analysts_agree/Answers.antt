@@ -15,7 +15,7 @@ pub returns-clause-bad : goal.returns-clause-bad
 returns-clause-bad c = λ events about rows. ((λ h. h.1), (λ h. (refl, h)))
 
 pub returns-clause-leaks : goal.returns-clause-leaks
-returns-clause-leaks c = λ events about rows. ((λ h. h.1), (λ h. (refl, h)))
+returns-clause-leaks c = λ events about rows. ((λ h. h.2), (λ h. (refl, refl, h)))
 
 pub returns-clause-stacks : goal.returns-clause-stacks
 returns-clause-stacks c = λ events object tag rows. ((λ h. h.2), (λ h. (refl, refl, h)))

@@ -4,7 +4,7 @@ use Rattle.htl_segment.specs.Traces.{HasKey}
 use Rattle.htl_taken.specs.Gaps.{IsGaps}
 use Rattle.htl_taken.specs.declared.gap.Gap.{Gap}
 use Rattle.htl_main.specs.CaseOutlines.{BeginWithFirst}
-use Rattle.htl_main.specs.Summaries.{IsUnbrokenTo}
+use Rattle.htl_case.specs.Complete.{IsUnbrokenTo}
 use Rattle.htl_main.proofs.Covered.{IsCompleteBelow, complete_below_more, complete_below_none, complete_to_all, no_gaps, some_processor}
 use Rattle.htl_main.proofs.Missing.{begin_more}
 use Rattle.htl_main.proofs.Outlined.{outlines_after, outlines_from_first, own_gaps, own_outlines, own_unbroken}

@@ -1,18 +1,16 @@
 -- The first and the last sequence of a segment with events are its least and its greatest.
-use Rattle.std.proofs.Common.{◌≡◌, ℕ, ◌<◌, ◌≤◌, List, [], ◌∷◌, refl, ap, inl, inr, ◌⊎◌, arith}
-use Rattle.std.specs.Prelude.{Contains}
+use Rattle.std.proofs.Common.{◌≡◌, ℕ, ◌<◌, List, [], ◌∷◌, refl, ap, inl, inr, ◌⊎◌, arith}
 use Rattle.htl_event.specs.Events.{Event}
+use Rattle.htl_event.specs.declared.growth.Span.{Span}
 use Rattle.htl_event.proofs.Members.{Contains-here, Contains-cases}
 use Rattle.htl_segment.specs.Content.{Content, EventsFit, Fits}
 use Rattle.htl_segment.specs.Outlines.{first_sequence, last_sequence}
 use Rattle.htl_segment.proofs.Spans.{above}
 use Rattle.htl_segment.proofs.OutlineLaws.{last_is_greatest}
+use Rattle.htl_case.specs.Spans.{IsSpanOf}
 
--- the least and the greatest sequence of some events
-pub record IsSpan (events : List Event) (first last : ℕ) : Type 0 where
-  pub has_first : (e : Event) × Contains events e × (e.sequence ≡ first)
-  pub has_last : (e : Event) × Contains events e × (e.sequence ≡ last)
-  pub between : (e : Event) → Contains events e → (first ≤ e.sequence) × (e.sequence ≤ last)
+abbrev pub from_to : ℕ → ℕ → Span
+from_to first last = record { first = first; last = last }
 
 pub record HasNone (events : List Event) : Type 0 where
   pub none : events ≡ []
@@ -21,7 +19,7 @@ pub record HasNone (events : List Event) : Type 0 where
 
 pub record HasSome (events : List Event) : Type 0 where
   pub first : 0 < first_sequence events
-  pub span : IsSpan events (first_sequence events) (last_sequence 0 events)
+  pub span : IsSpanOf events (from_to (first_sequence events) (last_sequence 0 events))
 
 pub none_or_some : (s : Content) → Fits s → HasNone s.events ⊎ HasSome s.events
 none_or_some s fit = go s.events fit.events refl

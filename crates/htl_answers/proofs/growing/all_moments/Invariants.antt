@@ -1,0 +1,8 @@
+-- The moments so far.
+use Rattle.std.proofs.Common.{◌≡◌, map}
+use Rattle.std.specs.List.{range_with_len}
+use Rattle.htl_event.specs.Growth.{moment_at}
+use Rattle.htl_answers.proofs.growing.all_moments.Given as goal
+
+abbrev pub invariant-loop-i : goal.invariant-loop-i
+invariant-loop-i l = l.moments.items ≡ map (moment_at l.span l.points) (range_with_len 0 l.i)

@@ -1,0 +1,19 @@
+-- The segment behind each outline widens the span.
+use Rattle.std.proofs.Common.{get_or, refl, ◌∙◌}
+use Rattle.htl_segment.specs.declared.outline.Outline.{Outline}
+use Rattle.htl_case.proofs.SpanLaws.{span_more_behind}
+use Rattle.htl_case.proofs.picked.PickedCase.span.Goals as goal
+
+abbrev no_outline : Outline
+no_outline = record { trace_id = 0; processors = 0; processor = 0; number = 0; first = 0; last = 0 }
+
+pub loop-outline-preserved : goal.loop-outline-preserved
+loop-outline-preserved c = (
+  c.loop-outline.invariant.0,
+  λ T is are.
+      let outlines = c.outlines-outline-items.result.now in
+      let i = c.loop-outline.outline-index in
+      span_more_behind outlines T i (get_or outlines i no_outline) no_outline c.loop-outline.span c.widened-span.result is
+      (c.outlines-outline-items.ensures ∙ are) c.loop-outline-test.true refl c.widened-span.ensures
+      (c.loop-outline.invariant.1 T is are),
+)

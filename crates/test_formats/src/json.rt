@@ -1,0 +1,99 @@
+//! Lines of JSON that say a moment, and the rows of a growth.
+use crate::rows::assert_row;
+use htl_event::Point;
+use htl_json::json_lines;
+use htl_report::{Answer, Totals};
+use htl_symbols::Symbols;
+use std::alloc::Global;
+use std::process::Abort;
+
+/// The lines of the answer as of this moment are those that are wanted.
+fn assert_lines(rt: &impl Abort, alloc: Global, answer: &Answer, until: Option<u64>, wanted: &str) {
+    let bytes = json_lines(alloc, answer, &Symbols::none(alloc), until, None);
+    let bytes = bytes.expect(rt, "the lines");
+    assert_row(rt, wanted, bytes.as_slice(), wanted.as_bytes());
+}
+
+fn leaks(alloc: Global, since: Option<u64>) -> Answer {
+    Answer::Leaks {
+        process: 4,
+        since,
+        rows: Vec::new(alloc),
+    }
+}
+
+fn summary(alloc: Global) -> Answer {
+    Answer::Summary {
+        totals: Totals {
+            processors: 2,
+            segments: 1,
+            events: 19,
+            complete_to: 9,
+            objects: 4,
+        },
+        gaps: Vec::new(alloc),
+        processes: Vec::new(alloc),
+        objects: Vec::new(alloc),
+    }
+}
+
+#[test]
+fn lines_of_a_growth(rt: HostRuntime) {
+    let first = Point {
+        sequence: 1,
+        outstanding: 0,
+    };
+    let last = Point {
+        sequence: u64::MAX,
+        outstanding: 2,
+    };
+    let rows = Vec::from_array(rt.alloc(), [first, last]).expect(&rt, "the memory");
+    let growth = Answer::Growth { process: 4, rows };
+    let wanted = r#"{"answer":"growth","process":4,"count":2}
+{"sequence":1,"outstanding":0}
+{"sequence":18446744073709551615,"outstanding":2}
+"#;
+    assert_lines(&rt, rt.alloc(), &growth, None, wanted);
+}
+
+#[test]
+fn first_lines_of_handles(rt: HostRuntime) {
+    let alloc = rt.alloc();
+    let wanted = "{\"answer\":\"leaks\",\"process\":4,\"count\":0}\n";
+    assert_lines(&rt, alloc, &leaks(alloc, None), None, wanted);
+    let wanted = "{\"answer\":\"leaks\",\"process\":4,\"since\":3,\"count\":0}\n";
+    assert_lines(&rt, alloc, &leaks(alloc, Some(3)), None, wanted);
+    let wanted = "{\"answer\":\"leaks\",\"process\":4,\"since\":3,\"until\":12,\"count\":0}\n";
+    assert_lines(&rt, alloc, &leaks(alloc, Some(3)), Some(12), wanted);
+    let trace = Answer::Trace {
+        process: 4,
+        handle: 0x45,
+        rows: Vec::new(alloc),
+    };
+    let wanted =
+        "{\"answer\":\"trace\",\"process\":4,\"handle\":\"0x44\",\"until\":12,\"count\":0}\n";
+    assert_lines(&rt, alloc, &trace, Some(12), wanted);
+}
+
+#[test]
+fn first_lines_of_references(rt: HostRuntime) {
+    let alloc = rt.alloc();
+    let tags = Answer::Tags {
+        object: 0x1000,
+        rows: Vec::new(alloc),
+    };
+    let wanted =
+        "{\"answer\":\"tags\",\"object\":\"0x0000000000001000\",\"until\":12,\"count\":0}\n";
+    assert_lines(&rt, alloc, &tags, Some(12), wanted);
+    let stacks = Answer::Stacks {
+        object: 0x1000,
+        tag: *b"Lky8",
+        rows: Vec::new(alloc),
+    };
+    let wanted = "{\"answer\":\"stacks\",\"object\":\"0x0000000000001000\",\"tag\":\"Lky8\",\
+\"bytes\":\"4c6b7938\",\"until\":12,\"count\":0}\n";
+    assert_lines(&rt, alloc, &stacks, Some(12), wanted);
+    let wanted = "{\"answer\":\"summary\",\"processors\":2,\"segments\":1,\"events\":19,\
+\"complete_to\":9,\"gaps\":0,\"processes\":0,\"objects\":4,\"unbalanced\":0,\"until\":12}\n";
+    assert_lines(&rt, alloc, &summary(alloc), Some(12), wanted);
+}

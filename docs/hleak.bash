@@ -10,9 +10,11 @@ _hleak_offer() {
 _hleak_value() {
   local words
   case $1 in
+    --until) words='complete' ;;
     --workers) words='1 2 3 4 5 6 7 8' ;;
+    --since) words='snapshot' ;;
     --symbols) return ;;
-    --top|--process|--since|--object|--tag|--handle) words='' ;;
+    --top|--process|--object|--at-least|--tag|--handle|--points) words='' ;;
     *) return 1 ;;
   esac
   _hleak_offer "$words"
@@ -21,18 +23,19 @@ _hleak_value() {
 # _hleak_command COMMAND: the options and words that a command's line has
 _hleak_command() {
   case $1 in
-    summary) options='--top --exit-code --symbols --workers --json --complete --hex --help' needed='' words='' ;;
-    outstanding) options='--process --top --exit-code --symbols --workers --json --complete --hex --help' needed='--process' words='' ;;
-    diff) options='--process --since --top --exit-code --symbols --workers --json --complete --hex --help' needed='--process' words='' ;;
-    tags) options='--object --exit-code --symbols --workers --json --complete --hex --help' needed='--object' words='' ;;
-    bad) options='--process --top --exit-code --symbols --workers --json --complete --hex --help' needed='--process' words='' ;;
-    leaks) options='--process --top --exit-code --folded --symbols --workers --json --complete --hex --help' needed='--process' words='' ;;
-    stacks) options='--object --tag --top --symbols --workers --json --complete --hex --help' needed='--object --tag' words='' ;;
-    trace) options='--process --handle --top --symbols --workers --json --complete --hex --help' needed='--process --handle' words='' ;;
-    ask) options='--symbols --workers --complete --hex --help' needed='' words='' ;;
-    explain) options='--help' needed='' words='S1 S2 S3 S4 S5 S6 S7 S8 S9 S10 S11 S12 S13 S14 S15 S16 S17 H1 H2 H3 C1 C2 C3 C4 C5 C6 C7 C8 Y1 Y2 Y3 Y4 Y5 Y6 Y7 E1 E2' ;;
-    dump) options='--hex --help' needed='' words='' ;;
-    encode) options='--hex --help' needed='' words='' ;;
+    summary) options='--top --exit-code --until --symbols --workers --json --complete --hex --notes --help' needed='' words='' ;;
+    outstanding) options='--process --top --exit-code --until --symbols --workers --json --complete --hex --notes --help' needed='--process' words='' ;;
+    diff) options='--process --since --top --exit-code --until --symbols --workers --json --complete --hex --notes --help' needed='--process' words='' ;;
+    tags) options='--object --exit-code --until --symbols --workers --json --complete --hex --notes --help' needed='--object' words='' ;;
+    bad) options='--process --top --exit-code --until --symbols --workers --json --complete --hex --notes --help' needed='--process' words='' ;;
+    leaks) options='--process --since --at-least --top --exit-code --folded --until --symbols --workers --json --complete --hex --notes --help' needed='--process' words='' ;;
+    stacks) options='--object --tag --top --until --symbols --workers --json --complete --hex --notes --help' needed='--object --tag' words='' ;;
+    trace) options='--process --handle --top --until --symbols --workers --json --complete --hex --notes --help' needed='--process --handle' words='' ;;
+    growth) options='--process --points --until --symbols --workers --json --complete --hex --notes --help' needed='--process' words='' ;;
+    ask) options='--symbols --workers --complete --hex --notes --help' needed='' words='' ;;
+    explain) options='--notes --help' needed='' words='S1 S2 S3 S4 S5 S6 S7 S8 S9 S10 S11 S12 S13 S14 S15 S16 S17 H1 H2 H3 C1 C2 C3 C4 C5 C6 C7 C8 C9 Y1 Y2 Y3 Y4 Y5 Y6 Y7 E1 E2' ;;
+    dump) options='--hex --notes --help' needed='' words='' ;;
+    encode) options='--hex --notes --help' needed='' words='' ;;
     *) return 1 ;;
   esac
 }
@@ -44,12 +47,12 @@ _hleak() {
   if ((COMP_CWORD == 1)); then
     case $typed in
       -*) _hleak_offer '--help --version' ;;
-      *) _hleak_offer 'summary outstanding diff tags bad leaks stacks trace ask explain dump encode help' ;;
+      *) _hleak_offer 'summary outstanding diff tags bad leaks stacks trace growth ask explain dump encode help' ;;
     esac
     return
   fi
   if [[ $command == help ]]; then
-    ((COMP_CWORD > 2)) || _hleak_offer 'summary outstanding diff tags bad leaks stacks trace ask explain dump encode'
+    ((COMP_CWORD > 2)) || _hleak_offer 'summary outstanding diff tags bad leaks stacks trace growth ask explain dump encode'
     return
   fi
   _hleak_command "$command" || return

@@ -1,19 +1,20 @@
--- What a person at a terminal reads after the line of a fault (this project's own).
+-- What a person reads after the line of a fault (this project's own).
 use Rattle.std.specs.Prelude.{◌++◌, ℕ, List, Option, None, Some, codes}
 use Rattle.std.specs.Fmt.{decimal}
 use Rattle.htl_dialogue.specs.declared.dialogue.DialogueFault.{DialogueFault}
 use Rattle.htl_dialogue.specs.declared.dialogue.DialogueFault.TheVariants as stops
 use Rattle.htl_main.specs.declared.fault.RunFault.{RunFault}
-use Rattle.htl_main.specs.declared.fault.RunFault.TheVariants.{Workers, Segment, Hex, Text, Case, Incomplete, Symbols, Read, SymbolsRead}
-use Rattle.htl_main.specs.declared.fault.RunFault.TheVariants.{Write, Memory, NoThread}
+use Rattle.htl_main.specs.declared.fault.RunFault.TheVariants.{Workers, Segment, Hex, Text, Case, Incomplete, NoSubject, Symbols, Read}
+use Rattle.htl_main.specs.declared.fault.RunFault.TheVariants.{SymbolsRead, Write, Memory, NoThread}
 use Rattle.htl_main.specs.declared.origin.Between.{Between}
 use Rattle.htl_main.specs.declared.origin.Between.TheVariants.{Two}
 use Rattle.htl_program.specs.Words.{free_memory}
 use Rattle.hleak.specs.Advice.{memory_advice, thread_advice}
-use Rattle.hleak.specs.Meanings.{case_text, hex_text, line_text, missing_text, no_memory, said, segment_text, symbols_text, unread, untaken}
+use Rattle.hleak.specs.Meanings.{absent_text, case_text, hex_text, line_text, missing_text, no_memory, said, segment_text, symbols_text}
+use Rattle.hleak.specs.Meanings.{unread, untaken}
 use Rattle.hleak.specs.Shown.{shown_name, shown_text}
 use Rattle.hleak.specs.Sides.{side_text, sign_of}
-use Rattle.hleak.specs.Subjects.{event_line_of, input_name, subject_of}
+use Rattle.hleak.specs.Subjects.{asked_about, event_line_of, input_name, subject_of}
 use Rattle.hleak.specs.declared.explaining.explanation.About as declared
 use Rattle.hleak.specs.declared.explaining.explanation.About.TheVariants as abouts
 use Rattle.hleak.specs.declared.explaining.task.Task.{Task}
@@ -26,6 +27,7 @@ meaning_text task (Hex input fault) = hex_text fault
 meaning_text task (Text input line fault event) = line_text fault
 meaning_text task (Case fault) = case_text fault
 meaning_text task (Incomplete processor number) = missing_text processor number
+meaning_text task NoSubject = absent_text (asked_about task)
 meaning_text task (Symbols fault) = symbols_text fault
 meaning_text task (Read input) = unread
 meaning_text task SymbolsRead = unread

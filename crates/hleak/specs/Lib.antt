@@ -1,13 +1,12 @@
-pub mod Absences
 pub mod Advice
 pub mod Arguments
 pub mod Explanations
+pub mod Inputs
 pub mod Meanings
 pub mod Notes
 pub mod Openings
 pub mod Shown
 pub mod Sides
 pub mod Stages
-pub mod Inputs
 pub mod Subjects
 pub mod Wrongs

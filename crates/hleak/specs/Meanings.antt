@@ -1,15 +1,18 @@
 -- What faults mean, in words (this project's own): what is wrong, with the part of the inputs that the fault names, and what to do.
 use Rattle.std.specs.Prelude.{◌++◌, ℕ, List, Option, None, Some, codes, option_map}
-use Rattle.std.specs.Fmt.{decimal}
 use Rattle.htl_case.specs.declared.fault.CaseFault.{CaseFault}
 use Rattle.htl_case.specs.declared.fault.CaseFault.TheVariants as cases
 use Rattle.htl_command.specs.declared.code.Code.{Code}
 use Rattle.htl_command.specs.declared.code.Code.TheVariants.{S1, S2, S3, S4, S5, S6, S7, S8, S9, S10, S11, S12, S13, S14, S15, S16, S17}
 use Rattle.htl_command.specs.declared.code.Code.TheVariants.{H1, H2, H3}
-use Rattle.htl_command.specs.declared.code.Code.TheVariants.{C1, C2, C3, C4, C5, C6, C7, C8}
+use Rattle.htl_command.specs.declared.code.Code.TheVariants.{C1, C2, C3, C4, C5, C6, C7, C8, C9}
 use Rattle.htl_command.specs.declared.code.Code.TheVariants.{Y1, Y2, Y3, Y4, Y5, Y6, Y7}
 use Rattle.htl_command.specs.declared.code.Code.TheVariants.{E1, E2}
-use Rattle.htl_program.specs.Words.{advice_of, form_wrong_of, with_part, wrong_of}
+use Rattle.htl_program.specs.Parts.{part_text}
+use Rattle.htl_program.specs.Words.{advice_of, form_wrong_of, part_of, with_part, wrong_of}
+use Rattle.htl_program.specs.declared.part.Part.{Part}
+use Rattle.htl_program.specs.declared.part.Part.TheVariants as parts
+use Rattle.htl_program.specs.declared.subject.Subject.{Subject}
 use Rattle.htl_segment.specs.declared.fault.Fault.{Fault}
 use Rattle.htl_segment.specs.declared.fault.Fault.TheVariants as segments
 use Rattle.htl_segment.specs.declared.hexadecimal.HexFault.{HexFault}
@@ -21,19 +24,8 @@ use Rattle.htl_text.specs.declared.fault.FormFault.{FormFault}
 use Rattle.htl_text.specs.declared.fault.FormFault.TheVariants as forms
 use Rattle.htl_text.specs.declared.fault.LineFault.{LineFault}
 use Rattle.htl_text.specs.declared.fault.LineFault.TheVariants as lines
+use Rattle.htl_text.specs.declared.field.Field.{Field}
 use Rattle.hleak.specs.declared.explaining.meaning.Meaning.{Meaning}
-use Rattle.hleak.specs.declared.explaining.part.Part.{Part}
-use Rattle.hleak.specs.declared.explaining.part.Part.TheVariants as parts
-
--- a part of the inputs, by its number or its field
-abbrev pub part_text : Part → List ℕ
-part_text (parts.Record i) = codes "record " ++ decimal i
-part_text (parts.Byte place) = codes "byte " ++ decimal place
-part_text (parts.Segment place) = codes "segment " ++ (decimal place ++ codes " of all inputs")
-part_text (parts.Key processor number) = codes "segment " ++ (decimal number ++ (codes " of processor " ++ decimal processor))
-part_text (parts.Sequence sequence) = codes "sequence " ++ decimal sequence
-part_text (parts.Row row) = codes "row " ++ decimal row
-part_text (parts.Field field) = codes "the line's " ++ field_name field
 
 -- what is wrong with a part, or by itself, and what to do
 abbrev pub said : Option Part → List ℕ → List ℕ → List ℕ
@@ -70,9 +62,13 @@ hex_text (hexes.BadDigit place) = coded H1 (Some (parts.Byte place))
 hex_text hexes.Odd = coded H2 None
 hex_text hexes.NoMemory = coded H3 None
 
+-- a field of a line, by its name
+abbrev pub field_text : Field → List ℕ
+field_text field = codes "the line's " ++ field_name field
+
 abbrev pub form_text : FormFault → List ℕ
 form_text forms.Words = said None (form_wrong_of forms.Words) (advice_of E1)
-form_text (forms.Field field) = said (Some (parts.Field field)) (form_wrong_of (forms.Field field)) (advice_of E1)
+form_text (forms.Field field) = with_part (Some (field_text field)) (form_wrong_of (forms.Field field)) ++ (codes ": " ++ advice_of E1)
 
 abbrev pub line_text : LineFault → List ℕ
 line_text (lines.Form fault) = form_text fault
@@ -90,6 +86,11 @@ case_text (cases.Falling processor number) = coded C7 (Some (parts.Key processor
 
 abbrev pub missing_text : ℕ → ℕ → List ℕ
 missing_text processor number = coded C8 (Some (parts.Key processor number))
+
+-- what was asked about has no event, where the status would say that nothing was found
+abbrev pub absent_text : Option Subject → List ℕ
+absent_text None = with_part (part_of C9) (wrong_of C9) ++ (codes ": " ++ advice_of C9)
+absent_text (Some subject) = coded C9 (Some (parts.Subject subject))
 
 abbrev pub symbols_text : SymbolFault → List ℕ
 symbols_text symbols.Header = coded Y1 None

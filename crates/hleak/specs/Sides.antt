@@ -6,7 +6,7 @@ use Rattle.htl_case.specs.declared.fault.CaseFault.TheVariants.{OtherTrace, Othe
 use Rattle.htl_main.specs.declared.origin.Origin.{Origin}
 use Rattle.hleak.specs.declared.explaining.side.Sign.{Sign}
 use Rattle.hleak.specs.declared.explaining.side.Sign.TheVariants.{Trace, Processors, Key}
-use Rattle.hleak.specs.Absences.{hex16}
+use Rattle.htl_program.specs.AskedAbout.{hex16}
 use Rattle.hleak.specs.Shown.{shown_name}
 
 -- what tells it from the other: its trace or the number of that trace's processors where these differ, and else its key

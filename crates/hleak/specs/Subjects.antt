@@ -6,6 +6,8 @@ use Rattle.htl_command.specs.declared.command.Command.TheVariants as wish
 use Rattle.htl_main.specs.declared.fault.RunFault.{RunFault}
 use Rattle.htl_main.specs.declared.fault.RunFault.TheVariants.{Segment, Hex, Text, Symbols, Read}
 use Rattle.htl_main.specs.declared.fault.RunFault.TheVariants.{SymbolsRead, Write}
+use Rattle.htl_program.specs.AskedAbout.{subject_of_question}
+use Rattle.htl_program.specs.declared.subject.Subject.{Subject}
 use Rattle.hleak.specs.declared.explaining.task.Task.{Task}
 use Rattle.hleak.specs.declared.explaining.task.Task.TheVariants.{Question, Convert, Ask}
 
@@ -29,6 +31,12 @@ abbrev pub symbols_name : Task → List ℕ
 symbols_name (Question run) = option_map_or string_bytes run.now.symbols (codes "the table of symbols")
 symbols_name (Ask of) = option_map_or string_bytes of.now.symbols (codes "the table of symbols")
 symbols_name (Convert of) = codes "the table of symbols"
+
+-- what a question is about
+abbrev pub asked_about : Task → Option Subject
+asked_about (Question run) = subject_of_question run.now.job.question
+asked_about (Convert of) = None
+asked_about (Ask of) = None
 
 -- the line of the event that a fault of a text is about
 abbrev pub event_line_of : RunFault → Option ℕ

@@ -1,15 +1,13 @@
-//! A fault in words, as a person at a terminal reads it after the fault's line.
+//! A fault in words, as a person reads it after the fault's line.
 //!
 //! `explanation.rt` puts together what the fault of a run is about, what is wrong and what to do, and
 //! `stopped.rt` does it for a dialogue that stopped. `task.rt` has what the program was doing, which
-//! gives the files their names; `side.rt` has the two segments that a fault may be about, `part.rt` what
-//! the numbers of a fault name, `meaning.rt` what is wrong, and `advice.rt` what helps where the system
-//! refuses something.
+//! gives the files their names; `side.rt` has the two segments that a fault may be about, `meaning.rt`
+//! what is wrong, and `advice.rt` what helps where the system refuses something.
 
 mod advice;
 mod explanation;
 mod meaning;
-mod part;
 mod side;
 mod stopped;
 mod task;

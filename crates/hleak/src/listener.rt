@@ -16,8 +16,8 @@ use std::io::IsTerminal;
 #[derive(Drop)]
 pub struct Listener {
     rt: HostRuntime,
-    /// Whether a person at a terminal reads it.
-    is_watched: bool,
+    /// Whether notes are wanted: a person at a terminal reads it, or they are asked for.
+    wants_notes: bool,
     /// Whether the lines are typed there.
     is_typed: bool,
     /// Whether a line was refused. One that asks for help was not.
@@ -32,7 +32,7 @@ impl Listener {
         let is_watched = rt.stderr().is_terminal();
         Listener {
             rt,
-            is_watched,
+            wants_notes: is_watched,
             is_typed: is_watched && rt.stdin().is_terminal(),
             has_refused: false,
         }
@@ -61,7 +61,7 @@ impl Host for Listener {
     // A line that was refused is kept in mind, and nothing else.
     ghost told = { λ s note. record s { has_refused = s.has_refused || counts_as_wrong note } };
 
-    ghost wants_absence = { λ s. s.is_watched };
+    ghost wants_absence = { λ s. s.wants_notes };
 
     fn awaits(&mut self) {
         if self.is_typed {
@@ -82,7 +82,7 @@ impl Host for Listener {
     }
 
     fn notes_absence(&self) -> bool {
-        self.is_watched
+        self.wants_notes
     }
 
     fn lacks(&mut self, question: Question) {
@@ -94,10 +94,8 @@ impl Host for Listener {
 
 impl Audience for Listener {
     fn begins(&mut self, coverage: Coverage) {
-        if self.is_watched {
-            if let Some(note) = Note::on(coverage) {
-                let _ = eprintln!(self.rt; "{note}");
-            }
+        if let Some(note) = Note::before_dialogue(coverage, self.wants_notes) {
+            let _ = eprintln!(self.rt; "{note}");
         }
     }
 }
@@ -105,6 +103,12 @@ impl Audience for Listener {
 impl Speaker for Listener {
     // A person may ask for help.
     ghost counts = { λ s. not s.is_typed || s.has_refused };
+
+    ghost noted = { λ s are_asked_for. record s { wants_notes = s.wants_notes || are_asked_for } };
+
+    fn takes_notes(&mut self, are_asked_for: bool) {
+        self.wants_notes |= are_asked_for;
+    }
 
     fn counts_wrong(&self) -> bool {
         !self.is_typed || self.has_refused

@@ -8,8 +8,8 @@
 //!
 //! Where standard error is a terminal, a person reads more: `progress.rt` shows how much was read,
 //! `absence.rt` says that what was asked about has no event, `note.rt` that segments are missing, and
-//! `explaining.rt` says a fault in words. `shown.rt` keeps control characters of names from the
-//! terminal.
+//! `explaining.rt` says a fault in words. All of this but the progress is written elsewhere too, where
+//! notes are asked for. `shown.rt` keeps control characters of names from the terminal.
 #![tactic(auto)]
 
 ghost use Rattle.std.specs.Prelude.{⊤, IfErr, IfOk};

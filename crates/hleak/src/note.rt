@@ -1,7 +1,7 @@
-//! What a person at a terminal reads after an answer over a case with gaps.
+//! What a person reads after an answer over a case with gaps, or before a dialogue over one.
 
-ghost use Rattle.std.specs.Prelude.{◌≡◌, ◌<◌, IfSome, IfNone};
-ghost use Rattle.hleak.specs.Notes.{gap_word as word_of};
+ghost use Rattle.std.specs.Prelude.{◌≡◌, option_map};
+ghost use Rattle.hleak.specs.Notes.{gap_word as word_of, gaps_noted};
 
 use htl_main::Coverage;
 use std::fmt;
@@ -9,19 +9,19 @@ use std::fmt;
 /// The note that segments are missing: the answer holds for those that are there.
 #[derive(Clone, Copy)]
 pub struct Note {
-    coverage: Coverage,
+    pub coverage: Coverage,
 }
 
 impl Note {
-    /// The note on a case with a gap. There is none on another.
-    pub fn on(coverage: Coverage) -> Option<Note>
-        ensures some { IfSome result (λ note. (note.coverage ≡ coverage) × (0 < coverage.gaps)) }
-        ensures none { IfNone result (coverage.gaps ≡ 0) }
+    /// The note before a dialogue over a case with a gap, where notes are wanted. There is none over
+    /// another.
+    pub fn before_dialogue(coverage: Coverage, are_wanted: bool) -> Option<Note>
+        ensures { option_map (λ note. note.coverage) result ≡ gaps_noted are_wanted coverage }
     {
-        if coverage.gaps == 0 {
-            None
-        } else {
+        if are_wanted && coverage.gaps != 0 {
             Some(Note { coverage })
+        } else {
+            None
         }
     }
 }

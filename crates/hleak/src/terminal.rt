@@ -1,4 +1,5 @@
-//! What is read on standard error: the line of a fault, and what a person at a terminal reads beside it.
+//! What is read on standard error: the line of a fault, and what is said beside it to a person at a
+//! terminal, or to whoever asks for notes. `htl_program` decides which of it is said.
 
 ghost use Rattle.std.specs.Prelude.{None};
 
@@ -7,10 +8,10 @@ use crate::explaining::{Explanation, Stopped, Task};
 use crate::note::Note;
 use crate::progress::Progress;
 use crate::shown::Shown;
-use htl_command::{Command, ParseFault, Run};
+use htl_command::{Command, ParseFault};
 use htl_dialogue::DialogueFault;
-use htl_main::{Completed, Refused, RunFault};
-use htl_program::Person;
+use htl_main::{Coverage, Refused, RunFault};
+use htl_program::{Person, Subject};
 use std::io::IsTerminal;
 
 /// Standard error. A line that can't be written is left out.
@@ -39,8 +40,14 @@ impl Person for Terminal<'_> {
 
     ghost sees_output = { λ terminal. terminal.sees_output };
 
+    ghost is_watching = { λ terminal. terminal.is_watched };
+
     fn sees_output(&self) -> bool {
         self.sees_output
+    }
+
+    fn is_watching(&self) -> bool {
+        self.is_watched
     }
 
     /// How much was read isn't shown where a terminal gets the text of segments meanwhile.
@@ -81,36 +88,34 @@ impl Person for Terminal<'_> {
         let _ = eprintln!(self.rt; "{}", RunFault::Write);
     }
 
-    fn reports(&mut self, command: &Command, refused: Refused) {
+    fn reports(&mut self, refused: Refused) {
         let _ = eprintln!(self.rt; "{refused}");
-        if self.is_watched {
-            if let Some(task) = Task::of(command) {
-                let explanation = Explanation {
-                    task,
-                    fault: refused.fault,
-                    between: refused.between,
-                };
-                let _ = eprintln!(self.rt; "{explanation}");
-            }
+    }
+
+    fn explains(&mut self, command: &Command, refused: Refused) {
+        if let Some(task) = Task::of(command) {
+            let explanation = Explanation {
+                task,
+                fault: refused.fault,
+                between: refused.between,
+            };
+            let _ = eprintln!(self.rt; "{explanation}");
         }
     }
 
-    fn notes(&mut self, run: &Run, completed: Completed) {
-        if !self.is_watched {
-            return;
-        }
-        if let Some(absence) = Absence::after(run.job.question, completed) {
-            let _ = eprintln!(self.rt; "{absence}");
-        }
-        if let Some(note) = Note::on(completed.coverage) {
-            let _ = eprintln!(self.rt; "{note}");
-        }
+    fn lacks(&mut self, subject: Subject) {
+        let _ = eprintln!(self.rt; "{}", Absence { subject });
+    }
+
+    fn finds_gaps(&mut self, coverage: Coverage) {
+        let _ = eprintln!(self.rt; "{}", Note { coverage });
     }
 
     fn stops(&mut self, stopped: DialogueFault) {
         let _ = eprintln!(self.rt; "{stopped}");
-        if self.is_watched {
-            let _ = eprintln!(self.rt; "{}", Stopped { fault: stopped });
-        }
+    }
+
+    fn explains_stop(&mut self, stopped: DialogueFault) {
+        let _ = eprintln!(self.rt; "{}", Stopped { fault: stopped });
     }
 }

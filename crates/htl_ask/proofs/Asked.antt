@@ -1,7 +1,6 @@
 -- What a session's replies are, as texts that runs of their own print.
 use Rattle.std.proofs.Common.{◌≡◌, ◌⊎◌, ◌∙◌, ℕ, Bool, true, false, List, [], ◌∷◌, ◌++◌, Option, Result, Err, inl, inr, sym, ap}
 use Rattle.htl_command.specs.declared.question.Job.{Job}
-use Rattle.htl_command.specs.declared.question.Question.{Question}
 use Rattle.htl_main.specs.declared.coverage.Coverage.{Coverage}
 use Rattle.htl_dialogue.specs.Dialogues.{AreReplies, Converses, Gets as GetsIn, GotAt, IsReply, StopsAt}
 use Rattle.htl_dialogue.specs.Notes.{AreNotes, IsAbsence, IsAbsenceOf, Note, awaits, begins}
@@ -21,7 +20,7 @@ gets_after old new told audience host after coverage is replies notes got = (got
 -- ---- what is said of a session is said of runs
 
 module _ (One Other : Job → List ℕ → Type 0) (weaker : (job : Job) (text : List ℕ) → One job text → Other job text)
-    (Has Reports : Question → Bool → Type 0) (also : (question : Question) (found : Bool) → Has question found → Reports question found)
+    (Has Reports : Job → Bool → Type 0) (also : (job : Job) (found : Bool) → Has job found → Reports job found)
     (Got Gets : List ℕ → List Note → Type 0) (gets : (replies : List ℕ) (notes : List Note) → Got replies notes → Gets replies notes) where
   reply : (said : Saying) (text : List ℕ) → IsReply One said text → IsReply Other said text
   reply (asks job) text is = (is.0, weaker job is.0 is.1, is.2)
@@ -34,13 +33,12 @@ module _ (One Other : Job → List ℕ → Type 0) (weaker : (job : Job) (text :
   replies (line ∷ more) text are =
       (are.0, are.1, reply (saying_of line) are.0 are.2, replies more are.1 are.3, are.4)
 
-  absence_of : (wanted : Bool) (question : Question) (notes : List Note) → IsAbsenceOf Has wanted question notes
-      → IsAbsenceOf Reports wanted question notes
-  absence_of false question notes is = is
-  absence_of true question notes is = (is.0, also question is.0 is.1, is.2)
+  absence_of : (wanted : Bool) (job : Job) (notes : List Note) → IsAbsenceOf Has wanted job notes → IsAbsenceOf Reports wanted job notes
+  absence_of false job notes is = is
+  absence_of true job notes is = (is.0, also job is.0 is.1, is.2)
 
   absence : (wanted : Bool) (said : Saying) (notes : List Note) → IsAbsence Has wanted said notes → IsAbsence Reports wanted said notes
-  absence wanted (asks job) notes is = absence_of wanted job.question notes is
+  absence wanted (asks job) notes is = absence_of wanted job notes is
   absence wanted wrong notes is = is
   absence wanted nothing notes is = is
   absence wanted quits notes is = is

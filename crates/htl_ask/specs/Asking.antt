@@ -1,5 +1,5 @@
 -- What asking comes to (this project's own): the texts that runs of their own print, or why nothing can be asked.
-use Rattle.std.specs.Prelude.{ℕ, Bool, false, List, ◌∷◌, Option, Result, Ok, Err}
+use Rattle.std.specs.Prelude.{◌≡◌, ℕ, Bool, false, List, ◌∷◌, Option, None, Result, Ok, Err}
 use Rattle.htl_command.specs.declared.question.Job.{Job}
 use Rattle.htl_command.specs.declared.question.Setting.{Setting}
 use Rattle.htl_dialogue.specs.Dialogues.{Gets}
@@ -7,15 +7,24 @@ use Rattle.htl_dialogue.specs.Notes.{Note, begins}
 use Rattle.htl_main.specs.declared.coverage.Coverage.{Coverage}
 use Rattle.htl_main.specs.Printed.{Printed}
 use Rattle.htl_main.specs.Sources.{IsSourcesCause}
+use Rattle.htl_main.specs.Subjects.{ReportsSubject}
 use Rattle.htl_main.specs.Loading.{in_setting}
 use Rattle.htl_main.specs.declared.fault.RunFault.{RunFault}
 use Rattle.htl_main.specs.declared.refused.Refused.{Refused}
 use Rattle.htl_ask.specs.declared.fault.AskFault.{AskFault}
 use Rattle.htl_ask.specs.declared.fault.AskFault.TheVariants.{Run, Dialogue}
 
+-- the job of a run of its own, whose status says nothing of what its answer finds
+abbrev pub own_run : Setting → Job → Job
+own_run setting job = record (in_setting setting job) { exit_code = false }
+
 -- This is what a run of its own prints for the job, over these inputs and symbols, read in this setting.
 abbrev pub IsRunsText : Setting → List (List ℕ) → Option (List ℕ) → Job → List ℕ → Type 0
-IsRunsText setting inputs symbols job text = Printed (in_setting setting job) inputs symbols (Ok text)
+IsRunsText setting inputs symbols job text = Printed (own_run setting job) inputs symbols (Ok text)
+
+-- This is what it reports of the subject.
+abbrev pub IsRunsSubject : Setting → List (List ℕ) → Job → Bool → Type 0
+IsRunsSubject setting inputs job found = ReportsSubject inputs (own_run setting job) found
 
 -- A sink got these replies, and the audience these notes, after it was told how much of its trace is there.
 abbrev pub BeginsAndGets : {Host : Type 0} → Option (List ℕ) → Option (List ℕ) → (Host → Note → Host) → Host → Host → Coverage → List ℕ
@@ -23,10 +32,10 @@ abbrev pub BeginsAndGets : {Host : Type 0} → Option (List ℕ) → Option (Lis
 BeginsAndGets old new told audience after coverage replies notes =
     Gets old new told audience after replies (begins coverage.gaps coverage.complete_to ∷ notes)
 
--- why a run of its own over sources of these bytes would end, whatever it is asked
+-- why a run of its own over sources of these bytes would end, whatever it is asked of all events
 abbrev pub IsRunsCause : Setting → List (List ℕ) → List (Option (List ℕ)) → List Bool → Option (List ℕ) → RunFault → Type 0
 IsRunsCause setting inputs lefts ends symbols fault =
-    (job : Job) → IsSourcesCause (in_setting setting job) inputs lefts ends symbols fault
+    (job : Job) → job.until ≡ None → IsSourcesCause (in_setting setting job) inputs lefts ends symbols fault
 
 -- how what comes before the dialogue ends: what ends the dialogue is no fault of it
 abbrev pub before_dialogue : Result Bool AskFault → Result Bool Refused

@@ -8,12 +8,12 @@ ghost use Rattle.htl_main.specs.Coverages.{Covers};
 ghost use Rattle.htl_main.specs.Origins.{IsBetween, by_fault};
 ghost use Rattle.htl_main.specs.Reads.{NeverWrite};
 ghost use Rattle.htl_main.specs.Readings.{AreRead};
-ghost use Rattle.htl_main.specs.Subjects.{ReportsSubject};
 ghost use Rattle.htl_main.specs.declared.coverage.Coverage.{Coverage};
 ghost use Rattle.htl_dialogue.specs.Dialogues.{Converses, StopsAt};
 ghost use Rattle.htl_dialogue.specs.declared.dialogue.DialogueFault.{DialogueFault};
 ghost use Rattle.htl_dialogue.specs.declared.dialogue.DialogueFault.TheVariants as dialogues;
-ghost use Rattle.htl_ask.specs.Asking.{BeginsAndGets, IsRunsCause, IsRunsText, before_dialogue};
+ghost use Rattle.htl_ask.specs.Asking.{BeginsAndGets, IsRunsCause, IsRunsSubject, IsRunsText};
+ghost use Rattle.htl_ask.specs.Asking.{before_dialogue};
 
 use crate::fault::AskFault;
 use crate::session::Session;
@@ -60,7 +60,7 @@ pub fn ask_from<Rt: Threads + Sync, R: Parted, Q: Source, W: Sink, H: Audience>(
         → map R.remaining inputs.old ≡ map Some texts → Q.remaining questions.old ≡ Some lines
         → IfOk result (λ has_wrong. (coverage : Coverage) × Covers setting.hex texts coverage
         × Converses (IsRunsText setting texts (option_copied symbols.entry))
-        (ReportsSubject setting.hex texts) (H.wants_absence audience.old) lines
+        (IsRunsSubject setting texts) (H.wants_absence audience.old) lines
         (BeginsAndGets (W.contents out.old) (W.contents out.new) H.told audience.old audience.new
         coverage) has_wrong) }
     // Or those before a fault do: where a read of the lines fails, these are all that were read.
@@ -69,7 +69,7 @@ pub fn ask_from<Rt: Threads + Sync, R: Parted, Q: Source, W: Sink, H: Audience>(
         → result ≡ Err (AskFault.Dialogue fault)
         → (coverage : Coverage) × Covers setting.hex texts coverage
         × StopsAt (IsRunsText setting texts (option_copied symbols.entry))
-        (ReportsSubject setting.hex texts) (H.wants_absence audience.old) lines
+        (IsRunsSubject setting texts) (H.wants_absence audience.old) lines
         (Q.remaining questions.new) (Q.has_failed questions.new)
         (BeginsAndGets (W.contents out.old) (W.contents out.new) H.told audience.old audience.new
         coverage) fault }
@@ -100,7 +100,7 @@ pub fn ask_from<Rt: Threads + Sync, R: Parted, Q: Source, W: Sink, H: Audience>(
         R.remaining inputs.old inputs.new (by_fault (before_dialogue result)) }
     ensures no_write { NeverWrite (by_fault (before_dialogue result)) }
 {
-    let loaded = load(rt, alloc, setting, inputs, symbols)?;
+    let loaded = load(rt, alloc, setting, None, inputs, symbols)?;
     audience.begins(loaded.coverage);
     let session = Session { loaded };
     let has_wrong = converse(alloc, &session, questions, out, audience)?;

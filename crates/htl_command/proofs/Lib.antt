@@ -1,2 +1,3 @@
 pub mod Described
 pub mod Arguments
+pub mod FaultTexts

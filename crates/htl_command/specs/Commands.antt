@@ -2,18 +2,19 @@
 use Rattle.std.specs.Prelude.{ℕ, Bool, true, false, List, [], ◌∷◌, Option, codes, find}
 use Rattle.std.specs.Str.{bytes_eq}
 use Rattle.htl_command.specs.declared.names.CommandFlag.{CommandFlag}
-use Rattle.htl_command.specs.declared.names.CommandFlag.TheVariants.{ExitCode, Folded, Json, Complete, Hex}
+use Rattle.htl_command.specs.declared.names.CommandFlag.TheVariants.{ExitCode, Folded, Json, Complete, Hex, Notes}
 use Rattle.htl_command.specs.declared.names.CommandName.{CommandName}
 use Rattle.htl_command.specs.declared.names.CommandName.TheVariants.{Question, Ask, Explain, Dump, Encode}
 use Rattle.htl_command.specs.declared.names.CommandOption.{CommandOption}
-use Rattle.htl_command.specs.declared.names.CommandOption.TheVariants.{Process, Since, Object, Tag, Handle, Top, Symbols, Workers}
+use Rattle.htl_command.specs.declared.names.CommandOption.TheVariants.{Process, Since, AtLeast, Object, Tag, Handle, Points, Top, Symbols}
+use Rattle.htl_command.specs.declared.names.CommandOption.TheVariants.{Workers, Until}
 use Rattle.htl_command.specs.declared.names.QuestionName.{QuestionName}
-use Rattle.htl_command.specs.declared.names.QuestionName.TheVariants.{Summary, Outstanding, Diff, Tags, Bad, Leaks, Stacks, Trace}
+use Rattle.htl_command.specs.declared.names.QuestionName.TheVariants.{Summary, Outstanding, Diff, Tags, Bad, Leaks, Stacks, Trace, Growth}
 
 abbrev pub commands : List CommandName
 commands =
     Question Summary ∷ Question Outstanding ∷ Question Diff ∷ Question Tags ∷ Question Bad ∷ Question Leaks ∷ Question Stacks
-    ∷ Question Trace ∷ Ask ∷ Explain ∷ Dump ∷ Encode ∷ []
+    ∷ Question Trace ∷ Question Growth ∷ Ask ∷ Explain ∷ Dump ∷ Encode ∷ []
 
 -- each question: the name of its command, and the options that not every question has
 abbrev pub question_row : QuestionName → List ℕ × List CommandOption
@@ -22,20 +23,24 @@ question_row Outstanding = (codes "outstanding", Process ∷ Top ∷ [])
 question_row Diff = (codes "diff", Process ∷ Since ∷ Top ∷ [])
 question_row Tags = (codes "tags", Object ∷ [])
 question_row Bad = (codes "bad", Process ∷ Top ∷ [])
-question_row Leaks = (codes "leaks", Process ∷ Top ∷ [])
+question_row Leaks = (codes "leaks", Process ∷ Since ∷ AtLeast ∷ Top ∷ [])
 question_row Stacks = (codes "stacks", Object ∷ Tag ∷ Top ∷ [])
 question_row Trace = (codes "trace", Process ∷ Handle ∷ Top ∷ [])
+question_row Growth = (codes "growth", Process ∷ Points ∷ [])
 
 -- each option that takes a value: its name without the dashes, and whether it has to be given
 abbrev pub option_row : CommandOption → List ℕ × Bool
 option_row Process = (codes "process", true)
 option_row Since = (codes "since", false)
+option_row AtLeast = (codes "at-least", false)
 option_row Object = (codes "object", true)
 option_row Tag = (codes "tag", true)
 option_row Handle = (codes "handle", true)
+option_row Points = (codes "points", false)
 option_row Top = (codes "top", false)
 option_row Symbols = (codes "symbols", false)
 option_row Workers = (codes "workers", false)
+option_row Until = (codes "until", false)
 
 abbrev pub question_name : QuestionName → List ℕ
 question_name question = (question_row question).0
@@ -48,6 +53,7 @@ abbrev pub own_flags : QuestionName → List CommandFlag
 own_flags Leaks = ExitCode ∷ Folded ∷ []
 own_flags Stacks = []
 own_flags Trace = []
+own_flags Growth = []
 own_flags question = ExitCode ∷ []
 
 abbrev pub name_of : CommandName → List ℕ
@@ -70,6 +76,7 @@ flag_name Folded = codes "folded"
 flag_name Json = codes "json"
 flag_name Complete = codes "complete"
 flag_name Hex = codes "hex"
+flag_name Notes = codes "notes"
 
 -- the command of a name
 unfoldable pub command_named : List ℕ → Option CommandName

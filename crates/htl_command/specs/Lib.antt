@@ -1,6 +1,7 @@
 pub mod Commands
 pub mod Values
 pub mod Codes
+pub mod Printed
 pub mod Entries
 pub mod Requests
 pub mod Refusals

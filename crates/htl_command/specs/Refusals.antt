@@ -5,7 +5,7 @@ use Rattle.clap.specs.Words.{Text}
 use Rattle.clap.specs.declared.error.ErrorKind.{ErrorKind}
 use Rattle.clap.specs.declared.error.ErrorKind.TheVariants.{DisplayHelp, DisplayVersion}
 use Rattle.htl_command.specs.Entries.{refusals}
-use Rattle.htl_command.specs.Requests.{asked_in, requested}
+use Rattle.htl_command.specs.Requests.{AsksNothing, asked_in, requested}
 use Rattle.htl_command.specs.declared.fault.ParseFault.{ParseFault}
 use Rattle.htl_command.specs.declared.fault.ParseFault.TheVariants.{Help, Usage, Memory}
 
@@ -35,9 +35,9 @@ IsUsageWith P Memory = ⊤
 -- The arguments ask for nothing. `clap` reports a wish for help; or it reports a mistake, or takes the arguments, of
 -- which a value then breaks its rule. Memory may be refused at any time.
 abbrev pub RefusesArguments : List Text → ParseFault → Type 0
-RefusesArguments arguments (Help text) = (requested arguments ≡ None) × HasReason is_wish arguments
+RefusesArguments arguments (Help text) = AsksNothing (requested arguments) × HasReason is_wish arguments
 RefusesArguments arguments (Usage text) =
-    (requested arguments ≡ None) × (((refusals arguments ≡ []) ⊎ HasReason is_mistake arguments) × IsUsageText (string_bytes text))
+    AsksNothing (requested arguments) × (((refusals arguments ≡ []) ⊎ HasReason is_mistake arguments) × IsUsageText (string_bytes text))
 RefusesArguments arguments Memory = ⊤
 
 -- The same in a dialogue, where arguments ask for no job.

@@ -1,17 +1,16 @@
 -- What arguments ask for: of the entries that `clap` finds in them, each value is read by its rule.
-use Rattle.std.specs.Prelude.{ℕ, ◌==◌, ◌||◌, Bool, true, false, List, [], ◌∷◌, Option, Some, None, codes, if◌then◌else◌, is_some}
-use Rattle.std.specs.Prelude.{length, map, not, option_and_then, option_map, string_bytes, unwrap_or}
+use Rattle.std.specs.Prelude.{◌≡◌, ⊤, ℕ, ◌==◌, ◌||◌, Bool, true, false, List, [], ◌∷◌, Option, Some, None, codes, if◌then◌else◌}
+use Rattle.std.specs.Prelude.{is_some, length, map, not, option_and_then, option_map, string_bytes, unwrap_or}
 use Rattle.std.specs.Option.{option_map_or}
 use Rattle.std.specs.Str.{bytes_eq}
 use Rattle.clap.specs.Words.{Kinds, Row, Text, all_of, first_of}
-use Rattle.htl_command.specs.Codes.{code_named}
 use Rattle.htl_command.specs.Commands.{command_named, flag_name, option_name}
 use Rattle.htl_command.specs.Entries.{entries, refusals}
-use Rattle.htl_command.specs.Values.{handle_in, object_in, process_in, sequence_in, tag_in, top_in, workers_in}
+use Rattle.htl_command.specs.Printed.{IsPrinted}
+use Rattle.htl_command.specs.Values.{count_in, handle_in, moment_in, object_in, points_in, process_in, since_in, tag_in, workers_in}
 use Rattle.htl_command.specs.declared.command.Run.{Run}
 use Rattle.htl_command.specs.declared.command.Command.{Command}
 use Rattle.htl_command.specs.declared.command.Command.TheVariants as wish
-use Rattle.htl_command.specs.declared.code.Code.{Code}
 use Rattle.htl_command.specs.declared.names.CommandFlag.{CommandFlag}
 use Rattle.htl_command.specs.declared.names.CommandFlag.TheVariants as flag
 use Rattle.htl_command.specs.declared.names.CommandName.{CommandName}
@@ -19,13 +18,16 @@ use Rattle.htl_command.specs.declared.names.CommandName.TheVariants as command
 use Rattle.htl_command.specs.declared.names.QuestionName.{QuestionName}
 use Rattle.htl_command.specs.declared.names.QuestionName.TheVariants as name
 use Rattle.htl_command.specs.declared.names.CommandOption.{CommandOption}
-use Rattle.htl_command.specs.declared.names.CommandOption.TheVariants.{Process, Since, Object, Tag, Handle, Top, Symbols, Workers}
+use Rattle.htl_command.specs.declared.names.CommandOption.TheVariants.{Process, Since, AtLeast, Object, Tag, Handle, Points, Top, Symbols}
+use Rattle.htl_command.specs.declared.names.CommandOption.TheVariants.{Workers, Until}
+use Rattle.htl_command.specs.declared.printed.PrintedFault.{PrintedFault}
 use Rattle.htl_command.specs.declared.question.Format.{Format}
 use Rattle.htl_command.specs.declared.question.Format.TheVariants.{Plain, Json, Folded}
 use Rattle.htl_command.specs.declared.question.Job.{Job}
 use Rattle.htl_command.specs.declared.question.Question.{Question}
 use Rattle.htl_command.specs.declared.question.Setting.{Setting}
-use Rattle.htl_command.specs.declared.question.Question.TheVariants.{Summary, Outstanding, Diff, Tags, Bad, Leaks, Stacks, Trace}
+use Rattle.htl_command.specs.declared.question.Question.TheVariants.{Summary, Outstanding, Diff, Tags, Bad, Leaks, Stacks, Trace, Growth}
+use Rattle.htl_command.specs.declared.question.Since.TheVariants.{Snapshot}
 
 -- the text that was given for an option
 abbrev pub given : CommandOption → List Row → Option Text
@@ -39,6 +41,10 @@ value rule option rows = option_and_then rule (given option rows)
 abbrev pub optional : {X : Type 0} → (Text → Option X) → CommandOption → List Row → Option (Option X)
 optional rule option rows = option_map_or (λ text. option_map (λ x. Some x) (rule text)) (given option rows) (Some None)
 
+-- the same of an option that stands for a value where it is left out
+abbrev pub defaulted : {X : Type 0} → (Text → Option X) → CommandOption → X → List Row → Option X
+defaulted rule option default rows = option_map_or rule (given option rows) (Some default)
+
 -- what is made of two values, where both are there
 abbrev pub both : {X Y Z : Type 0} → (X → Y → Z) → Option X → Option Y → Option Z
 both make x y = option_and_then (λ a. option_map (make a) y) x
@@ -47,16 +53,18 @@ both make x y = option_and_then (λ a. option_map (make a) y) x
 unfoldable pub question_of : QuestionName → List Row → Option Question
 question_of name.Summary rows = Some Summary
 question_of name.Outstanding rows = option_map (λ p. Outstanding p) (value process_in Process rows)
-question_of name.Diff rows = both (λ p s. Diff p s) (value process_in Process rows) (optional sequence_in Since rows)
+question_of name.Diff rows = both (λ p s. Diff p s) (value process_in Process rows) (defaulted since_in Since Snapshot rows)
 question_of name.Tags rows = option_map (λ o. Tags o) (value object_in Object rows)
 question_of name.Bad rows = option_map (λ p. Bad p) (value process_in Process rows)
-question_of name.Leaks rows = option_map (λ p. Leaks p) (value process_in Process rows)
+question_of name.Leaks rows =
+    option_and_then (λ p. both (λ s n. Leaks p s n) (optional since_in Since rows) (defaulted count_in AtLeast 1 rows))
+    (value process_in Process rows)
 question_of name.Stacks rows = both (λ o t. Stacks o t) (value object_in Object rows) (value tag_in Tag rows)
 question_of name.Trace rows = both (λ p h. Trace p h) (value process_in Process rows) (value handle_in Handle rows)
+question_of name.Growth rows = both (λ p n. Growth p n) (value process_in Process rows) (defaulted points_in Points 20 rows)
 
--- one where it is left out
 abbrev pub workers : List Row → Option ℕ
-workers rows = option_map (λ n. unwrap_or n 1) (optional workers_in Workers rows)
+workers rows = defaulted workers_in Workers 1 rows
 
 -- `clap` gives a flag that was used the text `true`
 abbrev pub is_given : CommandFlag → List Row → Bool
@@ -70,19 +78,16 @@ format_of rows =
 
 unfoldable pub job_of : QuestionName → List Row → Option Job
 job_of name rows =
-    option_and_then (λ question. option_and_then (λ format. both (λ n t. record {
+    option_and_then (λ question. option_and_then (λ format. option_and_then (λ u. both (λ n t. record {
       question = question;
       hex = is_given flag.Hex rows;
       workers = n;
+      until = u;
       top = t;
       complete = is_given flag.Complete rows;
       exit_code = is_given flag.ExitCode rows;
       format = format;
-    }) (workers rows) (optional top_in Top rows)) (format_of rows)) (question_of name rows)
-
--- the code that is to be explained
-abbrev pub code_of : List Row → Option Code
-code_of rows = option_and_then code_named (first_of (codes "code") rows)
+    }) (workers rows) (optional count_in Top rows)) (optional moment_in Until rows)) (format_of rows)) (question_of name rows)
 
 -- a job, with the names of its files
 pub record Work : Type 0 where
@@ -90,10 +95,10 @@ pub record Work : Type 0 where
   pub files : List Text
   pub symbols : Option Text
 
--- what is asked for
+-- what is asked for; what is to be explained is a text
 pub data Request : Type 0 where
   answers : Work → Request
-  explains : Code → Request
+  explains : Text → Request
   dumps : Bool → List Text → Request
   encodes : Bool → List Text → Request
   asks : Setting → List Text → Option Text → Request
@@ -112,7 +117,7 @@ setting_of rows =
 -- what a command asks for
 abbrev pub request_of : CommandName → List Row → Option Request
 request_of (command.Question name) rows = option_map (λ job. answers (with_files rows job)) (job_of name rows)
-request_of command.Explain rows = option_map (λ code. explains code) (code_of rows)
+request_of command.Explain rows = option_map (λ text. explains text) (first_of (codes "code") rows)
 request_of command.Dump rows = Some (dumps (is_given flag.Hex rows) (file_names rows))
 request_of command.Encode rows = Some (encodes (is_given flag.Hex rows) (file_names rows))
 request_of command.Ask rows = option_map (λ setting. asks setting (file_names rows) (given Symbols rows)) (setting_of rows)
@@ -128,6 +133,7 @@ stored = record {
     question = Outstanding 4;
     hex = true;
     workers = 1;
+    until = None;
     top = None;
     complete = false;
     exit_code = false;
@@ -146,11 +152,19 @@ unfoldable pub requested : List Text → Option Request
 requested [] = Some (answers stored)
 requested (argument ∷ more) = if is_nothing (refusals (argument ∷ more)) then request_met (entries (argument ∷ more)) else None
 
+-- whether notes are asked for wherever standard error goes
+abbrev pub notes_met : Option (Text × List Row) → Bool
+notes_met met = option_map_or (λ p. is_given flag.Notes p.1) met false
+
+unfoldable pub notes_in : List Text → Bool
+notes_in [] = false
+notes_in (argument ∷ more) = notes_met (entries (argument ∷ more))
+
 -- an option or a file that a run alone has, and no question of a dialogue
 abbrev pub is_of_run : List Row → Bool
 is_of_run rows =
-    is_given flag.Hex rows || (is_given flag.Complete rows || (is_given flag.ExitCode rows
-    || (is_some (given Symbols rows) || (is_some (given Workers rows) || not (length (file_names rows) == 0)))))
+    is_given flag.Hex rows || (is_given flag.Complete rows || (is_given flag.ExitCode rows || (is_given flag.Notes rows
+    || (is_some (given Symbols rows) || (is_some (given Workers rows) || not (length (file_names rows) == 0))))))
 
 -- the job of a question with these entries
 abbrev pub asked_by : CommandName → List Row → Option Job
@@ -172,9 +186,21 @@ work run = record {
   symbols = option_map string_bytes run.symbols;
 }
 
-abbrev pub request : Command → Request
-request (wish.Question run) = answers (work run)
-request (wish.Explain code) = explains code
-request (wish.Dump of) = dumps of.hex (map string_bytes of.files.items)
-request (wish.Encode of) = encodes of.hex (map string_bytes of.files.items)
-request (wish.Ask of) = asks of.setting (map string_bytes of.files.items) (option_map string_bytes of.symbols)
+-- a command is what was asked for: of a text that is to be explained, the fault that is printed so
+abbrev pub Meets : Request → Command → Type 0
+Meets (explains text) (wish.Explain fault) = IsPrinted text fault
+Meets asked (wish.Explain fault) = ⊥
+Meets asked (wish.Question run) = asked ≡ answers (work run)
+Meets asked (wish.Dump of) = asked ≡ dumps of.hex (map string_bytes of.files.items)
+Meets asked (wish.Encode of) = asked ≡ encodes of.hex (map string_bytes of.files.items)
+Meets asked (wish.Ask of) = asked ≡ asks of.setting (map string_bytes of.files.items) (option_map string_bytes of.symbols)
+
+abbrev pub IsAskedFor : Option Request → Command → Type 0
+IsAskedFor None command = ⊥
+IsAskedFor (Some asked) command = Meets asked command
+
+-- nothing is asked for, or the explanation of a text that is no printed fault
+abbrev pub AsksNothing : Option Request → Type 0
+AsksNothing None = ⊤
+AsksNothing (Some (explains text)) = (fault : PrintedFault) → IsPrinted text fault → ⊥
+AsksNothing (Some asked) = ⊥

@@ -1,19 +1,27 @@
 -- What only private functions say.
-use Rattle.std.specs.Prelude.{◌≡◌, ◌≢◌, ⊤, Bool, true, false, List, [], ◌∷◌, ◌++◌, Some, None, find, is_none, string_bytes, unwrap_or}
+use Rattle.std.specs.Prelude.{◌≡◌, ◌≢◌, ◌==◌, ⊤, ℕ, Bool, true, false, List, [], ◌∷◌, ◌++◌, Option, Some, None, MatchOption, find}
+use Rattle.std.specs.Prelude.{if◌then◌else◌, is_none, map, string_bytes, unwrap_or}
+use Rattle.std.specs.Char.{to_ascii_lowercase}
+use Rattle.std.specs.Str.{bytes_eq}
 use Rattle.clap.specs.Words.{App, Row, Text, app_of, found_of, rows_of}
 use Rattle.clap.specs.declared.builder.Command.{Command}
 use Rattle.clap.specs.declared.builder.Command.TheViews.{out-Command as fields_of}
 use Rattle.clap.specs.declared.error.ErrorKind.{ErrorKind}
 use Rattle.clap.specs.declared.error.ErrorKind.TheVariants.{OutOfMemory}
 use Rattle.clap.specs.declared.parser.ArgMatches.{ArgMatches}
+use Rattle.htl_command.specs.Codes.{all_codes, code_name}
+use Rattle.htl_command.specs.Printed.{Follow, form_of}
 use Rattle.htl_command.specs.Refusals.{HasReason, IsUsageText, is_mistake, is_wish}
-use Rattle.htl_command.specs.Requests.{given as given_in, is_given, optional, value, workers}
-use Rattle.htl_command.specs.Values.{handle_in, object_in, process_in, sequence_in, tag_in, top_in}
+use Rattle.htl_command.specs.Requests.{defaulted, given as given_in, is_given, optional, value, workers}
+use Rattle.htl_command.specs.Values.{count_in, handle_in, moment_in, object_in, points_in, process_in, since_in, tag_in}
+use Rattle.htl_command.specs.declared.code.Code.{Code}
 use Rattle.htl_command.specs.declared.names.CommandFlag.TheVariants as flag
 use Rattle.htl_command.specs.declared.names.CommandOption.{CommandOption}
-use Rattle.htl_command.specs.declared.names.CommandOption.TheVariants.{Process, Since, Object, Tag, Handle, Top, Symbols, Workers}
+use Rattle.htl_command.specs.declared.names.CommandOption.TheVariants.{Process, Since, AtLeast, Object, Tag, Handle, Points, Top, Symbols}
+use Rattle.htl_command.specs.declared.names.CommandOption.TheVariants.{Workers, Until}
 use Rattle.htl_command.specs.declared.names.QuestionName.{QuestionName}
 use Rattle.htl_command.specs.declared.names.QuestionName.TheVariants as name
+use Rattle.htl_command.specs.declared.printed.PrintedFault.{PrintedFault}
 use Rattle.htl_command.specs.declared.reading.NoJob.{NoJob}
 use Rattle.htl_command.specs.declared.reading.NoJob.TheVariants.{Value, Formats}
 use Rattle.htl_command.specs.declared.reading.Refused.{Refused}
@@ -25,6 +33,28 @@ pub record Describes (a : App) (command : Command) : Type 0 where
   pub app : app_of command ≡ a
   pub local : (fields_of command).has_globals ≡ false
 
+-- the name of a code, in either case
+abbrev pub is_called : List ℕ → Code → Bool
+is_called name code = bytes_eq (map to_ascii_lowercase (code_name code)) (map to_ascii_lowercase name)
+
+-- the code of a name
+unfoldable pub code_named : List ℕ → Option Code
+code_named name = find (is_called name) all_codes
+
+-- P holds of what was found, and of nothing at all where nothing was
+abbrev pub Finds : {X : Type 0} → (X → Type 0) → Option X → Type 0
+Finds {X} P found = MatchOption found ((x : X) → P x → ⊥) P
+
+-- a text without a blank at its start
+abbrev pub after_blank : List ℕ → List ℕ
+after_blank [] = []
+after_blank (byte ∷ rest) = if byte == 32 then rest else byte ∷ rest
+
+-- a name and what follows it are a printed fault
+pub record AreFault (name tail : List ℕ) (fault : PrintedFault) : Type 0 where
+  pub code : map to_ascii_lowercase name ≡ map to_ascii_lowercase (code_name fault.code)
+  pub parts : Follow (form_of fault.code) fault.parts tail
+
 -- the refusal of a value names its option and the text that was given for it
 pub record Names (wanted : CommandOption) (rows : List Row) (refused : Refused) : Type 0 where
   pub option : refused.option ≡ wanted
@@ -33,12 +63,15 @@ pub record Names (wanted : CommandOption) (rows : List Row) (refused : Refused) 
 -- the value of an option breaks its rule, or is missing where there has to be one
 abbrev pub breaks_rule : List Row → CommandOption → Bool
 breaks_rule rows Process = is_none (value process_in Process rows)
-breaks_rule rows Since = is_none (optional sequence_in Since rows)
+breaks_rule rows Since = is_none (optional since_in Since rows)
+breaks_rule rows AtLeast = is_none (defaulted count_in AtLeast 1 rows)
 breaks_rule rows Object = is_none (value object_in Object rows)
 breaks_rule rows Tag = is_none (value tag_in Tag rows)
 breaks_rule rows Handle = is_none (value handle_in Handle rows)
-breaks_rule rows Top = is_none (optional top_in Top rows)
+breaks_rule rows Points = is_none (defaulted points_in Points 20 rows)
+breaks_rule rows Top = is_none (optional count_in Top rows)
 breaks_rule rows Workers = is_none (workers rows)
+breaks_rule rows Until = is_none (optional moment_in Until rows)
 breaks_rule rows Symbols = false
 
 -- the options whose values make a question, in the order in which they are read
@@ -48,9 +81,10 @@ question_options name.Outstanding = Process ∷ []
 question_options name.Diff = Process ∷ Since ∷ []
 question_options name.Tags = Object ∷ []
 question_options name.Bad = Process ∷ []
-question_options name.Leaks = Process ∷ []
+question_options name.Leaks = Process ∷ Since ∷ AtLeast ∷ []
 question_options name.Stacks = Object ∷ Tag ∷ []
 question_options name.Trace = Process ∷ Handle ∷ []
+question_options name.Growth = Process ∷ Points ∷ []
 
 -- of these options this is the first whose value breaks its rule
 abbrev pub IsFirstBroken : List Row → List CommandOption → Refused → Type 0
@@ -61,11 +95,15 @@ abbrev pub IsTwoForms : List Row → NoJob → Type 0
 IsTwoForms rows (Value refused) = ⊥
 IsTwoForms rows Formats = (is_given flag.Json rows ≡ true) × (is_given flag.Folded rows ≡ true)
 
+-- the options whose values make a job, in the order in which they are read
+abbrev pub job_options : QuestionName → List CommandOption
+job_options name = question_options name ++ Workers ∷ Until ∷ Top ∷ []
+
 -- the entries are no job, since a value is the first that breaks its rule, or none does and two forms of an answer are asked for
 abbrev pub IsNoJob : QuestionName → List Row → NoJob → Type 0
-IsNoJob name rows (Value refused) = IsFirstBroken rows (question_options name ++ Workers ∷ Top ∷ []) refused
+IsNoJob name rows (Value refused) = IsFirstBroken rows (job_options name) refused
 IsNoJob name rows Formats =
-    IsTwoForms rows Formats × (find (breaks_rule rows) (question_options name ++ Workers ∷ Top ∷ []) ≡ None)
+    IsTwoForms rows Formats × (find (breaks_rule rows) (job_options name) ≡ None)
 
 -- the entries that `clap` found
 abbrev pub entries_of : ArgMatches → List Row

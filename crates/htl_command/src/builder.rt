@@ -1,23 +1,38 @@
 //! The commands, as `clap` is given them.
 ghost use Rattle.std.specs.Prelude.{◌≡◌, IfOk, false, map};
-ghost use Rattle.clap.specs.Words.{app_of, rule_of, with_subcommand};
+ghost use Rattle.clap.specs.Words.{app_of, new_app, rule_of, with_subcommand};
 ghost use Rattle.clap.specs.declared.builder.Command.TheViews.{out-Command as fields_of};
 ghost use Rattle.htl_command.specs.Steps.{Describes};
+ghost use Rattle.htl_command.specs.Commands.{name_of};
 ghost use Rattle.htl_command.specs.Entries.{code_rule, common_rules, command_app, dialogue_rules};
 ghost use Rattle.htl_command.specs.Entries.{files_rule};
 ghost use Rattle.htl_command.specs.Entries.{flag_rule, hleak_app, option_rule, program_app};
 ghost use Rattle.htl_command.specs.Entries.{text_rules};
 ghost use Rattle.htl_command.specs.Entries.{with_commands as with_commands_of, with_rules};
+ghost use Rattle.htl_command.specs.declared.names.CommandFlag.TheVariants as flags;
 
 use crate::help::{
-    ABOUT, AFTER_HELP, CODE_HELP, DIALOGUE_FILES_HELP, FILES_HELP, HEX_TEXT_HELP, TEXTS_HELP,
-    VERSION,
+    ABOUT, AFTER_HELP, CODE_HELP, DIALOGUE_ABOUT, DIALOGUE_AFTER_HELP, DIALOGUE_FILES_HELP,
+    DIALOGUE_USAGE, FILES_HELP, HEX_TEXT_HELP, TEXTS_HELP, VERSION,
 };
 use crate::names::{COMMANDS, CommandFlag, CommandName, CommandOption};
 use clap::{Arg, ArgAction, Command};
 use std::alloc::{AllocError, Global};
 
-fn option<'a>(alloc: Global, option: CommandOption) -> Arg<'a>
+/// Where a command is typed. Help of a dialogue leaves out what no line there has.
+#[derive(Clone, Copy)]
+pub(crate) enum Place {
+    Shell,
+    Dialogue,
+}
+
+impl Place {
+    pub(crate) fn is_dialogue(self) -> bool {
+        matches!(self, Place::Dialogue)
+    }
+}
+
+fn option<'a>(alloc: Global, option: CommandOption, place: Place) -> Arg<'a>
     ensures rule { rule_of result ≡ option_rule option }
     ensures local { result.global ≡ false }
 {
@@ -26,9 +41,10 @@ fn option<'a>(alloc: Global, option: CommandOption) -> Arg<'a>
         .value_name(option.value_name())
         .help(option.help())
         .required(option.is_required())
+        .hide(place.is_dialogue() && option.is_of_run())
 }
 
-fn flag<'a>(alloc: Global, flag: CommandFlag, help: &'a str) -> Arg<'a>
+fn flag<'a>(alloc: Global, flag: CommandFlag, help: &'a str, place: Place) -> Arg<'a>
     ensures rule { rule_of result ≡ flag_rule flag }
     ensures local { result.global ≡ false }
 {
@@ -36,9 +52,17 @@ fn flag<'a>(alloc: Global, flag: CommandFlag, help: &'a str) -> Arg<'a>
         .long(flag.as_str())
         .action(ArgAction::SetTrue)
         .help(help)
+        .hide(place.is_dialogue() && flag.is_of_run())
 }
 
-fn files<'a>(alloc: Global, help: &'a str) -> Arg<'a>
+fn notes<'a>(alloc: Global, place: Place) -> Arg<'a>
+    ensures rule { rule_of result ≡ flag_rule flags.Notes }
+    ensures local { result.global ≡ false }
+{
+    flag(alloc, CommandFlag::Notes, CommandFlag::Notes.help(), place)
+}
+
+fn files<'a>(alloc: Global, help: &'a str, place: Place) -> Arg<'a>
     ensures rule { rule_of result ≡ files_rule }
     ensures local { result.global ≡ false }
 {
@@ -46,6 +70,7 @@ fn files<'a>(alloc: Global, help: &'a str) -> Arg<'a>
         .value_name("FILES")
         .num_args(1..)
         .help(help)
+        .hide(place.is_dialogue())
 }
 
 fn code<'a>(alloc: Global) -> Arg<'a>
@@ -62,6 +87,7 @@ fn with_options<'a>(
     alloc: Global,
     command: Command<'a>,
     options: &[CommandOption],
+    place: Place,
 ) -> Result<Command<'a>, AllocError>
     requires { (fields_of command).has_globals ≡ false }
     ensures { IfOk result
@@ -69,7 +95,7 @@ fn with_options<'a>(
 {
     let mut command = command;
     for own in options {
-        command = command.arg(option(alloc, *own))?;
+        command = command.arg(option(alloc, *own, place))?;
     }
     Ok(command)
 }
@@ -78,6 +104,7 @@ fn with_flags<'a>(
     alloc: Global,
     command: Command<'a>,
     flags: &[CommandFlag],
+    place: Place,
 ) -> Result<Command<'a>, AllocError>
     requires { (fields_of command).has_globals ≡ false }
     ensures { IfOk result
@@ -85,26 +112,41 @@ fn with_flags<'a>(
 {
     let mut command = command;
     for own in flags {
-        command = command.arg(flag(alloc, *own, own.help()))?;
+        command = command.arg(flag(alloc, *own, own.help(), place))?;
     }
     Ok(command)
 }
 
-fn with_common_options<'a>(alloc: Global, command: Command<'a>) -> Result<Command<'a>, AllocError>
+fn with_common_options<'a>(
+    alloc: Global,
+    command: Command<'a>,
+    place: Place,
+) -> Result<Command<'a>, AllocError>
     requires { (fields_of command).has_globals ≡ false }
     ensures { IfOk result (Describes (with_rules (app_of command.entry) common_rules)) }
 {
     let command = with_options(
         alloc,
         command,
-        &[CommandOption::Symbols, CommandOption::Workers],
+        &[
+            CommandOption::Until,
+            CommandOption::Symbols,
+            CommandOption::Workers,
+        ],
+        place,
     )?;
     let command = with_flags(
         alloc,
         command,
-        &[CommandFlag::Json, CommandFlag::Complete, CommandFlag::Hex],
+        &[
+            CommandFlag::Json,
+            CommandFlag::Complete,
+            CommandFlag::Hex,
+            CommandFlag::Notes,
+        ],
+        place,
     )?;
-    command.arg(files(alloc, FILES_HELP))
+    command.arg(files(alloc, FILES_HELP, place))
 }
 
 fn with_text_options<'a>(
@@ -112,16 +154,22 @@ fn with_text_options<'a>(
     command: Command<'a>,
     hex_help: &'a str,
     files_help: &'a str,
+    place: Place,
 ) -> Result<Command<'a>, AllocError>
     requires { (fields_of command).has_globals ≡ false }
     ensures { IfOk result (Describes (with_rules (app_of command.entry) text_rules)) }
 {
     command
-        .arg(flag(alloc, CommandFlag::Hex, hex_help))?
-        .arg(files(alloc, files_help))
+        .arg(flag(alloc, CommandFlag::Hex, hex_help, place))?
+        .arg(notes(alloc, place))?
+        .arg(files(alloc, files_help, place))
 }
 
-fn with_dialogue_options<'a>(alloc: Global, command: Command<'a>) -> Result<Command<'a>, AllocError>
+fn with_dialogue_options<'a>(
+    alloc: Global,
+    command: Command<'a>,
+    place: Place,
+) -> Result<Command<'a>, AllocError>
     requires { (fields_of command).has_globals ≡ false }
     ensures { IfOk result (Describes (with_rules (app_of command.entry) dialogue_rules)) }
 {
@@ -129,41 +177,66 @@ fn with_dialogue_options<'a>(alloc: Global, command: Command<'a>) -> Result<Comm
         alloc,
         command,
         &[CommandOption::Symbols, CommandOption::Workers],
+        place,
     )?;
-    let command = with_flags(alloc, command, &[CommandFlag::Complete, CommandFlag::Hex])?;
-    command.arg(files(alloc, DIALOGUE_FILES_HELP).required(true))
+    let command = with_flags(
+        alloc,
+        command,
+        &[CommandFlag::Complete, CommandFlag::Hex, CommandFlag::Notes],
+        place,
+    )?;
+    command.arg(files(alloc, DIALOGUE_FILES_HELP, place).required(true))
 }
 
-fn command<'a>(alloc: Global, name: CommandName) -> Result<Command<'a>, AllocError>
-    ensures { IfOk result (Describes (command_app name)) }
+/// The command with its name and what its help says beside its options.
+fn bare_command<'a>(alloc: Global, name: CommandName, place: Place) -> Command<'a>
+    ensures { Describes (new_app (name_of name)) result }
 {
-    let bare = Command::new(alloc, name.as_str())
-        .about(name.about())
-        .after_help(name.example());
-    match name {
-        CommandName::Question(question) => {
-            let command = with_options(alloc, bare, question.own_options())?;
-            let command = with_flags(alloc, command, question.own_flags())?;
-            with_common_options(alloc, command)
-        }
-        CommandName::Explain => bare.arg(code(alloc)),
-        CommandName::Dump => with_text_options(alloc, bare, CommandFlag::Hex.help(), FILES_HELP),
-        CommandName::Encode => with_text_options(alloc, bare, HEX_TEXT_HELP, TEXTS_HELP),
-        CommandName::Ask => with_dialogue_options(alloc, bare),
+    let bare = Command::new(alloc, name.as_str()).about(name.about());
+    match place {
+        Place::Shell => bare.after_help(name.example()),
+        Place::Dialogue => bare.hide(!name.is_question()),
     }
 }
 
-fn bare_program<'a>(alloc: Global) -> Result<Command<'a>, AllocError>
+fn command<'a>(alloc: Global, name: CommandName, place: Place) -> Result<Command<'a>, AllocError>
+    ensures { IfOk result (Describes (command_app name)) }
+{
+    let bare = bare_command(alloc, name, place);
+    match name {
+        CommandName::Question(question) => {
+            let command = with_options(alloc, bare, question.own_options(), place)?;
+            let command = with_flags(alloc, command, question.own_flags(), place)?;
+            with_common_options(alloc, command, place)
+        }
+        CommandName::Explain => bare.arg(code(alloc))?.arg(notes(alloc, place)),
+        CommandName::Dump => {
+            with_text_options(alloc, bare, CommandFlag::Hex.help(), FILES_HELP, place)
+        }
+        CommandName::Encode => with_text_options(alloc, bare, HEX_TEXT_HELP, TEXTS_HELP, place),
+        CommandName::Ask => with_dialogue_options(alloc, bare, place),
+    }
+}
+
+fn bare_program<'a>(alloc: Global, place: Place) -> Result<Command<'a>, AllocError>
     ensures { IfOk result (Describes program_app) }
 {
     let program = Command::new(alloc, "hleak")
-        .bin_name("hleak")?
         .version(VERSION)
-        .about(ABOUT)
-        .after_help(AFTER_HELP)
         .no_binary_name(true)
         .subcommand_required(true);
-    Ok(program)
+    match place {
+        Place::Shell => {
+            let program = program.bin_name("hleak")?;
+            Ok(program.about(ABOUT).after_help(AFTER_HELP))
+        }
+        Place::Dialogue => Ok(
+            program
+                .override_usage(DIALOGUE_USAGE)
+                .about(DIALOGUE_ABOUT)
+                .after_help(DIALOGUE_AFTER_HELP),
+        ),
+    }
 }
 
 #[tactic(auto, using(crate::proofs::Described::added))]
@@ -171,32 +244,34 @@ fn with_command<'a>(
     alloc: Global,
     program: Command<'a>,
     name: CommandName,
+    place: Place,
 ) -> Result<Command<'a>, AllocError>
     requires { (fields_of program).has_globals ≡ false }
     ensures { IfOk result (Describes (with_subcommand (app_of program.entry) (command_app name).top)) }
 {
-    program.subcommand(command(alloc, name)?)
+    program.subcommand(command(alloc, name, place)?)
 }
 
 fn with_commands<'a>(
     alloc: Global,
     program: Command<'a>,
     names: &[CommandName],
+    place: Place,
 ) -> Result<Command<'a>, AllocError>
     requires { (fields_of program).has_globals ≡ false }
     ensures { IfOk result (Describes (with_commands_of (app_of program.entry) names.now)) }
 {
     let mut program = program;
     for name in names {
-        program = with_command(alloc, program, *name)?;
+        program = with_command(alloc, program, *name, place)?;
     }
     Ok(program)
 }
 
-/// The command line of the program.
+/// The command line of the program. Help apart it is the same in each place.
 #[tactic(auto, unfolding(crate::specs::Entries::hleak_app))]
-pub(crate) fn program<'a>(alloc: Global) -> Result<Command<'a>, AllocError>
+pub(crate) fn program<'a>(alloc: Global, place: Place) -> Result<Command<'a>, AllocError>
     ensures { IfOk result (Describes hleak_app) }
 {
-    with_commands(alloc, bare_program(alloc)?, &COMMANDS)
+    with_commands(alloc, bare_program(alloc, place)?, &COMMANDS, place)
 }

@@ -1,7 +1,7 @@
 //! The codes of faults.
 ghost use Rattle.std.specs.Prelude.{◌≡◌, find};
-ghost use Rattle.std.specs.Str.{bytes_eq};
-ghost use Rattle.htl_command.specs.Codes.{code_name, code_named};
+ghost use Rattle.htl_command.specs.Codes.{code_name};
+ghost use Rattle.htl_command.specs.Steps.{code_named, is_called};
 
 /// The code of a fault, without the numbers that may follow it: of a segment (S), of its digits in
 /// hexadecimal (H), of all segments (C), of a symbol table (Y), or of a line of text (E).
@@ -35,6 +35,7 @@ pub enum Code {
     C6,
     C7,
     C8,
+    C9,
     Y1,
     Y2,
     Y3,
@@ -47,7 +48,7 @@ pub enum Code {
 }
 
 /// All codes.
-const CODES: [Code; 37] = [
+const CODES: [Code; 38] = [
     Code::S1,
     Code::S2,
     Code::S3,
@@ -76,6 +77,7 @@ const CODES: [Code; 37] = [
     Code::C6,
     Code::C7,
     Code::C8,
+    Code::C9,
     Code::Y1,
     Code::Y2,
     Code::Y3,
@@ -121,6 +123,7 @@ impl Code {
             Code::C6 => "C6",
             Code::C7 => "C7",
             Code::C8 => "C8",
+            Code::C9 => "C9",
             Code::Y1 => "Y1",
             Code::Y2 => "Y2",
             Code::Y3 => "Y3",
@@ -133,17 +136,24 @@ impl Code {
         }
     }
 
-    /// The code of this text.
-    #[tactic(auto, unfolding(crate::specs::Codes::code_named))]
-    pub(crate) fn from_text(text: &str) -> Option<Code>
-        ensures { result ≡ code_named text.now }
+    /// The code of this name, which may be in either case.
+    #[tactic(auto, unfolding(crate::specs::Steps::code_named))]
+    pub(crate) fn from_name(name: &str) -> Option<Code>
+        ensures { result ≡ code_named name.now }
     {
-        code_among(&CODES, text)
+        code_among(&CODES, name)
+    }
+
+    /// Whether this is the code's name, in either case.
+    fn is_called(self, name: &str) -> bool
+        ensures { result ≡ is_called name.now self }
+    {
+        self.as_str().eq_ignore_ascii_case(name)
     }
 }
 
-fn code_among(codes: &[Code], text: &str) -> Option<Code>
-    ensures { result ≡ find (λ code. bytes_eq (code_name code) text.now) codes.now }
+fn code_among(codes: &[Code], name: &str) -> Option<Code>
+    ensures { result ≡ find (is_called name.now) codes.now }
 {
-    codes.iter().copied().find(|code| code.as_str() == text)
+    codes.iter().copied().find(|code| code.is_called(name))
 }

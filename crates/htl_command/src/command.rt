@@ -4,10 +4,10 @@ ghost use Rattle.std.specs.Prelude.{string_bytes};
 ghost use Rattle.clap.specs.Words.{subcommand_rows_of};
 ghost use Rattle.htl_command.specs.Entries.{entries as entries_in, refusals};
 ghost use Rattle.htl_command.specs.Refusals.{IsUsageWith, RefusesArguments};
-ghost use Rattle.htl_command.specs.Requests.{asks, file_names, given as given_in};
-ghost use Rattle.htl_command.specs.Requests.{is_given as is_given_in, setting_of};
-ghost use Rattle.htl_command.specs.Requests.{job_of, request, request_met, request_of};
-ghost use Rattle.htl_command.specs.Requests.{requested, stored as stored_work, work};
+ghost use Rattle.htl_command.specs.Requests.{AsksNothing, IsAskedFor, asks, file_names};
+ghost use Rattle.htl_command.specs.Requests.{given as given_in, is_given as is_given_in, job_of};
+ghost use Rattle.htl_command.specs.Requests.{notes_in, notes_met, request_met, request_of};
+ghost use Rattle.htl_command.specs.Requests.{requested, setting_of, stored as stored_work, work};
 ghost use Rattle.htl_command.specs.Requests.{with_files as with_files_in};
 ghost use Rattle.htl_command.specs.Steps.{IsRefused, entries_of};
 ghost use Rattle.htl_command.specs.declared.command.Command.TheVariants as wish;
@@ -15,22 +15,30 @@ ghost use Rattle.htl_command.specs.declared.names.CommandFlag.TheVariants as fla
 ghost use Rattle.htl_command.specs.declared.names.CommandName.TheVariants as command;
 ghost use Rattle.htl_command.specs.declared.names.CommandOption.TheVariants as option;
 
-use crate::builder::program;
-use crate::code::Code;
+use crate::builder::{Place, program};
 use crate::fault::{ParseFault, no_command, of_clap, of_code, of_entries};
 use crate::names::{CommandFlag, CommandName, QuestionName};
+use crate::printed::PrintedFault;
 use crate::question::{Format, Job, Question, Setting};
-use crate::reading::{NoJob, code, files, is_given, job, setting, symbols};
+use crate::reading::{NoJob, files, is_given, job, printed_fault, setting, symbols};
 use clap::ArgMatches;
 use std::alloc::{AllocError, Global};
 
 /// What a command line asks for.
 #[derive(Debug, PartialEq, Eq, Drop)]
+pub struct CommandLine {
+    pub command: Command,
+    /// Whether standard error gets the notes that it gets at a terminal, wherever it goes.
+    pub notes: bool,
+}
+
+/// What a command is to do.
+#[derive(Debug, PartialEq, Eq, Drop)]
 pub enum Command {
     /// The answer to a question.
     Question(Run),
-    /// What a code means, and what to do.
-    Explain(Code),
+    /// What a fault means, and what to do.
+    Explain(PrintedFault),
     /// The text of segments.
     Dump(Conversion),
     /// The segments of a text.
@@ -77,15 +85,20 @@ pub struct Dialogue {
 ///
 /// Where several things are wrong, what `clap` refuses is reported first, and then the first value
 /// that breaks its rule.
-#[tactic(auto, using(crate::proofs::Arguments::no_arguments))]
-pub fn parse(alloc: Global, arguments: Vec<String>) -> Result<Command, ParseFault>
-    ensures ok { IfOk result (λ command.
-        requested (map string_bytes arguments.items) ≡ Some (request command)) }
+#[tactic(auto, using(crate::proofs::Arguments::no_arguments, crate::proofs::Arguments::no_notes))]
+pub fn parse(alloc: Global, arguments: Vec<String>) -> Result<CommandLine, ParseFault>
+    ensures command { IfOk result (λ line.
+        IsAskedFor (requested (map string_bytes arguments.items)) line.command) }
+    ensures notes { IfOk result (λ line.
+        line.notes ≡ notes_in (map string_bytes arguments.items)) }
     ensures err { IfErr result (RefusesArguments (map string_bytes arguments.items)) }
     ensures none { arguments.items ≡ [] → IsOk result }
 {
     if arguments.is_empty() {
-        Ok(Command::Question(stored(alloc)))
+        Ok(CommandLine {
+            command: Command::Question(stored(alloc)),
+            notes: false,
+        })
     } else {
         read_arguments(alloc, &arguments)
     }
@@ -99,6 +112,7 @@ fn stored(alloc: Global) -> Run
             question: Question::Outstanding { process: 4 },
             hex: true,
             workers: 1,
+            until: None,
             top: None,
             complete: false,
             exit_code: false,
@@ -109,13 +123,14 @@ fn stored(alloc: Global) -> Run
     }
 }
 
-fn read_arguments(alloc: Global, arguments: &[String]) -> Result<Command, ParseFault>
+fn read_arguments(alloc: Global, arguments: &[String]) -> Result<CommandLine, ParseFault>
     requires some { arguments.now ≢ [] }
-    ensures ok { IfOk result (λ command.
-        requested (map string_bytes arguments.now) ≡ Some (request command)) }
+    ensures command { IfOk result (λ line.
+        IsAskedFor (requested (map string_bytes arguments.now)) line.command) }
+    ensures notes { IfOk result (λ line. line.notes ≡ notes_in (map string_bytes arguments.now)) }
     ensures err { IfErr result (RefusesArguments (map string_bytes arguments.now)) }
 {
-    match matches(alloc, arguments) {
+    match matches(alloc, arguments, Place::Shell) {
         Ok(matches) => read_matches(alloc, &matches),
         Err(fault) => Err(fault),
     }
@@ -125,24 +140,25 @@ fn read_arguments(alloc: Global, arguments: &[String]) -> Result<Command, ParseF
 pub(crate) fn matches<'a>(
     alloc: Global,
     arguments: &'a [String],
+    place: Place,
 ) -> Result<ArgMatches<'a>, ParseFault>
     ensures ok { IfOk result (λ matches. (refusals (map string_bytes arguments.entry.now) ≡ [])
         × (subcommand_rows_of matches ≡ entries_in (map string_bytes arguments.entry.now))) }
     ensures err { IfErr result (IsRefused (map string_bytes arguments.entry.now)) }
 {
-    match program(alloc)?.try_get_matches_from(arguments) {
+    match program(alloc, place)?.try_get_matches_from(arguments) {
         Ok(matches) => Ok(matches),
-        Err(error) => Err(of_clap(alloc, &error, tip(arguments))),
+        Err(error) => Err(of_clap(alloc, &error, tip(arguments, place))),
     }
 }
 
 /// What helps where a value that begins with `-` stands apart from its option, since `clap` takes
-/// it for another option: nothing where the option has no such value. None where no value stands
-/// so.
-fn tip(arguments: &[String]) -> Option<&'static str> {
+/// it for another option: nothing where the option has no such value, or where a dialogue has no
+/// file that it could be. None where no value stands so.
+fn tip(arguments: &[String], place: Place) -> Option<&'static str> {
     if has_separated(arguments) {
         Some("\n\n  tip: a value that begins with '-' follows '=', as in '--tag=-abc'")
-    } else if has_no_number(arguments) {
+    } else if place.is_dialogue() || has_no_number(arguments) {
         Some("")
     } else {
         None
@@ -175,23 +191,52 @@ fn is_separated(option: &str, value: &str) -> bool {
 fn is_no_number(option: &str, value: &str) -> bool {
     let takes_number = matches!(
         option,
-        "--process" | "--since" | "--object" | "--handle" | "--top" | "--workers"
+        "--process"
+            | "--since"
+            | "--at-least"
+            | "--object"
+            | "--handle"
+            | "--points"
+            | "--top"
+            | "--workers"
+            | "--until"
     );
     takes_number && value.starts_with('-')
 }
 
-fn read_matches(alloc: Global, matches: &ArgMatches) -> Result<Command, ParseFault>
-    ensures ok { IfOk result (λ command.
-        request_met (subcommand_rows_of matches.now) ≡ Some (request command)) }
-    ensures err { IfErr result (IsUsageWith (request_met (subcommand_rows_of matches.now) ≡ None)) }
+fn read_matches(alloc: Global, matches: &ArgMatches) -> Result<CommandLine, ParseFault>
+    ensures command { IfOk result (λ line.
+        IsAskedFor (request_met (subcommand_rows_of matches.now)) line.command) }
+    ensures notes { IfOk result (λ line.
+        line.notes ≡ notes_met (subcommand_rows_of matches.now)) }
+    ensures err { IfErr result
+        (IsUsageWith (AsksNothing (request_met (subcommand_rows_of matches.now)))) }
 {
     let Some((name, entries)) = matches.subcommand() else {
         return Err(no_command(alloc));
     };
     match CommandName::from_name(name) {
-        Some(command) => read_command(alloc, command, entries),
+        Some(name) => read_line(alloc, name, entries),
         None => Err(no_command(alloc)),
     }
+}
+
+fn read_line(
+    alloc: Global,
+    name: CommandName,
+    entries: &ArgMatches,
+) -> Result<CommandLine, ParseFault>
+    ensures command { IfOk result (λ line.
+        IsAskedFor (request_of name (entries_of entries.now)) line.command) }
+    ensures notes { IfOk result (λ line.
+        line.notes ≡ is_given_in flag.Notes (entries_of entries.now)) }
+    ensures err { IfErr result
+        (IsUsageWith (AsksNothing (request_of name (entries_of entries.now)))) }
+{
+    Ok(CommandLine {
+        command: read_command(alloc, name, entries)?,
+        notes: is_given(entries, CommandFlag::Notes),
+    })
 }
 
 fn read_command(
@@ -199,18 +244,17 @@ fn read_command(
     name: CommandName,
     entries: &ArgMatches,
 ) -> Result<Command, ParseFault>
-    ensures ok { IfOk result (λ command.
-        request_of name (entries_of entries.now) ≡ Some (request command)) }
+    ensures ok { IfOk result (IsAskedFor (request_of name (entries_of entries.now))) }
     ensures err { IfErr result
-        (IsUsageWith (request_of name (entries_of entries.now) ≡ None)) }
+        (IsUsageWith (AsksNothing (request_of name (entries_of entries.now)))) }
 {
     match name {
         CommandName::Question(question) => {
             let run = read_question(alloc, question, entries)?;
             Ok(Command::Question(run))
         }
-        CommandName::Explain => match code(entries) {
-            Ok(code) => Ok(Command::Explain(code)),
+        CommandName::Explain => match printed_fault(entries) {
+            Ok(fault) => Ok(Command::Explain(fault)),
             Err(given) => Err(of_code(alloc, given)),
         },
         CommandName::Dump => Ok(Command::Dump(read_conversion(alloc, entries)?)),
@@ -230,18 +274,21 @@ fn read_question(alloc: Global, name: QuestionName, entries: &ArgMatches) -> Res
 {
     match job(name, entries) {
         Ok(job) => Ok(with_files(alloc, job, entries)?),
-        Err(refused) => Err(of_entries(alloc, CommandName::Question(name), refused)),
+        Err(refused) => Err(of_entries(alloc, "hleak ", CommandName::Question(name), refused)),
     }
 }
 
 fn read_dialogue(alloc: Global, entries: &ArgMatches) -> Result<Dialogue, ParseFault>
-    ensures ok { IfOk result (λ of. request_of command.Ask (entries_of entries.now)
-        ≡ Some (request (wish.Ask of))) }
+    ensures ok { IfOk result (λ of.
+        IsAskedFor (request_of command.Ask (entries_of entries.now)) (wish.Ask of)) }
     ensures err { IfErr result (IsUsageWith (setting_of (entries_of entries.now) ≡ None)) }
 {
     match setting(entries) {
         Ok(setting) => Ok(with_inputs(alloc, setting, entries)?),
-        Err(refused) => Err(of_entries(alloc, CommandName::Ask, NoJob::Value(refused))),
+        Err(refused) => {
+            let why = NoJob::Value(refused);
+            Err(of_entries(alloc, "hleak ", CommandName::Ask, why))
+        }
     }
 }
 
@@ -250,9 +297,8 @@ fn with_inputs(
     setting: Setting,
     entries: &ArgMatches,
 ) -> Result<Dialogue, AllocError>
-    ensures { IfOk result (λ of. request (wish.Ask of)
-        ≡ asks setting (file_names (entries_of entries.now))
-        (given_in option.Symbols (entries_of entries.now))) }
+    ensures { IfOk result (λ of. IsAskedFor (Some (asks setting (file_names (entries_of entries.now))
+        (given_in option.Symbols (entries_of entries.now)))) (wish.Ask of)) }
 {
     Ok(Dialogue {
         setting,

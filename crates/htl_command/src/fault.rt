@@ -130,12 +130,18 @@ fn around_file_tip(why: &str, is_known: bool) -> (&str, &str) {
     }
 }
 
-/// The fault of entries that are no job, in the form of `clap`'s texts.
-pub(crate) fn of_entries(alloc: Global, name: CommandName, refused: NoJob) -> ParseFault
+/// The fault of entries that are no job, in the form of `clap`'s texts. The program's name is empty
+/// in a dialogue.
+pub(crate) fn of_entries(
+    alloc: Global,
+    program: &str,
+    name: CommandName,
+    refused: NoJob,
+) -> ParseFault
     ensures { IsUsageWith ⊤ result }
 {
     let why = format!(in alloc;
-        "{refused}\n\nFor more information, try 'hleak {} --help'.",
+        "{refused}\n\nFor more information, try '{program}{} --help'.",
         name.as_str()
     );
     match why {
@@ -173,7 +179,8 @@ pub(crate) fn no_question(alloc: Global) -> ParseFault
     let why = "\
 a line is a question with its own options
 
-  tip: files, --symbols, --workers, --complete and --hex stand after 'hleak ask'";
+  tip: files, --symbols, --workers, --complete, --hex and --notes stand after
+  'hleak ask'";
     of_line(alloc, why)
 }
 

@@ -10,16 +10,20 @@ were never dropped, in trace segments. Its questions are those of the Windows
 debugger's !htrace and !obtrace.";
 
 pub(crate) const AFTER_HELP: &str = "\
-Options of every question, from summary to trace:
+Options of every question, from summary to growth:
+      --until <N>       Only events up to this sequence count: decimal, at most
+                        18446744073709551615, or 'complete' for the one up to
+                        which no segment is missing
       --symbols <FILE>  Names for addresses: CSV of start,end,module,name
       --workers <N>     How many threads decode segments: 1 to 8 [default: 1]
       --json            One JSON object a line, for other programs
       --complete        Refuse segments of which one is missing (C8)
       --hex             The files hold hexadecimal digits, not bytes
+      --notes           Notes on standard error also where it is no terminal
   [FILES]...            Trace segments; standard input where no file is given
 
 Exit status:
-  0  done                        4  not the segments of one trace
+  0  done                        4  not one trace, or not the one asked about
   1  found, with --exit-code     5  a read or a write failed
   2  wrong command line          6  out of memory or of threads
   3  not a segment or its text   7  not a symbol table
@@ -32,6 +36,20 @@ Examples:
 'hleak COMMAND --help' lists the options of a command. No argument at all stands
 for 'hleak outstanding --process 4 --hex'.";
 
+pub(crate) const DIALOGUE_ABOUT: &str = "A line is a question over the segments that were read.";
+
+pub(crate) const DIALOGUE_USAGE: &str = "<COMMAND> [OPTIONS]";
+
+pub(crate) const DIALOGUE_AFTER_HELP: &str = "\
+Options of every question:
+      --until <N>  Only events up to this sequence count: decimal, at most
+                   18446744073709551615, or 'complete' for the one up to
+                   which no segment is missing
+      --json       One JSON object a line, for other programs
+
+'COMMAND --help' lists the options of a question. An argument with blanks stands
+in double quotes. 'quit' ends.";
+
 pub(crate) const FILES_HELP: &str = "Trace segments; standard input where no file is given";
 
 pub(crate) const HEX_TEXT_HELP: &str = "Write hexadecimal digits, not bytes";
@@ -41,18 +59,18 @@ pub(crate) const TEXTS_HELP: &str = "Texts of segments; standard input where no 
 pub(crate) const DIALOGUE_FILES_HELP: &str = "Trace segments";
 
 pub(crate) const CODE_HELP: &str = "\
-The code of a fault, as S10, without the numbers that
-may follow it";
+The code of a fault, as S10, or the fault as it was
+printed, as 'C8(0, 2)'";
 
 /// Which codes there are, as a refusal reports it.
-pub(crate) const CODE_EXPECTED: &str = "S1 to S17, H1 to H3, C1 to C8, Y1 to Y7, E1 or E2";
+pub(crate) const CODE_EXPECTED: &str = "S1 to S17, H1 to H3, C1 to C9, Y1 to Y7, E1 or E2";
 
 impl CommandName {
     /// What the command is for, in one line.
     pub(crate) fn about<'a>(self) -> &'a str {
         match self {
             CommandName::Question(question) => question.about(),
-            CommandName::Explain => "What the code of a fault means, and what to do",
+            CommandName::Explain => "What a fault means, and what to do",
             CommandName::Dump => "Segments as text, to read, compare and change",
             CommandName::Encode => "The bytes of segments that are given as text",
             CommandName::Ask => "Many questions over the same segments, a line each",
@@ -108,6 +126,7 @@ impl QuestionName {
             QuestionName::Stacks => "Stacks behind one tag of an object (!obtrace)",
             QuestionName::Trace =>
                 "Each open, close and bad reference of a handle (!htrace HANDLE)",
+            QuestionName::Growth => "How many handles are open as of each of many moments",
         }
     }
 
@@ -151,10 +170,13 @@ Example:
             }
             QuestionName::Trace => {
                 "\
-The low two bits of a handle are ignored.
-
 Example:
   hleak trace --process 4 --handle 0x44 cpu0.hls cpu1.hls"
+            }
+            QuestionName::Growth => {
+                "\
+Example:
+  hleak growth --process 4 --points 50 cpu0.hls cpu1.hls"
             }
         }
     }
@@ -166,8 +188,11 @@ impl CommandOption {
         match self {
             CommandOption::Process
             | CommandOption::Since
+            | CommandOption::AtLeast
+            | CommandOption::Points
             | CommandOption::Top
-            | CommandOption::Workers => "N",
+            | CommandOption::Workers
+            | CommandOption::Until => "N",
             CommandOption::Object | CommandOption::Handle => "HEX",
             CommandOption::Tag => "TAG",
             CommandOption::Symbols => "FILE",
@@ -179,8 +204,14 @@ impl CommandOption {
             CommandOption::Process => "The process: decimal, at most 4294967295",
             CommandOption::Since => {
                 "\
-Handles opened after this sequence: decimal, at most
-18446744073709551615 [default: the last snapshot's]"
+Only handles opened after this sequence: decimal, at
+most 18446744073709551615, or 'snapshot' for that of the
+process's last snapshot [default of diff: snapshot]"
+            }
+            CommandOption::AtLeast => {
+                "\
+Only stacks with at least N of the handles: decimal, 1
+to 4294967295 [default: 1]"
             }
             CommandOption::Object => {
                 "\
@@ -195,11 +226,18 @@ hexadecimal digits, as 0x4c6b7938"
             CommandOption::Handle => {
                 "\
 The handle: 1 to 16 hexadecimal digits, with or without
-0x, at most 0xffffffff"
+0x, at most 0xffffffff; its low two bits are ignored"
             }
+            CommandOption::Points => "At most N moments: decimal, 2 to 1000 [default: 20]",
             CommandOption::Top => "At most N rows: decimal, 1 to 4294967295",
             CommandOption::Symbols => "Names for addresses: CSV of start,end,module,name",
             CommandOption::Workers => "How many threads decode segments: 1 to 8 [default: 1]",
+            CommandOption::Until => {
+                "\
+Only events up to this sequence count: decimal, at most
+18446744073709551615, or 'complete' for the one up to
+which no segment is missing"
+            }
         }
     }
 
@@ -207,15 +245,18 @@ The handle: 1 to 16 hexadecimal digits, with or without
     pub(crate) fn expected<'a>(self) -> &'a str {
         match self {
             CommandOption::Process => "decimal digits, at most 4294967295",
-            CommandOption::Since => "decimal digits, at most 18446744073709551615",
+            CommandOption::Since => "decimal digits, at most 18446744073709551615, or snapshot",
+            CommandOption::AtLeast => "1 to 4294967295",
             CommandOption::Object => "1 to 16 hexadecimal digits, with or without 0x",
             CommandOption::Tag => "four bytes of text, or 0x and eight hexadecimal digits",
             CommandOption::Handle => {
                 "1 to 16 hexadecimal digits, with or without 0x, at most 0xffffffff"
             }
+            CommandOption::Points => "2 to 1000",
             CommandOption::Top => "1 to 4294967295",
             CommandOption::Symbols => "the name of a file",
             CommandOption::Workers => "1 to 8",
+            CommandOption::Until => "decimal digits, at most 18446744073709551615, or complete",
         }
     }
 }
@@ -228,6 +269,7 @@ impl CommandFlag {
             CommandFlag::Json => "One JSON object a line, for other programs",
             CommandFlag::Complete => "Refuse segments of which one is missing (C8)",
             CommandFlag::Hex => "The files hold hexadecimal digits, not bytes",
+            CommandFlag::Notes => "Notes on standard error also where it is no terminal",
         }
     }
 }

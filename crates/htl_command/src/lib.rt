@@ -1,14 +1,16 @@
 //! The command line of `hleak`: from the arguments after the program's name to what they ask for.
 //!
 //! `specs/Commands` is the table of the commands with their options, `specs/Values` has one rule
-//! for each kind of value, and `specs/Requests` says what arguments ask for. `parse` gives just
-//! that, and refuses exactly the other arguments. How arguments are taken apart is `clap`'s
-//! matter: `specs/Entries` says what it is given.
+//! for each kind of value, `specs/Printed` says which texts are faults as they are printed, and
+//! `specs/Requests` what arguments ask for. `parse` gives just that, and refuses exactly the other
+//! arguments. How arguments are taken apart is `clap`'s matter: `specs/Entries` says what it is
+//! given.
 //!
 //! Files, in reading order: `question.rt` (what can be asked), `code.rt` (the codes of faults),
-//! `names.rt` (the commands and their options, by name), `builder.rt` (the commands as `clap` gets
-//! them), `command.rt` (`parse`), `line.rt` (a question of a dialogue), `reading.rt` and
-//! `values.rt` (entries and values), `help.rt` and `fault.rt` (what a person reads).
+//! `printed.rt` (faults as they are printed), `names.rt` (the commands and their options, by name),
+//! `builder.rt` (the commands as `clap` gets them), `command.rt` (`parse`), `line.rt` (a question of
+//! a dialogue), `reading.rt` and `values.rt` (entries and values), `help.rt` and `fault.rt` (what a
+//! person reads).
 #![tactic(auto)]
 
 mod builder;
@@ -18,12 +20,14 @@ mod fault;
 mod help;
 mod line;
 mod names;
+mod printed;
 mod question;
 mod reading;
 mod values;
 
 pub use code::Code;
-pub use command::{Command, Conversion, Dialogue, Run, parse};
+pub use command::{Command, CommandLine, Conversion, Dialogue, Run, parse};
 pub use fault::ParseFault;
 pub use line::parse_question;
-pub use question::{Format, Job, Question, Setting};
+pub use printed::{Parts, PrintedFault};
+pub use question::{Format, Job, Moment, Question, Setting, Since};

@@ -6,6 +6,7 @@ ghost use Rattle.htl_command.specs.Requests.{asked_by, asked_in, asked_met};
 ghost use Rattle.htl_command.specs.Steps.{entries_of};
 ghost use Rattle.htl_command.specs.declared.names.CommandName.TheVariants as command;
 
+use crate::builder::Place;
 use crate::command::matches;
 use crate::fault::{ParseFault, no_command, no_question, of_entries};
 use crate::names::{CommandName, QuestionName};
@@ -20,7 +21,7 @@ pub fn parse_question(alloc: Global, arguments: &[String]) -> Result<Job, ParseF
     ensures ok { IfOk result (λ job. asked_in (map string_bytes arguments.now) ≡ Some job) }
     ensures err { IfErr result (RefusesQuestion (map string_bytes arguments.now)) }
 {
-    match matches(alloc, arguments) {
+    match matches(alloc, arguments, Place::Dialogue) {
         Ok(matches) => read_line(alloc, &matches),
         Err(fault) => Err(fault),
     }
@@ -55,6 +56,9 @@ fn read_entries(
     }
     match job(question, entries) {
         Ok(job) => Ok(job),
-        Err(refused) => Err(of_entries(alloc, CommandName::Question(question), refused)),
+        Err(refused) => {
+            let name = CommandName::Question(question);
+            Err(of_entries(alloc, "", name, refused))
+        }
     }
 }

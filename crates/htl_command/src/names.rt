@@ -30,6 +30,7 @@ pub(crate) enum QuestionName {
     Leaks,
     Stacks,
     Trace,
+    Growth,
 }
 
 /// An option that takes a value.
@@ -37,12 +38,15 @@ pub(crate) enum QuestionName {
 pub(crate) enum CommandOption {
     Process,
     Since,
+    AtLeast,
     Object,
     Tag,
     Handle,
+    Points,
     Top,
     Symbols,
     Workers,
+    Until,
 }
 
 /// An option without a value.
@@ -53,10 +57,11 @@ pub(crate) enum CommandFlag {
     Json,
     Complete,
     Hex,
+    Notes,
 }
 
 /// All commands, as help lists them.
-pub(crate) const COMMANDS: [CommandName; 12] = [
+pub(crate) const COMMANDS: [CommandName; 13] = [
     CommandName::Question(QuestionName::Summary),
     CommandName::Question(QuestionName::Outstanding),
     CommandName::Question(QuestionName::Diff),
@@ -65,6 +70,7 @@ pub(crate) const COMMANDS: [CommandName; 12] = [
     CommandName::Question(QuestionName::Leaks),
     CommandName::Question(QuestionName::Stacks),
     CommandName::Question(QuestionName::Trace),
+    CommandName::Question(QuestionName::Growth),
     CommandName::Ask,
     CommandName::Explain,
     CommandName::Dump,
@@ -85,6 +91,10 @@ impl CommandName {
             CommandName::Encode => "encode",
             CommandName::Ask => "ask",
         }
+    }
+
+    pub(crate) fn is_question(self) -> bool {
+        matches!(self, CommandName::Question(_))
     }
 
     #[tactic(auto, unfolding(crate::specs::Commands::command_named))]
@@ -108,6 +118,7 @@ impl QuestionName {
             QuestionName::Leaks => "leaks",
             QuestionName::Stacks => "stacks",
             QuestionName::Trace => "trace",
+            QuestionName::Growth => "growth",
         }
     }
 
@@ -117,7 +128,7 @@ impl QuestionName {
     {
         match self {
             QuestionName::Summary => &[CommandOption::Top],
-            QuestionName::Outstanding | QuestionName::Bad | QuestionName::Leaks => &[
+            QuestionName::Outstanding | QuestionName::Bad => &[
                 CommandOption::Process,
                 CommandOption::Top,
             ],
@@ -127,6 +138,12 @@ impl QuestionName {
                 CommandOption::Top,
             ],
             QuestionName::Tags => &[CommandOption::Object],
+            QuestionName::Leaks => &[
+                CommandOption::Process,
+                CommandOption::Since,
+                CommandOption::AtLeast,
+                CommandOption::Top,
+            ],
             QuestionName::Stacks => &[
                 CommandOption::Object,
                 CommandOption::Tag,
@@ -137,6 +154,7 @@ impl QuestionName {
                 CommandOption::Handle,
                 CommandOption::Top,
             ],
+            QuestionName::Growth => &[CommandOption::Process, CommandOption::Points],
         }
     }
 
@@ -151,7 +169,7 @@ impl QuestionName {
             | QuestionName::Tags
             | QuestionName::Bad => &[CommandFlag::ExitCode],
             QuestionName::Leaks => &[CommandFlag::ExitCode, CommandFlag::Folded],
-            QuestionName::Stacks | QuestionName::Trace => &[],
+            QuestionName::Stacks | QuestionName::Trace | QuestionName::Growth => &[],
         }
     }
 }
@@ -173,12 +191,15 @@ impl CommandOption {
         match self {
             CommandOption::Process => "process",
             CommandOption::Since => "since",
+            CommandOption::AtLeast => "at-least",
             CommandOption::Object => "object",
             CommandOption::Tag => "tag",
             CommandOption::Handle => "handle",
+            CommandOption::Points => "points",
             CommandOption::Top => "top",
             CommandOption::Symbols => "symbols",
             CommandOption::Workers => "workers",
+            CommandOption::Until => "until",
         }
     }
 
@@ -186,13 +207,18 @@ impl CommandOption {
     pub(crate) fn is_required(self) -> bool
         ensures { result ≡ is_required self }
     {
-        !matches!(
+        matches!(
             self,
-            CommandOption::Since
-                | CommandOption::Top
-                | CommandOption::Symbols
-                | CommandOption::Workers
+            CommandOption::Process
+                | CommandOption::Object
+                | CommandOption::Tag
+                | CommandOption::Handle
         )
+    }
+
+    /// Whether it belongs to a whole run, and not to a question of a dialogue.
+    pub(crate) fn is_of_run(self) -> bool {
+        matches!(self, CommandOption::Symbols | CommandOption::Workers)
     }
 }
 
@@ -207,6 +233,12 @@ impl CommandFlag {
             CommandFlag::Json => "json",
             CommandFlag::Complete => "complete",
             CommandFlag::Hex => "hex",
+            CommandFlag::Notes => "notes",
         }
+    }
+
+    /// Whether it belongs to a whole run, and not to a question of a dialogue.
+    pub(crate) fn is_of_run(self) -> bool {
+        !matches!(self, CommandFlag::Json | CommandFlag::Folded)
     }
 }

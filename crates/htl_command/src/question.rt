@@ -7,21 +7,63 @@ pub enum Question {
     /// are missing.
     Summary,
     /// The handles of a process that are open.
-    Outstanding { process: u32 },
-    /// The handles of a process that were opened after a sequence and are open. `None` stands for
-    /// the sequence of the process's last snapshot.
-    Diff { process: u32, since: Option<u64> },
+    Outstanding {
+        process: u32,
+    },
+    /// The handles of a process that were opened since then and are open.
+    Diff {
+        process: u32,
+        since: Since,
+    },
     /// The references and dereferences of an object under each tag.
-    Tags { object: u64 },
+    Tags {
+        object: u64,
+    },
     /// The references of a process to invalid handles.
-    Bad { process: u32 },
-    /// The stacks that opened handles of a process which are still open.
-    Leaks { process: u32 },
+    Bad {
+        process: u32,
+    },
+    /// The stacks that opened handles of a process which are still open: each that opened so many
+    /// of them, 1 or more. Where there is a `since`, only handles that were opened since then count.
+    Leaks {
+        process: u32,
+        since: Option<Since>,
+        at_least: u32,
+    },
     /// The stacks behind a tag of an object. The tag's bytes are in the order in which they are
     /// shown.
-    Stacks { object: u64, tag: [u8; 4] },
+    Stacks {
+        object: u64,
+        tag: [u8; 4],
+    },
     /// Each event of a handle of a process.
-    Trace { process: u32, handle: u32 },
+    Trace {
+        process: u32,
+        handle: u32,
+    },
+    /// How many handles of a process are open as of each of so many moments, 2 to 1000.
+    Growth {
+        process: u32,
+        points: u32,
+    },
+}
+
+/// Since when handles count: those that were opened later.
+#[derive(Clone, Copy, Debug, PartialEq, Eq)]
+pub enum Since {
+    /// The last snapshot of the process. Without one every handle counts.
+    Snapshot,
+    /// This sequence.
+    Sequence(u64),
+}
+
+/// Up to when events count: those that were written by then.
+#[derive(Clone, Copy, Debug, PartialEq, Eq)]
+pub enum Moment {
+    /// This sequence.
+    Sequence(u64),
+    /// The sequence up to which no segment is missing.
+    Complete,
 }
 
 /// How the segments are read of which many questions are asked.
@@ -29,7 +71,7 @@ pub enum Question {
 pub struct Setting {
     /// Whether the inputs are digits in hexadecimal.
     pub hex: bool,
-    /// How many threads decode and fold segments, 1 to 8.
+    /// How many threads decode segments, 1 to 8.
     pub workers: u32,
     /// Whether segments of which one is missing are refused.
     pub complete: bool,
@@ -55,6 +97,8 @@ pub struct Job {
     pub hex: bool,
     /// How many threads decode segments, 1 to 8.
     pub workers: u32,
+    /// Up to when events count. `None` stands for all of them.
+    pub until: Option<Moment>,
     /// How many rows are printed at most, 1 or more, and of a summary how many of each kind. `None`
     /// stands for all.
     pub top: Option<u32>,

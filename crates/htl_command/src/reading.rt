@@ -1,26 +1,30 @@
 //! The job of a command, read from the entries that `clap` gives.
-ghost use Rattle.std.specs.Prelude.{◌≡◌, ◌==◌, IfErr, IfOk, None, find, is_some, length, map, not};
-ghost use Rattle.std.specs.Prelude.{option_map};
-ghost use Rattle.std.specs.Prelude.{string_bytes};
+ghost use Rattle.std.specs.Prelude.{◌≡◌, ◌==◌, IfErr, IfOk, None, OnErr, find, is_some, length};
+ghost use Rattle.std.specs.Prelude.{map, not, option_map, string_bytes};
 ghost use Rattle.std.specs.Result.{result_ok};
 ghost use Rattle.clap.specs.Words.{all_of, first_of};
 ghost use Rattle.htl_command.specs.Steps.{IsFirstBroken, IsNoJob, IsTwoForms, Names, entries_of};
 ghost use Rattle.htl_command.specs.Steps.{breaks_rule, question_options};
-ghost use Rattle.htl_command.specs.Requests.{code_of, file_names, format_of, given as given_in};
-ghost use Rattle.htl_command.specs.Requests.{is_given as is_given_in, job_of, optional, question_of};
-ghost use Rattle.htl_command.specs.Requests.{is_of_run, setting_of, value};
-ghost use Rattle.htl_command.specs.Requests.{workers as workers_given};
-ghost use Rattle.htl_command.specs.Values.{handle_in, object_in, process_in, sequence_in, tag_in};
-ghost use Rattle.htl_command.specs.Values.{top_in};
+ghost use Rattle.htl_command.specs.Requests.{AsksNothing, IsAskedFor, defaulted, file_names};
+ghost use Rattle.htl_command.specs.Requests.{format_of, given as given_in, is_given as is_given_in};
+ghost use Rattle.htl_command.specs.Requests.{is_of_run, job_of, optional, question_of, request_of};
+ghost use Rattle.htl_command.specs.Requests.{setting_of, value, workers as workers_given};
+ghost use Rattle.htl_command.specs.Values.{count_in, handle_in, moment_in, object_in, points_in};
+ghost use Rattle.htl_command.specs.Values.{process_in, since_in, tag_in};
+ghost use Rattle.htl_command.specs.declared.command.Command.TheVariants as wish;
+ghost use Rattle.htl_command.specs.declared.names.CommandName.TheVariants as command;
 ghost use Rattle.htl_command.specs.declared.names.CommandOption.TheVariants as option;
 
-use crate::code::Code;
 use crate::names::{CommandFlag, CommandOption, QuestionName};
-use crate::question::{Format, Job, Question, Setting};
+use crate::printed::PrintedFault;
+use crate::question::{Format, Job, Moment, Question, Setting, Since};
 use crate::values;
 use clap::ArgMatches;
 use std::alloc::{AllocError, Global};
 use std::fmt;
+
+/// At how many moments open handles are counted where no option says so.
+const DEFAULT_POINTS: u32 = 20;
 
 /// A value that breaks the rule of its option.
 #[derive(Clone, Copy)]
@@ -78,7 +82,8 @@ impl Refused<'_> {
     fn write_tip<W: fmt::Write>(&self, f: &mut fmt::Formatter<W>) -> fmt::Result {
         let given = self.given;
         match self.option {
-            CommandOption::Process | CommandOption::Since if given.starts_with("0x") => {
+            CommandOption::Process | CommandOption::Since | CommandOption::Until
+                if given.starts_with("0x") => {
                 match values::object(given) {
                     Some(number) => write!(f, "\n\n  tip: {given} is {number}"),
                     None => Ok(()),
@@ -139,17 +144,39 @@ fn process<'a>(entries: &ArgMatches<'a>) -> Result<u32, Refused<'a>>
     values::process(given).ok_or(Refused { option, given })
 }
 
-fn since<'a>(entries: &ArgMatches<'a>) -> Result<Option<u64>, Refused<'a>>
-    ensures ok { result_ok result ≡ optional sequence_in option.Since (entries_of entries.now) }
+fn since<'a>(entries: &ArgMatches<'a>) -> Result<Option<Since>, Refused<'a>>
+    ensures ok { result_ok result ≡ optional since_in option.Since (entries_of entries.now) }
     ensures err { IfErr result (Names option.Since (entries_of entries.now)) }
 {
     let option = CommandOption::Since;
     match given(entries, option) {
         None => Ok(None),
-        Some(given) => match values::sequence(given) {
-            Some(sequence) => Ok(Some(sequence)),
+        Some(given) => match values::since(given) {
+            Some(since) => Ok(Some(since)),
             None => Err(Refused { option, given }),
         },
+    }
+}
+
+fn at_least<'a>(entries: &ArgMatches<'a>) -> Result<u32, Refused<'a>>
+    ensures ok { result_ok result ≡ defaulted count_in option.AtLeast 1 (entries_of entries.now) }
+    ensures err { IfErr result (Names option.AtLeast (entries_of entries.now)) }
+{
+    let option = CommandOption::AtLeast;
+    match given(entries, option) {
+        None => Ok(1),
+        Some(given) => values::count(given).ok_or(Refused { option, given }),
+    }
+}
+
+fn points<'a>(entries: &ArgMatches<'a>) -> Result<u32, Refused<'a>>
+    ensures ok { result_ok result ≡ defaulted points_in option.Points 20 (entries_of entries.now) }
+    ensures err { IfErr result (Names option.Points (entries_of entries.now)) }
+{
+    let option = CommandOption::Points;
+    match given(entries, option) {
+        None => Ok(DEFAULT_POINTS),
+        Some(given) => values::points(given).ok_or(Refused { option, given }),
     }
 }
 
@@ -181,14 +208,28 @@ fn handle<'a>(entries: &ArgMatches<'a>) -> Result<u32, Refused<'a>>
 }
 
 fn top<'a>(entries: &ArgMatches<'a>) -> Result<Option<u32>, Refused<'a>>
-    ensures ok { result_ok result ≡ optional top_in option.Top (entries_of entries.now) }
+    ensures ok { result_ok result ≡ optional count_in option.Top (entries_of entries.now) }
     ensures err { IfErr result (Names option.Top (entries_of entries.now)) }
 {
     let option = CommandOption::Top;
     match given(entries, option) {
         None => Ok(None),
-        Some(given) => match values::top(given) {
+        Some(given) => match values::count(given) {
             Some(top) => Ok(Some(top)),
+            None => Err(Refused { option, given }),
+        },
+    }
+}
+
+fn until<'a>(entries: &ArgMatches<'a>) -> Result<Option<Moment>, Refused<'a>>
+    ensures ok { result_ok result ≡ optional moment_in option.Until (entries_of entries.now) }
+    ensures err { IfErr result (Names option.Until (entries_of entries.now)) }
+{
+    let option = CommandOption::Until;
+    match given(entries, option) {
+        None => Ok(None),
+        Some(given) => match values::moment(given) {
+            Some(moment) => Ok(Some(moment)),
             None => Err(Refused { option, given }),
         },
     }
@@ -219,7 +260,7 @@ fn question<'a>(name: QuestionName, entries: &ArgMatches<'a>) -> Result<Question
         },
         QuestionName::Diff => Question::Diff {
             process: process(entries)?,
-            since: since(entries)?,
+            since: since(entries)?.unwrap_or(Since::Snapshot),
         },
         QuestionName::Tags => Question::Tags {
             object: object(entries)?,
@@ -229,6 +270,8 @@ fn question<'a>(name: QuestionName, entries: &ArgMatches<'a>) -> Result<Question
         },
         QuestionName::Leaks => Question::Leaks {
             process: process(entries)?,
+            since: since(entries)?,
+            at_least: at_least(entries)?,
         },
         QuestionName::Stacks => Question::Stacks {
             object: object(entries)?,
@@ -237,6 +280,10 @@ fn question<'a>(name: QuestionName, entries: &ArgMatches<'a>) -> Result<Question
         QuestionName::Trace => Question::Trace {
             process: process(entries)?,
             handle: handle(entries)?,
+        },
+        QuestionName::Growth => Question::Growth {
+            process: process(entries)?,
+            points: points(entries)?,
         },
     })
 }
@@ -248,6 +295,7 @@ pub(crate) fn is_of_run(entries: &ArgMatches) -> bool
     is_given(entries, CommandFlag::Hex)
         || is_given(entries, CommandFlag::Complete)
         || is_given(entries, CommandFlag::ExitCode)
+        || is_given(entries, CommandFlag::Notes)
         || has_option(entries, CommandOption::Symbols)
         || has_option(entries, CommandOption::Workers)
         || has_files(entries)
@@ -308,7 +356,7 @@ fn format<'a>(entries: &ArgMatches<'a>) -> Result<Format, NoJob<'a>>
 }
 
 /// The job of the question with these entries. Where several values break their rules, the first is
-/// reported: those of the question's own options, of `--workers` and of `--top`, in this order.
+/// reported: those of the question's own options, of `--workers`, `--until` and `--top`, in this order.
 #[tactic(auto, unfolding(crate::specs::Requests::job_of))]
 pub(crate) fn job<'a>(name: QuestionName, entries: &ArgMatches<'a>) -> Result<Job, NoJob<'a>>
     ensures ok { result_ok result ≡ job_of name (entries_of entries.now) }
@@ -318,6 +366,7 @@ pub(crate) fn job<'a>(name: QuestionName, entries: &ArgMatches<'a>) -> Result<Jo
         question: question(name, entries)?,
         hex: is_given(entries, CommandFlag::Hex),
         workers: workers(entries)?,
+        until: until(entries)?,
         top: top(entries)?,
         complete: is_given(entries, CommandFlag::Complete),
         exit_code: is_given(entries, CommandFlag::ExitCode),
@@ -325,14 +374,17 @@ pub(crate) fn job<'a>(name: QuestionName, entries: &ArgMatches<'a>) -> Result<Jo
     })
 }
 
-/// The code that is to be explained, or else what was given for one.
-pub(crate) fn code<'a>(entries: &ArgMatches<'a>) -> Result<Code, &'a str>
-    ensures { result_ok result ≡ code_of (entries_of entries.now) }
+/// The fault that is to be explained, or else what was given for one.
+pub(crate) fn printed_fault<'a>(entries: &ArgMatches<'a>) -> Result<PrintedFault, &'a str>
+    ensures ok { IfOk result (λ fault.
+        IsAskedFor (request_of command.Explain (entries_of entries.now)) (wish.Explain fault)) }
+    ensures err { OnErr result
+        (AsksNothing (request_of command.Explain (entries_of entries.now))) }
 {
     let Some(given) = entry(entries, "code") else {
         return Err("");
     };
-    Code::from_text(given).ok_or(given)
+    PrintedFault::from_text(given).ok_or(given)
 }
 
 fn copies(alloc: Global, texts: &[&str]) -> Result<Vec<String>, AllocError>

@@ -1,12 +1,19 @@
 //! The values of options, read from their texts. Each kind of value has one rule.
 ghost use Rattle.std.specs.Prelude.{◌≡◌};
-ghost use Rattle.htl_command.specs.Values.{handle_in, object_in, process_in, sequence_in, tag_in};
-ghost use Rattle.htl_command.specs.Values.{positive_in, top_in, workers_in};
+ghost use Rattle.htl_command.specs.Values.{count_in, handle_in, moment_in, number_in, object_in};
+ghost use Rattle.htl_command.specs.Values.{points_in, process_in, sequence_in, since_in, tag_in};
+ghost use Rattle.htl_command.specs.Values.{workers_in};
 
+use crate::question::{Moment, Since};
 use htl_numbers::{decimal, hexadecimal};
 
 /// How many threads decode segments at most.
 const MOST_WORKERS: u32 = 8;
+
+/// At how many moments open handles are counted: at least, and at most.
+const LEAST_POINTS: u32 = 2;
+
+const MOST_POINTS: u32 = 1000;
 
 pub(crate) fn process(text: &str) -> Option<u32>
     ensures { result ≡ process_in text.now }
@@ -19,6 +26,34 @@ pub(crate) fn sequence(text: &str) -> Option<u64>
     ensures { result ≡ sequence_in text.now }
 {
     decimal(text, u64::MAX)
+}
+
+/// Since when handles count.
+#[tactic(auto, unfolding(crate::specs::Values::since_in))]
+pub(crate) fn since(text: &str) -> Option<Since>
+    ensures { result ≡ since_in text.now }
+{
+    if text == "snapshot" {
+        return Some(Since::Snapshot);
+    }
+    match sequence(text) {
+        Some(sequence) => Some(Since::Sequence(sequence)),
+        None => None,
+    }
+}
+
+/// Up to when events count.
+#[tactic(auto, unfolding(crate::specs::Values::moment_in))]
+pub(crate) fn moment(text: &str) -> Option<Moment>
+    ensures { result ≡ moment_in text.now }
+{
+    if text == "complete" {
+        return Some(Moment::Complete);
+    }
+    match sequence(text) {
+        Some(sequence) => Some(Moment::Sequence(sequence)),
+        None => None,
+    }
 }
 
 pub(crate) fn object(text: &str) -> Option<u64>
@@ -53,23 +88,26 @@ pub(crate) fn tag(text: &str) -> Option<[u8; 4]>
 pub(crate) fn workers(text: &str) -> Option<u32>
     ensures { result ≡ workers_in text.now }
 {
-    positive(text, MOST_WORKERS)
+    number(text, 1, MOST_WORKERS)
 }
 
-/// How many rows are printed at most.
-pub(crate) fn top(text: &str) -> Option<u32>
-    ensures { result ≡ top_in text.now }
+/// How many rows are printed at most, or how many handles a stack has at least.
+pub(crate) fn count(text: &str) -> Option<u32>
+    ensures { result ≡ count_in text.now }
 {
-    positive(text, u32::MAX)
+    number(text, 1, u32::MAX)
 }
 
-fn positive(text: &str, most: u32) -> Option<u32>
-    ensures { result ≡ positive_in most text.now }
+/// At how many moments open handles are counted.
+pub(crate) fn points(text: &str) -> Option<u32>
+    ensures { result ≡ points_in text.now }
 {
-    let number = decimal(text, u64::from(most))?;
-    if number == 0 {
-        None
-    } else {
-        Some(number as u32)
-    }
+    number(text, LEAST_POINTS, MOST_POINTS)
+}
+
+fn number(text: &str, least: u32, most: u32) -> Option<u32>
+    ensures { result ≡ number_in least most text.now }
+{
+    let number = decimal(text, u64::from(most))? as u32;
+    if number < least { None } else { Some(number) }
 }

@@ -8,7 +8,6 @@ use Rattle.std.proofs.KnownBytes.{Appends-nil, Appends-trans}
 use Rattle.std.proofs.lemmas.List.{append-nil}
 use Rattle.std.proofs.lemmas.List.Folds.{list_any-append}
 use Rattle.htl_command.specs.declared.question.Job.{Job}
-use Rattle.htl_command.specs.declared.question.Question.{Question}
 use Rattle.htl_dialogue.specs.Dialogues.{AreReplies, Converses, Gets, IsReply, asked_lines, before_end, is_end, is_wrong, last_wait}
 use Rattle.htl_dialogue.specs.Lines.{lines_of}
 use Rattle.htl_dialogue.specs.Notes.{AreNotes, Note, after_notes, awaits}
@@ -27,7 +26,7 @@ abbrev pub line_is_end : List ℕ → Bool
 line_is_end line = is_end (saying_of line)
 
 -- So many lines were read of a text of which this is left, and got their replies and their notes. None ends the dialogue.
-pub record Progress {Host : Type 0} (HasText : Job → List ℕ → Type 0) (HasSubject : Question → Bool → Type 0) (wanted : Bool)
+pub record Progress {Host : Type 0} (HasText : Job → List ℕ → Type 0) (HasSubject : Job → Bool → Type 0) (wanted : Bool)
     (told : Host → Note → Host) (text : List ℕ) (old : Option (List ℕ)) (host : Host) (left new : Option (List ℕ)) (now : Host)
     (has_wrong : Bool) (count : ℕ) : Type 0 where
   pub read : List ℕ
@@ -92,7 +91,7 @@ wrong_more lines line has_wrong wrong any is =
     only true = refl
     only false = refl
 
-module _ {Host : Type 0} (HasText : Job → List ℕ → Type 0) (HasSubject : Question → Bool → Type 0) (wanted : Bool)
+module _ {Host : Type 0} (HasText : Job → List ℕ → Type 0) (HasSubject : Job → Bool → Type 0) (wanted : Bool)
     (told : Host → Note → Host) (text : List ℕ) (old : Option (List ℕ)) (host : Host) where
   -- nothing was read
   pub begins : (left : Option (List ℕ)) → left ≡ Some text → Progress HasText HasSubject wanted told text old host left old host false 0

@@ -1,7 +1,7 @@
 -- Notes on one line more.
 use Rattle.std.proofs.Common.{◌≡◌, ◌∙◌, ℕ, Bool, List, [], ◌∷◌, ◌++◌, refl, sym, ap, append_assoc}
 use Rattle.std.proofs.lemmas.List.{append-nil}
-use Rattle.htl_command.specs.declared.question.Question.{Question}
+use Rattle.htl_command.specs.declared.question.Job.{Job}
 use Rattle.htl_dialogue.specs.Notes.{AreNotes, IsAbsence, IsRefusal, Note, after_notes, awaits}
 use Rattle.htl_dialogue.specs.Replying.{KeepsFault, refusal_of}
 use Rattle.htl_dialogue.specs.Sayings.{saying, saying_of}
@@ -38,7 +38,7 @@ pub is_refusal : (line : List ℕ) (of : Said) → KeepsFault line of → saying
 is_refusal line of keeps same = rw (← same) (refusal_is line of keeps)
 
 -- the notes on one line more
-pub notes_more : (HasSubject : Question → Bool → Type 0) (wanted : Bool) (lines : List (List ℕ)) (line : List ℕ)
+pub notes_more : (HasSubject : Job → Bool → Type 0) (wanted : Bool) (lines : List (List ℕ)) (line : List ℕ)
     (notes refusal absence : List Note) → AreNotes HasSubject wanted lines notes → IsRefusal line (saying_of line) refusal
     → IsAbsence HasSubject wanted (saying_of line) absence
     → AreNotes HasSubject wanted (lines ++ line ∷ []) (notes ++ awaits ∷ (refusal ++ absence))

@@ -7,7 +7,6 @@ use Rattle.std.proofs.KnownBytes.{Appends-trans}
 use Rattle.htl_device.specs.declared.whole.ReadFault.{ReadFault}
 use Rattle.htl_device.specs.declared.whole.ReadFault.TheVariants as reads
 use Rattle.htl_command.specs.declared.question.Job.{Job}
-use Rattle.htl_command.specs.declared.question.Question.{Question}
 use Rattle.htl_dialogue.specs.Dialogues.{AreRead, Gets, GotAt, StopsAt, asked_lines, before_end, is_end}
 use Rattle.htl_dialogue.specs.Lines.{lines_of}
 use Rattle.htl_dialogue.specs.Notes.{Note, after_notes, awaits}
@@ -36,7 +35,7 @@ pub read_failed : (fault : ReadFault) → of_read fault ≡ Questions → fault 
 read_failed reads.Failed is = refl
 read_failed reads.NoMemory is = cc
 
-module _ {Host : Type 0} (HasText : Job → List ℕ → Type 0) (HasSubject : Question → Bool → Type 0) (wanted : Bool)
+module _ {Host : Type 0} (HasText : Job → List ℕ → Type 0) (HasSubject : Job → Bool → Type 0) (wanted : Bool)
     (told : Host → Note → Host) (text : List ℕ) (old : Option (List ℕ)) (host : Host) where
   -- the lines that are left
   cut_at : (left new : Option (List ℕ)) (now : Host) (has_wrong : Bool) (count : ℕ)
@@ -157,7 +156,7 @@ module _ {Host : Type 0} (HasText : Job → List ℕ → Type 0) (HasSubject : Q
 -- ---- too many reads or lines
 
 -- what is left of a text has no more bytes than it
-pub endless : {Host : Type 0} (HasText : Job → List ℕ → Type 0) (HasSubject : Question → Bool → Type 0) (wanted : Bool)
+pub endless : {Host : Type 0} (HasText : Job → List ℕ → Type 0) (HasSubject : Job → Bool → Type 0) (wanted : Bool)
     (told : Host → Note → Host) (known old : Option (List ℕ)) (host : Host) (left new : Option (List ℕ)) (now : Host)
     (has_wrong : Bool) (count most : ℕ)
     → ((text : List ℕ) → known ≡ Some text → Progress HasText HasSubject wanted told text old host left new now has_wrong count)
@@ -169,7 +168,7 @@ endless HasText HasSubject wanted told (Some text) old host left new now has_wro
     omega (arith, more, here.each)
 
 -- each line takes a byte
-pub too_many : {Host : Type 0} (HasText : Job → List ℕ → Type 0) (HasSubject : Question → Bool → Type 0) (wanted : Bool)
+pub too_many : {Host : Type 0} (HasText : Job → List ℕ → Type 0) (HasSubject : Job → Bool → Type 0) (wanted : Bool)
     (told : Host → Note → Host) (known old : Option (List ℕ)) (host : Host) (left new : Option (List ℕ)) (now : Host)
     (has_wrong : Bool) (count most : ℕ)
     → ((text : List ℕ) → known ≡ Some text → Progress HasText HasSubject wanted told text old host left new now has_wrong count)

@@ -4,7 +4,6 @@ use Rattle.std.specs.Prelude.{◌≡◌, ◌⊎◌, ℕ, Bool, true, false, List
 use Rattle.std.specs.List.{list_any}
 use Rattle.std.specs.Io.KnownBytes.{Appends, Consumes}
 use Rattle.htl_command.specs.declared.question.Job.{Job}
-use Rattle.htl_command.specs.declared.question.Question.{Question}
 use Rattle.htl_dialogue.specs.Lines.{lines_of}
 use Rattle.htl_dialogue.specs.Notes.{AreNotes, IsRefusal, Note, after_notes, awaits}
 use Rattle.htl_dialogue.specs.Sayings.{Saying, nothing, quits, asks, wrong, saying_of}
@@ -51,7 +50,7 @@ abbrev pub Gets : {Host : Type 0} → Option (List ℕ) → Option (List ℕ) �
 Gets old new told host after replies notes = Appends old new replies × (after ≡ after_notes told host notes)
 
 -- Converses: all lines of the text got their replies and the host its notes on them, and a line was wrong or not.
-pub record Converses (HasText : Job → List ℕ → Type 0) (HasSubject : Question → Bool → Type 0) (wanted : Bool) (text : List ℕ)
+pub record Converses (HasText : Job → List ℕ → Type 0) (HasSubject : Job → Bool → Type 0) (wanted : Bool) (text : List ℕ)
     (Got : List ℕ → List Note → Type 0) (has_wrong : Bool) : Type 0 where
   pub replies : List ℕ
   pub are : AreReplies HasText (asked_lines text) replies
@@ -77,7 +76,7 @@ AreRead text left lines = (read begun : List ℕ) × Consumes (Some text) left r
 
 -- A fault ends the dialogue: the lines before it got their replies. Where a read failed, these are all lines that were read, so that no
 -- line waits for its reply while the next is read, and nothing is read after a line that ends the dialogue.
-pub record StopsAt (HasText : Job → List ℕ → Type 0) (HasSubject : Question → Bool → Type 0) (wanted : Bool) (text : List ℕ)
+pub record StopsAt (HasText : Job → List ℕ → Type 0) (HasSubject : Job → Bool → Type 0) (wanted : Bool) (text : List ℕ)
     (left : Option (List ℕ)) (failed : Bool) (Got : List ℕ → List Note → Type 0) (fault : DialogueFault) : Type 0 where
   pub before : List (List ℕ)
   pub later : List (List ℕ)

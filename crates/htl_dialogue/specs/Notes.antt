@@ -3,6 +3,7 @@ use Rattle.std.specs.Prelude.{◌≡◌, ◌≢◌, ⊤, ℕ, Bool, true, false,
 use Rattle.htl_command.specs.Refusals.{IsUsageWith, RefusesQuestion}
 use Rattle.htl_command.specs.declared.fault.ParseFault.{ParseFault}
 use Rattle.htl_command.specs.declared.fault.ParseFault.TheVariants.{Memory}
+use Rattle.htl_command.specs.declared.question.Job.{Job}
 use Rattle.htl_command.specs.declared.question.Question.{Question}
 use Rattle.htl_dialogue.specs.Lines.{arguments_of}
 use Rattle.htl_dialogue.specs.Sayings.{Saying, nothing, quits, asks, wrong, is_readable, meant, saying_of}
@@ -37,20 +38,20 @@ IsRefusal line quits notes = notes ≡ []
 IsRefusal line (asks job) notes = notes ≡ []
 
 -- after the reply to a question, where the host wants to know: that what it names has no event
-abbrev pub IsAbsenceOf : (Question → Bool → Type 0) → Bool → Question → List Note → Type 0
-IsAbsenceOf HasSubject false question notes = notes ≡ []
-IsAbsenceOf HasSubject true question notes =
-    (found : Bool) × HasSubject question found × (notes ≡ (if found then [] else lacks question ∷ []))
+abbrev pub IsAbsenceOf : (Job → Bool → Type 0) → Bool → Job → List Note → Type 0
+IsAbsenceOf HasSubject false job notes = notes ≡ []
+IsAbsenceOf HasSubject true job notes =
+    (found : Bool) × HasSubject job found × (notes ≡ (if found then [] else lacks job.question ∷ []))
 
 -- after the reply to a line
-abbrev pub IsAbsence : (Question → Bool → Type 0) → Bool → Saying → List Note → Type 0
-IsAbsence HasSubject wanted (asks job) notes = IsAbsenceOf HasSubject wanted job.question notes
+abbrev pub IsAbsence : (Job → Bool → Type 0) → Bool → Saying → List Note → Type 0
+IsAbsence HasSubject wanted (asks job) notes = IsAbsenceOf HasSubject wanted job notes
 IsAbsence HasSubject wanted nothing notes = notes ≡ []
 IsAbsence HasSubject wanted quits notes = notes ≡ []
 IsAbsence HasSubject wanted wrong notes = notes ≡ []
 
 -- The notes on lines, one line after the other.
-abbrev pub AreNotes : (Question → Bool → Type 0) → Bool → List (List ℕ) → List Note → Type 0
+abbrev pub AreNotes : (Job → Bool → Type 0) → Bool → List (List ℕ) → List Note → Type 0
 AreNotes HasSubject wanted [] notes = notes ≡ []
 AreNotes HasSubject wanted (line ∷ more) notes =
     (refusal absence later : List Note) × IsRefusal line (saying_of line) refusal

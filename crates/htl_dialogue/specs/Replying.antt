@@ -7,7 +7,6 @@ use Rattle.htl_device.specs.declared.whole.ReadFault.TheVariants as reads
 use Rattle.htl_command.specs.declared.fault.ParseFault.{ParseFault}
 use Rattle.htl_command.specs.declared.fault.ParseFault.TheVariants.{Memory}
 use Rattle.htl_command.specs.declared.question.Job.{Job}
-use Rattle.htl_command.specs.declared.question.Question.{Question}
 use Rattle.htl_dialogue.specs.Dialogues.{IsReply}
 use Rattle.htl_dialogue.specs.Notes.{IsAbsence, IsAbsenceOf, IsFaultOf, Note, after_notes, refuses}
 use Rattle.htl_dialogue.specs.Sayings.{Saying, saying}
@@ -44,14 +43,14 @@ pub record Replies (HasText : Job → List ℕ → Type 0) (said : Saying) (old 
   pub written : Appends old new reply
 
 -- a host heard whether what a question names has an event, where it wants to know
-pub record Lacks {Host : Type 0} (HasSubject : Question → Bool → Type 0) (wanted : Bool) (told : Host → Note → Host) (host : Host)
-    (question : Question) (after : Host) : Type 0 where
+pub record Lacks {Host : Type 0} (HasSubject : Job → Bool → Type 0) (wanted : Bool) (told : Host → Note → Host) (host : Host)
+    (job : Job) (after : Host) : Type 0 where
   pub absence : List Note
-  pub is : IsAbsenceOf HasSubject wanted question absence
+  pub is : IsAbsenceOf HasSubject wanted job absence
   pub heard : after ≡ after_notes told host absence
 
 -- a host got the notes on a line
-pub record Hears {Host : Type 0} (HasSubject : Question → Bool → Type 0) (wanted : Bool) (told : Host → Note → Host) (host : Host)
+pub record Hears {Host : Type 0} (HasSubject : Job → Bool → Type 0) (wanted : Bool) (told : Host → Note → Host) (host : Host)
     (said : Said) (after : Host) : Type 0 where
   pub absence : List Note
   pub is : IsAbsence HasSubject wanted (saying said) absence

@@ -22,21 +22,20 @@ use thiserror::Error;
 pub trait Answerer {
     ghost use Rattle.std.specs.Prelude.{Bool};
     ghost use Rattle.htl_command.specs.declared.question.Job.{Job};
-    ghost use Rattle.htl_command.specs.declared.question.Question.{Question};
 
     // This is the text of the answer to a job.
     ghost has_text: { Self → Job → List ℕ → Type 0 };
 
-    // Whether what a question names has an event.
-    ghost reports_subject: { Self → Question → Bool → Type 0 };
+    // Whether what a job's question names has an event.
+    ghost reports_subject: { Self → Job → Bool → Type 0 };
 
     /// The text of the answer to a job.
     fn answer(&self, alloc: Global, job: &Job) -> Result<Vec<u8>, NoMemory>
         ensures { IfOk result (λ text. has_text self.now job.now text.items) };
 
-    /// Whether what a question names has an event.
-    fn has_subject(&self, question: Question) -> bool
-        ensures { reports_subject self.now question result };
+    /// Whether what a job's question names has an event that counts.
+    fn has_subject(&self, job: &Job) -> bool
+        ensures { reports_subject self.now job.now result };
 }
 
 /// Who is told what goes on beside the replies. What it shows is no part of them.
@@ -224,20 +223,20 @@ fn reply<A: Answerer, W: Sink, H: Host>(
             let mut text = answerer.answer(alloc, job)?;
             text.push(b'\n')?;
             write(out, &text)?;
-            note_absence(answerer, job.question, host);
+            note_absence(answerer, job, host);
             Ok(false)
         }
     }
 }
 
 /// Tells a host that wants to know where what a question names has no event.
-fn note_absence<A: Answerer, H: Host>(answerer: &A, question: Question, host: &mut H)
+fn note_absence<A: Answerer, H: Host>(answerer: &A, job: &Job, host: &mut H)
     ensures told { Lacks (A.reports_subject answerer.now) (H.wants_absence host.old) H.told host.old
-        question host.new }
+        job.now host.new }
     ensures same { H.wants_absence host.new ≡ H.wants_absence host.old }
 {
-    if host.notes_absence() && !answerer.has_subject(question) {
-        host.lacks(question);
+    if host.notes_absence() && !answerer.has_subject(job) {
+        host.lacks(job.question);
     }
 }
 

@@ -10,13 +10,21 @@ use Rattle.htl_main.specs.Causes.{IsCause, IsCauseAfter}
 use Rattle.htl_main.specs.Readings.{AreRead}
 use Rattle.htl_main.specs.Sources.{EndsBefore, IsSourcesCause}
 use Rattle.htl_main.specs.declared.fault.RunFault.{RunFault}
-use Rattle.htl_main.specs.declared.fault.RunFault.TheVariants.{Case, Incomplete, Symbols, Read, Write, Memory}
+use Rattle.htl_main.specs.declared.fault.RunFault.TheVariants.{Case, Incomplete, NoSubject, Symbols, Read, Write, Memory}
 use Rattle.htl_main.proofs.ReadingLaws.{ill, read_then, well}
 
 -- the causes of a refusal don't look at what the job asks, so this one stands for any
 pub some_job : Job
-some_job =
-    record { question = Summary; hex = false; workers = 1; top = None; complete = false; exit_code = false; format = Plain }
+some_job = record {
+  question = Summary;
+  until = None;
+  hex = false;
+  workers = 1;
+  top = None;
+  complete = false;
+  exit_code = false;
+  format = Plain;
+}
 
 -- after its segments were decoded a run ends for no failed write
 pub not_write : (segments : List Content) (symbols : Option (List ℕ)) (job : Job) (fault : RunFault) → IsCauseAfter segments symbols job fault
@@ -35,6 +43,7 @@ no_input : (segments : List Content) (symbols : Option (List ℕ)) (job : Job) (
 no_input segments symbols job (Case found) place cause before = before
 no_input segments symbols job (Incomplete processor number) place cause before = before
 no_input segments symbols job (Symbols found) place cause before = before
+no_input segments symbols job NoSubject place cause before = before
 no_input segments symbols job Memory place cause before = before
 no_input segments symbols job fault place cause before = cause
 
@@ -54,6 +63,7 @@ pub cause_of : (job : Job) (inputs : List (List ℕ)) (symbols : Option (List �
 cause_of job inputs symbols segments (Case found) fit decoded cause = (fit, segments, decoded, cause)
 cause_of job inputs symbols segments (Incomplete processor number) fit decoded cause = (fit, segments, decoded, cause)
 cause_of job inputs symbols segments (Symbols found) fit decoded cause = (fit, segments, decoded, cause)
+cause_of job inputs symbols segments NoSubject fit decoded cause = (fit, segments, decoded, cause)
 cause_of job inputs symbols segments Memory fit decoded cause = (fit, inr (segments, decoded, cause))
 cause_of job inputs symbols segments fault fit decoded cause = absurd cause
 
@@ -63,5 +73,6 @@ pub sources_cause_of : (job : Job) (inputs : List (List ℕ)) (lefts : List (Opt
 sources_cause_of job inputs lefts ends symbols segments (Case found) fit decoded cause = (fit, segments, decoded, cause)
 sources_cause_of job inputs lefts ends symbols segments (Incomplete processor number) fit decoded cause = (fit, segments, decoded, cause)
 sources_cause_of job inputs lefts ends symbols segments (Symbols found) fit decoded cause = (fit, segments, decoded, cause)
+sources_cause_of job inputs lefts ends symbols segments NoSubject fit decoded cause = (fit, segments, decoded, cause)
 sources_cause_of job inputs lefts ends symbols segments Memory fit decoded cause = (fit, inr (segments, decoded, cause))
 sources_cause_of job inputs lefts ends symbols segments fault fit decoded cause = absurd cause

@@ -1,12 +1,10 @@
 -- What is answered over what was loaded is what a run prints, and what a run reports beside it holds of the inputs.
-use Rattle.std.proofs.Common.{◌≡◌, ℕ, Bool, List, Option, inr}
+use Rattle.std.proofs.Common.{◌≡◌, ◌≢◌, ℕ, Bool, true, false, List, Option, None, Some, Result, Err, inr, refl}
 use Rattle.std.specs.Prelude.{Ok}
 use Rattle.htl_segment.specs.Content.{Content}
 use Rattle.htl_segment.specs.Traces.{Trace}
-use Rattle.htl_case.specs.Cases.{IsCaseOf}
 use Rattle.htl_symbols.specs.Ranges.{Range}
 use Rattle.htl_command.specs.declared.question.Job.{Job}
-use Rattle.htl_command.specs.declared.question.Question.{Question}
 use Rattle.htl_command.specs.declared.question.Setting.{Setting}
 use Rattle.htl_main.specs.Answers.{Finds, FindsOver}
 use Rattle.htl_main.specs.Causes.{IsCause}
@@ -14,10 +12,13 @@ use Rattle.htl_main.specs.Coverages.{Covers, IsCoverage}
 use Rattle.htl_main.specs.Inputs.{DecodeAll}
 use Rattle.htl_main.specs.Loading.{AreLoaded, AreLoadedOf, in_setting}
 use Rattle.htl_main.specs.Printed.{IsText, Printed, WorkersFit}
-use Rattle.htl_main.specs.Sources.{IsSourcesCause}
-use Rattle.htl_main.specs.Subjects.{ReportsSubject, has_subject}
+use Rattle.htl_main.specs.Printing.{EndsOver, PrintsOver}
+use Rattle.htl_main.specs.Sources.{EndsBefore, IsSourcesCause}
+use Rattle.htl_main.specs.Subjects.{HasSubject, ReportsSubject}
 use Rattle.htl_main.specs.declared.coverage.Coverage.{Coverage}
-use Rattle.htl_main.specs.declared.fault.RunFault.TheVariants.{Memory}
+use Rattle.htl_main.specs.declared.fault.RunFault.{RunFault}
+use Rattle.htl_main.specs.declared.fault.RunFault.TheVariants.{Memory, NoSubject, Read, Write}
+use Rattle.htl_main.proofs.MomentLaws.{complete_until}
 
 -- how a run for the job reads its segments
 abbrev pub setting_of : Job → Setting
@@ -25,15 +26,30 @@ setting_of job = record { hex = job.hex; workers = job.workers; complete = job.c
 
 -- what a run loads of its inputs, where its workers fit
 pub loaded_of : (job : Job) (inputs : List (List ℕ)) (symbols : Option (List ℕ)) (segments : List Content) (T : Trace) (table : List Range)
-    → WorkersFit job.workers → DecodeAll job.hex inputs segments → AreLoaded segments symbols job.complete T table
-    → AreLoadedOf inputs symbols (setting_of job) T table
+    → WorkersFit job.workers → DecodeAll job.hex inputs segments → AreLoaded segments symbols job.complete job.until T table
+    → AreLoadedOf inputs symbols (setting_of job) job.until T table
 loaded_of job inputs symbols segments T table workers decoded loaded =
     record { workers = workers; segments = segments; decoded = decoded; loaded = loaded }
 
-module _ (setting : Setting) (inputs : List (List ℕ)) (symbols : Option (List ℕ)) (T : Trace) (table : List Range)
-    (loaded : AreLoadedOf inputs symbols setting T table) where
-  pub runs_text : (job : Job) (lines : List ℕ) → IsText T table job lines → Printed (in_setting setting job) inputs symbols (Ok lines)
-  runs_text job lines is = (
+-- what is loaded for answers as of the end is loaded for one as of whichever moment
+pub as_of : (inputs : List (List ℕ)) (symbols : Option (List ℕ)) (setting : Setting) (job : Job) (T : Trace) (table : List Range)
+    → AreLoadedOf inputs symbols setting None T table → AreLoadedOf inputs symbols setting job.until T table
+as_of inputs symbols setting job T table loaded = record {
+  workers = loaded.workers;
+  segments = loaded.segments;
+  decoded = loaded.decoded;
+  loaded = record {
+    case = loaded.loaded.case;
+    whole = λ complete. complete_until T job.until (loaded.loaded.whole complete);
+    named = loaded.loaded.named;
+  };
+}
+
+module _ (setting : Setting) (inputs : List (List ℕ)) (symbols : Option (List ℕ)) (T : Trace) (table : List Range) (job : Job)
+    (loaded : AreLoadedOf inputs symbols setting job.until T table) where
+  pub runs_text : (lines : List ℕ) → (job.exit_code ≡ true → HasSubject T job true) → IsText T table job lines
+      → Printed (in_setting setting job) inputs symbols (Ok lines)
+  runs_text lines about is = (
     loaded.workers,
     loaded.segments,
     loaded.decoded,
@@ -42,31 +58,63 @@ module _ (setting : Setting) (inputs : List (List ℕ)) (symbols : Option (List 
       taken = (loaded.loaded.case, loaded.loaded.whole);
       table = table;
       named = loaded.loaded.named;
+      about = about;
       is = is;
     },
   )
 
+  pub prints : (Written : List ℕ → Type 0) → PrintsOver T table job Written
+      → (lines : List ℕ) × Printed (in_setting setting job) inputs symbols (Ok lines) × Written lines
+  prints Written over = (over.lines, runs_text over.lines over.about over.is, over.written)
+
   pub runs_coverage : (coverage : Coverage) → IsCoverage T coverage → Covers setting.hex inputs coverage
   runs_coverage coverage is = (loaded.segments, loaded.decoded, (T, loaded.loaded.case, is))
 
-  pub runs_subject : (question : Question) (found : Bool)
-      → ((segments : List Content) → IsCaseOf segments T → found ≡ has_subject question segments)
-      → ReportsSubject setting.hex inputs question found
-  runs_subject question found is = (loaded.segments, loaded.decoded, is loaded.segments loaded.loaded.case)
+  pub runs_subject : (found : Bool) → HasSubject T job found → ReportsSubject inputs (in_setting setting job) found
+  runs_subject found over = (loaded.segments, loaded.decoded, (T, loaded.loaded.case, over))
 
-  pub runs_finding : (question : Question) (found : Bool) → FindsOver T question found → Finds setting.hex inputs question found
-  runs_finding question found over = (loaded.segments, loaded.decoded, (T, loaded.loaded.case, over))
+  pub runs_finding : (found : Bool) → FindsOver T job found → Finds (in_setting setting job) inputs found
+  runs_finding found over = (loaded.segments, loaded.decoded, (T, loaded.loaded.case, over))
 
-  -- memory may be refused to a run for its answer
-  pub memory_refused : (job : Job) → IsCause (in_setting setting job) inputs symbols Memory
-  memory_refused job = (
+  -- why it isn't printed
+  pub ends : (fault : RunFault) → EndsOver T job fault → (fault ≡ Write → (lines : List ℕ) × Printed (in_setting setting job) inputs symbols (Ok lines))
+      → IsCause (in_setting setting job) inputs symbols fault
+  ends NoSubject over written = (
+    loaded.workers,
+    loaded.segments,
+    loaded.decoded,
+    (over.0, T, (loaded.loaded.case, loaded.loaded.whole), table, loaded.loaded.named, over.1),
+  )
+  ends Memory over written = (
     loaded.workers,
     inr (loaded.segments, loaded.decoded, inr (T, (loaded.loaded.case, loaded.loaded.whole))),
   )
+  ends Write over written = written refl
+  ends fault over written = absurd over
 
-  pub sources_memory_refused : (job : Job) (lefts : List (Option (List ℕ))) (ends : List Bool)
-      → IsSourcesCause (in_setting setting job) inputs lefts ends symbols Memory
-  sources_memory_refused job lefts ends = (
+  pub sources_end : (lefts : List (Option (List ℕ))) (ended : List Bool) (fault : RunFault) → EndsOver T job fault
+      → (fault ≡ Write → (lines : List ℕ) × Printed (in_setting setting job) inputs symbols (Ok lines))
+      → IsSourcesCause (in_setting setting job) inputs lefts ended symbols fault
+  sources_end lefts ended NoSubject over written = (
+    loaded.workers,
+    loaded.segments,
+    loaded.decoded,
+    (over.0, T, (loaded.loaded.case, loaded.loaded.whole), table, loaded.loaded.named, over.1),
+  )
+  sources_end lefts ended Memory over written = (
     loaded.workers,
     inr (loaded.segments, loaded.decoded, inr (T, (loaded.loaded.case, loaded.loaded.whole))),
   )
+  sources_end lefts ended Write over written = written refl
+  sources_end lefts ended fault over written = absurd over
+
+-- what ends it so names no input, and is about no two segments
+pub over_no_input : (T : Trace) (job : Job) (fault : RunFault) (place : ℕ) → EndsOver T job fault → EndsBefore fault place → ⊥
+over_no_input T job NoSubject place over before = before
+over_no_input T job Memory place over before = before
+over_no_input T job Write place over before = before
+over_no_input T job fault place over before = over
+
+pub over_no_read : (T : Trace) (job : Job) (fault : RunFault) (at : ℕ) → EndsOver T job fault → fault ≢ Read at
+over_no_read T job (Read other) at over is = over
+over_no_read T job fault at over is = cc is

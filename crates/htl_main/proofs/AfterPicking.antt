@@ -6,18 +6,22 @@ use Rattle.std.proofs.lemmas.List.Elements.{All-nil, All-append}
 use Rattle.htl_device.specs.Devices.{AppendsPrefix}
 use Rattle.htl_event.specs.declared.interest.Interest.{Interest}
 use Rattle.htl_segment.specs.Content.{Content, Fits}
+use Rattle.htl_segment.specs.Picks.{ArePicksOf}
+use Rattle.htl_segment.specs.Traces.{Trace}
 use Rattle.htl_segment.specs.declared.picks.Picks.{Picks}
+use Rattle.htl_case.specs.Cases.{IsCaseOf}
+use Rattle.htl_case.specs.Picked.{Picked, IsPickedOf}
 use Rattle.htl_command.specs.declared.question.Question.{Question}
 use Rattle.htl_command.specs.declared.question.Job.{Job}
 use Rattle.htl_main.specs.Causes.{IsCauseAfter, Prints, PrintsPart}
 use Rattle.htl_main.specs.Inputs.{DecodeAll}
 use Rattle.htl_main.specs.Picked.{NeverCase, Reports, asks_about, interest_of}
-use Rattle.htl_main.specs.Picking.{ArePickedFor, ArePicksOfAll, EndsPrinting, PrintsOf, ReportsOf}
+use Rattle.htl_main.specs.Picking.{ArePickedFor, ArePicksOfAll, EndsPrinting, IsPickedFor, PrintsOf, ReportsOf}
 use Rattle.htl_main.specs.Printed.{WorkersFit}
 use Rattle.htl_main.specs.Sources.{IsSourcesCause}
 use Rattle.htl_main.specs.declared.completed.Completed.{Completed}
 use Rattle.htl_main.specs.declared.fault.RunFault.{RunFault}
-use Rattle.htl_main.specs.declared.fault.RunFault.TheVariants.{Case, Incomplete, Symbols, Memory, Write}
+use Rattle.htl_main.specs.declared.fault.RunFault.TheVariants.{Case, Incomplete, NoSubject, Symbols, Memory, Write}
 use Rattle.htl_main.proofs.AfterDecoding.{sources_cause_of}
 
 -- ---- what was picked
@@ -55,6 +59,15 @@ picked_run job inputs interest picks about all = record {
   };
 }
 
+-- the case that is made of picks is one of what was picked for the question
+pub picked_for : (question : Question) (picks : Picks) (segments : List Content) (case : Picked)
+    → ((interest : Interest) (all : List Content) → ArePicksOf interest picks all → All Fits all
+    → (T : Trace) × IsCaseOf all T × IsPickedOf interest T case)
+    → ArePickedFor question picks segments → IsPickedFor question case segments
+picked_for question picks segments case made are =
+    let of = made are.interest segments are.picks_of are.fits in
+    record { trace = of.0; interest = are.interest; about = are.about; case_of = of.1; picked = of.2 }
+
 pub prints : (job : Job) (inputs : List (List ℕ)) (segments : List Content) (symbols old new : Option (List ℕ)) → WorkersFit job.workers
     → DecodeAll job.hex inputs segments → PrintsOf segments symbols job (Appends old new) → Prints job inputs symbols old new
 prints job inputs segments symbols old new fit decoded of = (of.lines, (fit, segments, decoded, of.are), of.written)
@@ -63,9 +76,9 @@ pub prints_part : (job : Job) (inputs : List (List ℕ)) (segments : List Conten
     → DecodeAll job.hex inputs segments → PrintsOf segments symbols job (AppendsPrefix old new) → PrintsPart job inputs symbols old new
 prints_part job inputs segments symbols old new fit decoded of = (of.lines, (fit, segments, decoded, of.are), of.written)
 
-pub reports : (hex : Bool) (inputs : List (List ℕ)) (segments : List Content) (question : Question) (completed : Completed)
-    → DecodeAll hex inputs segments → ReportsOf segments question completed → Reports hex inputs question completed
-reports hex inputs segments question completed decoded of = record {
+pub reports : (job : Job) (inputs : List (List ℕ)) (segments : List Content) (completed : Completed) → DecodeAll job.hex inputs segments
+    → ReportsOf segments job completed → Reports job inputs completed
+reports job inputs segments completed decoded of = record {
   coverage = (segments, decoded, of.coverage);
   subject = (segments, decoded, of.subject);
   finding = (segments, decoded, of.finding);
@@ -98,6 +111,8 @@ ends_for job inputs lefts ends symbols segments W (Err (Incomplete processor num
     sources_cause_of job inputs lefts ends symbols segments (Incomplete processor number) fit decoded (cause (λ e. cc e))
 ends_for job inputs lefts ends symbols segments W (Err (Symbols fault)) fit decoded after cause write =
     sources_cause_of job inputs lefts ends symbols segments (Symbols fault) fit decoded (cause (λ e. cc e))
+ends_for job inputs lefts ends symbols segments W (Err NoSubject) fit decoded after cause write =
+    sources_cause_of job inputs lefts ends symbols segments NoSubject fit decoded (cause (λ e. cc e))
 ends_for job inputs lefts ends symbols segments W (Err Memory) fit decoded after cause write =
     sources_cause_of job inputs lefts ends symbols segments Memory fit decoded (cause (λ e. cc e))
 ends_for job inputs lefts ends symbols segments W (Err other) fit decoded after cause write = absurd after

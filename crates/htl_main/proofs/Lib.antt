@@ -14,7 +14,6 @@ pub mod OneAnswer
 pub mod OneOutcome
 pub mod OneCoverage
 pub mod UnfoldedLaws
-pub mod AnyEvents
 pub mod OneSource
 pub mod PartLaws
 pub mod PairLaws
@@ -24,3 +23,5 @@ pub mod AfterLoading
 pub mod PickedAnswers
 pub mod PickLaws
 pub mod AfterPicking
+pub mod MomentLaws
+pub mod UntilLaws

@@ -27,6 +27,7 @@ use Rattle.htl_main.specs.declared.coverage.Missed.{Missed}
 use Rattle.htl_main.specs.declared.fault.RunFault.{RunFault}
 use Rattle.htl_main.specs.declared.fault.RunFault.TheVariants.{Incomplete, Memory}
 use Rattle.htl_main.specs.Faults.{of_symbols}
+use Rattle.htl_main.specs.Moments.{IsCompleteUntil}
 use Rattle.htl_main.specs.Printed.{HasSymbolFault}
 use Rattle.htl_symbols.specs.declared.fault.SymbolFault.{SymbolFault}
 use Rattle.htl_symbols.specs.declared.fault.SymbolFault.TheVariants.{NoMemory}
@@ -120,11 +121,11 @@ of_one_trace segments T is = record {
       (ap (λ (key : ℕ × ℕ). key.0) same) (ap (λ (key : ℕ × ℕ). key.1) same);
 }
 
--- a key that is missing is a cause where the job asks for a complete case
+-- a key that is missing is a cause where the job asks for a complete case, and a gap is below its moment
 pub missing_cause : (segments : List Content) (symbols : Option (List ℕ)) (job : Job) (T : Trace) (fault : RunFault) → IsCaseOf segments T
-    → job.complete ≡ true → ReportsMissing T fault → IsCauseAfter segments symbols job fault
-missing_cause segments symbols job T (Incomplete p n) case complete missing = (complete, T, case, missing)
-missing_cause segments symbols job T other case complete missing = absurd missing
+    → job.complete ≡ true → (IsCompleteUntil T job.until → ⊥) → ReportsMissing T fault → IsCauseAfter segments symbols job fault
+missing_cause segments symbols job T (Incomplete p n) case complete touched missing = (complete, T, case, touched, missing)
+missing_cause segments symbols job T other case complete touched missing = absurd missing
 
 -- memory may be refused before the gaps are looked for
 pub memory_cause : (segments : List Content) (symbols : Option (List ℕ)) (job : Job) (T : Trace) → IsCaseOf segments T
@@ -133,7 +134,7 @@ memory_cause segments symbols job T case = inl (of_one_trace segments T case)
 
 -- so is the first fault of the symbols, or memory that was refused for them
 pub symbols_cause : (segments : List Content) (symbols : Option (List ℕ)) (job : Job) (T : Trace) (fault : SymbolFault) → IsCaseOf segments T
-    → (job.complete ≡ true → IsComplete T) → ((fault ≡ NoMemory) ⊎ HasSymbolFault symbols fault)
+    → (job.complete ≡ true → IsCompleteUntil T job.until) → ((fault ≡ NoMemory) ⊎ HasSymbolFault symbols fault)
     → IsCauseAfter segments symbols job (of_symbols fault)
 symbols_cause segments symbols job T NoMemory case ends found = inr (T, (case, ends))
 symbols_cause segments symbols job T other case ends found = elim found [

@@ -1,5 +1,5 @@
 -- Inputs have one coverage, and a summary reports the same.
-use Rattle.std.proofs.Common.{◌≡◌, ℕ, Bool, List, length, ap, sym, ◌∙◌, subst}
+use Rattle.std.proofs.Common.{◌≡◌, ℕ, Bool, List, Option, length, ap, sym, ◌∙◌, subst}
 use Rattle.htl_segment.specs.Content.{Content}
 use Rattle.htl_segment.specs.Traces.{Trace, HasKey}
 use Rattle.htl_case.proofs.Outcomes.{one_case}
@@ -28,9 +28,9 @@ one_coverage hex inputs a b p q =
     let trace = one_case q.0 p.2.0 q.2.0 (subst (λ (ss : List Content). IsCaseOf ss p.2.0) same p.2.1) q.2.1 in
     of_trace q.2.0 a b (subst (λ (T : Trace). IsCoverage T a) trace p.2.2) q.2.2
 
-pub summary_reports : (T : Trace) (coverage : Coverage) (totals : Totals) (gaps : List Gap) → IsCoverage T coverage → AreTotals T totals
-    → IsGaps (HasKey T) T.processors gaps → (coverage.gaps ≡ length gaps) × (coverage.complete_to ≡ totals.complete_to)
-summary_reports T coverage totals gaps is reported listed = (
+pub summary_reports : (T : Trace) (until : Option ℕ) (coverage : Coverage) (totals : Totals) (gaps : List Gap) → IsCoverage T coverage
+    → AreTotals T until totals → IsGaps (HasKey T) T.processors gaps → (coverage.gaps ≡ length gaps) × (coverage.complete_to ≡ totals.complete_to)
+summary_reports T until coverage totals gaps is reported listed = (
   is.counted ∙ ap length (one_gaps T is.gaps gaps is.are_gaps listed),
   one_complete T coverage.complete_to totals.complete_to is.complete_to reported.complete_to,
 )

@@ -3,8 +3,10 @@ use Rattle.std.proofs.Common.{◌≡◌, ◌≢◌, ◌⊎◌, ◌<◌, ℕ, zer
 use Rattle.std.proofs.Common.{refl, sym, ap, ◌∙◌, subst, inl, inr, arith}
 use Rattle.std.specs.Prelude.{Result, Ok, Err, slice_get}
 use Rattle.std.proofs.lemmas.Bool.{cases_order}
+use Rattle.std.specs.List.{list_any}
+use Rattle.htl_event.specs.Moments.{counted_events}
 use Rattle.htl_segment.specs.Content.{Content}
-use Rattle.htl_segment.specs.Traces.{Trace}
+use Rattle.htl_segment.specs.Traces.{Trace, all_events}
 use Rattle.htl_segment.specs.Bundles.{bundle, Splits, BundleFault}
 use Rattle.htl_segment.specs.Faults.{first_fault}
 use Rattle.htl_segment.specs.declared.fault.Fault.{Fault}
@@ -20,15 +22,17 @@ use Rattle.htl_symbols.specs.Ranges.{Range}
 use Rattle.htl_symbols.specs.Reading.{records_of}
 use Rattle.htl_symbols.specs.declared.fault.SymbolFault.{SymbolFault}
 use Rattle.htl_command.specs.declared.question.Job.{Job}
-use Rattle.htl_command.specs.declared.question.Question.{Question}
 use Rattle.htl_main.specs.Inputs.{HasBytes, Decodes, DecodeAll, HasBundleFault, HasHexFault, IsReported, StopsAt}
-use Rattle.htl_main.specs.Answers.{Finds, FindsIn, FindsOver}
-use Rattle.htl_main.specs.Completeness.{IsComplete, IsLeastMissing}
-use Rattle.htl_main.specs.Printed.{IsText, IsTaken, HasSymbols, HasSymbolFault, AreAnswerLines, IsPrinted, WorkersFit, Printed}
+use Rattle.htl_main.specs.Answers.{Finds, FindsIn, FindsOver, IsAnswer}
+use Rattle.htl_main.specs.Completeness.{IsLeastMissing}
+use Rattle.htl_main.specs.Moments.{IsCompleteUntil}
+use Rattle.htl_main.specs.Subjects.{HasSubject, is_about}
+use Rattle.htl_main.specs.Printed.{lines_of, IsText, IsTaken, HasSymbols, HasSymbolFault, AreAnswerLines, IsPrinted, WorkersFit, Printed}
 use Rattle.htl_case.specs.Complete.{IsFirstMissing}
 use Rattle.htl_main.specs.declared.fault.RunFault.{RunFault}
-use Rattle.htl_main.specs.declared.fault.RunFault.TheVariants.{Workers, Segment, Hex, Case, Incomplete, Symbols, Memory}
+use Rattle.htl_main.specs.declared.fault.RunFault.TheVariants.{Workers, Segment, Hex, Case, Incomplete, NoSubject, Symbols, Memory}
 use Rattle.htl_main.proofs.Covered.{one_first}
+use Rattle.htl_main.proofs.MomentLaws.{one_moment}
 use Rattle.htl_main.proofs.OneAnswer.{one_answer, same_finding, same_lines}
 use Rattle.htl_symbols.proofs.OneTable.{one_table, one_symbol_fault, table_has_no_fault}
 
@@ -181,20 +185,39 @@ one_case_fault segments f g p q = elim (exact_fault segments f (Err g) p.1 q) [
     fault_is : (x y : CaseFault) → ◌≡◌ {A = Result Trace CaseFault} (Err x) (Err y) → x ≡ y
     fault_is x y e = cc
 
+one_text : (T : Trace) (table : List Range) (job : Job) (a b : List ℕ) → IsText T table job a → IsText T table job b → a ≡ b
+one_text T table job a b p q =
+    let until = one_moment T job.until p.0 q.0 p.1 q.1 in
+    let is = subst (λ (n : Option ℕ). IsAnswer T n job.question p.2) until p.3 in
+    p.4 ∙ ap (λ (n : Option ℕ). lines_of job.format table n job.top p.2) until
+    ∙ same_lines job.format table q.0 job.top p.2 q.2 (one_answer T q.0 job.question p.2 q.2 is q.3) ∙ sym q.4
+
 one_lines : (segments : List Content) (symbols : Option (List ℕ)) (job : Job) (a b : List ℕ)
     → AreAnswerLines segments symbols job a → AreAnswerLines segments symbols job b → a ≡ b
 one_lines segments symbols job a b p q =
     let trace = one_case segments p.trace q.trace p.taken.0 q.taken.0 in
     let table = one_symbols symbols p.table q.table p.named q.named in
     let is = subst (λ (t : List Range). IsText q.trace t job a) table (subst (λ (T : Trace). IsText T p.table job a) trace p.is) in
-    is.2 ∙ same_lines job.format q.table job.top is.0 q.is.0 (one_answer q.trace job.question is.0 q.is.0 is.1 q.is.1) ∙ sym q.is.2
+    one_text q.trace q.table job a b is q.is
 
--- a key that is missing is that of a gap
-complete_or_missing : (segments : List Content) (job : Job) (T U : Trace) (p n : ℕ) → IsTaken segments job T → job.complete ≡ true
-    → IsCaseOf segments U → IsLeastMissing U p n → ⊥
-complete_or_missing segments job T U p n taken complete case missing =
-    let trace = one_case segments T U taken.0 case in
-    subst (λ (V : Trace). IsComplete V) trace (taken.1 complete) missing.gap missing.there
+-- no gap is below the moment, or one is
+complete_or_missing : (segments : List Content) (job : Job) (T U : Trace) → IsTaken segments job T → job.complete ≡ true
+    → IsCaseOf segments U → (IsCompleteUntil U job.until → ⊥) → ⊥
+complete_or_missing segments job T U taken complete case touched =
+    touched (subst (λ (V : Trace). IsCompleteUntil V job.until) (one_case segments T U taken.0 case) (taken.1 complete))
+
+-- an event that counts is of the subject, or none is
+one_subject : (segments : List Content) (job : Job) (T U : Trace) (a b : Bool) → IsCaseOf segments T → IsCaseOf segments U
+    → HasSubject T job a → HasSubject U job b → a ≡ b
+one_subject segments job T U a b case other p q =
+    let is = subst (λ (V : Trace). HasSubject V job a) (one_case segments T U case other) p in
+    let until = one_moment U job.until is.0 q.0 is.1 q.1 in
+    is.2 ∙ ap (λ (n : Option ℕ). list_any (is_about job.question) (counted_events n (all_events U.segments))) until ∙ sym q.2
+
+subject_or_none : (segments : List Content) (job : Job) (T U : Trace) → IsCaseOf segments T → IsCaseOf segments U
+    → (job.exit_code ≡ true → HasSubject T job true) → job.exit_code ≡ true → HasSubject U job false → ⊥
+subject_or_none segments job T U case other about coded none =
+    let same = one_subject segments job T U true false case other (about coded) none in cc same
 
 one_missing : (T : Trace) (p q n m : ℕ) → IsLeastMissing T p n → IsLeastMissing T q m → (p ≡ q) × (n ≡ m)
 one_missing T p q n m a b =
@@ -216,32 +239,46 @@ one_printed : (segments : List Content) (symbols : Option (List ℕ)) (job : Job
 one_printed segments symbols job (Ok a) (Ok b) p q = ap done (one_lines segments symbols job a b p q)
 one_printed segments symbols job (Ok a) (Err (Case f)) p q = absurd (case_or_fault segments p.trace f p.taken.0 q)
 one_printed segments symbols job (Ok a) (Err (Incomplete r n)) p q =
-    absurd (complete_or_missing segments job p.trace q.1 r n p.taken q.0 q.2 q.3)
+    absurd (complete_or_missing segments job p.trace q.1 p.taken q.0 q.2 q.3)
 one_printed segments symbols job (Ok a) (Err (Symbols f)) p q = absurd (symbols_or_fault symbols p.table f p.named q.2)
+one_printed segments symbols job (Ok a) (Err NoSubject) p q =
+    absurd (subject_or_none segments job p.trace q.1 p.taken.0 q.2.0 p.about q.0 q.5)
 one_printed segments symbols job (Ok a) (Err other) p q = absurd q
 one_printed segments symbols job (Err (Case f)) (Ok b) p q = absurd (case_or_fault segments q.trace f q.taken.0 p)
 one_printed segments symbols job (Err (Case f)) (Err (Case g)) p q =
     ap (λ (x : CaseFault). failed (Case x)) (one_case_fault segments f g p q)
 one_printed segments symbols job (Err (Case f)) (Err (Incomplete r n)) p q = absurd (case_or_fault segments q.1 f q.2 p)
 one_printed segments symbols job (Err (Case f)) (Err (Symbols g)) p q = absurd (case_or_fault segments q.0 f q.1.0 p)
+one_printed segments symbols job (Err (Case f)) (Err NoSubject) p q = absurd (case_or_fault segments q.1 f q.2.0 p)
 one_printed segments symbols job (Err (Case f)) (Err other) p q = absurd q
 one_printed segments symbols job (Err (Incomplete r n)) (Ok b) p q =
-    absurd (complete_or_missing segments job q.trace p.1 r n q.taken p.0 p.2 p.3)
+    absurd (complete_or_missing segments job q.trace p.1 q.taken p.0 p.2 p.3)
 one_printed segments symbols job (Err (Incomplete r n)) (Err (Case g)) p q = absurd (case_or_fault segments p.1 g p.2 q)
 one_printed segments symbols job (Err (Incomplete r n)) (Err (Incomplete s m)) p q =
     let trace = one_case segments p.1 q.1 p.2 q.2 in
-    let key = one_missing q.1 r s n m (subst (λ (T : Trace). IsLeastMissing T r n) trace p.3) q.3 in
+    let key = one_missing q.1 r s n m (subst (λ (T : Trace). IsLeastMissing T r n) trace p.4) q.4 in
     ap (λ (x : ℕ). failed (Incomplete x n)) key.0 ∙ ap (λ (x : ℕ). failed (Incomplete s x)) key.1
 one_printed segments symbols job (Err (Incomplete r n)) (Err (Symbols g)) p q =
-    absurd (complete_or_missing segments job q.0 p.1 r n q.1 p.0 p.2 p.3)
+    absurd (complete_or_missing segments job q.0 p.1 q.1 p.0 p.2 p.3)
+one_printed segments symbols job (Err (Incomplete r n)) (Err NoSubject) p q =
+    absurd (complete_or_missing segments job q.1 p.1 q.2 p.0 p.2 p.3)
 one_printed segments symbols job (Err (Incomplete r n)) (Err other) p q = absurd q
 one_printed segments symbols job (Err (Symbols f)) (Ok b) p q = absurd (symbols_or_fault symbols q.table f q.named p.2)
 one_printed segments symbols job (Err (Symbols f)) (Err (Case g)) p q = absurd (case_or_fault segments p.0 g p.1.0 q)
 one_printed segments symbols job (Err (Symbols f)) (Err (Incomplete r n)) p q =
-    absurd (complete_or_missing segments job p.0 q.1 r n p.1 q.0 q.2 q.3)
+    absurd (complete_or_missing segments job p.0 q.1 p.1 q.0 q.2 q.3)
 one_printed segments symbols job (Err (Symbols f)) (Err (Symbols g)) p q =
     ap (λ (x : SymbolFault). failed (Symbols x)) (one_fault_of_symbols symbols f g p.2 q.2)
+one_printed segments symbols job (Err (Symbols f)) (Err NoSubject) p q = absurd (symbols_or_fault symbols q.3 f q.4 p.2)
 one_printed segments symbols job (Err (Symbols f)) (Err other) p q = absurd q
+one_printed segments symbols job (Err NoSubject) (Ok b) p q =
+    absurd (subject_or_none segments job q.trace p.1 q.taken.0 p.2.0 q.about p.0 p.5)
+one_printed segments symbols job (Err NoSubject) (Err (Case g)) p q = absurd (case_or_fault segments p.1 g p.2.0 q)
+one_printed segments symbols job (Err NoSubject) (Err (Incomplete r n)) p q =
+    absurd (complete_or_missing segments job p.1 q.1 p.2 q.0 q.2 q.3)
+one_printed segments symbols job (Err NoSubject) (Err (Symbols g)) p q = absurd (symbols_or_fault symbols p.3 g p.4 q.2)
+one_printed segments symbols job (Err NoSubject) (Err NoSubject) p q = refl
+one_printed segments symbols job (Err NoSubject) (Err other) p q = absurd q
 one_printed segments symbols job (Err other) b p q = absurd p
 
 -- ---- the outcome
@@ -289,10 +326,12 @@ module _ (job : Job) (workers other : ℕ) (inputs : List (List ℕ)) (symbols :
 
   same_printed : (segments : List Content) (outcome : Result (List ℕ) RunFault) → IsPrinted segments symbols (with_workers workers) outcome
       → IsPrinted segments symbols (with_workers other) outcome
-  same_printed segments (Ok lines) p = record { trace = p.trace; taken = p.taken; table = p.table; named = p.named; is = p.is }
+  same_printed segments (Ok lines) p =
+      record { trace = p.trace; taken = p.taken; table = p.table; named = p.named; about = p.about; is = p.is }
   same_printed segments (Err (Case f)) p = p
   same_printed segments (Err (Incomplete r n)) p = p
   same_printed segments (Err (Symbols f)) p = p
+  same_printed segments (Err NoSubject) p = p
   same_printed segments (Err any) p = absurd p
 
   same_coming : (outcome : Result (List ℕ) RunFault) → Comes (with_workers workers) inputs symbols outcome → Comes (with_workers other) inputs symbols outcome
@@ -312,13 +351,16 @@ module _ (job : Job) (workers other : ℕ) (inputs : List (List ℕ)) (symbols :
 
 -- ---- what the answer finds
 
-pub one_finding : (hex : Bool) (inputs : List (List ℕ)) (question : Question) (a b : Bool) → Finds hex inputs question a
-    → Finds hex inputs question b → a ≡ b
-one_finding hex inputs question a b p q =
-    let same = one_decoding hex inputs p.0 q.0 p.1 q.1 in
-    let first = subst (λ (ss : List Content). FindsIn ss question a) same p.2 in
+finds_one : (T : Trace) (job : Job) (a b : Bool) → FindsOver T job a → FindsOver T job b → a ≡ b
+finds_one T job a b p q =
+    let until = one_moment T job.until p.0 q.0 p.1 q.1 in
+    let is = subst (λ (n : Option ℕ). IsAnswer T n job.question p.2) until p.3 in
+    p.4 ∙ same_finding p.2 q.2 (one_answer T q.0 job.question p.2 q.2 is q.3) ∙ sym q.4
+
+pub one_finding : (job : Job) (inputs : List (List ℕ)) (a b : Bool) → Finds job inputs a → Finds job inputs b → a ≡ b
+one_finding job inputs a b p q =
+    let same = one_decoding job.hex inputs p.0 q.0 p.1 q.1 in
+    let first = subst (λ (ss : List Content). FindsIn ss job a) same p.2 in
     let second = q.2 in
     let trace = one_case q.0 first.0 second.0 first.1 second.1 in
-    let over = subst (λ (T : Trace). FindsOver T question a) trace first.2 in
-    let other = second.2 in
-    over.2 ∙ same_finding over.0 other.0 (one_answer second.0 question over.0 other.0 over.1 other.1) ∙ sym other.2
+    finds_one second.0 job a b (subst (λ (T : Trace). FindsOver T job a) trace first.2) second.2

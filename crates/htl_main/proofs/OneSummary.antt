@@ -1,6 +1,8 @@
 -- A trace has one summary.
-use Rattle.std.proofs.Common.{◌≡◌, ℕ, List, ap, sym, ◌∙◌, arith}
+use Rattle.std.proofs.Common.{◌≡◌, ℕ, List, Option, ap, sym, ◌∙◌, arith}
 use Rattle.std.proofs.lemmas.List.Sorted.{IsPermutation-refl}
+use Rattle.htl_event.specs.Events.{Event}
+use Rattle.htl_event.specs.Moments.{counted_events}
 use Rattle.htl_event.specs.Summaries.{IsProcesses, IsUnbalanced, SummariesAreDetermined}
 use Rattle.htl_event.specs.declared.summary.ObjectRow.{ObjectRow}
 use Rattle.htl_event.specs.declared.summary.ProcessRow.{ProcessRow}
@@ -14,8 +16,8 @@ use Rattle.htl_report.specs.declared.summary.Totals.{Totals}
 use Rattle.htl_case.specs.Complete.{IsCompleteTo}
 use Rattle.htl_main.specs.Summaries.{AreTotals}
 
-determined : (T : Trace) → SummariesAreDetermined (all_events T.segments) (all_events T.segments)
-determined T = summaries_are_determined (all_events T.segments) (all_events T.segments) (IsPermutation-refl (all_events T.segments))
+determined : (events : List Event) → SummariesAreDetermined events events
+determined events = summaries_are_determined events events (IsPermutation-refl events)
 
 pub one_complete : (T : Trace) (n m : ℕ) → IsCompleteTo T n → IsCompleteTo T m → n ≡ m
 one_complete T n m p q =
@@ -32,13 +34,13 @@ totals processors segments events complete_to objects = record {
   objects = objects;
 }
 
-pub one_totals : (T : Trace) (a b : Totals) → AreTotals T a → AreTotals T b → a ≡ b
-one_totals T a b p q =
+pub one_totals : (T : Trace) (until : Option ℕ) (a b : Totals) → AreTotals T until a → AreTotals T until b → a ≡ b
+one_totals T until a b p q =
     let processors : a.processors ≡ b.processors = p.processors ∙ sym q.processors in
     let segments : a.segments ≡ b.segments = p.segments ∙ sym q.segments in
     let events : a.events ≡ b.events = p.events ∙ sym q.events in
     let complete_to = one_complete T a.complete_to b.complete_to p.complete_to q.complete_to in
-    let objects = (determined T).objects a.objects b.objects p.objects q.objects in
+    let objects = (determined (counted_events until (all_events T.segments))).objects a.objects b.objects p.objects q.objects in
     ap (λ (n : ℕ). totals n a.segments a.events a.complete_to a.objects) processors
     ∙ ap (λ (n : ℕ). totals b.processors n a.events a.complete_to a.objects) segments
     ∙ ap (λ (n : ℕ). totals b.processors b.segments n a.complete_to a.objects) events
@@ -50,8 +52,8 @@ one_gaps T a b =
     Lists-same IsGapBefore IsGapBefore-strict (IsGap (HasKey T) T.processors) (IsGap (HasKey T) T.processors) a b
     (λ gap. ((λ h. h), (λ h. h)))
 
-pub one_processes : (T : Trace) (a b : List ProcessRow) → IsProcesses (all_events T.segments) a → IsProcesses (all_events T.segments) b → a ≡ b
-one_processes T = (determined T).processes
+pub one_processes : (events : List Event) (a b : List ProcessRow) → IsProcesses events a → IsProcesses events b → a ≡ b
+one_processes events = (determined events).processes
 
-pub one_objects : (T : Trace) (a b : List ObjectRow) → IsUnbalanced (all_events T.segments) a → IsUnbalanced (all_events T.segments) b → a ≡ b
-one_objects T = (determined T).unbalanced
+pub one_objects : (events : List Event) (a b : List ObjectRow) → IsUnbalanced events a → IsUnbalanced events b → a ≡ b
+one_objects events = (determined events).unbalanced

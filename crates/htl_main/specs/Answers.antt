@@ -1,44 +1,74 @@
 -- The answer to a question over a trace (this project's own), and whether it finds something.
-use Rattle.std.specs.Prelude.{◌≡◌, ℕ, Bool, ◌||◌, ◌==◌, not, List, length, Contains, Option, Some, None}
+use Rattle.std.specs.Prelude.{◌≡◌, ℕ, Bool, ◌||◌, ◌==◌, not, nat_lt, min, if◌then◌else◌, List, length, Contains, Option, Some, None}
 use Rattle.std.specs.List.{list_any}
 use Rattle.htl_event.specs.Events.{Event}
 use Rattle.htl_event.specs.Handles.{IsOutstanding, IsMark, IsDiff, IsListing}
-use Rattle.htl_event.specs.Tallies.{IsTags, IsBad, IsLeaks, IsStacks}
+use Rattle.htl_event.specs.Growth.{IsGrowth}
+use Rattle.htl_event.specs.Moments.{counted_events}
+use Rattle.htl_event.specs.Tallies.{IsTags, IsBad, IsLeaksSince, IsStacks}
+use Rattle.htl_event.specs.declared.growth.Point.{Point}
+use Rattle.htl_event.specs.declared.growth.Span.{Span}
 use Rattle.htl_segment.specs.Content.{Content}
 use Rattle.htl_segment.specs.Traces.{Trace, all_events}
 use Rattle.htl_case.specs.Cases.{IsCaseOf}
+use Rattle.htl_case.specs.Spans.{IsSpan}
 use Rattle.htl_report.specs.declared.answer.Answer.{Answer}
 use Rattle.htl_report.specs.declared.answer.Answer.TheVariants.{Outstanding, Diff, Tags, Bad, Leaks, Stacks, Growth}
 use Rattle.htl_report.specs.declared.answer.Answer.TheVariants.{Trace as Listing, Summary}
+use Rattle.htl_command.specs.declared.question.Job.{Job}
 use Rattle.htl_command.specs.declared.question.Question.{Question}
 use Rattle.htl_command.specs.declared.question.Question.TheVariants as questions
+use Rattle.htl_command.specs.declared.question.Since.{Since}
+use Rattle.htl_command.specs.declared.question.Since.TheVariants.{Snapshot, Sequence}
 use Rattle.htl_main.specs.Inputs.{DecodeAll}
+use Rattle.htl_main.specs.Moments.{IsMomentOf}
 use Rattle.htl_main.specs.Summaries.{IsSummary}
 
--- the difference since a moment, which is the mark where none is given
-abbrev pub IsDiffSince : List Event → ℕ → Option ℕ → ℕ → List Event → Type 0
-IsDiffSince events process (Some since) moment rows = (moment ≡ since) × IsDiff (Contains events) process since rows
-IsDiffSince events process None moment rows = IsMark (Contains events) process moment × IsDiff (Contains events) process moment rows
+-- since when handles count: a sequence, or the mark of the process
+abbrev pub IsSince : List Event → ℕ → Since → ℕ → Type 0
+IsSince events process (Sequence since) n = n ≡ since
+IsSince events process Snapshot n = IsMark (Contains events) process n
+
+abbrev pub IsSinceIfGiven : List Event → ℕ → Option Since → Option ℕ → Type 0
+IsSinceIfGiven events process None moment = moment ≡ None
+IsSinceIfGiven events process (Some since) None = ⊥
+IsSinceIfGiven events process (Some since) (Some n) = IsSince events process since n
 
 -- the answer to a question about the events of a trace
 abbrev pub IsAnswerOver : List Event → Question → Answer → Type 0
 IsAnswerOver events (questions.Outstanding process) (Outstanding of rows) =
     (of ≡ process) × IsOutstanding (Contains events) process rows.items
-IsAnswerOver events (questions.Diff process since) (Diff of from rows) = (of ≡ process) × IsDiffSince events process since from rows.items
+IsAnswerOver events (questions.Diff process since) (Diff of from rows) =
+    (of ≡ process) × IsSince events process since from × IsDiff (Contains events) process from rows.items
 IsAnswerOver events (questions.Tags object) (Tags of rows) = (of ≡ object) × IsTags events object rows.items
 IsAnswerOver events (questions.Bad process) (Bad of rows) = (of ≡ process) × IsBad events process rows.items
-IsAnswerOver events (questions.Leaks process) (Leaks of since rows) =
-    (of ≡ process) × (since ≡ None) × IsLeaks (Contains events) process rows.items
+IsAnswerOver events (questions.Leaks process since at_least) (Leaks of from rows) =
+    (of ≡ process) × IsSinceIfGiven events process since from × IsLeaksSince (Contains events) process from at_least rows.items
 IsAnswerOver events (questions.Stacks object tag) (Stacks of under rows) =
     (of ≡ object) × (under ≡ tag) × IsStacks events object tag rows.items
 IsAnswerOver events (questions.Trace process handle) (Listing of under rows) =
     (of ≡ process) × (under ≡ handle) × IsListing (Contains events) process handle rows.items
 IsAnswerOver events question answer = ⊥
 
--- The answer to a question over a trace. A summary alone is about its segments too.
-abbrev pub IsAnswer : Trace → Question → Answer → Type 0
-IsAnswer T questions.Summary (Summary totals gaps processes objects) = IsSummary T totals gaps.items processes.items objects.items
-IsAnswer T question answer = IsAnswerOver (all_events T.segments) question answer
+-- the span up to a moment, none where that comes before its first sequence
+abbrev pub span_until : Option ℕ → Option Span → Option Span
+span_until None span = span
+span_until (Some moment) None = None
+span_until (Some moment) (Some span) = if nat_lt moment span.first then None else Some (record span { last = min moment span.last })
+
+-- the growth from the first sequence of a trace to its last, or to a moment before that
+abbrev pub IsGrowthUntil : Trace → Option ℕ → ℕ → ℕ → List Point → Type 0
+IsGrowthUntil T until process points rows =
+    (span : Option Span) × IsSpan (all_events T.segments) span
+    × IsGrowth (span_until until span) points (counted_events until (all_events T.segments)) process rows
+
+-- The answer to a question over a trace, whose events count up to a moment where one is given. A summary is about the segments too,
+-- and a growth about the moments of all events.
+abbrev pub IsAnswer : Trace → Option ℕ → Question → Answer → Type 0
+IsAnswer T until questions.Summary (Summary totals gaps processes objects) =
+    IsSummary T until totals gaps.items processes.items objects.items
+IsAnswer T until (questions.Growth process points) (Growth of rows) = (of ≡ process) × IsGrowthUntil T until process points rows.items
+IsAnswer T until question answer = IsAnswerOver (counted_events until (all_events T.segments)) question answer
 
 abbrev pub has_rows : {R : Type 0} → List R → Bool
 has_rows rows = not (length rows == 0)
@@ -57,14 +87,16 @@ has_finding (Growth process rows) = has_rows rows.items
 has_finding (Summary totals gaps processes objects) =
     list_any (λ row. not (row.outstanding == 0) || not (row.bad == 0)) processes.items || has_rows objects.items
 
--- the answer to the question over a trace does so, or not
-abbrev pub FindsOver : Trace → Question → Bool → Type 0
-FindsOver T question found = (answer : Answer) × IsAnswer T question answer × (found ≡ has_finding answer)
+-- the answer to the job's question over a trace does so, or not
+abbrev pub FindsOver : Trace → Job → Bool → Type 0
+FindsOver T job found =
+    (until : Option ℕ) × IsMomentOf T job.until until
+    × (answer : Answer) × IsAnswer T until job.question answer × (found ≡ has_finding answer)
 
 -- that over the case of decoded segments
-abbrev pub FindsIn : List Content → Question → Bool → Type 0
-FindsIn segments question found = (T : Trace) × IsCaseOf segments T × FindsOver T question found
+abbrev pub FindsIn : List Content → Job → Bool → Type 0
+FindsIn segments job found = (T : Trace) × IsCaseOf segments T × FindsOver T job found
 
 -- that over the case of all segments of the inputs
-abbrev pub Finds : Bool → List (List ℕ) → Question → Bool → Type 0
-Finds hex inputs question found = (segments : List Content) × DecodeAll hex inputs segments × FindsIn segments question found
+abbrev pub Finds : Job → List (List ℕ) → Bool → Type 0
+Finds job inputs found = (segments : List Content) × DecodeAll job.hex inputs segments × FindsIn segments job found

@@ -1,10 +1,11 @@
 -- What public contracts cite.
 pub mod Inputs
+pub mod Completeness
+pub mod Moments
 pub mod Summaries
 pub mod Coverages
 pub mod Subjects
 pub mod Answers
-pub mod Completeness
 pub mod Printed
 pub mod Causes
 pub mod Sources
@@ -25,3 +26,4 @@ pub mod CaseOutlines
 pub mod Parts
 pub mod Pairs
 pub mod Picking
+pub mod Printing

@@ -5,26 +5,27 @@ use Rattle.htl_segment.specs.Traces.{Trace}
 use Rattle.htl_case.specs.Cases.{IsCaseOf}
 use Rattle.htl_symbols.specs.Ranges.{Range}
 use Rattle.htl_command.specs.declared.question.Job.{Job}
+use Rattle.htl_command.specs.declared.question.Moment.{Moment}
 use Rattle.htl_command.specs.declared.question.Setting.{Setting}
-use Rattle.htl_main.specs.Completeness.{IsComplete}
 use Rattle.htl_main.specs.Inputs.{DecodeAll}
+use Rattle.htl_main.specs.Moments.{IsCompleteUntil}
 use Rattle.htl_main.specs.Printed.{HasSymbols, WorkersFit}
 
 -- the job of a run of its own, whose segments are read so
 abbrev pub in_setting : Setting → Job → Job
 in_setting setting job = record job { hex = setting.hex; workers = setting.workers; complete = setting.complete }
 
--- This is the case of decoded segments, which has no gap where a complete one is asked for, with the symbols of the table.
-pub record AreLoaded (segments : List Content) (symbols : Option (List ℕ)) (complete : Bool) (T : Trace) (table : List Range)
-    : Type 0 where
+-- This is the case of decoded segments, which has no gap up to a moment where a complete one is asked for, with the symbols of the table.
+pub record AreLoaded (segments : List Content) (symbols : Option (List ℕ)) (complete : Bool) (until : Option Moment) (T : Trace)
+    (table : List Range) : Type 0 where
   pub case : IsCaseOf segments T
-  pub whole : complete ≡ true → IsComplete T
+  pub whole : complete ≡ true → IsCompleteUntil T until
   pub named : HasSymbols symbols table
 
 -- those of all segments of the inputs
-pub record AreLoadedOf (inputs : List (List ℕ)) (symbols : Option (List ℕ)) (setting : Setting) (T : Trace) (table : List Range)
-    : Type 0 where
+pub record AreLoadedOf (inputs : List (List ℕ)) (symbols : Option (List ℕ)) (setting : Setting) (until : Option Moment) (T : Trace)
+    (table : List Range) : Type 0 where
   pub workers : WorkersFit setting.workers
   pub segments : List Content
   pub decoded : DecodeAll setting.hex inputs segments
-  pub loaded : AreLoaded segments symbols setting.complete T table
+  pub loaded : AreLoaded segments symbols setting.complete until T table

@@ -5,6 +5,7 @@ use Rattle.htl_event.specs.declared.interest.Interest.TheVariants.{Process, Obje
 use Rattle.htl_segment.specs.Content.{Content}
 use Rattle.htl_case.specs.Picked.{NeedsWhole}
 use Rattle.htl_case.specs.declared.fault.CaseFault.{CaseFault}
+use Rattle.htl_command.specs.declared.question.Job.{Job}
 use Rattle.htl_command.specs.declared.question.Question.{Question}
 use Rattle.htl_command.specs.declared.question.Question.TheVariants as questions
 use Rattle.htl_main.specs.Answers.{Finds}
@@ -21,7 +22,8 @@ interest_of questions.Summary = None
 interest_of (questions.Outstanding process) = Some (Process process)
 interest_of (questions.Diff process since) = Some (Process process)
 interest_of (questions.Bad process) = Some (Process process)
-interest_of (questions.Leaks process) = Some (Process process)
+interest_of (questions.Leaks process since at_least) = Some (Process process)
+interest_of (questions.Growth process points) = Some (Process process)
 interest_of (questions.Trace process handle) = Some (Process process)
 interest_of (questions.Tags object) = Some (Object object)
 interest_of (questions.Stacks object tag) = Some (Object object)
@@ -32,10 +34,10 @@ asks_about true question = None
 asks_about false question = interest_of question
 
 -- what is reported beside the answer holds of the inputs
-pub record Reports (hex : Bool) (inputs : List (List ℕ)) (question : Question) (completed : Completed) : Type 0 where
-  pub coverage : Covers hex inputs completed.coverage
-  pub subject : ReportsSubject hex inputs question completed.has_subject
-  pub finding : Finds hex inputs question completed.has_finding
+pub record Reports (job : Job) (inputs : List (List ℕ)) (completed : Completed) : Type 0 where
+  pub coverage : Covers job.hex inputs completed.coverage
+  pub subject : ReportsSubject inputs job completed.has_subject
+  pub finding : Finds job inputs completed.has_finding
 
 -- Whole segments tell what comes of the inputs: a key comes twice in them, or they are no case.
 abbrev pub AskForWhole : Bool → List (List ℕ) → Type 0

@@ -7,7 +7,7 @@ use Rattle.htl_segment.specs.Picks.{ArePicksOf}
 use Rattle.htl_segment.specs.declared.picks.Picks.{Picks}
 use Rattle.htl_segment.specs.Traces.{Trace}
 use Rattle.htl_case.specs.Cases.{IsCaseOf}
-use Rattle.htl_case.specs.Picked.{Picked, IsPickedOf}
+use Rattle.htl_case.specs.Picked.{Picked, IsPickedOf, IsPickedUntil}
 use Rattle.htl_command.specs.declared.question.Question.{Question}
 use Rattle.htl_command.specs.declared.question.Job.{Job}
 use Rattle.htl_main.specs.Answers.{FindsIn}
@@ -15,10 +15,10 @@ use Rattle.htl_main.specs.Coverages.{CoversSegments}
 use Rattle.htl_main.specs.Inputs.{DecodeAll}
 use Rattle.htl_main.specs.Picked.{interest_of}
 use Rattle.htl_main.specs.Printed.{AreAnswerLines}
-use Rattle.htl_main.specs.Subjects.{has_subject}
+use Rattle.htl_main.specs.Subjects.{HasSubjectIn}
 use Rattle.htl_main.specs.declared.completed.Completed.{Completed}
 use Rattle.htl_main.specs.declared.fault.RunFault.{RunFault}
-use Rattle.htl_main.specs.declared.fault.RunFault.TheVariants.{Incomplete, Symbols, Memory, Write}
+use Rattle.htl_main.specs.declared.fault.RunFault.TheVariants.{Incomplete, NoSubject, Symbols, Memory, Write}
 
 -- the picks are those of these bytes too, after whichever they were of before
 pub record ArePicksMore (old new : Picks) (bytes : List ℕ) : Type 0 where
@@ -41,6 +41,14 @@ pub record IsPickedFor (question : Question) (case : Picked) (segments : List Co
   pub case_of : IsCaseOf segments trace
   pub picked : IsPickedOf interest trace case
 
+-- that up to a moment
+pub record IsPickedAsOf (question : Question) (until : Option ℕ) (case : Picked) (segments : List Content) : Type 0 where
+  pub trace : Trace
+  pub interest : Interest
+  pub about : interest_of question ≡ Some interest
+  pub case_of : IsCaseOf segments trace
+  pub picked : IsPickedUntil interest trace until case
+
 -- these are picks of these segments, for the question
 pub record ArePickedFor (question : Question) (picks : Picks) (segments : List Content) : Type 0 where
   pub interest : Interest
@@ -55,15 +63,16 @@ pub record PrintsOf (segments : List Content) (symbols : Option (List ℕ)) (job
   pub written : Written lines
 
 -- what is reported beside the answer holds of the case of these segments
-pub record ReportsOf (segments : List Content) (question : Question) (completed : Completed) : Type 0 where
+pub record ReportsOf (segments : List Content) (job : Job) (completed : Completed) : Type 0 where
   pub coverage : CoversSegments segments completed.coverage
-  pub subject : completed.has_subject ≡ has_subject question segments
-  pub finding : FindsIn segments question completed.has_finding
+  pub subject : HasSubjectIn segments job completed.has_subject
+  pub finding : FindsIn segments job completed.has_finding
 
 -- why an answer over a case isn't made
 abbrev pub EndsAnswer : RunFault → Type 0
 EndsAnswer (Incomplete processor number) = ⊤
 EndsAnswer (Symbols fault) = ⊤
+EndsAnswer NoSubject = ⊤
 EndsAnswer Memory = ⊤
 EndsAnswer other = ⊥
 

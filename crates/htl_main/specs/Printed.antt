@@ -1,5 +1,5 @@
 -- What a run prints for a job, its inputs and its symbol table, or why it is refused.
-use Rattle.std.specs.Prelude.{◌≡◌, ◌≢◌, ℕ, true, ◌<◌, ◌≤◌, List, [], flat_map, Option, Some, None, Result, Ok, Err}
+use Rattle.std.specs.Prelude.{◌≡◌, ◌≢◌, ℕ, true, false, ◌<◌, ◌≤◌, List, [], flat_map, Option, Some, None, Result, Ok, Err}
 use Rattle.htl_segment.specs.Content.{Content}
 use Rattle.htl_segment.specs.Traces.{Trace}
 use Rattle.htl_case.specs.Cases.{IsCaseOf}
@@ -17,20 +17,24 @@ use Rattle.htl_command.specs.declared.question.Format.{Format}
 use Rattle.htl_command.specs.declared.question.Format.TheVariants.{Json, Folded}
 use Rattle.htl_command.specs.declared.question.Job.{Job}
 use Rattle.htl_main.specs.Answers.{IsAnswer}
-use Rattle.htl_main.specs.Completeness.{IsComplete, IsLeastMissing}
+use Rattle.htl_main.specs.Completeness.{IsLeastMissing}
 use Rattle.htl_main.specs.Inputs.{DecodeAll, IsReported, StopsAt}
+use Rattle.htl_main.specs.Moments.{IsCompleteUntil, IsMomentOf}
+use Rattle.htl_main.specs.Subjects.{HasSubject}
 use Rattle.htl_main.specs.declared.fault.RunFault.{RunFault}
-use Rattle.htl_main.specs.declared.fault.RunFault.TheVariants.{Workers, Segment, Hex, Case, Incomplete, Symbols}
+use Rattle.htl_main.specs.declared.fault.RunFault.TheVariants.{Workers, Segment, Hex, Case, Incomplete, NoSubject, Symbols}
 
 -- the lines of an answer in each form, with all rows or the first so many; only leaking stacks are folded
-abbrev pub lines_of : Format → List Range → Option ℕ → Answer → List ℕ
-lines_of Json table top answer = flat_map json_line (values_of table None top answer)
-lines_of Folded table top (Leaks process since rows) = folded_text table top rows.items
-lines_of format table top answer = text_of table None top answer
+abbrev pub lines_of : Format → List Range → Option ℕ → Option ℕ → Answer → List ℕ
+lines_of Json table until top answer = flat_map json_line (values_of table until top answer)
+lines_of Folded table until top (Leaks process since rows) = folded_text table top rows.items
+lines_of format table until top answer = text_of table until top answer
 
--- those of the answer to the job's question over a trace
+-- those of the answer to the job's question over a trace, of which events count up to the job's moment
 abbrev pub IsText : Trace → List Range → Job → List ℕ → Type 0
-IsText T table job lines = (answer : Answer) × IsAnswer T job.question answer × (lines ≡ lines_of job.format table job.top answer)
+IsText T table job lines =
+    (until : Option ℕ) × IsMomentOf T job.until until
+    × (answer : Answer) × IsAnswer T until job.question answer × (lines ≡ lines_of job.format table until job.top answer)
 
 -- the table of symbols, which has no range where none is given
 abbrev pub HasSymbols : Option (List ℕ) → List Range → Type 0
@@ -42,26 +46,32 @@ abbrev pub HasSymbolFault : Option (List ℕ) → SymbolFault → Type 0
 HasSymbolFault None fault = ⊥
 HasSymbolFault (Some bytes) fault = (fault ≢ symbol_faults.NoMemory) × Reads (records_of bytes) (Err fault)
 
--- the case of the segments, which has no gap where the job asks for a complete one
+-- the case of the segments, which has no gap up to the job's moment where the job asks for a complete one
 abbrev pub IsTaken : List Content → Job → Trace → Type 0
-IsTaken segments job T = IsCaseOf segments T × (job.complete ≡ true → IsComplete T)
+IsTaken segments job T = IsCaseOf segments T × (job.complete ≡ true → IsCompleteUntil T job.until)
 
--- the lines are those of the answer over it
+-- The lines are those of the answer over it. Where the status says what an answer finds, there is an event of what it is about.
 pub record AreAnswerLines (segments : List Content) (symbols : Option (List ℕ)) (job : Job) (lines : List ℕ) : Type 0 where
   pub trace : Trace
   pub taken : IsTaken segments job trace
   pub table : List Range
   pub named : HasSymbols symbols table
+  pub about : job.exit_code ≡ true → HasSubject trace job true
   pub is : IsText trace table job lines
 
 -- Decoded segments come to the lines of the answer; or the first rule that they break as a case; or, where the job asks for a
--- complete one, the least key that the case misses; or else the first fault of the symbols.
+-- complete one, the least key that the case misses; or the first fault of the symbols; or else, where the status says what the
+-- answer finds, that no event is of what is asked about.
 abbrev pub IsPrinted : List Content → Option (List ℕ) → Job → Result (List ℕ) RunFault → Type 0
 IsPrinted segments symbols job (Ok lines) = AreAnswerLines segments symbols job lines
 IsPrinted segments symbols job (Err (Case fault)) = IsOutcome segments (Err fault)
 IsPrinted segments symbols job (Err (Incomplete processor number)) =
-    (job.complete ≡ true) × (T : Trace) × IsCaseOf segments T × IsLeastMissing T processor number
+    (job.complete ≡ true)
+    × (T : Trace) × IsCaseOf segments T × (IsCompleteUntil T job.until → ⊥) × IsLeastMissing T processor number
 IsPrinted segments symbols job (Err (Symbols fault)) = (T : Trace) × IsTaken segments job T × HasSymbolFault symbols fault
+IsPrinted segments symbols job (Err NoSubject) =
+    (job.exit_code ≡ true)
+    × (T : Trace) × IsTaken segments job T × (table : List Range) × HasSymbols symbols table × HasSubject T job false
 IsPrinted segments symbols job (Err other) = ⊥
 
 -- the number of workers is allowed

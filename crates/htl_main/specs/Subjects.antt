@@ -1,16 +1,20 @@
 -- Whether what a question is about has an event (this project's own): a number that was mistyped looks like one without a leak.
-use Rattle.std.specs.Prelude.{◌≡◌, ℕ, Bool, true, false, ◌&&◌, ◌==◌, nat_eq, List}
+use Rattle.std.specs.Prelude.{◌≡◌, ℕ, Bool, true, false, ◌&&◌, ◌==◌, nat_eq, List, Option}
 use Rattle.std.specs.List.{list_any}
 use Rattle.std.specs.Cmp.Lexicographic.{pointwise}
 use Rattle.htl_event.specs.Events.{Event}
+use Rattle.htl_event.specs.Moments.{counted_events}
 use Rattle.htl_event.specs.Slots.{base_of}
 use Rattle.htl_event.specs.declared.kind.Kind.{Kind}
 use Rattle.htl_event.specs.declared.kind.Kind.TheVariants.{Opened, Closed, BadRef, Ref, Deref}
 use Rattle.htl_segment.specs.Content.{Content}
-use Rattle.htl_segment.specs.Traces.{all_events}
+use Rattle.htl_segment.specs.Traces.{Trace, all_events}
+use Rattle.htl_case.specs.Cases.{IsCaseOf}
+use Rattle.htl_command.specs.declared.question.Job.{Job}
 use Rattle.htl_command.specs.declared.question.Question.{Question}
 use Rattle.htl_command.specs.declared.question.Question.TheVariants as questions
 use Rattle.htl_main.specs.Inputs.{DecodeAll}
+use Rattle.htl_main.specs.Moments.{IsMomentOf}
 
 -- the kinds of events that name a handle
 abbrev pub names_handle : Kind → Bool
@@ -32,16 +36,22 @@ is_about questions.Summary e = true
 is_about (questions.Outstanding process) e = e.process == process
 is_about (questions.Diff process since) e = e.process == process
 is_about (questions.Bad process) e = e.process == process
-is_about (questions.Leaks process) e = e.process == process
+is_about (questions.Leaks process since at_least) e = e.process == process
+is_about (questions.Growth process points) e = e.process == process
 is_about (questions.Tags object) e = names_object e.kind && (e.object == object)
 is_about (questions.Stacks object tag) e = names_object e.kind && ((e.object == object) && pointwise nat_eq e.tag tag)
 is_about (questions.Trace process handle) e = names_handle e.kind && ((e.process == process) && (base_of e.handle == base_of handle))
 
--- some event of the segments is
-abbrev pub has_subject : Question → List Content → Bool
-has_subject question segments = list_any (is_about question) (all_events segments)
+-- an event of a trace that counts is about the job's question, or none is
+abbrev pub HasSubject : Trace → Job → Bool → Type 0
+HasSubject T job found =
+    (until : Option ℕ) × IsMomentOf T job.until until
+    × (found ≡ list_any (is_about job.question) (counted_events until (all_events T.segments)))
 
--- this is reported of all segments of the inputs
-abbrev pub ReportsSubject : Bool → List (List ℕ) → Question → Bool → Type 0
-ReportsSubject hex inputs question reported =
-    (segments : List Content) × DecodeAll hex inputs segments × (reported ≡ has_subject question segments)
+-- that is reported of the case of decoded segments
+abbrev pub HasSubjectIn : List Content → Job → Bool → Type 0
+HasSubjectIn segments job found = (T : Trace) × IsCaseOf segments T × HasSubject T job found
+
+-- that is reported of the case of all segments of the inputs
+abbrev pub ReportsSubject : List (List ℕ) → Job → Bool → Type 0
+ReportsSubject inputs job found = (segments : List Content) × DecodeAll job.hex inputs segments × HasSubjectIn segments job found

@@ -1,53 +1,115 @@
 //! The answer to a question over a case.
 
-ghost use Rattle.std.specs.Prelude.{◌≡◌, ◌<◌, ◌^◌, List, map};
-ghost use Rattle.std.specs.Prelude.{IfOk, IfSome, IfNone, Contains};
+ghost use Rattle.std.specs.Prelude.{◌≡◌, ◌<◌, ◌^◌, List, flat_map, length, map, IfOk};
 ghost use Rattle.htl_event.specs.Events.{Event};
-ghost use Rattle.htl_event.specs.Handles.{HaveOwnSequences, IsMark};
+ghost use Rattle.htl_event.specs.Handles.{HaveOwnSequences};
+ghost use Rattle.htl_event.specs.Moments.{counted_events};
 ghost use Rattle.htl_segment.specs.Traces.{all_events};
 ghost use Rattle.htl_answers.specs.Parts.{AreEventsOf, size_of_all};
-ghost use Rattle.htl_main.specs.Answers.{IsAnswer, IsAnswerOver};
+ghost use Rattle.htl_main.specs.Answers.{IsAnswer, IsAnswerOver, IsGrowthUntil, IsSince};
+ghost use Rattle.htl_main.specs.Answers.{IsSinceIfGiven, span_until};
 ghost use Rattle.htl_main.specs.Questions.{IsOfParts};
 
 use crate::summarizing::summary;
 use crate::unfolded::Unfolded;
-use htl_answers::{Part, bad, diff, leaks, mark, outstanding, stacks, tags};
+use htl_answers::{Part, bad, diff, growth, leaks, mark, outstanding, stacks, tags};
 use htl_case::Case;
-use htl_command::Question;
-use htl_event::NoMemory;
+use htl_command::{Question, Since};
+use htl_event::{EventList, NoMemory, Point, Span};
 use htl_report::Answer;
 use std::alloc::Global;
 
-/// The answer to a question over a case: from the segments as they lie there, without folding any.
-pub(crate) fn answer(alloc: Global, question: Question, case: &Case) -> Result<Answer, NoMemory>
-    ensures { IfOk result (IsAnswer case.now question) }
+/// The answer to a question over a case, whose events count up to a moment: from the segments as they
+/// lie there, without folding any.
+pub(crate) fn answer(
+    alloc: Global,
+    question: Question,
+    until: Option<u64>,
+    case: &Case,
+) -> Result<Answer, NoMemory>
+    ensures { IfOk result (IsAnswer case.now until question) }
 {
     match question {
         Question::Trace { process, handle } => Ok(Answer::Trace {
             process,
             handle,
-            rows: case.trace(alloc, process, handle, None)?,
+            rows: case.trace(alloc, process, handle, until)?,
         }),
-        Question::Summary => summary(alloc, case),
-        question => answer_over(alloc, case, question),
+        Question::Growth { process, points } => Ok(Answer::Growth {
+            process,
+            rows: growth_over(alloc, case, until, process, points)?,
+        }),
+        Question::Summary => summary(alloc, case, until),
+        question => answer_over(alloc, case, until, question),
     }
 }
 
-/// The answer to a question about events, by one part that holds all segments of the case.
-fn answer_over(alloc: Global, case: &Case, question: Question) -> Result<Answer, NoMemory>
-    requires { IsOfParts question }
-    ensures { IfOk result (IsAnswerOver (all_events case.now.segments) question) }
+/// The growth of a process over a case, up to a moment.
+fn growth_over(
+    alloc: Global,
+    case: &Case,
+    until: Option<u64>,
+    process: u32,
+    points: u32,
+) -> Result<Vec<Point>, NoMemory>
+    ensures { IfOk result (λ rows. IsGrowthUntil case.now until process points rows.items) }
 {
-    let part = Unfolded::new(alloc, case.segments());
+    let lists = case.until(alloc, until)?;
+    growth(
+        alloc,
+        &lists,
+        process,
+        span_until(until, case.span()),
+        points,
+    )
+}
+
+/// The span up to a moment: none where that comes before its first sequence.
+pub(crate) fn span_until(until: Option<u64>, span: Option<Span>) -> Option<Span>
+    ensures { result ≡ span_until until span }
+{
+    match (until, span) {
+        (Some(moment), Some(span)) if moment < span.first => None,
+        (Some(moment), Some(Span { first, last })) => Some(Span {
+            first,
+            last: moment.min(last),
+        }),
+        (_, span) => span,
+    }
+}
+
+/// The answer to a question about events over a case, up to a moment.
+fn answer_over(
+    alloc: Global,
+    case: &Case,
+    until: Option<u64>,
+    question: Question,
+) -> Result<Answer, NoMemory>
+    requires { IsOfParts question }
+    ensures { IfOk result
+        (IsAnswerOver (counted_events until (all_events case.now.segments)) question) }
+{
+    let lists = case.until(alloc, until)?;
+    answer_of_lists(alloc, &lists, question)
+}
+
+/// The answer to a question about the events of lists, by one part that holds them.
+pub(crate) fn answer_of_lists<E: EventList>(
+    alloc: Global,
+    lists: &[E],
+    question: Question,
+) -> Result<Answer, NoMemory>
+    requires about { IsOfParts question }
+    requires few { length (flat_map E.events_of lists.now) < 2 ^ 64 }
+    ensures { IfOk result (λ answer. HaveOwnSequences (flat_map E.events_of lists.now)
+        → IsAnswerOver (flat_map E.events_of lists.now) question answer) }
+{
+    let part = Unfolded::new(alloc, lists);
     answer_of(alloc, &[part], question)
 }
 
 /// The answer of parts to a question about events.
-pub(crate) fn answer_of<P: Part>(
-    alloc: Global,
-    parts: &[P],
-    question: Question,
-) -> Result<Answer, NoMemory>
+fn answer_of<P: Part>(alloc: Global, parts: &[P], question: Question) -> Result<Answer, NoMemory>
     requires about { IsOfParts question }
     requires few { size_of_all (map P.contents parts.now) < 2 ^ 64 }
     ensures { IfOk result (λ answer. (events : List Event)
@@ -60,7 +122,7 @@ pub(crate) fn answer_of<P: Part>(
             rows: outstanding(alloc, parts, process)?,
         },
         Question::Diff { process, since } => {
-            let since = moment(parts, process, since);
+            let since = sequence_of(parts, process, since);
             Answer::Diff {
                 process,
                 since,
@@ -75,29 +137,42 @@ pub(crate) fn answer_of<P: Part>(
             process,
             rows: bad(alloc, parts, process)?,
         },
-        Question::Leaks { process } => Answer::Leaks {
+        Question::Leaks {
             process,
-            since: None,
-            rows: leaks(alloc, parts, process, None, 1)?,
-        },
+            since,
+            at_least,
+        } => {
+            let since = sequence_if_given(parts, process, since);
+            Answer::Leaks {
+                process,
+                since,
+                rows: leaks(alloc, parts, process, since, u64::from(at_least))?,
+            }
+        }
         Question::Stacks { object, tag } => Answer::Stacks {
             object,
             tag,
             rows: stacks(alloc, parts, object, tag)?,
         },
-        Question::Summary | Question::Trace { .. } => unreachable!(),
+        Question::Summary | Question::Trace { .. } | Question::Growth { .. } => unreachable!(),
     })
 }
 
-/// The moment that is given, or else the mark of the process.
-fn moment<P: Part>(parts: &[P], process: u32, given: Option<u64>) -> u64
-    ensures given { IfSome given (λ since. result ≡ since) }
-    ensures mark { IfNone given ((events : List Event)
-        → AreEventsOf (map P.contents parts.now) events
-        → IsMark (Contains events) process result) }
+/// Since when handles count: the sequence that is given, or the mark of the process.
+fn sequence_of<P: Part>(parts: &[P], process: u32, since: Since) -> u64
+    ensures { (events : List Event) → AreEventsOf (map P.contents parts.now) events
+        → IsSince events process since result }
 {
-    match given {
-        Some(since) => since,
-        None => mark(parts, process),
+    match since {
+        Since::Sequence(sequence) => sequence,
+        Since::Snapshot => mark(parts, process),
     }
+}
+
+/// The same where it is given at all.
+fn sequence_if_given<P: Part>(parts: &[P], process: u32, since: Option<Since>) -> Option<u64>
+    ensures { (events : List Event) → AreEventsOf (map P.contents parts.now) events
+        → IsSinceIfGiven events process since result }
+{
+    since.map(|since| sequence_of(parts, process, since))
 }

@@ -1,17 +1,16 @@
 //! What a run reports beside the answer that it printed.
 
-ghost use Rattle.std.specs.Prelude.{◌≡◌, ◌==◌, ◌||◌, List, not};
+ghost use Rattle.std.specs.Prelude.{◌≡◌, ◌==◌, ◌||◌, not};
 ghost use Rattle.std.specs.List.{list_any};
-ghost use Rattle.htl_segment.specs.Content.{Content};
-ghost use Rattle.htl_case.specs.Cases.{IsCaseOf};
+ghost use Rattle.htl_event.specs.Moments.{counted_events};
 ghost use Rattle.htl_main.specs.Answers.{has_finding};
-ghost use Rattle.htl_main.specs.Subjects.{has_subject, is_about, names_handle, names_object};
+ghost use Rattle.htl_main.specs.Coverages.{IsCoverage};
+ghost use Rattle.htl_main.specs.Subjects.{HasSubject, is_about, names_handle, names_object};
 
 use crate::coverage::Coverage;
 use crate::loading::Loaded;
-use htl_case::Case;
-use htl_command::Question;
-use htl_event::{Count, Kind, ProcessRow, SharedEvent, base};
+use htl_command::{Job, Question};
+use htl_event::{Count, EventList, Kind, ProcessRow, SharedEvent, Until, base};
 use htl_report::Answer;
 use htl_segment::Segment;
 
@@ -20,35 +19,14 @@ use htl_segment::Segment;
 pub struct Completed {
     /// How much of its trace the case has.
     pub coverage: Coverage,
-    /// Whether the case has an event of what the question is about: of its process, in events of each
-    /// kind; of its object, or of its tag of the object, in references and dereferences; or of its
-    /// handle, in opens, closes and bad references. Where it has none, a number may be mistyped. A
+    /// Whether an event that counts is of what the question is about: of its process, in events of
+    /// each kind; of its object, or of its tag of the object, in references and dereferences; or of
+    /// its handle, in opens, closes and bad references. Where none is, a number may be mistyped. A
     /// summary is about all events.
     pub has_subject: bool,
     /// Whether the answer finds something: it has a row; of tags one that doesn't balance, and of a
     /// summary a process with outstanding handles or bad references, or an object.
     pub has_finding: bool,
-}
-
-impl Completed {
-    ghost use Rattle.std.specs.Prelude.{◌≡◌, List};
-    ghost use Rattle.htl_segment.specs.Content.{Content};
-    ghost use Rattle.htl_case.specs.Cases.{IsCaseOf};
-    ghost use Rattle.htl_main.specs.Subjects.{has_subject};
-
-    /// What is reported of what was loaded, where the answer to the question finds something or not.
-    pub(crate) fn of(question: Question, loaded: &Loaded, has_finding: bool) -> Completed
-        ensures coverage { result.coverage ≡ loaded.now.coverage }
-        ensures subject { (segments : List Content) → IsCaseOf segments loaded.now.case
-            → result.has_subject ≡ has_subject question segments }
-        ensures finding { result.has_finding ≡ has_finding }
-    {
-        Completed {
-            coverage: loaded.coverage,
-            has_subject: has_subject(question, &loaded.case),
-            has_finding,
-        }
-    }
 }
 
 /// Whether the answer finds something.
@@ -89,22 +67,34 @@ fn has_use(processes: &[ProcessRow]) -> bool
         .any(|row| row.outstanding != 0 || row.bad != 0)
 }
 
-/// Whether the case has an event of what the question is about. The first that is found ends the
-/// walk.
-pub fn has_subject(question: Question, case: &Case) -> bool
-    ensures { (segments : List Content) → IsCaseOf segments case.now
-        → result ≡ has_subject question segments }
+/// Whether an event that counts is of what the job's question is about. The first that is found ends
+/// the walk.
+pub fn has_subject(job: &Job, loaded: &Loaded) -> bool
+    ensures { IsCoverage loaded.now.case loaded.now.coverage
+        → HasSubject loaded.now.case job.now result }
 {
-    any_about(question, case.segments())
+    any_about(
+        job.question,
+        loaded.moment(job.until),
+        loaded.case.segments(),
+    )
 }
 
-/// Whether a segment has an event of what the question is about.
-fn any_about(question: Question, segments: &[Segment]) -> bool
-    ensures { result ≡ list_any (λ s. list_any (is_about question) s.events) segments.now }
+/// Whether a segment has an event of what the question is about, up to a moment.
+fn any_about(question: Question, until: Option<u64>, segments: &[Segment]) -> bool
+    ensures { result ≡ list_any
+        (λ s. list_any (is_about question) (counted_events until s.events)) segments.now }
 {
     segments
         .iter()
-        .any(|segment| has_event_about(question, segment.events()))
+        .any(|segment| has_event_until(question, until, segment))
+}
+
+/// Whether the segment has an event of what the question is about, up to a moment.
+fn has_event_until(question: Question, until: Option<u64>, segment: &Segment) -> bool
+    ensures { result ≡ list_any (is_about question) (counted_events until segment.now.events) }
+{
+    has_event_about(question, Until::new(segment.events(), until).events())
 }
 
 /// Whether one of the events is of what the question is about.
@@ -123,7 +113,8 @@ fn is_about(question: Question, event: &SharedEvent) -> bool
         Question::Outstanding { process }
         | Question::Diff { process, .. }
         | Question::Bad { process }
-        | Question::Leaks { process } => event.process == process,
+        | Question::Leaks { process, .. }
+        | Question::Growth { process, .. } => event.process == process,
         Question::Tags { object } => names_object(event.kind) && event.object == object,
         Question::Stacks { object, tag } => {
             names_object(event.kind) && event.object == object && event.tag == tag

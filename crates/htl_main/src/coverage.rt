@@ -6,8 +6,10 @@ ghost use Rattle.htl_taken.specs.Gaps.{first_of, processor_of};
 ghost use Rattle.htl_taken.specs.GapLists.{gaps_from, gaps_of};
 ghost use Rattle.htl_taken.specs.Rising.{reach_from};
 ghost use Rattle.htl_main.specs.CaseOutlines.{greatest_from, numbers_of};
+ghost use Rattle.htl_main.specs.Moments.{is_above};
 
 use htl_case::Case;
+use htl_command::Moment;
 use htl_event::NoMemory;
 use htl_segment::Outline;
 use htl_taken::Gap;
@@ -22,6 +24,42 @@ pub struct Coverage {
     pub gaps: u64,
     /// The sequence up to which no segment is missing.
     pub complete_to: u64,
+}
+
+impl Coverage {
+    ghost use Rattle.std.specs.Prelude.{◌≡◌, ◌&&◌, ◌==◌, not};
+    ghost use Rattle.htl_segment.specs.Traces.{Trace};
+    ghost use Rattle.htl_main.specs.Coverages.{IsCoverage};
+    ghost use Rattle.htl_main.specs.Moments.{IsMomentOf, is_above};
+
+    /// Whether a gap may touch an answer as of the moment: there is one, and the moment is above what
+    /// the case is complete to, as the end of the trace is where no moment is named.
+    pub fn is_touched(self, until: Option<Moment>) -> bool
+        ensures { result ≡ (not (self.gaps == 0) && is_above until self.complete_to) }
+    {
+        self.gaps > 0 && is_above(until, self.complete_to)
+    }
+
+    /// The moment that is named, as a sequence. Where none is named, all events count.
+    pub(crate) fn moment(self, named: Option<Moment>) -> Option<u64>
+        ensures { (T : Trace) → IsCoverage T self → IsMomentOf T named result }
+    {
+        match named? {
+            Moment::Sequence(sequence) => Some(sequence),
+            Moment::Complete => Some(self.complete_to),
+        }
+    }
+}
+
+/// Whether the moment is above a sequence, as the end of the trace is.
+pub(crate) fn is_above(until: Option<Moment>, sequence: u64) -> bool
+    ensures { result ≡ is_above until sequence }
+{
+    match until {
+        None => true,
+        Some(Moment::Sequence(moment)) => sequence < moment,
+        Some(Moment::Complete) => false,
+    }
 }
 
 /// What a case misses of its trace.

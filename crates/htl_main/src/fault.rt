@@ -50,6 +50,9 @@ pub enum RunFault {
         processor: u16,
         number: u32,
     },
+    /// No event is of what is asked about, and the exit status would say that nothing was found.
+    #[error("hleak: case: C9")]
+    NoSubject,
     /// The symbols are no symbol table.
     #[error("hleak: symbols: {0}")]
     Symbols(SymbolFault),
@@ -78,16 +81,16 @@ impl RunFault {
     ghost use Rattle.htl_main.specs.Statuses.{status_of};
 
     /// The exit status of the program: 2 for a wrong command, 3 where an input says something else
-    /// than the format lets it, 4 where the inputs belong to no one case, 5 where a device failed,
-    /// 6 where memory or a thread was refused, and 7 for the symbols. Status 0 is that of a run
-    /// without a fault.
+    /// than the format lets it, 4 where the inputs belong to no one case or have nothing that is asked
+    /// about, 5 where a device failed, 6 where memory or a thread was refused, and 7 for the symbols.
+    /// Status 0 is that of a run without a fault.
     pub fn status(&self) -> u8
         ensures { result ≡ status_of self.now }
     {
         match self {
             RunFault::Workers => 2,
             RunFault::Segment { .. } | RunFault::Hex { .. } | RunFault::Text { .. } => 3,
-            RunFault::Case(_) | RunFault::Incomplete { .. } => 4,
+            RunFault::Case(_) | RunFault::Incomplete { .. } | RunFault::NoSubject => 4,
             RunFault::Read { .. } | RunFault::SymbolsRead | RunFault::Write => 5,
             RunFault::Memory | RunFault::NoThread => 6,
             RunFault::Symbols(_) => 7,

@@ -1,7 +1,7 @@
 //! Laws of what a run comes to. Each function's contract is the law; none does anything when it
 //! runs.
 
-ghost use Rattle.std.specs.Prelude.{◌≡◌, ◌↔◌, ℕ, Bool, List, Option, None, Some, Result, length};
+ghost use Rattle.std.specs.Prelude.{◌≡◌, ◌↔◌, ℕ, Bool, List, Option, None, Result, length};
 ghost use Rattle.std.specs.Global.{Vec};
 ghost use Rattle.htl_event.specs.Events.{Event};
 ghost use Rattle.htl_event.specs.declared.slot.Count.{Count};
@@ -14,8 +14,8 @@ ghost use Rattle.htl_case.specs.declared.question.AnalystQuestion.TheVariants as
 ghost use Rattle.htl_report.specs.declared.answer.Answer.TheVariants as answers;
 ghost use Rattle.htl_report.specs.declared.summary.Totals.{Totals};
 ghost use Rattle.htl_command.specs.declared.question.Job.{Job};
-ghost use Rattle.htl_command.specs.declared.question.Question.{Question};
 ghost use Rattle.htl_command.specs.declared.question.Question.TheVariants as questions;
+ghost use Rattle.htl_command.specs.declared.question.Since.TheVariants.{Sequence};
 ghost use Rattle.htl_main.specs.Answers.{Finds, IsAnswerOver};
 ghost use Rattle.htl_main.specs.Coverages.{Covers, IsCoverage};
 ghost use Rattle.htl_main.specs.Printed.{Printed, WorkersFit};
@@ -37,20 +37,21 @@ pub fn one_outcome()
         → Printed (record job { workers = other }) inputs symbols b → a ≡ b }
 {}
 
-/// What an answer over inputs finds is one thing, and no option but the question has a part in it.
+/// What an answer over inputs finds is one thing.
 pub fn one_finding()
-    ensures { (hex : Bool) (inputs : List (List ℕ)) (question : Question) (a b : Bool)
-        → Finds hex inputs question a → Finds hex inputs question b → a ≡ b }
+    ensures { (job : Job) (inputs : List (List ℕ)) (a b : Bool)
+        → Finds job inputs a → Finds job inputs b → a ≡ b }
 {}
 
 /// An answer over events has the rows that an analyst's answer over them to the same question has. (A
-/// listing is no question to an analyst, and a difference without a moment is one since the mark.)
+/// listing and a growth are no questions to an analyst, and a difference since the snapshot is one
+/// since the mark.)
 pub fn analysts_agree()
     ensures outstanding { (events : List Event) (process : ℕ) (rows : Vec Event)
         → IsAnswerOver events (questions.Outstanding process) (answers.Outstanding process rows)
         ↔ IsAnalystsOver events (analysts.Outstanding process) (found.Outstanding rows) }
     ensures diff { (events : List Event) (process since : ℕ) (rows : Vec Event)
-        → IsAnswerOver events (questions.Diff process (Some since)) (answers.Diff process since rows)
+        → IsAnswerOver events (questions.Diff process (Sequence since)) (answers.Diff process since rows)
         ↔ IsAnalystsOver events (analysts.Diff process since) (found.Diff rows) }
     ensures tags { (events : List Event) (object : ℕ) (rows : Vec (List ℕ × Count))
         → IsAnswerOver events (questions.Tags object) (answers.Tags object rows)
@@ -59,7 +60,7 @@ pub fn analysts_agree()
         → IsAnswerOver events (questions.Bad process) (answers.Bad process rows)
         ↔ IsAnalystsOver events (analysts.Bad process) (found.Bad rows) }
     ensures leaks { (events : List Event) (process : ℕ) (rows : Vec (List ℕ × ℕ))
-        → IsAnswerOver events (questions.Leaks process) (answers.Leaks process None rows)
+        → IsAnswerOver events (questions.Leaks process None 1) (answers.Leaks process None rows)
         ↔ IsAnalystsOver events (analysts.Leaks process) (found.Leaks rows) }
     ensures stacks { (events : List Event) (object : ℕ) (tag : List ℕ)
         (rows : Vec (List ℕ × Count))
@@ -71,7 +72,8 @@ pub fn analysts_agree()
 pub fn one_coverage()
     ensures one { (hex : Bool) (inputs : List (List ℕ)) (a b : Coverage)
         → Covers hex inputs a → Covers hex inputs b → a ≡ b }
-    ensures summary { (T : Trace) (coverage : Coverage) (totals : Totals) (gaps : List Gap)
-        → IsCoverage T coverage → AreTotals T totals → IsGaps (HasKey T) T.processors gaps
+    ensures summary { (T : Trace) (until : Option ℕ) (coverage : Coverage) (totals : Totals)
+        (gaps : List Gap)
+        → IsCoverage T coverage → AreTotals T until totals → IsGaps (HasKey T) T.processors gaps
         → (coverage.gaps ≡ length gaps) × (coverage.complete_to ≡ totals.complete_to) }
 {}

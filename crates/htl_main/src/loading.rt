@@ -20,7 +20,7 @@ use crate::printing::{check_gaps, check_workers, read_symbols};
 use crate::refused::Refused;
 use crate::sources::read_all;
 use htl_case::Case;
-use htl_command::Setting;
+use htl_command::{Moment, Setting};
 use htl_device::Parted;
 use htl_symbols::Symbols;
 use std::alloc::Global;
@@ -34,12 +34,26 @@ pub struct Loaded {
     pub symbols: Symbols,
 }
 
-/// Reads all sources and makes their segments a case. It is all that a run does before it answers, and
-/// reports what the run reports then.
+impl Loaded {
+    ghost use Rattle.htl_main.specs.Coverages.{IsCoverage};
+    ghost use Rattle.htl_main.specs.Moments.{IsMomentOf};
+
+    /// The moment that is named, as a sequence. Where none is named, all events count.
+    pub(crate) fn moment(&self, named: Option<Moment>) -> Option<u64>
+        ensures { IsCoverage self.now.case self.now.coverage
+            → IsMomentOf self.now.case named result }
+    {
+        self.coverage.moment(named)
+    }
+}
+
+/// Reads all sources and makes their segments a case. It is all that a run does before it answers as of
+/// the moment, and reports what the run reports then.
 pub fn load<Rt: Threads + Sync, R: Parted>(
     rt: &Rt,
     alloc: Global,
     setting: Setting,
+    until: Option<Moment>,
     inputs: &mut [R],
     symbols: Option<&[u8]>,
 ) -> Result<Loaded, Refused>
@@ -47,12 +61,12 @@ pub fn load<Rt: Threads + Sync, R: Parted>(
     requires inside { All (λ source. R.has_ended source ≡ false) inputs.old }
     // What the sources' bytes come to is loaded, or reported as by a run for whichever question.
     ensures ok { (texts : List (List ℕ)) → map R.remaining inputs.old ≡ map Some texts
-        → IfOk result (λ loaded. AreLoadedOf texts (option_copied symbols.entry) setting
+        → IfOk result (λ loaded. AreLoadedOf texts (option_copied symbols.entry) setting until
         loaded.case loaded.symbols) }
     ensures case { IfOk result (λ loaded. IsCase loaded.case) }
     ensures coverage { IfOk result (λ loaded. IsCoverage loaded.case loaded.coverage) }
     ensures cause { (texts : List (List ℕ)) → map R.remaining inputs.old ≡ map Some texts
-        → IfErr (by_fault result) (λ fault. (job : Job)
+        → IfErr (by_fault result) (λ fault. (job : Job) → job.until ≡ until
         → IsSourcesCause (in_setting setting job) texts (map R.remaining inputs.new)
         (map R.has_ended inputs.new) (option_copied symbols.entry) fault) }
     // Where a fault is about two segments, they are named.
@@ -66,28 +80,30 @@ pub fn load<Rt: Threads + Sync, R: Parted>(
     check_workers(setting.workers)?;
     let decoded = read_all(rt, alloc, setting.hex, setting.workers, inputs)?;
     let case = case_of(alloc, decoded)?;
-    let loaded = with_symbols(alloc, setting.complete, case, symbols)?;
+    let loaded = with_symbols(alloc, setting.complete, until, case, symbols)?;
     Ok(loaded)
 }
 
-/// The case with the symbols. A case with a gap is refused where a complete one is asked for.
+/// The case with the symbols. A case with a gap below the moment is refused where a complete one is
+/// asked for.
 pub(crate) fn with_symbols(
     alloc: Global,
     complete: bool,
+    until: Option<Moment>,
     case: Case,
     symbols: Option<&[u8]>,
 ) -> Result<Loaded, RunFault>
     ensures ok { IfOk result (λ loaded. (segments : List Content) → IsCaseOf segments case
-        → AreLoaded segments (option_copied symbols.entry) complete loaded.case
+        → AreLoaded segments (option_copied symbols.entry) complete until loaded.case
         loaded.symbols) }
     ensures case { IfOk result (λ loaded. IsCase loaded.case) }
     ensures coverage { IfOk result (λ loaded. IsCoverage loaded.case loaded.coverage) }
     ensures err { IfErr result (λ fault. (segments : List Content) (job : Job)
-        → IsCaseOf segments case → job.complete ≡ complete
+        → IsCaseOf segments case → job.complete ≡ complete → job.until ≡ until
         → IsCauseAfter segments (option_copied symbols.entry) job fault) }
 {
     let missed = Missed::of_case(alloc, &case)?;
-    check_gaps(complete, &missed)?;
+    check_gaps(complete, until, &missed)?;
     let symbols = read_symbols(alloc, symbols)?;
     let coverage = missed.coverage();
     Ok(Loaded {

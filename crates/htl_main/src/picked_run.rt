@@ -39,8 +39,9 @@ pub fn interest(job: &Job) -> Option<Interest>
         Question::Outstanding { process }
         | Question::Diff { process, .. }
         | Question::Bad { process }
-        | Question::Leaks { process }
-        | Question::Trace { process, .. } => Some(Interest::Process(process)),
+        | Question::Leaks { process, .. }
+        | Question::Trace { process, .. }
+        | Question::Growth { process, .. } => Some(Interest::Process(process)),
         Question::Tags { object } | Question::Stacks { object, .. } => {
             Some(Interest::Object(object))
         }
@@ -71,7 +72,7 @@ pub fn pick_from<Rt: Threads + Sync, R: Parted, W: Sink>(
         → IfOk result (λ done. IfSome done (λ _. Prints job.now texts
         (option_copied symbols.entry) (W.contents out.old) (W.contents out.new))) }
     ensures reports { (texts : List (List ℕ)) → map R.remaining inputs.old ≡ map Some texts
-        → IfOk result (λ done. IfSome done (Reports job.now.hex texts job.now.question)) }
+        → IfOk result (λ done. IfSome done (Reports job.now texts)) }
     ensures whole { (texts : List (List ℕ)) → map R.remaining inputs.old ≡ map Some texts
         → IfOk result (λ done. IfNone done (AskForWhole job.now.hex texts)) }
     ensures unwritten { IfOk result (λ done. IfNone done (out.new ≡ out.old)) }
@@ -109,7 +110,7 @@ fn print_picks<W: Sink>(
         → IfOk result (λ done. IfSome done (λ _. PrintsOf segments (option_copied symbols.entry)
         job.now (Appends (W.contents out.old) (W.contents out.new)))) }
     ensures reports { (segments : List Content) → ArePickedFor job.now.question picks segments
-        → IfOk result (λ done. IfSome done (ReportsOf segments job.now.question)) }
+        → IfOk result (λ done. IfSome done (ReportsOf segments job.now)) }
     ensures whole { (segments : List Content) → ArePickedFor job.now.question picks segments
         → IfOk result (λ done. IfNone done (NeedsWhole segments)) }
     ensures unwritten { IfOk result (λ done. IfNone done (out.new ≡ out.old)) }
@@ -127,7 +128,7 @@ fn print_picks<W: Sink>(
     let Some(case) = PickedCase::of(picks) else {
         return Ok(None);
     };
-    let (lines, completed) = answered_of_picks(alloc, job, &case, symbols)?;
+    let (lines, completed) = answered_of_picks(alloc, job, case, symbols)?;
     write_lines(out, &lines)?;
     Ok(Some(completed))
 }

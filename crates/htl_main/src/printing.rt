@@ -7,23 +7,25 @@ ghost use Rattle.htl_device.specs.Devices.{AppendsPrefix};
 ghost use Rattle.htl_segment.specs.Traces.{Trace};
 ghost use Rattle.htl_main.specs.Answers.{Finds, FindsOver};
 ghost use Rattle.htl_main.specs.CaseOutlines.{IsMissed};
-ghost use Rattle.htl_main.specs.Completeness.{IsComplete, ReportsMissing};
-ghost use Rattle.htl_main.specs.Coverages.{Covers};
+ghost use Rattle.htl_main.specs.Completeness.{ReportsMissing};
+ghost use Rattle.htl_main.specs.Coverages.{Covers, IsCoverage};
 ghost use Rattle.htl_main.specs.Printed.{HasSymbols, HasSymbolFault, IsText, WorkersFit, lines_of};
 ghost use Rattle.htl_main.specs.Causes.{Prints, PrintsPart, IsCause};
+ghost use Rattle.htl_main.specs.Moments.{IsCompleteUntil};
 ghost use Rattle.htl_main.specs.Origins.{IsBetween, by_fault};
 ghost use Rattle.htl_main.specs.Picking.{EndsAnswer};
-ghost use Rattle.htl_main.specs.Subjects.{ReportsSubject};
+ghost use Rattle.htl_main.specs.Printing.{EndsOver, PrintsOver};
+ghost use Rattle.htl_main.specs.Subjects.{HasSubject, ReportsSubject};
 
 use crate::answering::answer;
 use crate::casing::case_of;
-use crate::completed::{Completed, has_finding};
-use crate::coverage::Missed;
+use crate::completed::{Completed, has_finding, has_subject};
+use crate::coverage::{Missed, is_above};
 use crate::fault::RunFault;
 use crate::inputs::decode_all;
 use crate::loading::{Loaded, with_symbols};
 use crate::refused::Refused;
-use htl_command::{Format, Job};
+use htl_command::{Format, Job, Moment};
 use htl_device::{Sink, write_whole};
 use htl_event::NoMemory;
 use htl_json::json_lines;
@@ -55,10 +57,10 @@ pub fn run<Rt: Threads + Sync, W: Sink>(
         (option_copied symbols.entry) (W.contents out.old) (W.contents out.new)) }
     ensures coverage { IfOk result (λ completed.
         Covers job.now.hex (map (λ input. input.items) inputs.now) completed.coverage) }
-    ensures subject { IfOk result (λ completed. ReportsSubject job.now.hex
-        (map (λ input. input.items) inputs.now) job.now.question completed.has_subject) }
-    ensures finding { IfOk result (λ completed. Finds job.now.hex
-        (map (λ input. input.items) inputs.now) job.now.question completed.has_finding) }
+    ensures subject { IfOk result (λ completed. ReportsSubject
+        (map (λ input. input.items) inputs.now) job.now completed.has_subject) }
+    ensures finding { IfOk result (λ completed. Finds job.now
+        (map (λ input. input.items) inputs.now) completed.has_finding) }
     ensures fine { OnOk result (W.has_failed out.new ≡ false) }
     ensures cause { IfErr (by_fault result) (IsCause job.now (map (λ input. input.items) inputs.now)
         (option_copied symbols.entry)) }
@@ -73,10 +75,57 @@ pub fn run<Rt: Threads + Sync, W: Sink>(
     check_workers(job.workers)?;
     let decoded = decode_all(alloc, job.hex, inputs)?;
     let case = case_of(alloc, decoded)?;
-    let loaded = with_symbols(alloc, job.complete, case, symbols)?;
-    let text = answer_text(alloc, job, &loaded)?;
+    let loaded = with_symbols(alloc, job.complete, job.until, case, symbols)?;
+    let completed = print_answer(alloc, job, &loaded, out)?;
+    Ok(completed)
+}
+
+/// Prints the answer to the job's question over what was loaded, and says what is reported beside it.
+/// Where the exit status says what the answer finds, none is printed about what has no event.
+pub(crate) fn print_answer<W: Sink>(
+    alloc: Global,
+    job: &Job,
+    loaded: &Loaded,
+    out: &mut W,
+) -> Result<Completed, RunFault>
+    requires known { IsCoverage loaded.now.case loaded.now.coverage }
+    requires out { W.has_failed out.old ≡ false }
+    ensures ok { OnOk result (PrintsOver loaded.now.case loaded.now.symbols job.now
+        (Appends (W.contents out.old) (W.contents out.new))) }
+    ensures coverage { IfOk result (λ completed. completed.coverage ≡ loaded.now.coverage) }
+    ensures subject { IfOk result (λ completed.
+        HasSubject loaded.now.case job.now completed.has_subject) }
+    ensures finding { IfOk result (λ completed.
+        FindsOver loaded.now.case job.now completed.has_finding) }
+    ensures fine { OnOk result (W.has_failed out.new ≡ false) }
+    ensures err { IfErr result (EndsOver loaded.now.case job.now) }
+    ensures write { result ≡ Err RunFault.Write
+        → PrintsOver loaded.now.case loaded.now.symbols job.now
+        (AppendsPrefix (W.contents out.old) (W.contents out.new)) × (W.has_failed out.new ≡ true) }
+    ensures untouched { IfErr result (λ fault. fault ≢ RunFault.Write → out.new ≡ out.old) }
+{
+    let has_subject = has_subject(job, loaded);
+    check_subject(job, has_subject)?;
+    let text = answer_text(alloc, job, loaded)?;
     write_lines(out, &text.lines)?;
-    Ok(Completed::of(job.question, &loaded, text.has_finding))
+    Ok(Completed {
+        coverage: loaded.coverage,
+        has_subject,
+        has_finding: text.has_finding,
+    })
+}
+
+/// Refuses an answer about what has no event, where the exit status says what the answer finds.
+pub(crate) fn check_subject(job: &Job, has_subject: bool) -> Result<(), RunFault>
+    ensures ok { OnOk result (job.now.exit_code ≡ true → has_subject ≡ true) }
+    ensures err { IfErr result (λ fault. (fault ≡ RunFault.NoSubject)
+        × (job.now.exit_code ≡ true) × (has_subject ≡ false)) }
+{
+    if job.exit_code && !has_subject {
+        Err(RunFault::NoSubject)
+    } else {
+        Ok(())
+    }
 }
 
 /// Tests the number of workers.
@@ -101,45 +150,53 @@ pub struct AnswerText {
 /// Answers the job's question over what was loaded. A run prints these lines, whether it loaded for
 /// this question alone or for many.
 pub fn answer_text(alloc: Global, job: &Job, loaded: &Loaded) -> Result<AnswerText, NoMemory>
-    ensures lines { IfOk result (λ text.
-        IsText loaded.now.case loaded.now.symbols job.now text.lines.items) }
-    ensures finding { IfOk result (λ text.
-        FindsOver loaded.now.case job.now.question text.has_finding) }
+    ensures lines { IfOk result (λ text. IsCoverage loaded.now.case loaded.now.coverage
+        → IsText loaded.now.case loaded.now.symbols job.now text.lines.items) }
+    ensures finding { IfOk result (λ text. IsCoverage loaded.now.case loaded.now.coverage
+        → FindsOver loaded.now.case job.now text.has_finding) }
 {
-    let answer = answer(alloc, job.question, &loaded.case)?;
-    let lines = lines(alloc, job, &answer, &loaded.symbols)?;
+    let until = loaded.moment(job.until);
+    let answer = answer(alloc, job.question, until, &loaded.case)?;
+    let lines = lines(alloc, job, until, &answer, &loaded.symbols)?;
     Ok(AnswerText {
         lines,
         has_finding: has_finding(&answer),
     })
 }
 
-/// The lines of an answer in the job's form.
+/// The lines of an answer in the job's form, where events count up to a moment.
 pub(crate) fn lines(
     alloc: Global,
     job: &Job,
+    until: Option<u64>,
     answer: &Answer,
     symbols: &Symbols,
 ) -> Result<Vec<u8>, NoMemory>
     ensures { IfOk result (λ lines.
-        lines.items ≡ lines_of job.now.format symbols.now job.now.top answer.now) }
+        lines.items ≡ lines_of job.now.format symbols.now until job.now.top answer.now) }
 {
     match (job.format, answer) {
-        (Format::Json, _) => json_lines(alloc, answer, symbols, None, job.top),
+        (Format::Json, _) => json_lines(alloc, answer, symbols, until, job.top),
         (Format::Folded, Answer::Leaks { rows, .. }) => folded(alloc, rows, symbols, job.top),
-        (Format::Plain | Format::Folded, _) => text(alloc, answer, symbols, None, job.top),
+        (Format::Plain | Format::Folded, _) => text(alloc, answer, symbols, until, job.top),
     }
 }
 
-/// Refuses the case that misses this where it has a gap and a complete one is asked for.
-pub(crate) fn check_gaps(complete: bool, missed: &Missed) -> Result<(), RunFault>
+/// Refuses the case that misses this where it has a gap below the moment and a complete one is asked
+/// for.
+#[tactic(auto, using(crate::proofs::MomentLaws::complete_until, crate::proofs::MomentLaws::not_above))]
+pub(crate) fn check_gaps(
+    complete: bool,
+    until: Option<Moment>,
+    missed: &Missed,
+) -> Result<(), RunFault>
     ensures ok { OnOk result (complete ≡ true
-        → (T : Trace) → IsMissed T missed.now → IsComplete T) }
-    ensures err { IfErr result (λ fault. (complete ≡ true)
-        × ((T : Trace) → IsMissed T missed.now → ReportsMissing T fault)) }
+        → (T : Trace) → IsMissed T missed.now → IsCompleteUntil T until) }
+    ensures err { IfErr result (λ fault. (complete ≡ true) × ((T : Trace) → IsMissed T missed.now
+        → (IsCompleteUntil T until → ⊥) × ReportsMissing T fault)) }
     ensures after { IfErr result EndsAnswer }
 {
-    if !complete {
+    if !complete || !is_above(until, missed.complete_to) {
         return Ok(());
     }
     match missed.first() {

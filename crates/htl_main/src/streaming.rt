@@ -14,7 +14,7 @@ ghost use Rattle.htl_main.specs.Subjects.{ReportsSubject};
 use crate::completed::Completed;
 use crate::fault::RunFault;
 use crate::loading::load;
-use crate::printing::{answer_text, write_lines};
+use crate::printing::print_answer;
 use crate::refused::Refused;
 use htl_command::{Job, Setting};
 use htl_device::{Parted, Sink};
@@ -46,10 +46,9 @@ pub fn run_from<Rt: Threads + Sync, R: Parted, W: Sink>(
     ensures coverage { (texts : List (List ℕ)) → map R.remaining inputs.old ≡ map Some texts
         → IfOk result (λ completed. Covers job.now.hex texts completed.coverage) }
     ensures subject { (texts : List (List ℕ)) → map R.remaining inputs.old ≡ map Some texts
-        → IfOk result (λ completed.
-        ReportsSubject job.now.hex texts job.now.question completed.has_subject) }
+        → IfOk result (λ completed. ReportsSubject texts job.now completed.has_subject) }
     ensures finding { (texts : List (List ℕ)) → map R.remaining inputs.old ≡ map Some texts
-        → IfOk result (λ completed. Finds job.now.hex texts job.now.question completed.has_finding) }
+        → IfOk result (λ completed. Finds job.now texts completed.has_finding) }
     ensures fine { OnOk result (W.has_failed out.new ≡ false) }
     ensures cause { (texts : List (List ℕ)) → map R.remaining inputs.old ≡ map Some texts
         → IfErr (by_fault result) (IsSourcesCause job.now texts (map R.remaining inputs.new)
@@ -72,8 +71,7 @@ pub fn run_from<Rt: Threads + Sync, R: Parted, W: Sink>(
         workers: job.workers,
         complete: job.complete,
     };
-    let loaded = load(rt, alloc, setting, inputs, symbols)?;
-    let text = answer_text(alloc, job, &loaded)?;
-    write_lines(out, &text.lines)?;
-    Ok(Completed::of(job.question, &loaded, text.has_finding))
+    let loaded = load(rt, alloc, setting, job.until, inputs, symbols)?;
+    let completed = print_answer(alloc, job, &loaded, out)?;
+    Ok(completed)
 }

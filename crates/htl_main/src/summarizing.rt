@@ -1,61 +1,78 @@
 //! The summary of a case.
 
-ghost use Rattle.std.specs.Prelude.{◌≡◌, ◌<◌, ◌^◌, IfOk, length};
+ghost use Rattle.std.specs.Prelude.{◌≡◌, ◌<◌, ◌^◌, ℕ, IfOk, Option, flat_map, length};
+ghost use Rattle.htl_event.specs.Moments.{counted_events};
 ghost use Rattle.htl_segment.specs.Traces.{all_events};
-ghost use Rattle.htl_event.specs.Summaries.{IsNumberOfObjects};
-ghost use Rattle.htl_main.specs.Answers.{IsAnswer};
 ghost use Rattle.htl_case.specs.Complete.{IsCompleteTo};
+ghost use Rattle.htl_event.specs.Handles.{HaveOwnSequences};
+ghost use Rattle.htl_event.specs.Summaries.{IsNumberOfObjects, IsProcesses, IsUnbalanced};
+ghost use Rattle.htl_main.specs.Answers.{IsAnswer};
 ghost use Rattle.htl_main.specs.Summaries.{AreTotals};
 ghost use Rattle.htl_command.specs.declared.question.Question.TheVariants as questions;
 
 use crate::coverage::Missed;
 use crate::unfolded::Unfolded;
 use htl_case::Case;
-use htl_event::NoMemory;
+use htl_event::{EventList, NoMemory};
 use htl_report::{Answer, Totals};
-use htl_segment::Segment;
 use htl_summary::{Objects, Summary, summarize};
 use std::alloc::Global;
 
-/// The summary of a case, by one part that holds all its segments.
-pub(crate) fn summary(alloc: Global, case: &Case) -> Result<Answer, NoMemory>
-    ensures { IfOk result (IsAnswer case.now questions.Summary) }
+/// The summary of a case, whose events count up to a moment.
+pub(crate) fn summary(alloc: Global, case: &Case, until: Option<u64>) -> Result<Answer, NoMemory>
+    ensures { IfOk result (IsAnswer case.now until questions.Summary) }
 {
     let Missed { gaps, complete_to } = Missed::of_case(alloc, case)?;
-    let part = Unfolded::new(alloc, case.segments());
-    let Summary { objects, processes } = summarize(alloc, &alloc, &[part])?;
+    let lists = case.until(alloc, until)?;
+    let Summary { objects, processes } = summary_of_lists(alloc, &lists)?;
     let Objects { number, unbalanced } = objects;
     Ok(Answer::Summary {
-        totals: totals(case, complete_to, number),
+        totals: totals(case, event_count(&lists), complete_to, number),
         gaps,
         processes,
         objects: unbalanced,
     })
 }
 
-/// The totals of a case that is complete to a sequence and has so many objects.
-fn totals(case: &Case, complete_to: u64, objects: u64) -> Totals
+/// What leaks at all among the events of lists, by one part that holds them.
+fn summary_of_lists<E: EventList>(alloc: Global, lists: &[E]) -> Result<Summary, NoMemory>
+    requires { length (flat_map E.events_of lists.now) < 2 ^ 64 }
+    ensures number { IfOk result (λ summary.
+        IsNumberOfObjects (flat_map E.events_of lists.now) summary.objects.number) }
+    ensures unbalanced { IfOk result (λ summary.
+        IsUnbalanced (flat_map E.events_of lists.now) summary.objects.unbalanced.items) }
+    ensures processes { IfOk result (λ summary. HaveOwnSequences (flat_map E.events_of lists.now)
+        → IsProcesses (flat_map E.events_of lists.now) summary.processes.items) }
+{
+    let part = Unfolded::new(alloc, lists);
+    summarize(alloc, &alloc, &[part])
+}
+
+/// The totals of a case that is complete to a sequence, and has so many events and objects.
+fn totals(case: &Case, events: u64, complete_to: u64, objects: u64) -> Totals
     requires complete_to { IsCompleteTo case.now complete_to }
-    requires objects { IsNumberOfObjects (all_events case.now.segments) objects }
-    ensures { AreTotals case.now result }
+    ensures { (until : Option ℕ)
+        → events ≡ length (counted_events until (all_events case.now.segments))
+        → IsNumberOfObjects (counted_events until (all_events case.now.segments)) objects
+        → AreTotals case.now until result }
 {
     Totals {
         processors: case.processors(),
         segments: case.segments().len() as u64,
-        events: event_count(case.segments()),
+        events,
         complete_to,
         objects,
     }
 }
 
-/// How many events the segments have.
-fn event_count(segments: &[Segment]) -> u64
-    requires { length (all_events segments.now) < 2 ^ 64 }
-    ensures { result ≡ length (all_events segments.now) }
+/// How many events the lists have.
+fn event_count<E: EventList>(lists: &[E]) -> u64
+    requires { length (flat_map E.events_of lists.now) < 2 ^ 64 }
+    ensures { result ≡ length (flat_map E.events_of lists.now) }
 {
     let mut count = 0;
-    for segment in segments {
-        count += segment.events().len() as u64;
+    for list in lists {
+        count += list.events().len() as u64;
     }
     count
 }

@@ -1,14 +1,10 @@
 //! Lists of events that weren't folded, as a part over which answers are made.
 
-ghost use Rattle.std.specs.Prelude.{◌≡◌};
-ghost use Rattle.htl_main.specs.Unfolded.{unfolded};
-
 use htl_answers::Part;
-use htl_event::{EventList, SharedEvent};
+use htl_event::EventList;
 use htl_tables::{Exits, Latest, Marks};
 use htl_tree::StackTree;
 use std::alloc::Global;
-use std::slice;
 
 /// Lists of events that stay where they lie, beside an empty tree and empty tables.
 #[derive(Drop)]
@@ -69,15 +65,4 @@ impl<'a, E: EventList> Part for Unfolded<'a, E> {
     fn held(&self) -> &[E] {
         self.held
     }
-}
-
-/// One list of events that wasn't folded, as a part.
-pub(crate) fn unfolded_list<'a>(
-    alloc: Global,
-    events: &'a Vec<SharedEvent>,
-) -> Unfolded<'a, Vec<SharedEvent>>
-    ensures { ⟦<Unfolded<'a, Vec<SharedEvent>> as Part>⟧.contents result
-        ≡ unfolded events.now.items }
-{
-    Unfolded::new(alloc, slice::from_ref(events))
 }

@@ -1,3 +1,5 @@
+pub mod Padding
+pub mod ShownTags
 pub mod Names
 pub mod Told
 pub mod FirstAbsent

@@ -1,15 +1,16 @@
 -- What the program does with its arguments (this project's own).
-use Rattle.std.specs.Prelude.{◌≡◌, ◌≢◌, ◌≤◌, ◌⊎◌, ◌&&◌, ⊤, not, ℕ, Bool, true, false, List, map, length, Option, Some}
+use Rattle.std.specs.Prelude.{◌≡◌, ◌≢◌, ◌≤◌, ◌⊎◌, ◌&&◌, ◌||◌, ⊤, not, ℕ, Bool, true, false, List, map, length, Option, Some}
 use Rattle.std.specs.Prelude.{IfErr, IfOk, IfSome, OnOk, Result, Ok, Err, String, string_bytes}
 use Rattle.std.specs.Io.KnownBytes.{Appends}
-use Rattle.htl_ask.specs.Asking.{BeginsAndGets, IsRunsCause, IsRunsText, before_dialogue}
+use Rattle.htl_ask.specs.Asking.{BeginsAndGets, IsRunsCause, IsRunsSubject, IsRunsText, before_dialogue}
 use Rattle.htl_ask.specs.declared.fault.AskFault.{AskFault}
 use Rattle.htl_ask.specs.declared.fault.AskFault.TheVariants as asks
 use Rattle.htl_command.specs.Refusals.{IsUsageWith, RefusesArguments}
-use Rattle.htl_command.specs.Requests.{request, requested}
+use Rattle.htl_command.specs.Requests.{IsAskedFor, notes_in, requested}
 use Rattle.htl_command.specs.declared.command.Run.{Run}
 use Rattle.htl_command.specs.declared.command.Command.{Command}
 use Rattle.htl_command.specs.declared.command.Command.TheVariants as wish
+use Rattle.htl_command.specs.declared.command.CommandLine.{CommandLine}
 use Rattle.htl_command.specs.declared.command.Conversion.{Conversion}
 use Rattle.htl_command.specs.declared.command.Dialogue.{Dialogue}
 use Rattle.htl_command.specs.declared.fault.ParseFault.{ParseFault}
@@ -24,16 +25,15 @@ use Rattle.htl_main.specs.Coverages.{Covers}
 use Rattle.htl_main.specs.Dumps.{is_failed_write}
 use Rattle.htl_main.specs.Origins.{IsBetween, by_fault}
 use Rattle.htl_main.specs.Sources.{IsEndless, IsTrueAt}
-use Rattle.htl_main.specs.Subjects.{ReportsSubject}
 use Rattle.htl_main.specs.declared.completed.Completed.{Completed}
 use Rattle.htl_main.specs.declared.coverage.Coverage.{Coverage}
 use Rattle.htl_main.specs.declared.fault.RunFault.{RunFault}
 use Rattle.htl_main.specs.declared.fault.RunFault.TheVariants as faults
-use Rattle.htl_main.specs.declared.origin.Between.TheVariants.{Nothing}
 use Rattle.htl_main.specs.declared.refused.Refused.{Refused}
 use Rattle.htl_program.specs.Endings.{Ends, EndsDump, EndsEncoding, IsUnopened, IsUntabled, RunsOut}
 use Rattle.htl_program.specs.Readings.{AreInputs}
-use Rattle.htl_program.specs.Sayings.{Hears, HearsRun, Saying, answer, fault, lone_fault, no_memory, stop, text, unwritten}
+use Rattle.htl_program.specs.Sayings.{Hears, HearsAll, HearsRun, Saying, alone, fault, fault_said, no_memory, notes_said, stop_said, text}
+use Rattle.htl_program.specs.Sayings.{unwritten}
 use Rattle.htl_program.specs.Statuses.{conversion_status, dialogue_status, end_status}
 use Rattle.htl_program.specs.Words.{explained}
 use Rattle.htl_program.specs.Worlds.{IsFirstAbsent, IsFirstRefused, IsTable, IsTableAbsent, of_each, of_inputs}
@@ -115,31 +115,32 @@ pub record IsAnswered {R : Type 0} (world : Known) (inputs : Opened R) (old new 
   pub failed : by_fault ended ≡ Err faults.Write → new.is_full ≡ true
   pub fine : OnOk ended (new.is_full ≡ false)
 
--- The fault that ended a run is said, once. A failed write is not where nobody reads any more.
-abbrev pub SaysFault : Option (List Saying) → Option (List Saying) → Command → Refused → Type 0
-SaysFault old new command refused = Hears old new (fault command refused) ⊎ ((refused.fault ≡ faults.Write) × (new ≡ old))
+-- The fault that ended a run is said, once, and in words where these are wanted. A failed write is not where nobody reads any more.
+abbrev pub SaysFault : Bool → Option (List Saying) → Option (List Saying) → Command → Refused → Type 0
+SaysFault in_words old new command refused =
+    HearsAll old new (fault_said in_words command refused) ⊎ ((refused.fault ≡ faults.Write) × (new ≡ old))
 
 -- how a question's end is said, once its run is over
-abbrev pub SaysAnswer : Option (List Saying) → Option (List Saying) → Command → Run → Result Completed Refused → Type 0
-SaysAnswer old new command run (Ok completed) = Hears old new (answer run completed)
-SaysAnswer old new command run (Err refused) = SaysFault old new command refused
+abbrev pub SaysAnswer : Bool → Option (List Saying) → Option (List Saying) → Command → Run → Result Completed Refused → Type 0
+SaysAnswer in_words old new command run (Ok completed) = HearsAll old new (notes_said in_words run.job completed)
+SaysAnswer in_words old new command run (Err refused) = SaysFault in_words old new command refused
 
-pub record DoesAnswer {R : Type 0} (world : Known) (inputs : Opened R) (old new : Told) (command : Command) (run : Run) (status : ℕ)
-    : Type 0 where
+pub record DoesAnswer {R : Type 0} (in_words : Bool) (world : Known) (inputs : Opened R) (old new : Told) (command : Command) (run : Run)
+    (status : ℕ) : Type 0 where
   pub ended : Result Completed Refused
   pub is : IsAnswered world inputs old new run ended
   pub status_is : status ≡ end_status run.job.exit_code (by_fault ended)
   pub after_run : Option (List Saying)
   pub hears_run : HearsRun command old.heard after_run
-  pub said : SaysAnswer after_run new.heard command run ended
+  pub said : SaysAnswer in_words after_run new.heard command run ended
 
 -- how a conversion's end is said: nothing, if it ended well
-abbrev pub SaysConversion : {S : Type 0} → Option (List Saying) → Option (List Saying) → Command → Result S RunFault → Type 0
-SaysConversion old new command (Ok done) = new ≡ old
-SaysConversion old new command (Err reported) = SaysFault old new command (record { fault = reported; between = Nothing })
+abbrev pub SaysConversion : {S : Type 0} → Bool → Option (List Saying) → Option (List Saying) → Command → Result S RunFault → Type 0
+SaysConversion in_words old new command (Ok done) = new ≡ old
+SaysConversion in_words old new command (Err reported) = SaysFault in_words old new command (alone reported)
 
-pub record DoesDump {R : Type 0} (world : Known) (inputs : Opened R) (old new : Told) (command : Command) (of : Conversion) (status : ℕ)
-    : Type 0 where
+pub record DoesDump {R : Type 0} (in_words : Bool) (world : Known) (inputs : Opened R) (old new : Told) (command : Command)
+    (of : Conversion) (status : ℕ) : Type 0 where
   pub ended : Result (Unit {0}) RunFault
   pub ends : (texts : List (List ℕ)) → HaveTexts world of.files.items texts
       → EndsDump of.hex texts (lefts inputs) (ends inputs) old.out new.out ended
@@ -151,10 +152,10 @@ pub record DoesDump {R : Type 0} (world : Known) (inputs : Opened R) (old new : 
   pub status_is : status ≡ conversion_status ended
   pub after_run : Option (List Saying)
   pub hears_run : HearsRun command old.heard after_run
-  pub said : SaysConversion after_run new.heard command ended
+  pub said : SaysConversion in_words after_run new.heard command ended
 
-pub record DoesEncode {R : Type 0} (world : Known) (inputs : Opened R) (old new : Told) (command : Command) (of : Conversion) (status : ℕ)
-    : Type 0 where
+pub record DoesEncode {R : Type 0} (in_words : Bool) (world : Known) (inputs : Opened R) (old new : Told) (command : Command)
+    (of : Conversion) (status : ℕ) : Type 0 where
   pub ended : Result (Unit {0}) RunFault
   pub ends : (texts : List (List ℕ)) → HaveTexts world of.files.items texts
       → EndsEncoding of.hex texts (lefts inputs) (ends inputs) old.out new.out ended
@@ -167,7 +168,7 @@ pub record DoesEncode {R : Type 0} (world : Known) (inputs : Opened R) (old new 
   pub status_is : status ≡ conversion_status ended
   pub after_run : Option (List Saying)
   pub hears_run : HearsRun command old.heard after_run
-  pub said : SaysConversion after_run new.heard command ended
+  pub said : SaysConversion in_words after_run new.heard command ended
 
 -- A text that was asked for: it is written and nothing is said, with status 0; or its write fails, which is said, with status 5.
 abbrev pub IsPrinted : List ℕ → Told → Told → ℕ → Type 0
@@ -181,42 +182,52 @@ Refuses old new (Help help) status = IsPrinted (string_bytes help) old new statu
 Refuses old new (Usage why) status = (status ≡ 2) × (new.out ≡ old.out) × Hears old.heard new.heard (text (string_bytes why))
 Refuses old new Memory status = (status ≡ 6) × (new.out ≡ old.out) × Hears old.heard new.heard no_memory
 
--- a code is explained, unless memory is refused
-abbrev pub Explains : Told → Told → Command → List ℕ → ℕ → Type 0
-Explains old new command bytes status =
+-- a fault is explained, unless memory is refused
+abbrev pub Explains : Told → Told → List ℕ → ℕ → Type 0
+Explains old new bytes status =
     IsPrinted bytes old new status
-    ⊎ ((status ≡ 6) × (new.out ≡ old.out) × Hears old.heard new.heard (lone_fault command faults.Memory))
+    ⊎ ((status ≡ 6) × (new.out ≡ old.out) × Hears old.heard new.heard (fault (alone faults.Memory)))
 
 -- Segments are made of text, but their bytes aren't shown to a person.
-abbrev pub Encodes : {R : Type 0} → Bool → Known → Opened R → Told → Told → Command → Conversion → ℕ → Type 0
-Encodes true world inputs old new command of status = (why : ParseFault) × IsUsageWith ⊤ why × Refuses old new why status
-Encodes false world inputs old new command of status = DoesEncode world inputs old new command of status
+abbrev pub Encodes : {R : Type 0} → Bool → Bool → Known → Opened R → Told → Told → Command → Conversion → ℕ → Type 0
+Encodes true in_words world inputs old new command of status = (why : ParseFault) × IsUsageWith ⊤ why × Refuses old new why status
+Encodes false in_words world inputs old new command of status = DoesEncode in_words world inputs old new command of status
 
 -- how a dialogue's end is said, once it is over: nothing, if it ended well
-abbrev pub SaysDialogue : {S : Type 0} → Option (List Saying) → Option (List Saying) → Command → Result S AskFault → Type 0
-SaysDialogue old new command (Ok done) = new ≡ old
-SaysDialogue old new command (Err (asks.Run refused)) = SaysFault old new command refused
-SaysDialogue old new command (Err (asks.Dialogue stopped)) =
-    Hears old new (stop stopped) ⊎ ((stopped ≡ dialogues.Write) × (new ≡ old))
+abbrev pub SaysDialogue : {S : Type 0} → Bool → Option (List Saying) → Option (List Saying) → Command → Result S AskFault → Type 0
+SaysDialogue in_words old new command (Ok done) = new ≡ old
+SaysDialogue in_words old new command (Err (asks.Run refused)) = SaysFault in_words old new command refused
+SaysDialogue in_words old new command (Err (asks.Dialogue stopped)) =
+    HearsAll old new (stop_said in_words stopped) ⊎ ((stopped ≡ dialogues.Write) × (new ≡ old))
 
--- who types the lines of a dialogue, before it and after: what each note makes of them, what they are once there are no more replies,
--- whether they want to know what has no event, and whether in the end their wrong lines count
+-- who types the lines of a dialogue, before it and after: what each note makes of them, what they are once it is known whether notes are
+-- asked for, and once there are no more replies, whether they want to know what has no event, and whether in the end their wrong lines
+-- count
 pub record Spoken (S : Type 0) : Type 0 where
   pub told : S → Note → S
+  pub noted : S → Bool → S
   pub left : S → Bool → S
   pub wants_absence : Bool
   pub counts_wrong : Bool
   pub before : S
   pub after : S
 
-abbrev pub spoken : {S : Type 0} → (S → Note → S) → (S → Bool → S) → (S → Bool) → (S → Bool) → S → S → Spoken S
-spoken told left wants_absence counts_wrong before after = record {
+abbrev pub spoken : {S : Type 0} → (S → Note → S) → (S → Bool → S) → (S → Bool → S) → (S → Bool) → (S → Bool) → S → S → Spoken S
+spoken told noted left wants_absence counts_wrong before after = record {
   told = told;
+  noted = noted;
   left = left;
   wants_absence = wants_absence before;
   counts_wrong = counts_wrong after;
   before = before;
   after = after;
+}
+
+-- They were told whether notes are asked for, and want them where they are.
+abbrev pub with_notes : {S : Type 0} → Bool → Spoken S → Spoken S
+with_notes notes speaker = record speaker {
+  before = speaker.noted speaker.before notes;
+  wants_absence = speaker.wants_absence || notes;
 }
 
 -- the output got these replies, and who types the lines these notes, after they were told how much of its trace the case has
@@ -230,8 +241,8 @@ pub record IsUnread {R : Type 0} (inputs : Opened R) (questions : R) (bytes : Op
   pub inside : inputs.has_ended questions ≡ false
 
 -- The lines of standard input get their replies. The speaker is given as they were when the last reply had come.
-pub record DoesConverse {S R : Type 0} (speaker : Spoken S) (world : Known) (inputs : Opened R) (old new : Told) (command : Command)
-    (of : Dialogue) (status : ℕ) : Type 0 where
+pub record DoesConverse {S R : Type 0} (in_words : Bool) (speaker : Spoken S) (world : Known) (inputs : Opened R) (old new : Told)
+    (command : Command) (of : Dialogue) (status : ℕ) : Type 0 where
   pub ended : Result Bool AskFault
   pub listening : S
   pub questions : R
@@ -239,12 +250,12 @@ pub record DoesConverse {S R : Type 0} (speaker : Spoken S) (world : Known) (inp
   pub replies : (texts : List (List ℕ)) → (table : Option (List ℕ)) → (lines : List ℕ) → HaveTexts world of.files.items texts
       → IsTable world.holds of.symbols table → world.standard ≡ Some lines
       → IfOk ended (λ has_wrong. (coverage : Coverage) × Covers of.setting.hex texts coverage
-      × Converses (IsRunsText of.setting texts table) (ReportsSubject of.setting.hex texts) speaker.wants_absence lines
+      × Converses (IsRunsText of.setting texts table) (IsRunsSubject of.setting texts) speaker.wants_absence lines
       (HasGot speaker listening old new coverage) has_wrong)
   pub stops : (texts : List (List ℕ)) → (table : Option (List ℕ)) → (lines : List ℕ) → (stopped : DialogueFault)
       → HaveTexts world of.files.items texts → IsTable world.holds of.symbols table → world.standard ≡ Some lines
       → ended ≡ Err (asks.Dialogue stopped) → (coverage : Coverage) × Covers of.setting.hex texts coverage
-      × StopsAt (IsRunsText of.setting texts table) (ReportsSubject of.setting.hex texts) speaker.wants_absence lines
+      × StopsAt (IsRunsText of.setting texts table) (IsRunsSubject of.setting texts) speaker.wants_absence lines
       (inputs.remaining questions) (inputs.has_failed questions) (HasGot speaker listening old new coverage) stopped
   -- What failed is reported, and nothing else is reported as failed.
   pub lines : inputs.has_failed questions ≡ true → ended ≡ Err (asks.Dialogue dialogues.Questions)
@@ -271,30 +282,35 @@ pub record DoesConverse {S R : Type 0} (speaker : Spoken S) (world : Known) (inp
   pub status_is : status ≡ dialogue_status speaker.counts_wrong ended
   pub after_run : Option (List Saying)
   pub hears_run : HearsRun command old.heard after_run
-  pub said : SaysDialogue after_run new.heard command ended
+  pub said : SaysDialogue in_words after_run new.heard command ended
 
--- what is done for a command, and the status with which the program ends; whether a person sees the output is given first
-abbrev pub Does : {S R : Type 0} → Bool → Spoken S → Known → Opened R → Told → Told → Command → ℕ → Type 0
-Does sees speaker world inputs old new (wish.Question run) status = DoesAnswer world inputs old new (wish.Question run) run status
-Does sees speaker world inputs old new (wish.Explain code) status = Explains old new (wish.Explain code) (explained code) status
-Does sees speaker world inputs old new (wish.Dump of) status = DoesDump world inputs old new (wish.Dump of) of status
-Does sees speaker world inputs old new (wish.Encode of) status =
-    Encodes (not of.hex && sees) world inputs old new (wish.Encode of) of status
-Does sees speaker world inputs old new (wish.Ask of) status =
-    DoesConverse speaker world inputs old new (wish.Ask of) of status
+-- What is done for a command, and the status with which the program ends. Whether a person sees the output is given first, and then
+-- whether what is said is said in words too.
+abbrev pub Does : {S R : Type 0} → Bool → Bool → Spoken S → Known → Opened R → Told → Told → Command → ℕ → Type 0
+Does sees in_words speaker world inputs old new (wish.Question run) status =
+    DoesAnswer in_words world inputs old new (wish.Question run) run status
+Does sees in_words speaker world inputs old new (wish.Explain reported) status = Explains old new (explained reported) status
+Does sees in_words speaker world inputs old new (wish.Dump of) status = DoesDump in_words world inputs old new (wish.Dump of) of status
+Does sees in_words speaker world inputs old new (wish.Encode of) status =
+    Encodes (not of.hex && sees) in_words world inputs old new (wish.Encode of) of status
+Does sees in_words speaker world inputs old new (wish.Ask of) status =
+    DoesConverse in_words speaker world inputs old new (wish.Ask of) of status
 
 -- what arguments give
-abbrev pub IsParsed : List (List ℕ) → Result Command ParseFault → Type 0
-IsParsed words (Ok command) = requested words ≡ Some (request command)
+abbrev pub IsParsed : List (List ℕ) → Result CommandLine ParseFault → Type 0
+IsParsed words (Ok line) = IsAskedFor (requested words) line.command × (line.notes ≡ notes_in words)
 IsParsed words (Err why) = RefusesArguments words why
 
-abbrev pub DoesParsed : {S R : Type 0} → Bool → Spoken S → Known → Opened R → Told → Told → Result Command ParseFault → ℕ → Type 0
-DoesParsed sees speaker world inputs old new (Ok command) status = Does sees speaker world inputs old new command status
-DoesParsed sees speaker world inputs old new (Err why) status = Refuses old new why status
+-- Words are for a person who watches, and for whoever asks for notes.
+abbrev pub DoesParsed : {S R : Type 0} → Bool → Bool → Spoken S → Known → Opened R → Told → Told → Result CommandLine ParseFault → ℕ
+    → Type 0
+DoesParsed sees watches speaker world inputs old new (Ok line) status =
+    Does sees (watches || line.notes) (with_notes line.notes speaker) world inputs old new line.command status
+DoesParsed sees watches speaker world inputs old new (Err why) status = Refuses old new why status
 
 -- The program does what its arguments ask for.
-pub record Obeys {S R : Type 0} (sees : Bool) (speaker : Spoken S) (world : Known) (inputs : Opened R) (old new : Told)
+pub record Obeys {S R : Type 0} (sees watches : Bool) (speaker : Spoken S) (world : Known) (inputs : Opened R) (old new : Told)
     (words : List (List ℕ)) (status : ℕ) : Type 0 where
-  pub parsed : Result Command ParseFault
+  pub parsed : Result CommandLine ParseFault
   pub is : IsParsed words parsed
-  pub does : DoesParsed sees speaker world inputs old new parsed status
+  pub does : DoesParsed sees watches speaker world inputs old new parsed status

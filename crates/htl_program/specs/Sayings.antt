@@ -1,31 +1,41 @@
 -- What a person is told beside the output (this project's own).
-use Rattle.std.specs.Prelude.{◌≡◌, ◌++◌, ◌∷◌, [], ℕ, List, Option, Some, IfSome, string_bytes}
-use Rattle.htl_command.specs.declared.command.Run.{Run}
+use Rattle.std.specs.Prelude.{◌≡◌, ◌++◌, ◌∷◌, ◌&&◌, ◌==◌, [], not, ℕ, Bool, true, false, List, Option, None, Some}
+use Rattle.std.specs.Prelude.{IfSome, if◌then◌else◌, string_bytes}
 use Rattle.htl_command.specs.declared.command.Command.{Command}
 use Rattle.htl_command.specs.declared.fault.ParseFault.{ParseFault}
 use Rattle.htl_command.specs.declared.fault.ParseFault.TheVariants.{Help, Usage, Memory}
+use Rattle.htl_command.specs.declared.question.Job.{Job}
+use Rattle.htl_command.specs.declared.question.Moment.{Moment}
+use Rattle.htl_command.specs.declared.question.Question.{Question}
 use Rattle.htl_dialogue.specs.declared.dialogue.DialogueFault.{DialogueFault}
+use Rattle.htl_main.specs.Moments.{is_above}
 use Rattle.htl_main.specs.declared.completed.Completed.{Completed}
+use Rattle.htl_main.specs.declared.coverage.Coverage.{Coverage}
 use Rattle.htl_main.specs.declared.fault.RunFault.{RunFault}
 use Rattle.htl_main.specs.declared.origin.Between.TheVariants.{Nothing}
 use Rattle.htl_main.specs.declared.refused.Refused.{Refused}
+use Rattle.htl_program.specs.AskedAbout.{subject_of_question}
+use Rattle.htl_program.specs.declared.subject.Subject.{Subject}
 
 -- One thing that a person is told: that the run of a command begins, and that it has ended; a text as it stands; that memory was refused;
--- that a text could not be written; the fault that ended the run of a command; what a run reports beside the answer to what was asked;
--- why the replies of a dialogue stopped.
+-- that a text could not be written; the fault that ended a run, and the same in words, by what its command names; that what was asked
+-- about has no event; that segments are missing; why the replies of a dialogue stopped, and the same in words.
 pub data Saying : Type 0 where
   begun : Command → Saying
   over : Saying
   text : List ℕ → Saying
   no_memory : Saying
   unwritten : Saying
-  fault : Command → Refused → Saying
-  answer : Run → Completed → Saying
+  fault : Refused → Saying
+  meaning : Command → Refused → Saying
+  absence : Subject → Saying
+  gaps : Coverage → Saying
   stop : DialogueFault → Saying
+  stop_meaning : DialogueFault → Saying
 
 -- a fault that is about no two segments
-abbrev pub lone_fault : Command → RunFault → Saying
-lone_fault command reported = fault command (record { fault = reported; between = Nothing })
+abbrev pub alone : RunFault → Refused
+alone reported = record { fault = reported; between = Nothing }
 
 -- what is said of arguments that are refused
 abbrev pub refusal : ParseFault → Saying
@@ -33,10 +43,46 @@ refusal (Help help) = text (string_bytes help)
 refusal (Usage why) = text (string_bytes why)
 refusal Memory = no_memory
 
+-- what is said of the fault that ended the run of a command, and whether in words too
+abbrev pub fault_said : Bool → Command → Refused → List Saying
+fault_said true command refused = fault refused ∷ meaning command refused ∷ []
+fault_said false command refused = fault refused ∷ []
+
+-- the same where the replies of a dialogue stopped
+abbrev pub stop_said : Bool → DialogueFault → List Saying
+stop_said true stopped = stop stopped ∷ stop_meaning stopped ∷ []
+stop_said false stopped = stop stopped ∷ []
+
+-- what was asked about, where it has no event
+abbrev pub absent_subject : Question → Bool → Option Subject
+absent_subject question true = None
+absent_subject question false = subject_of_question question
+
+abbrev pub absence_said : Option Subject → List Saying
+absence_said None = []
+absence_said (Some subject) = absence subject ∷ []
+
+-- segments are missing, and the moment up to which events count is above what the case is complete to
+abbrev pub is_touched : Coverage → Option Moment → Bool
+is_touched coverage until = not (coverage.gaps == 0) && is_above until coverage.complete_to
+
+abbrev pub gaps_said : Coverage → Option Moment → List Saying
+gaps_said coverage until = if is_touched coverage until then gaps coverage ∷ [] else []
+
+-- what is said beside an answer, where words are wanted
+abbrev pub notes_said : Bool → Job → Completed → List Saying
+notes_said false job completed = []
+notes_said true job completed =
+    absence_said (absent_subject job.question completed.has_subject) ++ gaps_said completed.coverage job.until
+
+-- These things were said, one after the other, and nothing else.
+abbrev pub HearsAll : Option (List Saying) → Option (List Saying) → List Saying → Type 0
+HearsAll old new sayings = IfSome old (λ said. new ≡ Some (said ++ sayings))
+
 -- This was said, and nothing else.
 abbrev pub Hears : Option (List Saying) → Option (List Saying) → Saying → Type 0
-Hears old new saying = IfSome old (λ said. new ≡ Some (said ++ saying ∷ []))
+Hears old new saying = HearsAll old new (saying ∷ [])
 
 -- It was said that the run of the command begins and then that it has ended, and nothing else.
 abbrev pub HearsRun : Command → Option (List Saying) → Option (List Saying) → Type 0
-HearsRun command old new = IfSome old (λ said. new ≡ Some (said ++ begun command ∷ over ∷ []))
+HearsRun command old new = HearsAll old new (begun command ∷ over ∷ [])

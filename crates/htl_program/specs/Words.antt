@@ -1,17 +1,23 @@
 -- The words on each code: what is wrong, and what to do (this project's own). A word in angle brackets stands for a number or a
 -- field of the fault.
-use Rattle.std.specs.Prelude.{◌++◌, ◌∷◌, [], ℕ, List, Option, None, Some, codes}
+use Rattle.std.specs.Prelude.{◌++◌, ◌∷◌, [], ℕ, List, Option, None, Some, codes, option_map}
+use Rattle.std.specs.Fmt.{decimal}
+use Rattle.std.specs.Option.{option_or}
 use Rattle.htl_command.specs.Codes.{code_name}
 use Rattle.htl_command.specs.declared.code.Code.{Code}
 use Rattle.htl_command.specs.declared.code.Code.TheVariants.{S1, S2, S3, S4, S5, S6, S7, S8, S9, S10, S11, S12, S13, S14, S15, S16, S17}
 use Rattle.htl_command.specs.declared.code.Code.TheVariants.{H1, H2, H3}
-use Rattle.htl_command.specs.declared.code.Code.TheVariants.{C1, C2, C3, C4, C5, C6, C7, C8}
+use Rattle.htl_command.specs.declared.code.Code.TheVariants.{C1, C2, C3, C4, C5, C6, C7, C8, C9}
 use Rattle.htl_command.specs.declared.code.Code.TheVariants.{Y1, Y2, Y3, Y4, Y5, Y6, Y7}
 use Rattle.htl_command.specs.declared.code.Code.TheVariants.{E1, E2}
+use Rattle.htl_command.specs.declared.printed.Parts.{Parts}
+use Rattle.htl_command.specs.declared.printed.Parts.TheVariants.{Nothing, Number, Numbers, Field}
+use Rattle.htl_command.specs.declared.printed.PrintedFault.{PrintedFault}
+use Rattle.htl_program.specs.Parts.{numbered_part, part_text}
 use Rattle.htl_text.specs.declared.fault.FormFault.{FormFault}
 use Rattle.htl_text.specs.declared.fault.FormFault.TheVariants as forms
 
--- the part of the inputs with which the words on a code begin, where its faults have numbers of their own
+-- what the words on a code begin with, where its faults name a part of the inputs, or what was asked about
 abbrev pub part_of : Code → Option (List ℕ)
 part_of S11 = Some (codes "record <i>")
 part_of S12 = Some (codes "record <i>")
@@ -25,6 +31,7 @@ part_of C4 = Some (codes "segment <number> of processor <processor>")
 part_of C5 = Some (codes "sequence <sequence>")
 part_of C7 = Some (codes "segment <number> of processor <processor>")
 part_of C8 = Some (codes "segment <number> of processor <processor>")
+part_of C9 = Some (codes "what was asked about")
 part_of Y2 = Some (codes "row <row>")
 part_of Y3 = Some (codes "row <row>")
 part_of Y4 = Some (codes "row <row>")
@@ -73,6 +80,7 @@ wrong_of C5 = codes "is that of an event in each of two different segments"
 wrong_of C6 = codes "the system refused memory"
 wrong_of C7 = codes "has an event that isn't above all in the processor's segments before"
 wrong_of C8 = codes "is missing"
+wrong_of C9 = codes "has no event in these inputs"
 wrong_of Y1 = codes "the first line isn't start,end,module,name"
 wrong_of Y2 = codes "hasn't four fields"
 wrong_of Y3 = codes "has a start or an end that is no number"
@@ -125,6 +133,7 @@ advice_of C5 = mixed
 advice_of C6 = free_memory
 advice_of C7 = mixed
 advice_of C8 = codes "give all files of the trace, or leave out --complete"
+advice_of C9 = codes "is its number right? A mistyped one looks like one without a leak"
 advice_of Y1 = codes "is it a table of symbols?"
 advice_of Y2 = codes "is a name with a comma in quotes, and is each quote ended?"
 advice_of Y3 = codes "each is 1 to 16 hexadecimal digits, with or without 0x"
@@ -140,6 +149,27 @@ abbrev pub with_part : Option (List ℕ) → List ℕ → List ℕ
 with_part None wrong = wrong
 with_part (Some part) wrong = part ++ (32 ∷ wrong)
 
--- what is printed of a code: what is wrong in a line, and what to do in another
-unfoldable pub explained : Code → List ℕ
-explained code = code_name code ++ (codes ": " ++ (with_part (part_of code) (wrong_of code) ++ (10 ∷ (advice_of code ++ (10 ∷ [])))))
+-- what the words on a fault begin with: the part with its numbers where the fault has them, and else what each fault of the code has
+abbrev pub part_words : Code → Parts → Option (List ℕ)
+part_words code which = option_or (option_map part_text (numbered_part code which)) (part_of code)
+
+-- what is wrong with that part, or by itself: of a line whose field is named, the field's value
+abbrev pub wrong_in : Code → Parts → List ℕ
+wrong_in E1 (Field name) = bad_value
+wrong_in code which = wrong_of code
+
+abbrev pub after_code : Parts → List ℕ
+after_code Nothing = []
+after_code (Number n) = codes "(" ++ (decimal n ++ codes ")")
+after_code (Numbers m n) = codes "(" ++ (decimal m ++ (codes ", " ++ (decimal n ++ codes ")")))
+after_code (Field name) = codes "(" ++ (name.now ++ codes ")")
+
+-- a fault as its line has it: its code, and what follows it in parentheses
+abbrev pub printed_text : PrintedFault → List ℕ
+printed_text fault = code_name fault.code ++ after_code fault.parts
+
+-- what is printed of a fault: what is wrong in a line, and what to do in another
+unfoldable pub explained : PrintedFault → List ℕ
+explained fault =
+    printed_text fault ++ (codes ": " ++ (with_part (part_words fault.code fault.parts) (wrong_in fault.code fault.parts)
+    ++ (10 ∷ (advice_of fault.code ++ (10 ∷ [])))))

@@ -1,10 +1,9 @@
 //! What the program does: from its arguments, through the command that they give, to its status.
 
-ghost use Rattle.std.specs.Prelude.{◌≡◌, ◌⊎◌, ◌&&◌, Bool, false, map, not, string_bytes};
+ghost use Rattle.std.specs.Prelude.{◌≡◌, ◌&&◌, ◌||◌, false, map, not, string_bytes};
 ghost use Rattle.htl_program.specs.Programs.{Does, DoesAnswer, DoesConverse, DoesDump, DoesEncode};
-ghost use Rattle.htl_program.specs.Programs.{Encodes, Explains, IsPrinted, Obeys, Refuses, SaysAnswer};
-ghost use Rattle.htl_program.specs.Programs.{SaysConversion, SaysDialogue, SaysFault};
-ghost use Rattle.htl_program.specs.Programs.{known, opened, spoken, told};
+ghost use Rattle.htl_program.specs.Programs.{Encodes, Explains, IsPrinted, Obeys, Refuses};
+ghost use Rattle.htl_program.specs.Programs.{SaysConversion, known, opened, spoken, told, with_notes};
 ghost use Rattle.htl_program.specs.Statuses.{conversion_status};
 ghost use Rattle.htl_program.specs.Words.{explained};
 
@@ -16,13 +15,14 @@ use crate::explained::Explained;
 use crate::inputs::Inputs;
 use crate::output::Output;
 use crate::person::Person;
+use crate::saying::{alone, report, say_answer, say_dialogue};
 use crate::speaker::Speaker;
 use crate::world::World;
-use htl_ask::AskFault;
-use htl_command::{Code, Command, Conversion, Dialogue, ParseFault, Run, parse};
+use htl_command::{
+    Command, CommandLine, Conversion, Dialogue, ParseFault, PrintedFault, Run, parse,
+};
 use htl_device::{Sink, Source, write_whole};
-use htl_dialogue::DialogueFault;
-use htl_main::{Between, Completed, Refused, RunFault};
+use htl_main::RunFault;
 use std::alloc::Global;
 use std::thread::Threads;
 
@@ -38,8 +38,8 @@ pub fn program<Rt: Threads + Sync, W: World, O: Output, P: Person, S: Speaker>(
     speaker: &mut S,
 ) -> u8
     requires { O.has_failed out.old ≡ false }
-    ensures { Obeys (P.sees_output person.old)
-        (spoken S.told S.left S.wants_absence S.counts speaker.old speaker.new)
+    ensures { Obeys (P.sees_output person.old) (P.is_watching person.old)
+        (spoken S.told S.noted S.left S.wants_absence S.counts speaker.old speaker.new)
         (known W.holds W.is_absent W.standard world.now)
         (opened W.Input.remaining W.Input.has_ended W.Input.has_failed W.Input.good_reads
         inputs.new)
@@ -48,7 +48,7 @@ pub fn program<Rt: Threads + Sync, W: World, O: Output, P: Person, S: Speaker>(
         (map string_bytes arguments.items) result }
 {
     match parse(alloc, arguments) {
-        Ok(command) => obey(rt, alloc, world, &command, inputs, out, person, speaker),
+        Ok(line) => obey(rt, alloc, world, &line, inputs, out, person, speaker),
         Err(fault) => refuse(&fault, out, person),
     }
 }
@@ -84,33 +84,44 @@ fn print<O: Sink, P: Person>(text: &str, out: &mut O, person: &mut P) -> u8
     }
 }
 
-/// Does what the command is for.
+/// Does what the command line asks for. The words beside the lines of faults are for a person who
+/// watches, and for whoever asks for notes.
 fn obey<Rt: Threads + Sync, W: World, O: Output, P: Person, S: Speaker>(
     rt: &Rt,
     alloc: Global,
     world: &W,
-    command: &Command,
+    line: &CommandLine,
     inputs: &mut Inputs<W::Input>,
     out: &mut O,
     person: &mut P,
     speaker: &mut S,
 ) -> u8
     requires { O.has_failed out.old ≡ false }
-    ensures { Does (P.sees_output person.old)
-        (spoken S.told S.left S.wants_absence S.counts speaker.old speaker.new)
+    ensures { Does (P.sees_output person.old) (P.is_watching person.old || line.now.notes)
+        (with_notes line.now.notes
+        (spoken S.told S.noted S.left S.wants_absence S.counts speaker.old speaker.new))
         (known W.holds W.is_absent W.standard world.now)
         (opened W.Input.remaining W.Input.has_ended W.Input.has_failed W.Input.good_reads
         inputs.new)
         (told O.contents O.has_failed P.heard out.old person.old)
-        (told O.contents O.has_failed P.heard out.new person.new) command.now result }
+        (told O.contents O.has_failed P.heard out.new person.new) line.now.command result }
 {
+    let in_words = person.is_watching() || line.notes;
+    let command = &line.command;
     match command {
-        Command::Question(run) => do_answer(rt, alloc, world, command, run, inputs, out, person),
-        Command::Explain(code) => do_explain(alloc, command, *code, out, person),
-        Command::Dump(of) => do_dump(alloc, world, command, of, inputs, out, person),
-        Command::Encode(of) => do_encode(alloc, world, command, of, inputs, out, person),
+        Command::Question(run) => {
+            do_answer(
+                rt, alloc, world, command, run, in_words, inputs, out, person,
+            )
+        }
+        Command::Explain(fault) => do_explain(alloc, *fault, out, person),
+        Command::Dump(of) => do_dump(alloc, world, command, of, in_words, inputs, out, person),
+        Command::Encode(of) => do_encode(alloc, world, command, of, in_words, inputs, out, person),
         Command::Ask(of) => {
-            do_converse(rt, alloc, world, command, of, inputs, out, person, speaker)
+            speaker.takes_notes(line.notes);
+            do_converse(
+                rt, alloc, world, command, of, in_words, inputs, out, person, speaker,
+            )
         }
     }
 }
@@ -122,12 +133,13 @@ fn do_answer<Rt: Threads + Sync, W: World, O: Output, P: Person>(
     world: &W,
     command: &Command,
     run: &Run,
+    in_words: bool,
     inputs: &mut Inputs<W::Input>,
     out: &mut O,
     person: &mut P,
 ) -> u8
     requires { O.has_failed out.old ≡ false }
-    ensures { DoesAnswer (known W.holds W.is_absent W.standard world.now)
+    ensures { DoesAnswer in_words (known W.holds W.is_absent W.standard world.now)
         (opened W.Input.remaining W.Input.has_ended W.Input.has_failed W.Input.good_reads
         inputs.new)
         (told O.contents O.has_failed P.heard out.old person.old)
@@ -136,54 +148,26 @@ fn do_answer<Rt: Threads + Sync, W: World, O: Output, P: Person>(
     person.begins(command);
     let ended = answer(rt, alloc, world, run, &mut inputs.files, out);
     person.ends();
-    say_answer(command, run, ended, out, person);
+    say_answer(command, run, in_words, ended, out, person);
     status_of_answer(run.job.exit_code, ended)
 }
 
-/// Says how the run of a question ended.
-fn say_answer<O: Output, P: Person>(
-    command: &Command,
-    run: &Run,
-    ended: Result<Completed, Refused>,
-    out: &O,
-    person: &mut P,
-)
-    ensures { SaysAnswer (P.heard person.old) (P.heard person.new) command.now run.now ended }
-{
-    match ended {
-        Ok(completed) => person.notes(run, completed),
-        Err(refused) => report(command, refused, out, person),
-    }
-}
-
-/// Says which fault ended the run of the command.
-fn report<O: Output, P: Person>(command: &Command, refused: Refused, out: &O, person: &mut P)
-    ensures { SaysFault (P.heard person.old) (P.heard person.new) command.now refused }
-{
-    match refused.fault {
-        RunFault::Write if out.has_lost_reader() => {}
-        _ => person.reports(command, refused),
-    }
-}
-
-/// Prints what the code means.
+/// Prints what the fault means.
 fn do_explain<O: Output, P: Person>(
     alloc: Global,
-    command: &Command,
-    code: Code,
+    fault: PrintedFault,
     out: &mut O,
     person: &mut P,
 ) -> u8
     requires { O.has_failed out.old ≡ false }
     ensures { Explains (told O.contents O.has_failed P.heard out.old person.old)
-        (told O.contents O.has_failed P.heard out.new person.new) command.now (explained code)
-        result }
+        (told O.contents O.has_failed P.heard out.new person.new) (explained fault) result }
 {
-    let explained = Explained { code };
+    let explained = Explained { fault };
     match format!(in alloc; "{explained}") {
         Ok(text) => print(&text, out, person),
         Err(_) => {
-            person.reports(command, alone(RunFault::Memory));
+            person.reports(alone(RunFault::Memory));
             RunFault::Memory.status()
         }
     }
@@ -195,12 +179,13 @@ fn do_dump<W: World, O: Output, P: Person>(
     world: &W,
     command: &Command,
     of: &Conversion,
+    in_words: bool,
     inputs: &mut Inputs<W::Input>,
     out: &mut O,
     person: &mut P,
 ) -> u8
     requires { O.has_failed out.old ≡ false }
-    ensures { DoesDump (known W.holds W.is_absent W.standard world.now)
+    ensures { DoesDump in_words (known W.holds W.is_absent W.standard world.now)
         (opened W.Input.remaining W.Input.has_ended W.Input.has_failed W.Input.good_reads
         inputs.new)
         (told O.contents O.has_failed P.heard out.old person.old)
@@ -209,7 +194,7 @@ fn do_dump<W: World, O: Output, P: Person>(
     person.begins(command);
     let ended = dump(alloc, world, of, &mut inputs.files, out);
     person.ends();
-    end_conversion(command, ended, out, person)
+    end_conversion(command, in_words, ended, out, person)
 }
 
 /// Makes segments of text. Their bytes are of no use to a person.
@@ -218,12 +203,13 @@ fn do_encode<W: World, O: Output, P: Person>(
     world: &W,
     command: &Command,
     of: &Conversion,
+    in_words: bool,
     inputs: &mut Inputs<W::Input>,
     out: &mut O,
     person: &mut P,
 ) -> u8
     requires { O.has_failed out.old ≡ false }
-    ensures { Encodes (not of.now.hex && P.sees_output person.old)
+    ensures { Encodes (not of.now.hex && P.sees_output person.old) in_words
         (known W.holds W.is_absent W.standard world.now)
         (opened W.Input.remaining W.Input.has_ended W.Input.has_failed W.Input.good_reads
         inputs.new)
@@ -233,7 +219,7 @@ fn do_encode<W: World, O: Output, P: Person>(
     if !of.hex && person.sees_output() {
         return refuse(&ParseFault::bytes_at_terminal(alloc), out, person);
     }
-    encode_into(alloc, world, command, of, inputs, out, person)
+    encode_into(alloc, world, command, of, in_words, inputs, out, person)
 }
 
 /// Makes segments of text for whoever takes their bytes.
@@ -242,12 +228,13 @@ fn encode_into<W: World, O: Output, P: Person>(
     world: &W,
     command: &Command,
     of: &Conversion,
+    in_words: bool,
     inputs: &mut Inputs<W::Input>,
     out: &mut O,
     person: &mut P,
 ) -> u8
     requires { O.has_failed out.old ≡ false }
-    ensures { DoesEncode (known W.holds W.is_absent W.standard world.now)
+    ensures { DoesEncode in_words (known W.holds W.is_absent W.standard world.now)
         (opened W.Input.remaining W.Input.has_ended W.Input.has_failed W.Input.good_reads
         inputs.new)
         (told O.contents O.has_failed P.heard out.old person.old)
@@ -256,33 +243,25 @@ fn encode_into<W: World, O: Output, P: Person>(
     person.begins(command);
     let ended = encode(alloc, world, of, &mut inputs.files, out);
     person.ends();
-    end_conversion(command, ended, out, person)
-}
-
-/// The fault, which is about no two segments.
-fn alone(fault: RunFault) -> Refused
-    ensures { result ≡ record { fault = fault; between = Between.Nothing } }
-{
-    Refused {
-        fault,
-        between: Between::Nothing,
-    }
+    end_conversion(command, in_words, ended, out, person)
 }
 
 /// Says how a conversion ended, where it has no good end.
 fn end_conversion<O: Output, P: Person>(
     command: &Command,
+    in_words: bool,
     ended: Result<(), RunFault>,
     out: &O,
     person: &mut P,
 ) -> u8
     ensures status { result ≡ conversion_status ended }
-    ensures said { SaysConversion (P.heard person.old) (P.heard person.new) command.now ended }
+    ensures said { SaysConversion in_words (P.heard person.old) (P.heard person.new) command.now
+        ended }
 {
     let Err(fault) = ended else {
         return 0;
     };
-    report(command, alone(fault), out, person);
+    report(command, in_words, alone(fault), out, person);
     fault.status()
 }
 
@@ -293,13 +272,15 @@ fn do_converse<Rt: Threads + Sync, W: World, O: Output, P: Person, S: Speaker>(
     world: &W,
     command: &Command,
     of: &Dialogue,
+    in_words: bool,
     inputs: &mut Inputs<W::Input>,
     out: &mut O,
     person: &mut P,
     speaker: &mut S,
 ) -> u8
     requires { O.has_failed out.old ≡ false }
-    ensures { DoesConverse (spoken S.told S.left S.wants_absence S.counts speaker.old speaker.new)
+    ensures { DoesConverse in_words
+        (spoken S.told S.noted S.left S.wants_absence S.counts speaker.old speaker.new)
         (known W.holds W.is_absent W.standard world.now)
         (opened W.Input.remaining W.Input.has_ended W.Input.has_failed W.Input.good_reads
         inputs.new)
@@ -321,23 +302,6 @@ fn do_converse<Rt: Threads + Sync, W: World, O: Output, P: Person, S: Speaker>(
     speaker.leaves(questions.ended());
     inputs.questions = Some(questions);
     person.ends();
-    say_dialogue(command, ended, out, person);
+    say_dialogue(command, in_words, ended, out, person);
     status_after(speaker.counts_wrong(), ended)
-}
-
-/// Says why a dialogue ended, where it has no good end.
-fn say_dialogue<O: Output, P: Person>(
-    command: &Command,
-    ended: Result<bool, AskFault>,
-    out: &O,
-    person: &mut P,
-)
-    ensures { SaysDialogue (P.heard person.old) (P.heard person.new) command.now ended }
-{
-    match ended {
-        Ok(_) => {}
-        Err(AskFault::Run(refused)) => report(command, refused, out, person),
-        Err(AskFault::Dialogue(DialogueFault::Write)) if out.has_lost_reader() => {}
-        Err(AskFault::Dialogue(fault)) => person.stops(fault),
-    }
 }

@@ -3,7 +3,8 @@
 ghost use Rattle.std.specs.Prelude.{◌≡◌, ◌⊎◌, ℕ, All, Bool, Err, IfErr, IfOk, List, OnOk, Option, Some};
 ghost use Rattle.std.specs.Prelude.{IfSome, ◌≤◌, false, length, map, option_copied, option_map};
 ghost use Rattle.std.specs.Prelude.{true};
-ghost use Rattle.htl_ask.specs.Asking.{BeginsAndGets, IsRunsCause, IsRunsText, before_dialogue};
+ghost use Rattle.htl_ask.specs.Asking.{BeginsAndGets, IsRunsCause, IsRunsSubject, IsRunsText};
+ghost use Rattle.htl_ask.specs.Asking.{before_dialogue};
 ghost use Rattle.htl_dialogue.specs.Dialogues.{Converses, StopsAt};
 ghost use Rattle.htl_device.specs.declared.whole.TheConstants.{MAX_READS};
 ghost use Rattle.htl_dialogue.specs.declared.dialogue.DialogueFault.{DialogueFault};
@@ -12,7 +13,6 @@ ghost use Rattle.htl_main.specs.Coverages.{Covers};
 ghost use Rattle.htl_main.specs.Origins.{IsBetween, by_fault};
 ghost use Rattle.htl_main.specs.Readings.{AreRead};
 ghost use Rattle.htl_main.specs.Sources.{IsEndless, IsTrueAt};
-ghost use Rattle.htl_main.specs.Subjects.{ReportsSubject};
 ghost use Rattle.htl_main.specs.declared.coverage.Coverage.{Coverage};
 ghost use Rattle.htl_program.specs.Endings.{IsUnopened, IsUntabled};
 ghost use Rattle.htl_program.specs.Readings.{AreInputs};
@@ -52,7 +52,7 @@ pub fn converse<Rt: Threads + Sync, W: World, Q: Source, O: Sink, H: Audience>(
         → IsTable (W.holds world.now) of.now.symbols table → Q.remaining questions.old ≡ Some lines
         → IfOk result (λ has_wrong. (coverage : Coverage) × Covers of.now.setting.hex texts coverage
         × Converses (IsRunsText of.now.setting texts table)
-        (ReportsSubject of.now.setting.hex texts) (H.wants_absence audience.old) lines
+        (IsRunsSubject of.now.setting texts) (H.wants_absence audience.old) lines
         (BeginsAndGets (O.contents out.old) (O.contents out.new) H.told audience.old audience.new
         coverage) has_wrong) }
     ensures stops { (texts : List (List ℕ)) → (table : Option (List ℕ)) → (lines : List ℕ)
@@ -62,7 +62,7 @@ pub fn converse<Rt: Threads + Sync, W: World, Q: Source, O: Sink, H: Audience>(
         → result ≡ Err (AskFault.Dialogue stopped)
         → (coverage : Coverage) × Covers of.now.setting.hex texts coverage
         × StopsAt (IsRunsText of.now.setting texts table)
-        (ReportsSubject of.now.setting.hex texts) (H.wants_absence audience.old) lines
+        (IsRunsSubject of.now.setting texts) (H.wants_absence audience.old) lines
         (Q.remaining questions.new) (Q.has_failed questions.new)
         (BeginsAndGets (O.contents out.old) (O.contents out.new) H.told audience.old audience.new
         coverage) stopped }
@@ -183,7 +183,7 @@ fn ask_opened<Rt: Threads + Sync, R: Parted, Q: Source, O: Sink, H: Audience>(
         → map R.remaining inputs.old.items ≡ map Some texts → Q.remaining questions.old ≡ Some lines
         → IfOk result (λ has_wrong. (coverage : Coverage) × Covers setting.hex texts coverage
         × Converses (IsRunsText setting texts (option_copied symbols.entry))
-        (ReportsSubject setting.hex texts) (H.wants_absence audience.old) lines
+        (IsRunsSubject setting texts) (H.wants_absence audience.old) lines
         (BeginsAndGets (O.contents out.old) (O.contents out.new) H.told audience.old audience.new
         coverage) has_wrong) }
     ensures stops { (texts : List (List ℕ)) → (lines : List ℕ) → (stopped : DialogueFault)
@@ -191,7 +191,7 @@ fn ask_opened<Rt: Threads + Sync, R: Parted, Q: Source, O: Sink, H: Audience>(
         → result ≡ Err (AskFault.Dialogue stopped)
         → (coverage : Coverage) × Covers setting.hex texts coverage
         × StopsAt (IsRunsText setting texts (option_copied symbols.entry))
-        (ReportsSubject setting.hex texts) (H.wants_absence audience.old) lines
+        (IsRunsSubject setting texts) (H.wants_absence audience.old) lines
         (Q.remaining questions.new) (Q.has_failed questions.new)
         (BeginsAndGets (O.contents out.old) (O.contents out.new) H.told audience.old audience.new
         coverage) stopped }

@@ -1,29 +1,65 @@
-//! What the program prints of a code that it is asked to explain.
+//! What the program prints of a fault that it is asked to explain.
 
 ghost use Rattle.std.specs.Prelude.{◌≡◌};
+ghost use Rattle.htl_program.specs.Words.{wrong_in};
 
-use crate::words::{advice, part, wrong};
-use htl_command::Code;
+use crate::part::Part;
+use crate::words::{BAD_VALUE, advice, wrong};
+use htl_command::{Code, Parts, PrintedFault};
 use std::fmt;
 
-/// A code in words: what is wrong in a line after the code itself, and what to do in another line.
+/// A fault in words: what is wrong in a line after the fault itself, and what to do in another line.
 #[derive(Clone, Copy)]
 pub struct Explained {
-    pub code: Code,
+    pub fault: PrintedFault,
 }
 
 impl fmt::Display for Explained {
     ghost use Rattle.std.specs.Prelude.{Some};
     ghost use Rattle.htl_program.specs.Words.{explained};
 
-    ghost output = { λ of. Some (explained of.code) };
+    ghost output = { λ of. Some (explained of.fault) };
 
     #[tactic(auto, unfolding(crate::specs::Words::explained))]
     fn fmt<W: fmt::Write>(&self, f: &mut fmt::Formatter<W>) -> fmt::Result {
-        let (code, wrong, advice) = (self.code.as_str(), wrong(self.code), advice(self.code));
-        match part(self.code) {
-            Some(part) => write!(f, "{code}: {part} {wrong}\n{advice}\n"),
-            None => write!(f, "{code}: {wrong}\n{advice}\n"),
+        let fault = self.fault;
+        let (printed, wrong, advice) = (Printed { fault }, wrong_in(fault), advice(fault.code));
+        match Part::of(fault) {
+            Some(part) => write!(f, "{printed}: {part} {wrong}\n{advice}\n"),
+            None => write!(f, "{printed}: {wrong}\n{advice}\n"),
+        }
+    }
+}
+
+/// What is wrong with the part that the fault names, or by itself.
+fn wrong_in(fault: PrintedFault) -> &'static str
+    ensures { result.now ≡ wrong_in fault.code fault.parts }
+{
+    match (fault.code, fault.parts) {
+        (Code::E1, Parts::Field(_)) => BAD_VALUE,
+        _ => wrong(fault.code),
+    }
+}
+
+/// A fault as its line has it: its code, and what follows it in parentheses.
+#[derive(Clone, Copy)]
+struct Printed {
+    fault: PrintedFault,
+}
+
+impl fmt::Display for Printed {
+    ghost use Rattle.std.specs.Prelude.{Some};
+    ghost use Rattle.htl_program.specs.Words.{printed_text};
+
+    ghost output = { λ printed. Some (printed_text printed.fault) };
+
+    fn fmt<W: fmt::Write>(&self, f: &mut fmt::Formatter<W>) -> fmt::Result {
+        let code = self.fault.code.as_str();
+        match self.fault.parts {
+            Parts::Nothing => write!(f, "{code}"),
+            Parts::Number(number) => write!(f, "{code}({number})"),
+            Parts::Numbers(first, second) => write!(f, "{code}({first}, {second})"),
+            Parts::Field(name) => write!(f, "{code}({name})"),
         }
     }
 }

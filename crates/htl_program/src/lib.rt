@@ -4,13 +4,14 @@
 //! of a `World`, whose clauses say what each name holds where that is known, as it is of a world in
 //! memory, and that there is nothing for a name. The functions here are proved for every world.
 //!
-//! `program` does what the arguments of a command line ask for. Files, in reading order: `commands.rt`,
-//! `output.rt` (where answers go), `person.rt` (who reads what is said beside the output), `speaker.rt`
-//! (who types the lines of a dialogue), `ending.rt` (the statuses), `world.rt` (what is opened),
-//! `inputs.rt` (what was), `opening.rt` (how: each file before any is read, and the table of symbols),
-//! `answering.rt` and `running.rt` (a question, from the names that it is asked of to its end),
-//! `converting.rt` (`dump` and `encode`), `conversing.rt` (a dialogue), `explained.rt` and `words.rt`
-//! (what a code means).
+//! `program` does what the arguments of a command line ask for. Files, in reading order:
+//! `commands.rt`, `output.rt` (where answers go), `person.rt` (who reads what is said beside the
+//! output), `saying.rt` (what is said of how a run ended), `speaker.rt` (who types the lines of a
+//! dialogue), `ending.rt` (the statuses), `world.rt` (what is opened), `inputs.rt` (what was),
+//! `opening.rt` (how: each file before any is read, and the table of symbols), `answering.rt` and
+//! `running.rt` (a question, from the names that it is asked of to its end), `converting.rt` (`dump`
+//! and `encode`), `conversing.rt` (a dialogue), `explained.rt` and `words.rt` (what a fault means),
+//! `part.rt` (the part of the inputs that it names), `subject.rt` (what a question is about).
 #![tactic(auto)]
 
 mod answering;
@@ -22,9 +23,12 @@ mod explained;
 mod inputs;
 mod opening;
 mod output;
+mod part;
 mod person;
 mod running;
+mod saying;
 mod speaker;
+mod subject;
 mod words;
 mod world;
 
@@ -34,7 +38,9 @@ pub use conversing::converse;
 pub use converting::{dump, encode};
 pub use inputs::Inputs;
 pub use output::Output;
+pub use part::Part;
 pub use person::Person;
 pub use speaker::Speaker;
+pub use subject::Subject;
 pub use words::{FREE_MEMORY, advice, form_wrong, wrong};
 pub use world::{OpenFault, World};

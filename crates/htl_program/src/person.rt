@@ -1,15 +1,15 @@
 //! Whoever reads standard error, at a terminal or not.
 
-use htl_command::{Command, ParseFault, Run};
+use crate::subject::Subject;
+use htl_command::{Command, ParseFault};
 use htl_dialogue::DialogueFault;
-use htl_main::{Completed, Refused};
+use htl_main::{Coverage, Refused};
 
-/// Who reads what is said beside the output. How it is worded, and what is shown at a terminal alone,
-/// is the matter of who says it.
+/// Who reads what is said beside the output. How it is worded is the matter of who says it.
 pub trait Person {
     ghost use Rattle.std.specs.Prelude.{◌≡◌, Bool, List, Option};
-    ghost use Rattle.htl_program.specs.Sayings.{Hears, Saying, answer, begun, fault, over};
-    ghost use Rattle.htl_program.specs.Sayings.{refusal, stop, unwritten};
+    ghost use Rattle.htl_program.specs.Sayings.{Hears, Saying, absence, begun, fault, gaps, meaning};
+    ghost use Rattle.htl_program.specs.Sayings.{over, refusal, stop, stop_meaning, unwritten};
 
     // What the person was told, where that is known.
     ghost heard: { Self → Option (List Saying) };
@@ -17,9 +17,16 @@ pub trait Person {
     // Whether a person is shown the bytes that go to standard output.
     ghost sees_output: { Self → Bool };
 
+    // Whether a person watches, who wants to read more than the lines of faults.
+    ghost is_watching: { Self → Bool };
+
     /// Whether a person is shown the bytes that go to standard output.
     fn sees_output(&self) -> bool
         ensures { result ≡ sees_output self.now };
+
+    /// Whether a person watches, who wants to read more than the lines of faults.
+    fn is_watching(&self) -> bool
+        ensures { result ≡ is_watching self.now };
 
     /// The run of a command begins. How far it has come may be shown from now on.
     fn begins(&mut self, command: &Command)
@@ -37,15 +44,27 @@ pub trait Person {
     fn misses(&mut self)
         ensures { Hears (heard self.old) (heard self.new) unwritten };
 
-    /// A fault ended the run of the command.
-    fn reports(&mut self, command: &Command, refused: Refused)
-        ensures { Hears (heard self.old) (heard self.new) (fault command.now refused) };
+    /// A fault ended a run.
+    fn reports(&mut self, refused: Refused)
+        ensures { Hears (heard self.old) (heard self.new) (fault refused) };
 
-    /// The question was answered.
-    fn notes(&mut self, run: &Run, completed: Completed)
-        ensures { Hears (heard self.old) (heard self.new) (answer run.now completed) };
+    /// What the fault means that ended the run of the command.
+    fn explains(&mut self, command: &Command, refused: Refused)
+        ensures { Hears (heard self.old) (heard self.new) (meaning command.now refused) };
+
+    /// What was asked about has no event.
+    fn lacks(&mut self, subject: Subject)
+        ensures { Hears (heard self.old) (heard self.new) (absence subject) };
+
+    /// Segments are missing, whose events the answer may lack.
+    fn finds_gaps(&mut self, coverage: Coverage)
+        ensures { Hears (heard self.old) (heard self.new) (gaps coverage) };
 
     /// The replies of a dialogue stopped.
     fn stops(&mut self, stopped: DialogueFault)
         ensures { Hears (heard self.old) (heard self.new) (stop stopped) };
+
+    /// What it means that the replies of a dialogue stopped.
+    fn explains_stop(&mut self, stopped: DialogueFault)
+        ensures { Hears (heard self.old) (heard self.new) (stop_meaning stopped) };
 }

@@ -4,13 +4,22 @@ use htl_ask::Audience;
 
 /// Who types the lines of a dialogue, and is told of it.
 pub trait Speaker: Audience {
-    ghost use Rattle.std.specs.Prelude.{◌≡◌, Bool};
+    ghost use Rattle.std.specs.Prelude.{◌≡◌, ◌||◌, Bool};
 
     // Whether a wrong line makes the status of a wrong command line.
     ghost counts: { Self → Bool };
 
+    // The speaker once it is known whether notes are asked for.
+    ghost noted: { Self → Bool → Self };
+
     // The speaker once there are no more replies, because the lines came to their end or not.
     ghost left: { Self → Bool → Self } = { λ speaker _. speaker };
+
+    /// Notes may be asked for, as a person at a terminal reads them. Where they are, they are wanted.
+    fn takes_notes(&mut self, are_asked_for: bool)
+        ensures taken { self.new ≡ noted self.old are_asked_for }
+        ensures wanted { Self.wants_absence self.new
+            ≡ (Self.wants_absence self.old || are_asked_for) };
 
     /// Whether a wrong line makes the status of a wrong command line.
     fn counts_wrong(&self) -> bool

@@ -19,6 +19,9 @@ const MIXED: &str = "are they of one trace? If so, its writer is at fault";
 /// What to do where segments are not of one trace.
 const ONE_TRACE: &str = "give the files of one trace";
 
+/// What is wrong with a field of a line.
+pub(crate) const BAD_VALUE: &str = "isn't there, or has no value that fits";
+
 /// What to do where memory was refused.
 pub const FREE_MEMORY: &str = "free some, or raise its limit";
 
@@ -33,6 +36,7 @@ pub fn part(code: Code) -> Option<&'static str>
         Code::C2 | Code::C3 => Some("segment <place> of all inputs"),
         Code::C4 | Code::C7 | Code::C8 => Some("segment <number> of processor <processor>"),
         Code::C5 => Some("sequence <sequence>"),
+        Code::C9 => Some("what was asked about"),
         Code::Y2 | Code::Y3 | Code::Y4 | Code::Y5 | Code::Y6 => Some("row <row>"),
         _ => None,
     }
@@ -70,6 +74,7 @@ pub fn wrong(code: Code) -> &'static str
         Code::C5 => "is that of an event in each of two different segments",
         Code::C7 => "has an event that isn't above all in the processor's segments before",
         Code::C8 => "is missing",
+        Code::C9 => "has no event in these inputs",
         Code::Y1 => "the first line isn't start,end,module,name",
         Code::Y2 => "hasn't four fields",
         Code::Y3 => "has a start or an end that is no number",
@@ -93,7 +98,7 @@ pub fn form_wrong(fault: FormFault) -> &'static str
 {
     match fault {
         FormFault::Words => "the line has none of the forms of the text",
-        FormFault::Field(_) => "isn't there, or has no value that fits",
+        FormFault::Field(_) => BAD_VALUE,
     }
 }
 
@@ -126,6 +131,7 @@ pub fn advice(code: Code) -> &'static str
         Code::C4 => "give the files of one trace, as they were written",
         Code::C5 | Code::C7 => MIXED,
         Code::C8 => "give all files of the trace, or leave out --complete",
+        Code::C9 => "is its number right? A mistyped one looks like one without a leak",
         Code::Y1 => "is it a table of symbols?",
         Code::Y2 => "is a name with a comma in quotes, and is each quote ended?",
         Code::Y3 => "each is 1 to 16 hexadecimal digits, with or without 0x",

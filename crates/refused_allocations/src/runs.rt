@@ -16,7 +16,16 @@ const SYMBOLS: &str = "start,end,module,name
 0x3000,0x3010,app,\"operator,\"
 ";
 
-const LEAKS: Question = Question::Leaks { process: 4 };
+const LEAKS: Question = Question::Leaks {
+    process: 4,
+    since: None,
+    at_least: 1,
+};
+
+const GROWTH: Question = Question::Growth {
+    process: 4,
+    points: 20,
+};
 
 const TRACE: Question = Question::Trace {
     process: 4,
@@ -27,6 +36,7 @@ const TRACE: Question = Question::Trace {
 const RUNS: &[(&str, Question, u32)] = &[
     ("run for leaks", LEAKS, 1),
     ("run for a trace", TRACE, 1),
+    ("run for a growth", GROWTH, 1),
     ("run for a summary by one worker", Question::Summary, 1),
     ("run for a summary by two workers", Question::Summary, 2),
 ];
@@ -45,6 +55,7 @@ fn job(question: Question, workers: u32) -> Job {
         question,
         hex: false,
         workers,
+        until: None,
         top: None,
         complete: true,
         exit_code: false,

@@ -4,7 +4,7 @@
 mod lines;
 mod texts;
 
-use htl_command::{ParseFault, parse};
+use htl_command::{ParseFault, parse, parse_question};
 use std::alloc::Global;
 use std::process::Abort;
 
@@ -25,6 +25,11 @@ fn owned(rt: &impl Abort, alloc: Global, word: &str) -> String {
 /// Why a line is refused, or the help that it asks for.
 fn fault_of(rt: &impl Abort, alloc: Global, line: &str) -> ParseFault {
     parse(alloc, words(rt, alloc, line)).expect_err(rt, "no job")
+}
+
+/// Why a line of a dialogue is refused, or the help that it asks for.
+fn fault_of_question(rt: &impl Abort, alloc: Global, line: &str) -> ParseFault {
+    parse_question(alloc, &words(rt, alloc, line)).expect_err(rt, "no question")
 }
 
 fn text_of(rt: &impl Abort, alloc: Global, fault: &ParseFault) -> String {

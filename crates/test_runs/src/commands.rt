@@ -1,6 +1,7 @@
 //! Each command's text over one trace.
 
-use htl_command::Question;
+use crate::printed::LEAKING;
+use htl_command::{Question, Since};
 use htl_main::{Completed, Coverage};
 use htl_samples::TRACE;
 use htl_segment::encode;
@@ -73,7 +74,7 @@ OPEN handle=0x48 seq=3 thread=12
     Command {
         question: Question::Diff {
             process: 4,
-            since: None,
+            since: Since::Snapshot,
         },
         text: "\
 diff process=4 since=2 count=1
@@ -98,7 +99,7 @@ BAD REF handle=0x45 times=1
 ",
     },
     Command {
-        question: Question::Leaks { process: 4 },
+        question: LEAKING,
         text: "\
 leaks process=4 count=1
 LEAK handles=1

@@ -1,8 +1,9 @@
 //! Tests of whole runs: what they print, and what they do with hostile devices and hostile bytes.
 //!
-//! `printed` has runs over whole inputs (`rows`) and `summaries` those for a summary. In `devices`
-//! sources and sinks give or take a few bytes, or fail. `commands` has a trace in two inputs and
-//! each command's text over it: in `reads` and `writes` the devices of such a run fail at each of
+//! `printed` has runs over whole inputs (`rows`), `summaries` those for a summary, and `moments`
+//! those as of a moment. In `devices` sources and sinks give or take a few bytes, or fail.
+//! `commands` has a trace in two inputs and each command's text over it: in `reads` and `writes` the
+//! devices of such a run fail at each of
 //! their calls in turn, and in `texts` those of runs that dump and encode. In `changes` each bit of
 //! generated bundles (`bundles`) is turned, and they are cut at each byte: what the readers of the
 //! format answer is compared with `plain`, a reader that was written from the description of the
@@ -20,6 +21,8 @@ mod commands;
 mod comparison;
 #[cfg(test)]
 mod devices;
+#[cfg(test)]
+mod moments;
 #[cfg(test)]
 mod pieces;
 #[cfg(test)]

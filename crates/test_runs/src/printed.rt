@@ -3,7 +3,7 @@
 use crate::commands::bytes_of;
 use crate::comparison::assert_row;
 use crate::rows::{PRINTED, Printed, REFUSED, Refused, STORED, STORED_COMPLETED, STORED_TEXT};
-use htl_command::{Format, Job, Question};
+use htl_command::{Format, Job, Question, Since};
 use htl_main::{Between, Completed, Origin, Refused as Refusal, RunFault, Writing, run};
 use htl_samples::TRACE;
 use std::alloc::Global;
@@ -14,12 +14,20 @@ use std::thread::Threads;
 /// The question of the stored run.
 pub const OUTSTANDING: Question = Question::Outstanding { process: 4 };
 
+/// The stacks of all outstanding handles.
+pub const LEAKING: Question = Question::Leaks {
+    process: 4,
+    since: None,
+    at_least: 1,
+};
+
 /// A job over bytes, with one worker.
 pub fn over_bytes(question: Question) -> Job {
     Job {
         question,
         hex: false,
         workers: 1,
+        until: None,
         top: None,
         complete: false,
         exit_code: false,
@@ -151,7 +159,7 @@ const FINDINGS: &[(&str, Question, bool)] = &[
         "0/0: O 1 0x44, S 2",
         Question::Diff {
             process: 4,
-            since: None,
+            since: Since::Snapshot,
         },
         false,
     ),
@@ -159,7 +167,7 @@ const FINDINGS: &[(&str, Question, bool)] = &[
         "0/0: O 1 0x44, S 2",
         Question::Diff {
             process: 4,
-            since: Some(0),
+            since: Since::Sequence(0),
         },
         true,
     ),
@@ -174,7 +182,7 @@ const FINDINGS: &[(&str, Question, bool)] = &[
         true,
     ),
     ("0/0: O 1 0x44", Question::Bad { process: 4 }, false),
-    ("0/0: B 1 0x44", Question::Leaks { process: 4 }, false),
+    ("0/0: B 1 0x44", LEAKING, false),
     ("0/0: O 1 0x44", Question::Summary, true),
     ("0/0: R 1 0x1000 Lky8", Question::Summary, true),
 ];

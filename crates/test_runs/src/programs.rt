@@ -1,12 +1,12 @@
 //! The program over a world of memory, from its arguments to its status.
 
-use crate::commands::{COMMANDS, COMPLETED, INPUTS, SYMBOLS, bytes_of};
+use crate::commands::{COMMANDS, INPUTS, SYMBOLS, bytes_of};
 use crate::comparison::assert_row;
 use crate::devices::Narrow;
 use crate::texts::TEXTS;
 use crate::worlds::{Memory, Named, Said, Silent, Witness};
 use htl_main::{RunFault, Writing};
-use htl_program::{Inputs, program};
+use htl_program::{Inputs, Subject, program};
 use std::alloc::Global;
 use std::process::Abort;
 use std::thread::Threads;
@@ -29,9 +29,6 @@ const LINE: Line = Line {
     printed: "",
     last: Said::Nothing,
 };
-
-/// What is said of an answer over both files.
-const ANSWERED: Said = Said::Answer(COMPLETED);
 
 /// The files of the world, by their names.
 fn files(rt: &impl Abort, alloc: Global) -> [Named; 4] {
@@ -87,7 +84,7 @@ fn is_obeyed(rt: &(impl Threads + Sync + Abort), alloc: Global, line: &Line) {
         &mut Inputs::new(alloc),
         &mut Writing::new(&mut held),
         &mut witness,
-        &mut Silent,
+        &mut Silent { wants_notes: false },
     );
     let found = (status, held.held.as_slice(), witness.last);
     let wanted = (line.status, line.printed.as_bytes(), line.last);
@@ -120,11 +117,21 @@ fn a_question_is_answered_over_its_files(rt: HostRuntime) {
         let line = Line {
             words,
             printed: COMMANDS[number].text,
-            last: ANSWERED,
             ..LINE
         };
         is_obeyed(&rt, rt.alloc(), &line);
     }
+}
+
+#[test]
+fn notes_say_that_a_process_has_no_event(rt: HostRuntime) {
+    let line = Line {
+        words: &["bad", "--process", "5", "--notes", "first", "second"],
+        printed: "bad process=5 count=0\n",
+        last: Said::Absence(Subject::Process(5)),
+        ..LINE
+    };
+    is_obeyed(&rt, rt.alloc(), &line);
 }
 
 #[test]

@@ -1,6 +1,7 @@
 //! Inputs with what is printed for them, and inputs that are refused.
 
-use htl_command::Question;
+use crate::printed::LEAKING;
+use htl_command::{Question, Since};
 use htl_main::{Completed, Coverage};
 
 /// The stored run: two opens and a close of process 4.
@@ -95,7 +96,7 @@ pub const PRINTED: &[Printed] = &[
         inputs: &[SNAPSHOTS],
         question: Question::Diff {
             process: 4,
-            since: None,
+            since: Since::Snapshot,
         },
         symbols: None,
         text: "\
@@ -109,7 +110,7 @@ OPEN handle=0x18 seq=12 thread=12
         inputs: &[SNAPSHOTS],
         question: Question::Diff {
             process: 4,
-            since: Some(13),
+            since: Since::Sequence(13),
         },
         symbols: None,
         text: "diff process=4 since=13 count=0\n",
@@ -152,7 +153,7 @@ STACK refs=1 derefs=0
     Printed {
         name: "leaking stacks",
         inputs: &[LEAKS],
-        question: Question::Leaks { process: 4 },
+        question: LEAKING,
         symbols: None,
         text: "\
 leaks process=4 count=3

@@ -1,13 +1,14 @@
 //! A world of memory: names, and the bytes that each holds.
 
-ghost use Rattle.std.specs.Prelude.{◌≡◌, None, Some, find, is_none, option_copied, option_map};
+ghost use Rattle.std.specs.Prelude.{◌≡◌, None, Some, false, find, is_none, option_copied};
+ghost use Rattle.std.specs.Prelude.{option_map};
 ghost use Rattle.std.specs.Str.{bytes_eq};
 
 use htl_ask::Audience;
-use htl_command::{Command, ParseFault, Question, Run};
+use htl_command::{Command, ParseFault, Question};
 use htl_dialogue::{DialogueFault, Host};
-use htl_main::{Completed, Coverage, Reading, Refused, RunFault};
-use htl_program::{OpenFault, Person, Speaker, World};
+use htl_main::{Coverage, Reading, Refused, RunFault};
+use htl_program::{OpenFault, Person, Speaker, Subject, World};
 use std::alloc::Global;
 
 /// A name, and the bytes that it holds.
@@ -83,11 +84,14 @@ pub enum Said {
     Refusal,
     Unwritten,
     Fault(RunFault),
-    Answer(Completed),
+    Meaning(RunFault),
+    Absence(Subject),
+    Gaps(Coverage),
     Stop(DialogueFault),
+    StopMeaning(DialogueFault),
 }
 
-/// A person who remembers what was said.
+/// A person who doesn't watch, and remembers what was said.
 #[derive(Clone, Copy)]
 pub struct Witness {
     pub last: Said,
@@ -116,8 +120,14 @@ impl Person for Witness {
 
     ghost sees_output = { λ witness. witness.sees_output };
 
+    ghost is_watching = { λ _. false };
+
     fn sees_output(&self) -> bool {
         self.sees_output
+    }
+
+    fn is_watching(&self) -> bool {
+        false
     }
 
     fn begins(&mut self, _command: &Command) {}
@@ -132,36 +142,48 @@ impl Person for Witness {
         self.hears(Said::Unwritten);
     }
 
-    fn reports(&mut self, _command: &Command, refused: Refused) {
+    fn reports(&mut self, refused: Refused) {
         self.hears(Said::Fault(refused.fault));
     }
 
-    fn notes(&mut self, _run: &Run, completed: Completed) {
-        self.hears(Said::Answer(completed));
+    fn explains(&mut self, _command: &Command, refused: Refused) {
+        self.hears(Said::Meaning(refused.fault));
+    }
+
+    fn lacks(&mut self, subject: Subject) {
+        self.hears(Said::Absence(subject));
+    }
+
+    fn finds_gaps(&mut self, coverage: Coverage) {
+        self.hears(Said::Gaps(coverage));
     }
 
     fn stops(&mut self, stopped: DialogueFault) {
         self.hears(Said::Stop(stopped));
     }
+
+    fn explains_stop(&mut self, stopped: DialogueFault) {
+        self.hears(Said::StopMeaning(stopped));
+    }
 }
 
 /// Who types the lines of a dialogue, and hears nothing of it.
 #[derive(Clone, Copy)]
-pub struct Silent;
+pub struct Silent {
+    pub wants_notes: bool,
+}
 
 impl Host for Silent {
-    ghost use Rattle.std.specs.Prelude.{false};
-
     ghost told = { λ s note. s };
 
-    ghost wants_absence = { λ s. false };
+    ghost wants_absence = { λ s. s.wants_notes };
 
     fn awaits(&mut self) {}
 
     fn refuses(&mut self, _fault: &ParseFault) {}
 
     fn notes_absence(&self) -> bool {
-        false
+        self.wants_notes
     }
 
     fn lacks(&mut self, _question: Question) {}
@@ -172,9 +194,15 @@ impl Audience for Silent {
 }
 
 impl Speaker for Silent {
-    ghost use Rattle.std.specs.Prelude.{true};
+    ghost use Rattle.std.specs.Prelude.{◌||◌, true};
 
     ghost counts = { λ s. true };
+
+    ghost noted = { λ s are_asked_for. record s { wants_notes = s.wants_notes || are_asked_for } };
+
+    fn takes_notes(&mut self, are_asked_for: bool) {
+        self.wants_notes |= are_asked_for;
+    }
 
     fn counts_wrong(&self) -> bool {
         true

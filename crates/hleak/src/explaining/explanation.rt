@@ -85,6 +85,7 @@ impl<'a> Explanation<'a> {
             RunFault::Text { fault, .. } => Meaning::of_line(fault),
             RunFault::Case(fault) => Meaning::of_case(fault),
             RunFault::Incomplete { processor, number } => Meaning::of_missing(processor, number),
+            RunFault::NoSubject => Meaning::of_absent(self.task.asked_about()),
             RunFault::Symbols(fault) => Meaning::of_symbols(fault),
             RunFault::Read { .. } | RunFault::SymbolsRead => Meaning::unread(),
             RunFault::Write => Meaning::untaken(),
@@ -120,6 +121,7 @@ impl<'a> Explanation<'a> {
             RunFault::Workers
             | RunFault::Case(_)
             | RunFault::Incomplete { .. }
+            | RunFault::NoSubject
             | RunFault::Memory
             | RunFault::NoThread => "hleak",
         }

@@ -1,14 +1,13 @@
 //! What a fault means, in words.
 
 ghost use Rattle.std.specs.Prelude.{◌≡◌, None, Some};
-ghost use Rattle.hleak.specs.Meanings.{case_text, coded, hex_text, line_text, missing_text, said};
-ghost use Rattle.hleak.specs.Meanings.{form_text, no_memory, segment_text, symbols_text, text_of};
-ghost use Rattle.hleak.specs.Meanings.{unread, untaken};
+ghost use Rattle.hleak.specs.Meanings.{absent_text, case_text, coded, form_text, hex_text};
+ghost use Rattle.hleak.specs.Meanings.{line_text, missing_text, no_memory, said, segment_text};
+ghost use Rattle.hleak.specs.Meanings.{symbols_text, text_of, unread, untaken};
 
-use crate::explaining::part::Part;
 use htl_case::CaseFault;
 use htl_command::Code;
-use htl_program::{advice, form_wrong, wrong};
+use htl_program::{Part, Subject, advice, form_wrong, wrong};
 use htl_segment::{Fault, HexFault};
 use htl_symbols::SymbolFault;
 use htl_text::{FormFault, LineFault};
@@ -134,7 +133,7 @@ impl Meaning {
     {
         let part = match fault {
             FormFault::Words => None,
-            FormFault::Field(field) => Some(Part::Field(field)),
+            FormFault::Field(field) => Some(Part::Field(field.name())),
         };
         Meaning {
             part,
@@ -152,14 +151,14 @@ impl Meaning {
             CaseFault::OtherTrace(place) => Meaning::of_part(Code::C2, Part::Segment(place)),
             CaseFault::OtherProcessors(place) => Meaning::of_part(Code::C3, Part::Segment(place)),
             CaseFault::TwoContents(processor, number) => {
-                Meaning::of_part(Code::C4, Part::Key { processor, number })
+                Meaning::of_part(Code::C4, key(processor, number))
             }
             CaseFault::SequenceTwice(sequence) => {
                 Meaning::of_part(Code::C5, Part::Sequence(sequence))
             }
             CaseFault::NoMemory => Meaning::of_code(Code::C6),
             CaseFault::Falling(processor, number) => {
-                Meaning::of_part(Code::C7, Part::Key { processor, number })
+                Meaning::of_part(Code::C7, key(processor, number))
             }
         }
     }
@@ -168,7 +167,23 @@ impl Meaning {
     pub fn of_missing(processor: u16, number: u32) -> Meaning
         ensures { text_of result ≡ missing_text processor number }
     {
-        Meaning::of_part(Code::C8, Part::Key { processor, number })
+        Meaning::of_part(Code::C8, key(processor, number))
+    }
+
+    /// What it means that what was asked about has no event.
+    #[tactic(auto, unfolding(crate::specs::Meanings::coded))]
+    pub fn of_absent(subject: Option<Subject>) -> Meaning
+        ensures { text_of result ≡ absent_text subject }
+    {
+        let part = match subject {
+            Some(subject) => Some(Part::Subject(subject)),
+            None => Part::unnumbered(Code::C9),
+        };
+        Meaning {
+            part,
+            wrong: wrong(Code::C9),
+            advice: advice(Code::C9),
+        }
     }
 
     /// What a fault of a symbol table means.
@@ -184,6 +199,16 @@ impl Meaning {
             SymbolFault::Csv(row) => Meaning::of_part(Code::Y6, Part::Row(row)),
             SymbolFault::NoMemory => Meaning::of_code(Code::Y7),
         }
+    }
+}
+
+/// A segment by its key.
+fn key(processor: u16, number: u32) -> Part
+    ensures { result ≡ Part.Key processor number }
+{
+    Part::Key {
+        processor: u64::from(processor),
+        number: u64::from(number),
     }
 }
 

@@ -40,7 +40,7 @@ impl fmt::Display for Sign {
 
     ghost output = { λ sign. Some (sign_text sign) };
 
-    #[tactic(auto, using(crate::proofs::Padding::padded_16))]
+    #[tactic(auto, using(htl_program::proofs::Padding::padded_16))]
     fn fmt<W: fmt::Write>(&self, f: &mut fmt::Formatter<W>) -> fmt::Result {
         match *self {
             Sign::Trace(id) => write!(f, "trace 0x{id:016x}"),

@@ -1,9 +1,10 @@
 //! What the program was doing, and what a person calls its inputs.
 
 ghost use Rattle.std.specs.Prelude.{◌≡◌};
-ghost use Rattle.hleak.specs.Subjects.{IsTaskOf, input_name, symbols_name};
+ghost use Rattle.hleak.specs.Subjects.{IsTaskOf, asked_about, input_name, symbols_name};
 
 use htl_command::{Command, Conversion, Dialogue, Run};
+use htl_program::Subject;
 
 /// What the program was doing.
 #[derive(Clone, Copy)]
@@ -59,6 +60,16 @@ impl<'a> Task<'a> {
                 },
             ) => name.as_str(),
             _ => "the table of symbols",
+        }
+    }
+
+    /// What the question is about, where one is asked and it isn't about all events.
+    pub fn asked_about(self) -> Option<Subject>
+        ensures { result ≡ asked_about self.entry }
+    {
+        match self {
+            Task::Question(run) => Subject::of(run.job.question),
+            Task::Convert(_) | Task::Ask(_) => None,
         }
     }
 }

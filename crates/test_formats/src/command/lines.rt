@@ -2,10 +2,14 @@
 use super::{fault_of, text_of, words};
 use crate::rows::assert_row;
 use htl_command::{
-    Code, Command, Conversion, Dialogue, Format, Job, ParseFault, Question, Run, Setting, parse,
-    parse_question,
+    Code, Command, CommandLine, Conversion, Dialogue, Format, Job, Moment, ParseFault, Parts,
+    PrintedFault, Question, Run, Setting, Since, parse, parse_question,
 };
+use htl_segment::{Fault, HexFault};
+use htl_symbols::SymbolFault;
+use htl_text::{Field, FormFault};
 use std::alloc::Global;
+use std::fmt;
 use std::process::Abort;
 
 /// Lines and their questions.
@@ -17,19 +21,70 @@ const QUESTIONS: &[(&str, Question)] = &[
         Question::Outstanding { process: 4 },
     ),
     ("bad|--process|4", Question::Bad { process: 4 }),
-    ("leaks|--process|4", Question::Leaks { process: 4 }),
+    (
+        "leaks|--process|4",
+        Question::Leaks {
+            process: 4,
+            since: None,
+            at_least: 1,
+        },
+    ),
+    (
+        "leaks|--process|4|--since|5|--at-least|2",
+        Question::Leaks {
+            process: 4,
+            since: Some(Since::Sequence(5)),
+            at_least: 2,
+        },
+    ),
+    (
+        "leaks|--process|4|--since|snapshot|--at-least|4294967295",
+        Question::Leaks {
+            process: 4,
+            since: Some(Since::Snapshot),
+            at_least: 0xffff_ffff,
+        },
+    ),
     (
         "diff|--process|4",
         Question::Diff {
             process: 4,
-            since: None,
+            since: Since::Snapshot,
+        },
+    ),
+    (
+        "diff|--process|4|--since|snapshot",
+        Question::Diff {
+            process: 4,
+            since: Since::Snapshot,
         },
     ),
     (
         "diff|--process|4|--since|5",
         Question::Diff {
             process: 4,
-            since: Some(5),
+            since: Since::Sequence(5),
+        },
+    ),
+    (
+        "growth|--process|4",
+        Question::Growth {
+            process: 4,
+            points: 20,
+        },
+    ),
+    (
+        "growth|--process|4|--points|2",
+        Question::Growth {
+            process: 4,
+            points: 2,
+        },
+    ),
+    (
+        "growth|--points=1000|--process|4|a.hls",
+        Question::Growth {
+            process: 4,
+            points: 1000,
         },
     ),
     ("tags|--object|ff", Question::Tags { object: 0xff }),
@@ -63,14 +118,14 @@ const QUESTIONS: &[(&str, Question)] = &[
         "diff|--process|4|--since|0",
         Question::Diff {
             process: 4,
-            since: Some(0),
+            since: Since::Sequence(0),
         },
     ),
     (
         "diff|--process|4|--since|18446744073709551615",
         Question::Diff {
             process: 4,
-            since: Some(u64::MAX),
+            since: Since::Sequence(u64::MAX),
         },
     ),
     (
@@ -203,6 +258,35 @@ const TOPS: &[(&str, Option<u32>)] = &[
     ("trace|--process|4|--handle|44|--top|3|a.hls", Some(3)),
 ];
 
+/// Lines that want events up to a moment.
+const MOMENTS: &[(&str, Option<Moment>)] = &[
+    ("summary", None),
+    ("summary|--until|0", Some(Moment::Sequence(0))),
+    ("tags|--object|1|--until|complete", Some(Moment::Complete)),
+    (
+        "growth|--until|18446744073709551615|--process|4",
+        Some(Moment::Sequence(u64::MAX)),
+    ),
+    (
+        "diff|--process|4|--since|5|--until=012|a.hls",
+        Some(Moment::Sequence(12)),
+    ),
+];
+
+/// Lines of each command, and whether they want notes.
+const NOTES: &[(&str, bool)] = &[
+    ("summary", false),
+    ("summary|--notes", true),
+    ("growth|--process|4|--notes|a.hls", true),
+    ("explain|C9|--notes", true),
+    ("explain|C9", false),
+    ("dump|--notes|--hex", true),
+    ("encode|a.txt|--notes", true),
+    ("ask|a.hls|--notes", true),
+    ("ask|a.hls", false),
+    ("bad|--process|4|--|--notes", false),
+];
+
 /// Lines that want a complete trace, and the exit status to say what was found.
 const CHECKS: &[(&str, bool, bool)] = &[
     ("summary|--exit-code", false, true),
@@ -224,13 +308,42 @@ const FORMATS: &[(&str, Format)] = &[
     ("leaks|--process|4", Format::Plain),
 ];
 
-/// Lines that ask what a code means.
-const EXPLAINED: &[(&str, Code)] = &[
-    ("explain|S1", Code::S1),
-    ("explain|C7", Code::C7),
-    ("explain|C8", Code::C8),
-    ("explain|--|S17", Code::S17),
-    ("explain|E2", Code::E2),
+/// Lines that ask what a fault means.
+const EXPLAINED: &[(&str, Code, Parts)] = &[
+    ("explain|S1", Code::S1, Parts::Nothing),
+    ("explain|C7", Code::C7, Parts::Nothing),
+    ("explain|c9", Code::C9, Parts::Nothing),
+    ("explain|--|S17", Code::S17, Parts::Nothing),
+    ("explain|e2", Code::E2, Parts::Nothing),
+    ("explain|S12(1)", Code::S12, Parts::Number(1)),
+    ("explain|h1(0)", Code::H1, Parts::Number(0)),
+    (
+        "explain|C5(18446744073709551615)",
+        Code::C5,
+        Parts::Number(u64::MAX),
+    ),
+    ("explain|Y6(007)", Code::Y6, Parts::Number(7)),
+    ("explain|C4(0, 3)", Code::C4, Parts::Numbers(0, 3)),
+    ("explain|c8(0,2)", Code::C8, Parts::Numbers(0, 2)),
+    ("explain|E1", Code::E1, Parts::Nothing),
+    ("explain|E1(process)", Code::E1, Parts::Field("process")),
+    ("explain|e1(seq)", Code::E1, Parts::Field("seq")),
+];
+
+/// The fields that a fault of a line may name.
+const FIELDS: &[Field] = &[
+    Field::Version,
+    Field::Trace,
+    Field::Processors,
+    Field::Processor,
+    Field::Number,
+    Field::Handle,
+    Field::Object,
+    Field::Tag,
+    Field::Sequence,
+    Field::Process,
+    Field::Thread,
+    Field::Frame,
 ];
 
 /// Lines that convert files: whether segments are digits, and the files.
@@ -279,14 +392,22 @@ const DIALOGUES: &[(&str, Setting, &[&str], Option<&str>)] = &[
 const ASKED: &[(&str, Question, Option<u32>, Format)] = &[
     ("summary", Question::Summary, None, Format::Plain),
     (
-        "leaks|--process|4|--top|5",
-        Question::Leaks { process: 4 },
+        "leaks|--process|4|--top|5|--since|snapshot",
+        Question::Leaks {
+            process: 4,
+            since: Some(Since::Snapshot),
+            at_least: 1,
+        },
         Some(5),
         Format::Plain,
     ),
     (
         "leaks|--folded|--process=4",
-        Question::Leaks { process: 4 },
+        Question::Leaks {
+            process: 4,
+            since: None,
+            at_least: 1,
+        },
         None,
         Format::Folded,
     ),
@@ -307,6 +428,7 @@ summary|--exit-code => a question with its own options
 summary|--workers|2 => a question with its own options
 summary|--workers|x => a question with its own options
 summary|--symbols|names.csv => a question with its own options
+summary|--notes => a question with its own options
 explain|S1 => a question with its own options
 dump => a question with its own options
 encode => a question with its own options
@@ -314,6 +436,8 @@ ask|a.hls => a question with its own options
 ask => <FILES>
 leaks => --process <N>
 leaks|--process|x => 'x' for '--process <N>'
+leaks|--process|4|--at-least|0 => '0' for '--at-least <N>'
+summary|--until|x => 'x' for '--until <N>'
 summary|--top|0 => '0' for '--top <N>'
 outstandin => 'outstandin'
 quit|now => 'quit'
@@ -337,6 +461,25 @@ diff|--process|x => 'x' for '--process <N>'
 diff|--process|4|--since|18446744073709551616 => for '--since <N>'
 diff|--process|4|--since|+1 => '+1' for '--since <N>'
 diff|--process|4|--since| => '' for '--since <N>'
+diff|--process|4|--since|Snapshot => 'Snapshot' for '--since <N>'
+diff|--process|4|--since|complete => 'complete' for '--since <N>'
+leaks|--process|4|--since|x => 'x' for '--since <N>'
+leaks|--process|4|--at-least|0 => '0' for '--at-least <N>'
+leaks|--process|4|--at-least|4294967296 => '4294967296' for '--at-least <N>'
+growth|--process|x => 'x' for '--process <N>'
+growth|--process|4|--points|1 => '1' for '--points <N>'
+growth|--process|4|--points|1001 => '1001' for '--points <N>'
+growth|--process|4|--points| => '' for '--points <N>'
+summary|--until|18446744073709551616 => '18446744073709551616' for '--until <N>'
+summary|--until|-4 => '-4'
+summary|--until| => '' for '--until <N>'
+summary|--until|snapshot => 'snapshot' for '--until <N>'
+summary|--until|complet => 'complet' for '--until <N>'
+summary|--top|0|--until|x|--workers|0 => '0' for '--workers <N>'
+summary|--top|0|--until|x => 'x' for '--until <N>'
+leaks|--until|x|--at-least|0|--since|y|--process|z => 'z' for '--process <N>'
+leaks|--until|x|--at-least|0|--since|y|--process|4 => 'y' for '--since <N>'
+leaks|--until|x|--at-least|0|--process|4 => '0' for '--at-least <N>'
 trace|--process|4|--handle|zz => 'zz' for '--handle <HEX>'
 trace|--process|4|--handle|0x => '0x' for '--handle <HEX>'
 trace|--process|4|--handle|0X44 => '0X44' for '--handle <HEX>'
@@ -362,8 +505,22 @@ trace|--process|4|--handle|44|--top| => '' for '--top <N>'
 explain|S0 => 'S0' for '<CODE>'
 explain|S18 => 'S18' for '<CODE>'
 explain|S01 => 'S01' for '<CODE>'
-explain|s1 => 's1' for '<CODE>'
-explain|S12(1) => 'S12(1)' for '<CODE>'
+explain|C10 => 'C10' for '<CODE>'
+explain|S5(2) => 'S5(2)' for '<CODE>'
+explain|S12() => 'S12()' for '<CODE>'
+explain|S12(1 => 'S12(1' for '<CODE>'
+explain|S12(1)) => 'S12(1))' for '<CODE>'
+explain|S12 (1) => 'S12 (1)' for '<CODE>'
+explain|S12(1, 2) => 'S12(1, 2)' for '<CODE>'
+explain|S12(handle) => 'S12(handle)' for '<CODE>'
+explain|S12(18446744073709551616) => for '<CODE>'
+explain|C8(0) => 'C8(0)' for '<CODE>'
+explain|C8(0,  2) => 'C8(0,  2)' for '<CODE>'
+explain|C8(0 ,2) => 'C8(0 ,2)' for '<CODE>'
+explain|C8(0,2,3) => 'C8(0,2,3)' for '<CODE>'
+explain|E1(Process) => 'E1(Process)' for '<CODE>'
+explain|E2(process) => 'E2(process)' for '<CODE>'
+explain|(1) => '(1)' for '<CODE>'
 explain| => '' for '<CODE>'
 ";
 
@@ -381,6 +538,9 @@ ask|a.hls|--json => '--json'
 ask|a.hls|--exit-code => '--exit-code'
 ask|a.hls|--top|1 => '--top'
 ask|a.hls|--process|4 => '--process'
+ask|a.hls|--until|4 => '--until'
+dump|--until|4 => '--until'
+explain|S1|--until|4 => '--until'
 outstanding => --process <N>
 diff|--since|1 => --process <N>
 tags => --object <HEX>
@@ -395,6 +555,16 @@ summary|--process|4 => '--process'
 bad|--process|4|--process|4 => '--process <N>'
 bad|--process|4|--hex|--hex => '--hex'
 tags|--object|1|--top|5 => '--top'
+growth => --process <N>
+growth|--process|4|--top|5 => '--top'
+growth|--process|4|--exit-code => '--exit-code'
+growth|--process|4|--folded => '--folded'
+growth|--process|4|--points|5|--points|5 => '--points <N>'
+outstanding|--process|4|--since|5 => '--since'
+diff|--process|4|--at-least|5 => '--at-least'
+summary|--points|5 => '--points'
+summary|--until|5|--until|5 => '--until <N>'
+summary|--notes|--notes => '--notes'
 leaks|--process|4|--top|5|--top|5 => '--top <N>'
 summary|--hex|--hex => '--hex'
 leaks|--process|4|--exit-code|--exit-code => '--exit-code'
@@ -418,6 +588,11 @@ const REFUSED_COMMANDS: &str = "\
 
 /// What a line asks for.
 fn command(rt: &impl Abort, alloc: Global, line: &str) -> Command {
+    let CommandLine { command, notes: _ } = command_line(rt, alloc, line);
+    command
+}
+
+fn command_line(rt: &impl Abort, alloc: Global, line: &str) -> CommandLine {
     parse(alloc, words(rt, alloc, line)).expect(rt, "a command")
 }
 
@@ -462,6 +637,7 @@ fn plain_job(question: Question) -> Job {
         question,
         hex: false,
         workers: 1,
+        until: None,
         top: None,
         complete: false,
         exit_code: false,
@@ -487,6 +663,23 @@ fn lines_limit_rows(rt: HostRuntime) {
 }
 
 #[test]
+fn lines_name_moments(rt: HostRuntime) {
+    for (line, until) in MOMENTS {
+        assert_row(&rt, *line, run(&rt, rt.alloc(), line).job.until, *until);
+    }
+    let asked = asked_in_a_dialogue(&rt, rt.alloc(), "summary|--until|complete");
+    assert_row(&rt, "a question", asked.until, Some(Moment::Complete));
+}
+
+#[test]
+fn lines_ask_for_notes(rt: HostRuntime) {
+    for (line, notes) in NOTES {
+        let line_of = command_line(&rt, rt.alloc(), line);
+        assert_row(&rt, *line, line_of.notes, *notes);
+    }
+}
+
+#[test]
 fn lines_check(rt: HostRuntime) {
     for (line, complete, exit_code) in CHECKS {
         let job = run(&rt, rt.alloc(), line).job;
@@ -507,11 +700,49 @@ fn lines_choose_a_form(rt: HostRuntime) {
 }
 
 #[test]
-fn lines_ask_for_codes(rt: HostRuntime) {
-    for (line, code) in EXPLAINED {
+fn lines_ask_for_faults(rt: HostRuntime) {
+    for (line, code, parts) in EXPLAINED {
+        let fault = PrintedFault {
+            code: *code,
+            parts: *parts,
+        };
         let command = command(&rt, rt.alloc(), line);
-        assert_row(&rt, *line, command, Command::Explain(*code));
+        assert_row(&rt, *line, command, Command::Explain(fault));
     }
+}
+
+#[test]
+fn faults_are_explained_as_they_are_printed(rt: HostRuntime) {
+    let alloc = rt.alloc();
+    explains(&rt, alloc, &Fault::Kind(3), Code::S13, Parts::Number(3));
+    explains(&rt, alloc, &Fault::Cut, Code::S10, Parts::Nothing);
+    explains(
+        &rt,
+        alloc,
+        &HexFault::BadDigit(7),
+        Code::H1,
+        Parts::Number(7),
+    );
+    explains(
+        &rt,
+        alloc,
+        &SymbolFault::Overlap(2),
+        Code::Y5,
+        Parts::Number(2),
+    );
+    explains(&rt, alloc, &FormFault::Words, Code::E1, Parts::Nothing);
+    for field in FIELDS {
+        let parts = Parts::Field(field.name());
+        explains(&rt, alloc, &FormFault::Field(*field), Code::E1, parts);
+    }
+}
+
+/// A fault is explained by what is printed of it.
+fn explains<F: fmt::Display>(rt: &impl Abort, alloc: Global, fault: &F, code: Code, parts: Parts) {
+    let line = format!(in alloc; "explain|{fault}").expect(rt, "the memory");
+    let command = command(rt, alloc, &line);
+    let wanted = Command::Explain(PrintedFault { code, parts });
+    assert_row(rt, line.as_str(), command, wanted);
 }
 
 /// Whether a line converts files, which way, and how.
@@ -600,7 +831,11 @@ fn no_words_ask_for_the_stored_job(rt: HostRuntime) {
     let written = run(&rt, rt.alloc(), "outstanding|--process|4|--hex");
     assert!(rt; written.job.workers == 1 && written.files.is_empty());
     let stored = parse(rt.alloc(), Vec::new(rt.alloc())).expect(&rt, "a command");
-    assert_row(&rt, "no words", stored, Command::Question(written));
+    let wanted = CommandLine {
+        command: Command::Question(written),
+        notes: false,
+    };
+    assert_row(&rt, "no words", stored, wanted);
 }
 
 #[test]

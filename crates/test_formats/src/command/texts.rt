@@ -1,5 +1,5 @@
 // The texts of help and of refusals, as a person reads them in a terminal of 80 columns.
-use super::{fault_of, text_of};
+use super::{fault_of, fault_of_question, text_of};
 use crate::rows::assert_row;
 use htl_command::ParseFault;
 use std::alloc::Global;
@@ -21,8 +21,9 @@ Commands:
   leaks        Stacks by how many of their handles are still open, most first
   stacks       Stacks behind one tag of an object (!obtrace)
   trace        Each open, close and bad reference of a handle (!htrace HANDLE)
+  growth       How many handles are open as of each of many moments
   ask          Many questions over the same segments, a line each
-  explain      What the code of a fault means, and what to do
+  explain      What a fault means, and what to do
   dump         Segments as text, to read, compare and change
   encode       The bytes of segments that are given as text
   help         Print this message or the help of the given subcommand(s)
@@ -31,16 +32,20 @@ Options:
   -h, --help     Print help
   -V, --version  Print version
 
-Options of every question, from summary to trace:
+Options of every question, from summary to growth:
+      --until <N>       Only events up to this sequence count: decimal, at most
+                        18446744073709551615, or 'complete' for the one up to
+                        which no segment is missing
       --symbols <FILE>  Names for addresses: CSV of start,end,module,name
       --workers <N>     How many threads decode segments: 1 to 8 [default: 1]
       --json            One JSON object a line, for other programs
       --complete        Refuse segments of which one is missing (C8)
       --hex             The files hold hexadecimal digits, not bytes
+      --notes           Notes on standard error also where it is no terminal
   [FILES]...            Trace segments; standard input where no file is given
 
 Exit status:
-  0  done                        4  not the segments of one trace
+  0  done                        4  not one trace, or not the one asked about
   1  found, with --exit-code     5  a read or a write failed
   2  wrong command line          6  out of memory or of threads
   3  not a segment or its text   7  not a symbol table
@@ -69,11 +74,15 @@ Arguments:
 Options:
       --top <N>         At most N rows: decimal, 1 to 4294967295
       --exit-code       End with status 1 where the answer finds something
+      --until <N>       Only events up to this sequence count: decimal, at most
+                        18446744073709551615, or 'complete' for the one up to
+                        which no segment is missing
       --symbols <FILE>  Names for addresses: CSV of start,end,module,name
       --workers <N>     How many threads decode segments: 1 to 8 [default: 1]
       --json            One JSON object a line, for other programs
       --complete        Refuse segments of which one is missing (C8)
       --hex             The files hold hexadecimal digits, not bytes
+      --notes           Notes on standard error also where it is no terminal
   -h, --help            Print help
 
 Example:
@@ -92,11 +101,15 @@ Options:
       --process <N>     The process: decimal, at most 4294967295
       --top <N>         At most N rows: decimal, 1 to 4294967295
       --exit-code       End with status 1 where the answer finds something
+      --until <N>       Only events up to this sequence count: decimal, at most
+                        18446744073709551615, or 'complete' for the one up to
+                        which no segment is missing
       --symbols <FILE>  Names for addresses: CSV of start,end,module,name
       --workers <N>     How many threads decode segments: 1 to 8 [default: 1]
       --json            One JSON object a line, for other programs
       --complete        Refuse segments of which one is missing (C8)
       --hex             The files hold hexadecimal digits, not bytes
+      --notes           Notes on standard error also where it is no terminal
   -h, --help            Print help
 
 Example:
@@ -113,15 +126,20 @@ Arguments:
 
 Options:
       --process <N>     The process: decimal, at most 4294967295
-      --since <N>       Handles opened after this sequence: decimal, at most
-                        18446744073709551615 [default: the last snapshot's]
+      --since <N>       Only handles opened after this sequence: decimal, at
+                        most 18446744073709551615, or 'snapshot' for that of the
+                        process's last snapshot [default of diff: snapshot]
       --top <N>         At most N rows: decimal, 1 to 4294967295
       --exit-code       End with status 1 where the answer finds something
+      --until <N>       Only events up to this sequence count: decimal, at most
+                        18446744073709551615, or 'complete' for the one up to
+                        which no segment is missing
       --symbols <FILE>  Names for addresses: CSV of start,end,module,name
       --workers <N>     How many threads decode segments: 1 to 8 [default: 1]
       --json            One JSON object a line, for other programs
       --complete        Refuse segments of which one is missing (C8)
       --hex             The files hold hexadecimal digits, not bytes
+      --notes           Notes on standard error also where it is no terminal
   -h, --help            Print help
 
 Example:
@@ -140,11 +158,15 @@ Options:
       --object <HEX>    The object's address: 1 to 16 hexadecimal digits, with
                         or without 0x
       --exit-code       End with status 1 where the answer finds something
+      --until <N>       Only events up to this sequence count: decimal, at most
+                        18446744073709551615, or 'complete' for the one up to
+                        which no segment is missing
       --symbols <FILE>  Names for addresses: CSV of start,end,module,name
       --workers <N>     How many threads decode segments: 1 to 8 [default: 1]
       --json            One JSON object a line, for other programs
       --complete        Refuse segments of which one is missing (C8)
       --hex             The files hold hexadecimal digits, not bytes
+      --notes           Notes on standard error also where it is no terminal
   -h, --help            Print help
 
 Example:
@@ -163,11 +185,15 @@ Options:
       --process <N>     The process: decimal, at most 4294967295
       --top <N>         At most N rows: decimal, 1 to 4294967295
       --exit-code       End with status 1 where the answer finds something
+      --until <N>       Only events up to this sequence count: decimal, at most
+                        18446744073709551615, or 'complete' for the one up to
+                        which no segment is missing
       --symbols <FILE>  Names for addresses: CSV of start,end,module,name
       --workers <N>     How many threads decode segments: 1 to 8 [default: 1]
       --json            One JSON object a line, for other programs
       --complete        Refuse segments of which one is missing (C8)
       --hex             The files hold hexadecimal digits, not bytes
+      --notes           Notes on standard error also where it is no terminal
   -h, --help            Print help
 
 Example:
@@ -184,14 +210,23 @@ Arguments:
 
 Options:
       --process <N>     The process: decimal, at most 4294967295
+      --since <N>       Only handles opened after this sequence: decimal, at
+                        most 18446744073709551615, or 'snapshot' for that of the
+                        process's last snapshot [default of diff: snapshot]
+      --at-least <N>    Only stacks with at least N of the handles: decimal, 1
+                        to 4294967295 [default: 1]
       --top <N>         At most N rows: decimal, 1 to 4294967295
       --exit-code       End with status 1 where the answer finds something
       --folded          Folded stacks, for flame graph programs
+      --until <N>       Only events up to this sequence count: decimal, at most
+                        18446744073709551615, or 'complete' for the one up to
+                        which no segment is missing
       --symbols <FILE>  Names for addresses: CSV of start,end,module,name
       --workers <N>     How many threads decode segments: 1 to 8 [default: 1]
       --json            One JSON object a line, for other programs
       --complete        Refuse segments of which one is missing (C8)
       --hex             The files hold hexadecimal digits, not bytes
+      --notes           Notes on standard error also where it is no terminal
   -h, --help            Print help
 
 Example:
@@ -212,11 +247,15 @@ Options:
       --tag <TAG>       The tag: four bytes of text, as Lky8, or 0x and eight
                         hexadecimal digits, as 0x4c6b7938
       --top <N>         At most N rows: decimal, 1 to 4294967295
+      --until <N>       Only events up to this sequence count: decimal, at most
+                        18446744073709551615, or 'complete' for the one up to
+                        which no segment is missing
       --symbols <FILE>  Names for addresses: CSV of start,end,module,name
       --workers <N>     How many threads decode segments: 1 to 8 [default: 1]
       --json            One JSON object a line, for other programs
       --complete        Refuse segments of which one is missing (C8)
       --hex             The files hold hexadecimal digits, not bytes
+      --notes           Notes on standard error also where it is no terminal
   -h, --help            Print help
 
 Example:
@@ -234,19 +273,47 @@ Arguments:
 Options:
       --process <N>     The process: decimal, at most 4294967295
       --handle <HEX>    The handle: 1 to 16 hexadecimal digits, with or without
-                        0x, at most 0xffffffff
+                        0x, at most 0xffffffff; its low two bits are ignored
       --top <N>         At most N rows: decimal, 1 to 4294967295
+      --until <N>       Only events up to this sequence count: decimal, at most
+                        18446744073709551615, or 'complete' for the one up to
+                        which no segment is missing
       --symbols <FILE>  Names for addresses: CSV of start,end,module,name
       --workers <N>     How many threads decode segments: 1 to 8 [default: 1]
       --json            One JSON object a line, for other programs
       --complete        Refuse segments of which one is missing (C8)
       --hex             The files hold hexadecimal digits, not bytes
+      --notes           Notes on standard error also where it is no terminal
   -h, --help            Print help
-
-The low two bits of a handle are ignored.
 
 Example:
   hleak trace --process 4 --handle 0x44 cpu0.hls cpu1.hls
+";
+
+const GROWTH: &str = "\
+How many handles are open as of each of many moments
+
+Usage: hleak growth [OPTIONS] --process <N> [FILES]...
+
+Arguments:
+  [FILES]...  Trace segments; standard input where no file is given
+
+Options:
+      --process <N>     The process: decimal, at most 4294967295
+      --points <N>      At most N moments: decimal, 2 to 1000 [default: 20]
+      --until <N>       Only events up to this sequence count: decimal, at most
+                        18446744073709551615, or 'complete' for the one up to
+                        which no segment is missing
+      --symbols <FILE>  Names for addresses: CSV of start,end,module,name
+      --workers <N>     How many threads decode segments: 1 to 8 [default: 1]
+      --json            One JSON object a line, for other programs
+      --complete        Refuse segments of which one is missing (C8)
+      --hex             The files hold hexadecimal digits, not bytes
+      --notes           Notes on standard error also where it is no terminal
+  -h, --help            Print help
+
+Example:
+  hleak growth --process 4 --points 50 cpu0.hls cpu1.hls
 ";
 
 const ASK: &str = "\
@@ -262,6 +329,7 @@ Options:
       --workers <N>     How many threads decode segments: 1 to 8 [default: 1]
       --complete        Refuse segments of which one is missing (C8)
       --hex             The files hold hexadecimal digits, not bytes
+      --notes           Notes on standard error also where it is no terminal
   -h, --help            Print help
 
 Each line of standard input is a question with its options, as
@@ -274,16 +342,17 @@ Example:
 ";
 
 const EXPLAIN: &str = "\
-What the code of a fault means, and what to do
+What a fault means, and what to do
 
-Usage: hleak explain <CODE>
+Usage: hleak explain [OPTIONS] <CODE>
 
 Arguments:
-  <CODE>  The code of a fault, as S10, without the numbers that
-          may follow it
+  <CODE>  The code of a fault, as S10, or the fault as it was
+          printed, as 'C8(0, 2)'
 
 Options:
-  -h, --help  Print help
+      --notes  Notes on standard error also where it is no terminal
+  -h, --help   Print help
 
 Example:
   hleak explain S10
@@ -298,8 +367,9 @@ Arguments:
   [FILES]...  Trace segments; standard input where no file is given
 
 Options:
-      --hex   The files hold hexadecimal digits, not bytes
-  -h, --help  Print help
+      --hex    The files hold hexadecimal digits, not bytes
+      --notes  Notes on standard error also where it is no terminal
+  -h, --help   Print help
 
 Example:
   hleak dump cpu0.hls > cpu0.txt
@@ -314,8 +384,9 @@ Arguments:
   [FILES]...  Texts of segments; standard input where no file is given
 
 Options:
-      --hex   Write hexadecimal digits, not bytes
-  -h, --help  Print help
+      --hex    Write hexadecimal digits, not bytes
+      --notes  Notes on standard error also where it is no terminal
+  -h, --help   Print help
 
 Bytes are not written to a terminal.
 
@@ -323,9 +394,63 @@ Example:
   hleak encode cpu0.txt > cpu0.hls
 ";
 
+/// What `help` shows in a dialogue.
+const DIALOGUE: &str = "\
+A line is a question over the segments that were read.
+
+Usage: <COMMAND> [OPTIONS]
+
+Commands:
+  summary      What leaks at all: processes, objects, and missing segments
+  outstanding  Handles that are open, each with the stack that opened it
+  diff         Handles opened since a snapshot and still open (!htrace -diff)
+  tags         References and dereferences of an object, by tag (!obtrace)
+  bad          References to invalid handles, by stack (BAD REF of !htrace)
+  leaks        Stacks by how many of their handles are still open, most first
+  stacks       Stacks behind one tag of an object (!obtrace)
+  trace        Each open, close and bad reference of a handle (!htrace HANDLE)
+  growth       How many handles are open as of each of many moments
+  help         Print this message or the help of the given subcommand(s)
+
+Options:
+  -h, --help     Print help
+  -V, --version  Print version
+
+Options of every question:
+      --until <N>  Only events up to this sequence count: decimal, at most
+                   18446744073709551615, or 'complete' for the one up to
+                   which no segment is missing
+      --json       One JSON object a line, for other programs
+
+'COMMAND --help' lists the options of a question. An argument with blanks stands
+in double quotes. 'quit' ends.
+";
+
+/// What `leaks --help` shows in a dialogue.
+const DIALOGUE_LEAKS: &str = "\
+Stacks by how many of their handles are still open, most first
+
+Usage: leaks [OPTIONS] --process <N>
+
+Options:
+      --process <N>   The process: decimal, at most 4294967295
+      --since <N>     Only handles opened after this sequence: decimal, at
+                      most 18446744073709551615, or 'snapshot' for that of the
+                      process's last snapshot [default of diff: snapshot]
+      --at-least <N>  Only stacks with at least N of the handles: decimal, 1
+                      to 4294967295 [default: 1]
+      --top <N>       At most N rows: decimal, 1 to 4294967295
+      --folded        Folded stacks, for flame graph programs
+      --until <N>     Only events up to this sequence count: decimal, at most
+                      18446744073709551615, or 'complete' for the one up to
+                      which no segment is missing
+      --json          One JSON object a line, for other programs
+  -h, --help          Print help
+";
+
 const CODE: &str = "\
 error: invalid value 'S18' for '<CODE>'
-  [expected: S1 to S17, H1 to H3, C1 to C8, Y1 to Y7, E1 or E2]
+  [expected: S1 to S17, H1 to H3, C1 to C9, Y1 to Y7, E1 or E2]
 
 For more information, try 'hleak explain --help'.
 ";
@@ -335,6 +460,59 @@ error: invalid value '100000000' for '--handle <HEX>'
   [expected: 1 to 16 hexadecimal digits, with or without 0x, at most 0xffffffff]
 
 For more information, try 'hleak trace --help'.
+";
+
+const MOMENT: &str = "\
+error: invalid value '0x4b0' for '--until <N>'
+  [expected: decimal digits, at most 18446744073709551615, or complete]
+
+  tip: 0x4b0 is 1200
+
+For more information, try 'hleak growth --help'.
+";
+
+const DIALOGUE_VALUE: &str = "\
+error: invalid value 'complete' for '--since <N>'
+  [expected: decimal digits, at most 18446744073709551615, or snapshot]
+
+For more information, try 'leaks --help'.
+";
+
+const DIALOGUE_OPTION: &str = "\
+error: unexpected argument '-x' found
+
+Usage: leaks [OPTIONS] --process <N>
+
+For more information, try '--help'.
+";
+
+const DIALOGUE_MISSPELT: &str = "\
+error: unexpected argument '--proces' found
+
+  tip: a similar argument exists: '--process'
+
+Usage: leaks --process <N>
+
+For more information, try '--help'.
+";
+
+const DIALOGUE_COMMAND: &str = "\
+error: unrecognized subcommand 'leak'
+
+  tip: a similar subcommand exists: 'leaks'
+
+Usage: <COMMAND> [OPTIONS]
+
+For more information, try '--help'.
+";
+
+const DIALOGUE_NOTES: &str = "\
+error: a line is a question with its own options
+
+  tip: files, --symbols, --workers, --complete, --hex and --notes stand after
+  'hleak ask'
+
+For more information, try 'hleak ask --help'.
 ";
 
 const HEXADECIMAL: &str = "\
@@ -405,7 +583,7 @@ For more information, try '--help'.
 const OTHER_OPTION: &str = "\
 error: unexpected argument '--since' found
 
-Usage: hleak leaks --process <N> [FILES]...
+Usage: hleak bad --process <N> [FILES]...
 
 For more information, try '--help'.
 ";
@@ -432,6 +610,7 @@ const HELP: &[(&str, &str)] = &[
     ("leaks|--help", LEAKS),
     ("stacks|--help", STACKS),
     ("trace|--help", TRACE),
+    ("growth|--help", GROWTH),
     ("ask|--help", ASK),
     ("explain|--help", EXPLAIN),
     ("dump|--help", DUMP),
@@ -450,10 +629,30 @@ const USAGE: &[(&str, &str)] = &[
     ("diff", MISSING_OPTION),
     ("stacks|--object|1|--tag|-abc", SEPARATED_VALUE),
     ("leaks|--process|0x4b0", HEXADECIMAL),
+    ("growth|--process|4|--until|0x4b0", MOMENT),
     ("tags|--object|ffffa000`00001000", BACKQUOTED),
     ("leaks|--process|-4", SEPARATED_NUMBER),
-    ("leaks|--process|4|--since|4", OTHER_OPTION),
+    ("leaks|--process|4|--until|-4", SEPARATED_NUMBER),
+    ("leaks|--process|4|--at-least|-4", SEPARATED_NUMBER),
+    ("bad|--process|4|--since|4", OTHER_OPTION),
     ("leaks|--process|4|-x", SEPARATED_FILE),
+];
+
+/// Lines of a dialogue that ask for help, and what they are answered.
+const DIALOGUE_HELP: &[(&str, &str)] = &[
+    ("help", DIALOGUE),
+    ("--help", DIALOGUE),
+    ("leaks|--help", DIALOGUE_LEAKS),
+    ("help|leaks", DIALOGUE_LEAKS),
+];
+
+/// Lines that are refused in a dialogue, and what they are answered.
+const DIALOGUE_USAGE: &[(&str, &str)] = &[
+    ("leaks|--process|4|--since|complete", DIALOGUE_VALUE),
+    ("leaks|--process|4|-x", DIALOGUE_OPTION),
+    ("leaks|--proces|4", DIALOGUE_MISSPELT),
+    ("leak|--process|4", DIALOGUE_COMMAND),
+    ("leaks|--process|4|--notes", DIALOGUE_NOTES),
 ];
 
 /// Each line fits into 80 columns.
@@ -483,6 +682,18 @@ fn refusals_say_what_is_wrong(rt: HostRuntime) {
         let fault = fault_of(&rt, rt.alloc(), line);
         has_text(&rt, rt.alloc(), line, &fault, (2, usage));
         assert!(rt; matches!(fault, ParseFault::Usage(_)), "of {line}");
+    }
+}
+
+#[test]
+fn a_dialogue_has_its_own_help(rt: HostRuntime) {
+    for (line, help) in DIALOGUE_HELP {
+        let fault = fault_of_question(&rt, rt.alloc(), line);
+        has_text(&rt, rt.alloc(), line, &fault, (0, help));
+    }
+    for (line, usage) in DIALOGUE_USAGE {
+        let fault = fault_of_question(&rt, rt.alloc(), line);
+        has_text(&rt, rt.alloc(), line, &fault, (2, usage));
     }
 }
 

@@ -2,14 +2,13 @@
 use Rattle.std.proofs.Common.{◌≡◌, List, false}
 use Rattle.std.proofs.lemmas.Result.{err_from_is_err_and}
 use Rattle.std.specs.Option.{option_copied}
-use Rattle.htl_segment.specs.Content.{Content}
-use Rattle.htl_case.specs.Cases.{IsCaseOf}
+use Rattle.htl_main.specs.Coverages.{IsCoverage}
 use Rattle.htl_main.specs.Printed.{IsText}
-use Rattle.htl_main.specs.Subjects.{ReportsSubject, has_subject}
-use Rattle.htl_main.proofs.AfterLoading.{runs_coverage, runs_subject, runs_text}
+use Rattle.htl_main.specs.Subjects.{HasSubject}
 use Rattle.htl_main.proofs.ReadingLaws.{ends_too, read_then, well}
-use Rattle.htl_ask.specs.Asking.{IsRunsText}
+use Rattle.htl_ask.specs.Asking.{IsRunsSubject, IsRunsText}
 use Rattle.htl_ask.proofs.Asked.{converses, gets_after, same_fault, stops}
+use Rattle.htl_ask.proofs.Sessions.{session_coverage, session_subject, session_text}
 use Rattle.htl_ask.proofs.asking.ask_from.Goals as goal
 
 pub returns-in_err-loaded-clause-reading : goal.returns-in_err-loaded-clause-reading
@@ -41,10 +40,11 @@ returns-in_err-has_wrong-clause-stops g c =
     let coverage = read.coverage in
     let loaded = c.in_ok-loaded.ensures.ok texts all in (
       coverage,
-      runs_coverage c.args.setting texts symbols T table loaded coverage c.in_ok-loaded.ensures.coverage,
-      rw same (stops (IsText T table) (IsRunsText c.args.setting texts symbols) (runs_text c.args.setting texts symbols T table loaded)
-          (λ question found. (segments : List Content) → IsCaseOf segments T → found ≡ has_subject question segments)
-          (ReportsSubject c.args.setting.hex texts) (runs_subject c.args.setting texts symbols T table loaded) _ _
+      session_coverage c.args.setting texts symbols T table loaded coverage c.in_ok-loaded.ensures.coverage,
+      rw same (stops (λ job text. IsCoverage T coverage → IsText T table job text) (IsRunsText c.args.setting texts symbols)
+          (λ job text is. session_text c.args.setting texts symbols T table loaded job text (is c.in_ok-loaded.ensures.coverage))
+          (λ job found. IsCoverage T coverage → HasSubject T job found) (IsRunsSubject c.args.setting texts)
+          (λ job found is. session_subject c.args.setting texts symbols T table loaded job found (is c.in_ok-loaded.ensures.coverage)) _ _
           (gets_after (g.W.Sink.contents c.args.out.now) (g.W.Sink.contents c.converse.new.out) g.H.Host.told c.args.audience.now
           c.begins.new.self c.converse.new.host coverage c.begins.ensures.told)
           (g.H.Host.wants_absence c.args.audience.now) lines (g.Q.Source.remaining c.converse.new.questions)
@@ -61,10 +61,11 @@ returns-clause-ok g c = λ texts lines all known.
     let coverage = read.coverage in
     let loaded = c.in_ok-loaded.ensures.ok texts all in (
       coverage,
-      runs_coverage c.args.setting texts symbols T table loaded coverage c.in_ok-loaded.ensures.coverage,
-      converses (IsText T table) (IsRunsText c.args.setting texts symbols) (runs_text c.args.setting texts symbols T table loaded)
-          (λ question found. (segments : List Content) → IsCaseOf segments T → found ≡ has_subject question segments)
-          (ReportsSubject c.args.setting.hex texts) (runs_subject c.args.setting texts symbols T table loaded) _ _
+      session_coverage c.args.setting texts symbols T table loaded coverage c.in_ok-loaded.ensures.coverage,
+      converses (λ job text. IsCoverage T coverage → IsText T table job text) (IsRunsText c.args.setting texts symbols)
+          (λ job text is. session_text c.args.setting texts symbols T table loaded job text (is c.in_ok-loaded.ensures.coverage))
+          (λ job found. IsCoverage T coverage → HasSubject T job found) (IsRunsSubject c.args.setting texts)
+          (λ job found is. session_subject c.args.setting texts symbols T table loaded job found (is c.in_ok-loaded.ensures.coverage)) _ _
           (gets_after (g.W.Sink.contents c.args.out.now) (g.W.Sink.contents c.converse.new.out) g.H.Host.told c.args.audience.now
           c.begins.new.self c.converse.new.host coverage c.begins.ensures.told)
           (g.H.Host.wants_absence c.args.audience.now) lines c.in_ok-has_wrong.has_wrong

@@ -1,15 +1,16 @@
 -- No value that is read before the one that is refused breaks its rule.
 use Rattle.std.proofs.Common.{◌≡◌, ◌∙◌, ℕ, List, [], ◌∷◌, ◌++◌, refl, sym, ap}
-use Rattle.std.specs.Prelude.{None, Some, find}
+use Rattle.std.specs.Prelude.{None, Option, Some, find}
 use Rattle.std.specs.Option.{option_or}
 use Rattle.std.proofs.lemmas.List.Folds.{find-append}
 use Rattle.std.proofs.lemmas.Result.{err_from_is_err_and}
 use Rattle.clap.specs.Words.{Row}
 use Rattle.htl_command.specs.Requests.{optional, workers}
 use Rattle.htl_command.specs.Steps.{IsFirstBroken, Names, breaks_rule, entries_of, question_options}
-use Rattle.htl_command.specs.Values.{top_in}
+use Rattle.htl_command.specs.Values.{count_in, moment_in}
 use Rattle.htl_command.specs.declared.names.CommandOption.{CommandOption}
-use Rattle.htl_command.specs.declared.names.CommandOption.TheVariants.{Top, Workers}
+use Rattle.htl_command.specs.declared.names.CommandOption.TheVariants.{Top, Until, Workers}
+use Rattle.htl_command.specs.declared.question.Moment.{Moment}
 use Rattle.htl_command.specs.declared.reading.Refused.{Refused}
 use Rattle.htl_command.proofs.reading.job.Goals as goal
 
@@ -28,17 +29,25 @@ then_later rows own more none =
 named : (rows : List Row) (wanted : CommandOption) (refused : Refused) → Names wanted rows refused → Names refused.option rows refused
 named rows wanted refused names = record { option = refl; given = rw (names.option) (names.given) }
 
-workers_broken : (rows : List Row) → None ≡ workers rows → find (breaks_rule rows) (Workers ∷ Top ∷ []) ≡ Some Workers
+-- the options after the question's own
+abbrev later : List CommandOption
+later = Workers ∷ Until ∷ Top ∷ []
+
+workers_broken : (rows : List Row) → None ≡ workers rows → find (breaks_rule rows) later ≡ Some Workers
 workers_broken rows is = rw (← is) refl
 
-top_broken : (rows : List Row) (n : ℕ) → Some n ≡ workers rows → None ≡ optional top_in Top rows
-    → find (breaks_rule rows) (Workers ∷ Top ∷ []) ≡ Some Top
-top_broken rows n is none = rw (← is, ← none) refl
+until_broken : (rows : List Row) (n : ℕ) → Some n ≡ workers rows → None ≡ optional moment_in Until rows
+    → find (breaks_rule rows) later ≡ Some Until
+until_broken rows n is none = rw (← is, ← none) refl
+
+top_broken : (rows : List Row) (n : ℕ) (u : Option Moment) → Some n ≡ workers rows → Some u ≡ optional moment_in Until rows
+    → None ≡ optional count_in Top rows → find (breaks_rule rows) later ≡ Some Top
+top_broken rows n u is fits none = rw (← is, ← fits, ← none) refl
 
 pub returns-in_err-question-clause-err : goal.returns-in_err-question-clause-err
 returns-in_err-question-clause-err c =
     let p = err_from_is_err_and c.from_residual.result c.from_residual.ensures.1 in
-    rw (p.1, p.2) (own_first (entries_of c.args.entries.now) (question_options c.args.name) (Workers ∷ Top ∷ [])
+    rw (p.1, p.2) (own_first (entries_of c.args.entries.now) (question_options c.args.name) later
     c.in_err-question.field-0.0 c.in_err-question.ensures.err)
 
 pub returns-in_err-workers-clause-err : goal.returns-in_err-workers-clause-err
@@ -49,8 +58,20 @@ returns-in_err-workers-clause-err c =
     let names = c.in_err-workers.ensures.err in
     rw (p.1, p.2) (
       named rows Workers refused names,
-      then_later rows (question_options c.args.name) (Workers ∷ Top ∷ []) c.in_ok-question.ensures.none
+      then_later rows (question_options c.args.name) later c.in_ok-question.ensures.none
           ∙ workers_broken rows c.in_err-workers.ensures.ok ∙ ap (λ o. Some o) (sym names.option),
+    )
+
+pub returns-in_err-until-clause-err : goal.returns-in_err-until-clause-err
+returns-in_err-until-clause-err c =
+    let p = err_from_is_err_and c.from_residual-in_err-until.result c.from_residual-in_err-until.ensures.1 in
+    let rows = entries_of c.args.entries.now in
+    let refused = c.in_err-until.field-0.0 in
+    let names = c.in_err-until.ensures.err in
+    rw (p.1, p.2) (
+      named rows Until refused names,
+      then_later rows (question_options c.args.name) later c.in_ok-question.ensures.none
+          ∙ until_broken rows c.in_ok-workers.field-0 c.in_ok-workers.ensures.ok c.in_err-until.ensures.ok ∙ ap (λ o. Some o) (sym names.option),
     )
 
 pub returns-in_err-top-clause-err : goal.returns-in_err-top-clause-err
@@ -61,6 +82,7 @@ returns-in_err-top-clause-err c =
     let names = c.in_err-top.ensures.err in
     rw (p.1, p.2) (
       named rows Top refused names,
-      then_later rows (question_options c.args.name) (Workers ∷ Top ∷ []) c.in_ok-question.ensures.none
-          ∙ top_broken rows c.in_ok-workers.field-0 c.in_ok-workers.ensures.ok c.in_err-top.ensures.ok ∙ ap (λ o. Some o) (sym names.option),
+      then_later rows (question_options c.args.name) later c.in_ok-question.ensures.none
+          ∙ top_broken rows c.in_ok-workers.field-0 c.in_ok-until.field-0 c.in_ok-workers.ensures.ok c.in_ok-until.ensures.ok c.in_err-top.ensures.ok
+          ∙ ap (λ o. Some o) (sym names.option),
     )

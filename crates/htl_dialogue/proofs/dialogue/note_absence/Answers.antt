@@ -7,7 +7,7 @@ pub returns-then-not-has_subject-clause-told : goal.returns-then-not-has_subject
 returns-then-not-has_subject-clause-told g c =
     let wanted : g.H.Host.wants_absence c.args.host.now ≡ true = sym c.notes_absence.ensures ∙ c.if-notes_absence.true in
     record {
-      absence = lacks c.args.question ∷ [];
+      absence = lacks c.args.job.now.question ∷ [];
       is = rw wanted (false, rw c.if-not-has_subject.true at c.has_subject.ensures, refl);
       heard = c.lacks.ensures.told;
     }

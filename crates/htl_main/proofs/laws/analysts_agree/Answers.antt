@@ -6,7 +6,7 @@ pub returns-clause-outstanding : goal.returns-clause-outstanding
 returns-clause-outstanding c = λ events about rows. ((λ h. h.1), (λ h. (refl, h)))
 
 pub returns-clause-diff : goal.returns-clause-diff
-returns-clause-diff c = λ events process since rows. ((λ h. h.1.1), (λ h. (refl, (refl, h))))
+returns-clause-diff c = λ events process since rows. ((λ h. h.2), (λ h. (refl, refl, h)))
 
 pub returns-clause-tags : goal.returns-clause-tags
 returns-clause-tags c = λ events about rows. ((λ h. h.1), (λ h. (refl, h)))

@@ -34,7 +34,7 @@ pub returns-in_err-case-clause-cause : goal.returns-in_err-case-clause-cause
 returns-in_err-case-clause-cause g c =
     let p = err_from_is_err_and c.from_residual-in_err-case.result c.from_residual-in_err-case.ensures.1 in
     let symbols = option_copied c.args.symbols in
-    λ texts all. rw (p.1, p.2) (λ job. sources_cause_of (in_setting c.args.setting job) texts
+    λ texts all. rw (p.1, p.2) (λ job as_of. sources_cause_of (in_setting c.args.setting job) texts
     (map g.R.Source.remaining c.read_all.new.sources) (map g.R.Source.has_ended c.read_all.new.sources) symbols
     c.in_ok-decoded.decoded.segments.items c.in_err-case.field-0.0.fault c.in_ok-check_workers.ensures.ok
     (c.in_ok-decoded.ensures.ok texts all) (c.in_err-case.ensures.err symbols (in_setting c.args.setting job)))
@@ -50,36 +50,36 @@ pub returns-in_err-loaded-clause-reading : goal.returns-in_err-loaded-clause-rea
 returns-in_err-loaded-clause-reading g c =
     let p = err_from_is_err_and c.from_residual-in_err-loaded.result c.from_residual-in_err-loaded.ensures.1 in
     let segments = c.in_ok-decoded.decoded.segments.items in
-    let job = in_setting c.args.setting some_job in
+    let job = in_setting c.args.setting (record some_job { until = c.args.until }) in
     rw (p.1, p.2.0) (reads_then c.args.setting.hex
     g.R.Source.has_failed g.R.Source.has_ended g.R.Source.good_reads g.R.Source.remaining c.args.inputs.now c.read_all.new.sources c.in_ok-decoded.decoded
     segments (option_copied c.args.symbols) job c.in_err-loaded.field-0.0 c.in_ok-decoded.ensures.reading
-    (c.in_err-loaded.ensures.err segments job c.in_ok-case.ensures.ok refl))
+    (c.in_err-loaded.ensures.err segments job c.in_ok-case.ensures.ok refl refl))
 
 pub returns-in_err-loaded-clause-cause : goal.returns-in_err-loaded-clause-cause
 returns-in_err-loaded-clause-cause g c =
     let p = err_from_is_err_and c.from_residual-in_err-loaded.result c.from_residual-in_err-loaded.ensures.1 in
     let segments = c.in_ok-decoded.decoded.segments.items in
-    λ texts all. rw (p.1, p.2.0) (λ job. sources_cause_of (in_setting c.args.setting job) texts
+    λ texts all. rw (p.1, p.2.0) (λ job as_of. sources_cause_of (in_setting c.args.setting job) texts
     (map g.R.Source.remaining c.read_all.new.sources) (map g.R.Source.has_ended c.read_all.new.sources) (option_copied c.args.symbols)
     segments c.in_err-loaded.field-0.0 c.in_ok-check_workers.ensures.ok (c.in_ok-decoded.ensures.ok texts all)
-    (c.in_err-loaded.ensures.err segments (in_setting c.args.setting job) c.in_ok-case.ensures.ok refl))
+    (c.in_err-loaded.ensures.err segments (in_setting c.args.setting job) c.in_ok-case.ensures.ok refl as_of))
 
 pub returns-in_err-loaded-clause-no_write : goal.returns-in_err-loaded-clause-no_write
 returns-in_err-loaded-clause-no_write g c =
     let p = err_from_is_err_and c.from_residual-in_err-loaded.result c.from_residual-in_err-loaded.ensures.1 in
     let segments = c.in_ok-decoded.decoded.segments.items in
-    let job = in_setting c.args.setting some_job in
+    let job = in_setting c.args.setting (record some_job { until = c.args.until }) in
     rw (p.1, p.2.0) (not_write segments (option_copied c.args.symbols) job c.in_err-loaded.field-0.0
-    (c.in_err-loaded.ensures.err segments job c.in_ok-case.ensures.ok refl))
+    (c.in_err-loaded.ensures.err segments job c.in_ok-case.ensures.ok refl refl))
 
 pub returns-in_err-loaded-clause-between : goal.returns-in_err-loaded-clause-between
 returns-in_err-loaded-clause-between g c =
     let p = err_from_is_err_and c.from_residual-in_err-loaded.result c.from_residual-in_err-loaded.ensures.1 in
     let segments = c.in_ok-decoded.decoded.segments.items in
-    let job = in_setting c.args.setting some_job in
+    let job = in_setting c.args.setting (record some_job { until = c.args.until }) in
     λ texts all. rw (p.1, p.2.0, p.2.1) (none_after c.args.setting.hex texts segments c.in_ok-case.case (option_copied c.args.symbols)
-    job c.in_err-loaded.field-0.0 c.in_ok-case.ensures.ok (c.in_err-loaded.ensures.err segments job c.in_ok-case.ensures.ok refl))
+    job c.in_err-loaded.field-0.0 c.in_ok-case.ensures.ok (c.in_err-loaded.ensures.err segments job c.in_ok-case.ensures.ok refl refl))
 
 pub returns-clause-reading : goal.returns-clause-reading
 returns-clause-reading g c =

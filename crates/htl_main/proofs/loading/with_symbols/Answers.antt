@@ -8,18 +8,20 @@ use Rattle.htl_main.proofs.loading.with_symbols.Goals as goal
 pub returns-in_err-missed-clause-err : goal.returns-in_err-missed-clause-err
 returns-in_err-missed-clause-err c =
     let p = err_from_is_err_and c.from_residual.result c.from_residual.ensures.1 in
-    rw (p.1, p.2) (λ segments job is same. memory_cause segments (option_copied c.args.symbols) job c.args.case is)
+    rw (p.1, p.2) (λ segments job is same as_of. memory_cause segments (option_copied c.args.symbols) job c.args.case is)
 
 pub returns-in_err-check_gaps-clause-err : goal.returns-in_err-check_gaps-clause-err
 returns-in_err-check_gaps-clause-err c =
     let p = err_from_is_err_and c.from_residual-in_err-check_gaps.result c.from_residual-in_err-check_gaps.ensures.1 in
     let missing = c.in_err-check_gaps.ensures.err in
-    rw (p.1, p.2) (λ segments job is same. missing_cause segments (option_copied c.args.symbols) job c.args.case
-    c.in_err-check_gaps.field-0.0 is (same ∙ missing.0) (missing.1 c.args.case c.in_ok-missed.ensures))
+    let gap = missing.1 c.args.case c.in_ok-missed.ensures in
+    rw (p.1, p.2) (λ segments job is same as_of. missing_cause segments (option_copied c.args.symbols) job c.args.case
+    c.in_err-check_gaps.field-0.0 is (same ∙ missing.0) (rw as_of gap.0) gap.1)
 
 pub returns-in_err-symbols-clause-err : goal.returns-in_err-symbols-clause-err
 returns-in_err-symbols-clause-err c =
     let p = err_from_is_err_and c.from_residual-in_err-symbols.result c.from_residual-in_err-symbols.ensures.1 in
-    rw (p.1, p.2) (λ segments job is same. symbols_cause segments (option_copied c.args.symbols) job c.args.case
-    c.in_err-symbols.field-0.0 is (λ whole. c.in_ok-check_gaps.ensures.ok (sym same ∙ whole) c.args.case c.in_ok-missed.ensures)
+    rw (p.1, p.2) (λ segments job is same as_of. symbols_cause segments (option_copied c.args.symbols) job c.args.case
+    c.in_err-symbols.field-0.0 is
+    (λ whole. rw as_of (c.in_ok-check_gaps.ensures.ok (sym same ∙ whole) c.args.case c.in_ok-missed.ensures))
     c.in_err-symbols.ensures.err)

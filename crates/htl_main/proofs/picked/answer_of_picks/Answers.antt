@@ -1,36 +1,56 @@
 -- The answer over the picked events is the answer over the trace.
-use Rattle.std.proofs.Common.{None, refl, ap, ◌∙◌, rules}
+use Rattle.std.proofs.Common.{refl, ap, ◌∙◌, rules, sym}
+use Rattle.htl_event.specs.Moments.{counted_events}
 use Rattle.htl_segment.specs.Traces.{all_events}
 use Rattle.htl_report.specs.declared.answer.Answer.TheVariants.{Trace as Listing}
 use Rattle.htl_command.specs.declared.question.Question.TheVariants as questions
 use Rattle.htl_case.proofs.Pickings.{picked_own}
-use Rattle.htl_main.specs.Answers.{IsAnswerOver}
-use Rattle.htl_main.specs.Unfolded.{unfolded}
-use Rattle.htl_main.proofs.PickedAnswers.{of_parts, over_all}
-use Rattle.htl_main.proofs.UnfoldedLaws.{are_events_of, few_of}
+use Rattle.std.proofs.lemmas.Result.{IfOk-weaker}
+use Rattle.htl_main.specs.Answers.{IsAnswerOver, span_until}
+use Rattle.htl_main.proofs.PickedAnswers.{of_parts, of_process, over_all}
+use Rattle.htl_main.proofs.UnfoldedLaws.{one_list}
 use Rattle.htl_main.proofs.WholeLaws.{over_events}
 use Rattle.htl_main.proofs.picked.answer_of_picks.Goals as goal
 
-pub answer_of-requires-clause-about : goal.answer_of-requires-clause-about
-answer_of-requires-clause-about c = of_parts c.args.question c.requires c.in_default.not-Trace
-
-pub answer_of-requires-clause-few : goal.answer_of-requires-clause-few
-answer_of-requires-clause-few c = few_of _ c.events.result.now.items c.unfolded_list-part.ensures (search rules)
+pub answer_of_lists-requires-clause-about : goal.answer_of_lists-requires-clause-about
+answer_of_lists-requires-clause-about c = of_parts c.args.question c.requires c.in_default.not-Trace c.in_default.not-Growth
 
 pub returns-in_ok-trace-in-Trace : goal.returns-in_ok-trace-in-Trace
 returns-in_ok-trace-in-Trace c = λ segments is.
     let asks = questions.Trace c.in-Trace.process c.in-Trace.handle in
     let rows = c.in_ok-trace-in-Trace.field-0 in
     let over : IsAnswerOver c.args.case.now.events asks (Listing c.in-Trace.process c.in-Trace.handle rows) =
-    (refl, refl, c.in_ok-trace-in-Trace.ensures (picked_own is.interest is.trace None c.args.case.now is.case_of.is_case.trace is.picked)) in
-    rw (c.in-Trace.is) (over_all asks is.interest (all_events is.trace.segments) c.args.case.now.events
+    (refl, refl, c.in_ok-trace-in-Trace.ensures (picked_own is.interest is.trace c.args.until c.args.case.now is.case_of.is_case.trace is.picked)) in
+    rw (c.in-Trace.is) (over_all asks is.interest (counted_events c.args.until (all_events is.trace.segments)) c.args.case.now.events
     (Listing c.in-Trace.process c.in-Trace.handle rows) (rw c.in-Trace.is at is.about) is.picked.events over)
 
-pub returns-in_ok-answer-in_default : goal.returns-in_ok-answer-in_default
-returns-in_ok-answer-in_default c = λ segments is.
+pub returns-in_ok-growth-in-Growth : goal.returns-in_ok-growth-in-Growth
+returns-in_ok-growth-in-Growth c = λ segments is.
     let T = is.trace in
+    let trace = is.case_of.is_case.trace in
+    let all = counted_events c.args.until (all_events T.segments) in
     let own = c.args.case.now.events in
-    let are = are_events_of _ own (c.unfolded_list-part.ensures ∙ ap unfolded c.events.ensures) in
-    let over = c.in_ok-answer-in_default.ensures own are (picked_own is.interest T None c.args.case.now is.case_of.is_case.trace is.picked) in
-    over_events T c.args.question c.in_ok-answer-in_default.answer (of_parts c.args.question c.requires c.in_default.not-Trace)
-    (over_all c.args.question is.interest (all_events T.segments) own c.in_ok-answer-in_default.answer is.about is.picked.events over)
+    let same = one_list c.from_ref.result.now c.events.result.now c.from_ref.ensures.value ∙ c.events.ensures in
+    let rows = (rw (same, c.span_until-span.ensures) at c.in_ok-growth-in-Growth.ensures)
+    (picked_own is.interest T c.args.until c.args.case.now trace is.picked) in
+    let of = of_process c.in-Growth.process is.interest all own (rw c.in-Growth.is at is.about) is.picked.events in
+    rw (c.in-Growth.is) (
+      refl,
+      (
+        c.span.result,
+        c.span.ensures T trace is.picked.outlines,
+        (of.growth (span_until c.args.until c.span.result) c.in-Growth.points c.in_ok-growth-in-Growth.field-0.items).1 rows,
+      ),
+    )
+
+pub returns-in_default : goal.returns-in_default
+returns-in_default c =
+    let own = c.args.case.now.events in
+    let same = one_list c.from_ref-in_default.result.now c.events-in_default.result.now c.from_ref-in_default.ensures.value
+    ∙ c.events-in_default.ensures in
+    IfOk-weaker c.answer_of_lists.result _ _ (λ answer over. λ segments is.
+    let T = is.trace in
+    over_events T c.args.until c.args.question answer (of_parts c.args.question c.requires c.in_default.not-Trace c.in_default.not-Growth)
+    (over_all c.args.question is.interest (counted_events c.args.until (all_events T.segments)) own answer is.about is.picked.events
+    (over (picked_own is.interest T c.args.until c.args.case.now is.case_of.is_case.trace is.picked))))
+    (rw same at c.answer_of_lists.ensures)

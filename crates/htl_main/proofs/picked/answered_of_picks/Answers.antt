@@ -1,14 +1,9 @@
 -- The lines, the coverage, the subject and the finding of answered_of_picks are those of one answer over the case.
-use Rattle.std.proofs.Common.{◌∙◌, ap, sym}
+use Rattle.std.proofs.Common.{◌∙◌, inr, rules}
 use Rattle.std.proofs.lemmas.Result.{err_from_is_err_and}
-use Rattle.std.specs.List.{list_any}
 use Rattle.std.specs.Option.{option_copied}
-use Rattle.htl_segment.specs.Content.{Content}
-use Rattle.htl_segment.specs.Traces.{all_events}
-use Rattle.htl_main.specs.Subjects.{is_about}
-use Rattle.htl_main.proofs.AnyEvents.{any_event, same_any}
 use Rattle.htl_main.proofs.Missing.{memory_cause, missing_cause}
-use Rattle.htl_main.proofs.PickedAnswers.{same_subject}
+use Rattle.htl_main.proofs.PickedAnswers.{subject_until}
 use Rattle.htl_main.proofs.picked.answered_of_picks.Goals as goal
 
 pub returns-in_err-missed-clause-err : goal.returns-in_err-missed-clause-err
@@ -23,32 +18,90 @@ returns-in_err-check_gaps-clause-err c =
     rw (p.1, p.2) (λ segments is.
     let missed = c.in_ok-missed.ensures is.trace
     (is.case_of.is_case, c.processors.ensures ∙ is.picked.processors, c.outlines.ensures ∙ is.picked.outlines) in
+    let gap = missing.1 is.trace missed in
     missing_cause segments (option_copied c.args.symbols) c.args.job.now is.trace c.in_err-check_gaps.field-0.0 is.case_of missing.0
-    (missing.1 is.trace missed))
+    gap.0 gap.1)
+
+pub returns-in_err-check_subject-clause-err : goal.returns-in_err-check_subject-clause-err
+returns-in_err-check_subject-clause-err c =
+    let p = err_from_is_err_and c.from_residual-in_err-check_subject.result c.from_residual-in_err-check_subject.ensures.1 in
+    let refused = c.in_err-check_subject.ensures.err in
+    rw (p.1, p.2, refused.0) (λ segments is.
+    let missed = c.in_ok-missed.ensures is.trace
+    (is.case_of.is_case, c.processors.ensures ∙ is.picked.processors, c.outlines.ensures ∙ is.picked.outlines) in
+    let named = c.moment-until.ensures is.trace (c.coverage-coverage.ensures is.trace missed) in
+    let kept = c.keep_until.ensures.until is.interest is.trace is.picked in (
+      refused.1,
+      is.trace,
+      (is.case_of, λ complete. c.in_ok-check_gaps.ensures.ok complete is.trace missed),
+      c.in_ok-symbols.symbols,
+      c.in_ok-symbols.ensures.ok,
+      rw (← refused.2) (subject_until c.args.job.now is.trace c.moment-until.result is.interest _ c.has_event_about-has_subject.result
+          named is.about kept.events (search (rules, c.has_event_about-has_subject.ensures))),
+    ))
+
+pub returns-in_err-lines-clause-err : goal.returns-in_err-lines-clause-err
+returns-in_err-lines-clause-err c =
+    let p = err_from_is_err_and c.from_residual-in_err-lines.result c.from_residual-in_err-lines.ensures.1 in
+    rw (p.1, p.2) (λ segments is.
+    let T = is.trace in
+    let missed = c.in_ok-missed.ensures T
+    (is.case_of.is_case, c.processors.ensures ∙ is.picked.processors, c.outlines.ensures ∙ is.picked.outlines) in
+    inr (T, (is.case_of, λ complete. c.in_ok-check_gaps.ensures.ok complete T missed)))
 
 pub returns-clause-ok : goal.returns-clause-ok
 returns-clause-ok c = λ segments is.
-    let missed = c.in_ok-missed.ensures is.trace
+    let T = is.trace in
+    let missed = c.in_ok-missed.ensures T
     (is.case_of.is_case, c.processors.ensures ∙ is.picked.processors, c.outlines.ensures ∙ is.picked.outlines) in
+    let until = c.moment-until.result in
+    let named = c.moment-until.ensures T (c.coverage-coverage.ensures T missed) in
+    let kept = c.keep_until.ensures.until is.interest T is.picked in
+    let found = c.has_event_about-has_subject.result in
     record {
-      trace = is.trace;
-      taken = (is.case_of, λ complete. c.in_ok-check_gaps.ensures.ok complete is.trace missed);
+      trace = T;
+      taken = (is.case_of, λ complete. c.in_ok-check_gaps.ensures.ok complete T missed);
       table = c.in_ok-symbols.symbols;
       named = c.in_ok-symbols.ensures.ok;
-      is = (c.in_ok-answer.answer, c.in_ok-answer.ensures segments is, c.in_ok-lines.ensures);
+      about = λ coded. rw (← c.in_ok-check_subject.ensures.ok coded) (subject_until c.args.job.now T until is.interest _ found
+          named is.about kept.events (search (rules, c.has_event_about-has_subject.ensures)));
+      is = (
+        until,
+        named,
+        c.in_ok-answer.answer,
+        c.in_ok-answer.ensures segments
+            (record { trace = T; interest = is.interest; about = is.about; case_of = is.case_of; picked = kept }),
+        c.in_ok-lines.ensures,
+      );
     }
 
 pub returns-clause-reports : goal.returns-clause-reports
 returns-clause-reports c = λ segments is.
-    let missed = c.in_ok-missed.ensures is.trace
+    let T = is.trace in
+    let missed = c.in_ok-missed.ensures T
     (is.case_of.is_case, c.processors.ensures ∙ is.picked.processors, c.outlines.ensures ∙ is.picked.outlines) in
-    let about = is_about c.args.job.now.question in
-    let test = λ (s : Content). list_any about s.events in
+    let until = c.moment-until.result in
+    let named = c.moment-until.ensures T (c.coverage-coverage.ensures T missed) in
+    let kept = c.keep_until.ensures.until is.interest T is.picked in
+    let found = c.has_event_about-has_subject.result in
     record {
-      coverage = (is.trace, is.case_of, c.coverage.ensures is.trace missed);
-      subject = c.has_event_about.ensures ∙ ap (list_any about) (c.deref.ensures.value ∙ c.events.ensures)
-          ∙ same_subject c.args.job.now.question is.interest (all_events is.trace.segments) c.args.case.now.events is.about is.picked.events
-          ∙ sym (any_event about is.trace.segments) ∙ same_any test is.trace.segments segments is.case_of.members
-          ∙ any_event about segments;
-      finding = (is.trace, is.case_of, (c.in_ok-answer.answer, c.in_ok-answer.ensures segments is, c.has_finding.ensures));
+      coverage = (T, is.case_of, c.coverage-coverage.ensures T missed);
+      subject = (
+        T,
+        is.case_of,
+        subject_until c.args.job.now T until is.interest _ found named is.about kept.events
+            (search (rules, c.has_event_about-has_subject.ensures)),
+      );
+      finding = (
+        T,
+        is.case_of,
+        (
+          until,
+          named,
+          c.in_ok-answer.answer,
+          c.in_ok-answer.ensures segments
+              (record { trace = T; interest = is.interest; about = is.about; case_of = is.case_of; picked = kept }),
+          c.has_finding.ensures,
+        ),
+      );
     }

@@ -41,8 +41,8 @@ pub returns-clause-reports : goal.returns-clause-reports
 returns-clause-reports g c = λ texts all.
     let job = c.args.job.now in
     let run = picked_run job texts c.args.interest c.in_ok-picks.picks c.requires.about (c.in_ok-picks.ensures.ok texts all) in
-    if_done c.print_picks.result (ReportsOf run.segments job.question) (Reports job.hex texts job.question)
-    (λ x of. reports job.hex texts run.segments job.question x run.decoded of) (c.print_picks.ensures.reports run.segments run.picked)
+    if_done c.print_picks.result (ReportsOf run.segments job) (Reports job texts)
+    (λ x of. reports job texts run.segments x run.decoded of) (c.print_picks.ensures.reports run.segments run.picked)
 
 pub returns-clause-whole : goal.returns-clause-whole
 returns-clause-whole g c = λ texts all.

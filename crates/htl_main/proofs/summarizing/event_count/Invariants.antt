@@ -1,7 +1,6 @@
--- The events of the segments so far were counted.
-use Rattle.std.proofs.Common.{◌≡◌, length, take}
-use Rattle.htl_segment.specs.Traces.{all_events}
+-- The events of the lists so far were counted.
+use Rattle.std.proofs.Common.{◌≡◌, flat_map, length, take}
 use Rattle.htl_main.proofs.summarizing.event_count.Given as goal
 
-abbrev pub invariant-loop-segment : goal.invariant-loop-segment
-invariant-loop-segment l = l.count ≡ length (all_events (take l.segment-index l.segments))
+abbrev pub invariant-loop-list : goal.invariant-loop-list
+invariant-loop-list g l = l.count ≡ length (flat_map g.E.EventList.events_of (take l.list-index l.lists))

@@ -1,30 +1,29 @@
--- To summary the case's segments are one part, whose rows are those of all its events.
+-- The rows of the summary are those of all events up to the moment.
 use Rattle.htl_segment.specs.Traces.{all_events}
-use Rattle.htl_main.proofs.UnfoldedLaws.{are_events, size_fits}
+use Rattle.htl_main.proofs.UntilLaws.{few_counted, own_counted}
 use Rattle.htl_main.proofs.summarizing.summary.Goals as goal
 
-pub summarize-requires : goal.summarize-requires
-summarize-requires c =
-    size_fits c.args.case.now _ c.segments.result.now c.new-part.ensures c.segments.ensures.value
-    c.segments.ensures.is_case.trace
+pub summary_of_lists-requires : goal.summary_of_lists-requires
+summary_of_lists-requires c =
+    rw (c.deref.ensures.value, c.in_ok-lists.ensures.value) (few_counted c.args.case.now c.args.until c.in_ok-lists.ensures.is_case.trace)
+
+pub event_count-requires : goal.event_count-requires
+event_count-requires c =
+    rw (c.deref-2.ensures.value, c.in_ok-lists.ensures.value) (few_counted c.args.case.now c.args.until c.in_ok-lists.ensures.is_case.trace)
 
 pub totals-requires : goal.totals-requires
-totals-requires c =
-    let T = c.args.case.now in
-    let are = are_events T _ c.segments.result.now c.new-part.ensures c.segments.ensures.value in
-    record {
-      complete_to = c.in_ok-gaps.ensures.complete_to;
-      objects = c.in_ok-objects.ensures.number (all_events T.segments) are;
-    }
+totals-requires c = record { complete_to = c.in_ok-gaps.ensures.complete_to }
 
 pub returns : goal.returns
 returns c =
-    let T = c.args.case.now in
-    let events = all_events T.segments in
-    let are = are_events T _ c.segments.result.now c.new-part.ensures c.segments.ensures.value in
+    let until = c.args.until in
+    let events = all_events c.args.case.now.segments in
+    let own = own_counted until events c.in_ok-lists.ensures.is_case.trace.sequences in
+    let of = rw (c.deref.ensures.value, c.in_ok-lists.ensures.value) at c.in_ok-objects.ensures in
+    let counted = rw (c.deref-2.ensures.value, c.in_ok-lists.ensures.value) at c.event_count.ensures in
     record {
-      totals_are = c.totals.ensures;
+      totals_are = c.totals.ensures until counted of.number;
       gaps_are = c.in_ok-gaps.ensures.gaps;
-      processes_are = c.in_ok-objects.ensures.processes events are c.segments.ensures.is_case.trace.sequences;
-      objects_are = c.in_ok-objects.ensures.unbalanced events are;
+      processes_are = of.processes own;
+      objects_are = of.unbalanced;
     }

@@ -1,0 +1,25 @@
+-- The lines that print_answer writes are those of the answer, and why not all of them were written.
+use Rattle.std.proofs.Common.{◌≡◌, true, false, refl, rules, sym, ◌∙◌, subst}
+use Rattle.std.proofs.lemmas.Result.{err_from_is_err_and}
+use Rattle.htl_main.specs.Subjects.{HasSubject}
+use Rattle.htl_main.proofs.printing.print_answer.Goals as goal
+
+pub returns-clause-ok : goal.returns-clause-ok
+returns-clause-ok g c = record {
+  lines = c.in_ok-text.text.lines.items;
+  about = λ coded. rw (← c.in_ok-check_subject.ensures.ok coded) (c.has_subject-has_subject.ensures c.requires.known);
+  is = c.in_ok-text.ensures.lines c.requires.known;
+  written = rw (← c.deref.ensures.value) (c.in_ok-write_lines.ensures.ok);
+}
+
+pub returns-in_err-write_lines-clause-write : goal.returns-in_err-write_lines-clause-write
+returns-in_err-write_lines-clause-write g c = λ told.
+    let reported = c.in_err-write_lines.ensures.err in (
+      record {
+        lines = c.in_ok-text.text.lines.items;
+        about = λ coded. rw (← c.in_ok-check_subject.ensures.ok coded) (c.has_subject-has_subject.ensures c.requires.known);
+        is = c.in_ok-text.ensures.lines c.requires.known;
+        written = rw (← c.deref.ensures.value) (reported.2);
+      },
+      reported.1,
+    )

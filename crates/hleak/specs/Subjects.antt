@@ -14,8 +14,8 @@ use Rattle.hleak.specs.declared.explaining.task.Task.TheVariants.{Question, Conv
 -- what is done for a command, where that has inputs
 abbrev pub IsTaskOf : Command → Option Task → Type 0
 IsTaskOf (wish.Question run) (Some (Question of)) = of.now ≡ run
-IsTaskOf (wish.Dump conversion) (Some (Convert of)) = of.now ≡ conversion
-IsTaskOf (wish.Encode conversion) (Some (Convert of)) = of.now ≡ conversion
+IsTaskOf (wish.Dump form files) (Some (Convert of)) = of.now ≡ files.items
+IsTaskOf (wish.Encode hex files) (Some (Convert of)) = of.now ≡ files.items
 IsTaskOf (wish.Ask dialogue) (Some (Ask of)) = of.now ≡ dialogue
 IsTaskOf (wish.Explain code) None = ⊤
 IsTaskOf command other = ⊥
@@ -23,7 +23,7 @@ IsTaskOf command other = ⊥
 -- the input at a place: the file of that place, or standard input where no file is named
 abbrev pub input_name : Task → ℕ → List ℕ
 input_name (Question run) place = option_map_or string_bytes (slice_get run.now.files.items place) (codes "standard input")
-input_name (Convert of) place = option_map_or string_bytes (slice_get of.now.files.items place) (codes "standard input")
+input_name (Convert of) place = option_map_or string_bytes (slice_get of.now place) (codes "standard input")
 input_name (Ask of) place = option_map_or string_bytes (slice_get of.now.files.items place) (codes "standard input")
 
 -- the file with the symbols

@@ -8,7 +8,7 @@ use crate::note::Note;
 use crate::shown::Shown;
 use htl_ask::Audience;
 use htl_dialogue::Host;
-use htl_main::{Coverage, ParseFault, Question};
+use htl_main::{Coverage, CutInputs, ParseFault, Question};
 use htl_program::Speaker;
 use std::io::IsTerminal;
 
@@ -35,6 +35,13 @@ impl Listener {
             wants_notes: is_watched,
             is_typed: is_watched && rt.stdin().is_terminal(),
             has_refused: false,
+        }
+    }
+
+    /// Writes a note, where there is one.
+    fn note(&self, note: Option<Note>) {
+        if let Some(note) = note {
+            let _ = eprintln!(self.rt; "{note}");
         }
     }
 
@@ -93,9 +100,10 @@ impl Host for Listener {
 }
 
 impl Audience for Listener {
-    fn begins(&mut self, coverage: Coverage) {
-        if let Some(note) = Note::before_dialogue(coverage, self.wants_notes) {
-            let _ = eprintln!(self.rt; "{note}");
+    fn begins(&mut self, coverage: Coverage, cut: Option<CutInputs>) {
+        if self.wants_notes {
+            self.note(Note::on_gaps(coverage));
+            self.note(Note::on_cut(cut));
         }
     }
 }

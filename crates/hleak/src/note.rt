@@ -1,27 +1,38 @@
-//! What a person reads after an answer over a case with gaps, or before a dialogue over one.
+//! What a person reads of the segments themselves, after an answer or before a dialogue.
 
-ghost use Rattle.std.specs.Prelude.{◌≡◌, option_map};
-ghost use Rattle.hleak.specs.Notes.{gap_word as word_of, gaps_noted};
+ghost use Rattle.std.specs.Prelude.{◌≡◌};
+ghost use Rattle.hleak.specs.Notes.{cut_noted, gap_word as word_of, gaps_noted};
 
-use htl_main::Coverage;
+use htl_main::{Coverage, CutInputs};
 use std::fmt;
 
-/// The note that segments are missing: the answer holds for those that are there.
+/// A note on the segments.
 #[derive(Clone, Copy)]
-pub struct Note {
-    pub coverage: Coverage,
+pub enum Note {
+    /// Some are missing: the answer holds for those that are there.
+    Gaps(Coverage),
+    /// Inputs end within one, which counts for nothing.
+    Cut(CutInputs),
 }
 
 impl Note {
-    /// The note before a dialogue over a case with a gap, where notes are wanted. There is none over
-    /// another.
-    pub fn before_dialogue(coverage: Coverage, are_wanted: bool) -> Option<Note>
-        ensures { option_map (λ note. note.coverage) result ≡ gaps_noted are_wanted coverage }
+    /// The note on a case with a gap. There is none on another.
+    pub fn on_gaps(coverage: Coverage) -> Option<Note>
+        ensures { result ≡ gaps_noted coverage }
     {
-        if are_wanted && coverage.gaps != 0 {
-            Some(Note { coverage })
-        } else {
-            None
+        if coverage.gaps == 0 {
+            return None;
+        }
+        Some(Note::Gaps(coverage))
+    }
+
+    /// The note on inputs that end within a segment, where some do.
+    pub fn on_cut(inputs: Option<CutInputs>) -> Option<Note>
+        ensures { result ≡ cut_noted inputs }
+    {
+        match inputs {
+            None => None,
+            Some(inputs) => Some(Note::Cut(inputs)),
         }
     }
 }
@@ -30,15 +41,28 @@ impl fmt::Display for Note {
     ghost use Rattle.std.specs.Prelude.{Some};
     ghost use Rattle.hleak.specs.Notes.{note_text};
 
-    ghost output = { λ note. Some (note_text note.coverage) };
+    ghost output = { λ note. Some (note_text note) };
 
     fn fmt<W: fmt::Write>(&self, f: &mut fmt::Formatter<W>) -> fmt::Result {
-        let Coverage { gaps, complete_to } = self.coverage;
-        let word = gap_word(gaps);
-        write!(
-            f,
-            "hleak: note: {gaps} {word}: segments are missing; answers are complete to {complete_to}"
-        )
+        match *self {
+            Note::Gaps(Coverage { gaps, complete_to }) => {
+                let word = gap_word(gaps);
+                write!(
+                    f,
+                    "\
+hleak: note: {gaps} {word}: segments are missing; answers are complete to {complete_to}"
+                )
+            }
+            Note::Cut(CutInputs { first, others: 0 }) => {
+                write!(f, "hleak: note: input {first} ends within a segment")
+            }
+            Note::Cut(CutInputs { first, others }) => {
+                write!(
+                    f,
+                    "hleak: note: input {first} ends within a segment, and {others} more"
+                )
+            }
+        }
     }
 }
 

@@ -10,7 +10,7 @@ use crate::progress::Progress;
 use crate::shown::Shown;
 use htl_command::{Command, ParseFault};
 use htl_dialogue::DialogueFault;
-use htl_main::{Coverage, Refused, RunFault};
+use htl_main::{Coverage, CutInputs, Refused, RunFault};
 use htl_program::{Person, Subject};
 use std::io::IsTerminal;
 
@@ -54,11 +54,11 @@ impl Person for Terminal<'_> {
     fn begins(&mut self, command: &Command) {
         match command {
             Command::Question(run) if run.files.is_empty() => self.await_typing("segments are"),
-            Command::Dump(of) if of.files.is_empty() => self.await_typing("segments are"),
-            Command::Encode(of) if of.files.is_empty() => self.await_typing("text is"),
+            Command::Dump { files, .. } if files.is_empty() => self.await_typing("segments are"),
+            Command::Encode { files, .. } if files.is_empty() => self.await_typing("text is"),
             _ => {}
         }
-        if let (Some(progress), Command::Dump(_), true) = (
+        if let (Some(progress), Command::Dump { .. }, true) = (
             self.progress,
             command,
             self.sees_output,
@@ -108,7 +108,11 @@ impl Person for Terminal<'_> {
     }
 
     fn finds_gaps(&mut self, coverage: Coverage) {
-        let _ = eprintln!(self.rt; "{}", Note { coverage });
+        let _ = eprintln!(self.rt; "{}", Note::Gaps(coverage));
+    }
+
+    fn finds_cut(&mut self, inputs: CutInputs) {
+        let _ = eprintln!(self.rt; "{}", Note::Cut(inputs));
     }
 
     fn stops(&mut self, stopped: DialogueFault) {

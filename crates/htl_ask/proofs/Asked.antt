@@ -1,21 +1,20 @@
 -- What a session's replies are, as texts that runs of their own print.
 use Rattle.std.proofs.Common.{◌≡◌, ◌⊎◌, ◌∙◌, ℕ, Bool, true, false, List, [], ◌∷◌, ◌++◌, Option, Result, Err, inl, inr, sym, ap}
 use Rattle.htl_command.specs.declared.question.Job.{Job}
-use Rattle.htl_main.specs.declared.coverage.Coverage.{Coverage}
 use Rattle.htl_dialogue.specs.Dialogues.{AreReplies, Converses, Gets as GetsIn, GotAt, IsReply, StopsAt}
-use Rattle.htl_dialogue.specs.Notes.{AreNotes, IsAbsence, IsAbsenceOf, Note, awaits, begins}
+use Rattle.htl_dialogue.specs.Notes.{AreNotes, IsAbsence, IsAbsenceOf, Note, awaits}
 use Rattle.htl_dialogue.specs.Sayings.{Saying, nothing, quits, asks, wrong, saying_of}
 use Rattle.htl_dialogue.specs.declared.dialogue.DialogueFault.{DialogueFault}
 use Rattle.htl_dialogue.specs.declared.dialogue.DialogueFault.TheVariants.{Questions, Write, NoMemory}
 use Rattle.htl_ask.specs.declared.fault.AskFault.{AskFault}
 use Rattle.htl_ask.specs.declared.fault.AskFault.TheVariants.{Dialogue}
-use Rattle.htl_ask.specs.Asking.{BeginsAndGets}
+use Rattle.htl_ask.specs.Asking.{BeginsAndGets, Opening, opening_note}
 
--- what is told after the coverage
-pub gets_after : {Host : Type 0} (old new : Option (List ℕ)) (told : Host → Note → Host) (audience host after : Host) (coverage : Coverage)
-    → host ≡ told audience (begins coverage.gaps coverage.complete_to) → (replies : List ℕ) (notes : List Note)
-    → GetsIn old new told host after replies notes → BeginsAndGets old new told audience after coverage replies notes
-gets_after old new told audience host after coverage is replies notes got = (got.0, rw is at got.1)
+-- what is told after the opening
+pub gets_after : {Host : Type 0} (old new : Option (List ℕ)) (told : Host → Note → Host) (audience host after : Host) (opening : Opening)
+    → host ≡ told audience (opening_note opening.coverage opening.cut) → (replies : List ℕ) (notes : List Note)
+    → GetsIn old new told host after replies notes → BeginsAndGets old new told audience after opening replies notes
+gets_after old new told audience host after opening is replies notes got = (got.0, rw is at got.1)
 
 -- ---- what is said of a session is said of runs
 

@@ -1,10 +1,14 @@
 -- What asking comes to (this project's own): the texts that runs of their own print, or why nothing can be asked.
-use Rattle.std.specs.Prelude.{◌≡◌, ℕ, Bool, false, List, ◌∷◌, Option, None, Result, Ok, Err}
+use Rattle.std.specs.Prelude.{◌≡◌, ℕ, Bool, false, List, ◌∷◌, Option, None, Result, Ok, Err, option_map}
+use Rattle.htl_command.specs.declared.question.InputForm.{InputForm}
 use Rattle.htl_command.specs.declared.question.Job.{Job}
 use Rattle.htl_command.specs.declared.question.Setting.{Setting}
 use Rattle.htl_dialogue.specs.Dialogues.{Gets}
 use Rattle.htl_dialogue.specs.Notes.{Note, begins}
+use Rattle.htl_main.specs.Coverages.{Covers}
+use Rattle.htl_main.specs.CutInputs.{AreCut}
 use Rattle.htl_main.specs.declared.coverage.Coverage.{Coverage}
+use Rattle.htl_main.specs.declared.cut_inputs.CutInputs.{CutInputs}
 use Rattle.htl_main.specs.Printed.{Printed}
 use Rattle.htl_main.specs.Sources.{IsSourcesCause}
 use Rattle.htl_main.specs.Subjects.{ReportsSubject}
@@ -26,11 +30,25 @@ IsRunsText setting inputs symbols job text = Printed (own_run setting job) input
 abbrev pub IsRunsSubject : Setting → List (List ℕ) → Job → Bool → Type 0
 IsRunsSubject setting inputs job found = ReportsSubject inputs (own_run setting job) found
 
--- A sink got these replies, and the audience these notes, after it was told how much of its trace is there.
-abbrev pub BeginsAndGets : {Host : Type 0} → Option (List ℕ) → Option (List ℕ) → (Host → Note → Host) → Host → Host → Coverage → List ℕ
+-- what an audience is told before the first line: how much of their trace the inputs have, and which of them end within a segment
+pub record Opening : Type 0 where
+  pub coverage : Coverage
+  pub cut : Option CutInputs
+
+-- it holds of these inputs
+pub record Opens (form : InputForm) (inputs : List (List ℕ)) (opening : Opening) : Type 0 where
+  pub coverage : Covers form inputs opening.coverage
+  pub cut : AreCut form.hex inputs opening.cut
+
+-- the first note
+abbrev pub opening_note : Coverage → Option CutInputs → Note
+opening_note coverage cut = begins coverage.gaps coverage.complete_to (option_map (λ inputs. (inputs.first, inputs.others)) cut)
+
+-- A sink got these replies, and the audience these notes, after it was told this.
+abbrev pub BeginsAndGets : {Host : Type 0} → Option (List ℕ) → Option (List ℕ) → (Host → Note → Host) → Host → Host → Opening → List ℕ
     → List Note → Type 0
-BeginsAndGets old new told audience after coverage replies notes =
-    Gets old new told audience after replies (begins coverage.gaps coverage.complete_to ∷ notes)
+BeginsAndGets old new told audience after opening replies notes =
+    Gets old new told audience after replies (opening_note opening.coverage opening.cut ∷ notes)
 
 -- why a run of its own over sources of these bytes would end, whatever it is asked of all events
 abbrev pub IsRunsCause : Setting → List (List ℕ) → List (Option (List ℕ)) → List Bool → Option (List ℕ) → RunFault → Type 0

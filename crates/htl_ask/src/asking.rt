@@ -4,33 +4,31 @@ ghost use Rattle.std.specs.Prelude.{◌≡◌, ◌≤◌, ◌⊎◌, ℕ, List, 
 ghost use Rattle.std.specs.Prelude.{false, true, length, map, IfErr, IfOk, IfSome, OnOk};
 ghost use Rattle.std.specs.Option.{option_copied};
 ghost use Rattle.htl_device.specs.declared.whole.TheConstants.{MAX_READS};
-ghost use Rattle.htl_main.specs.Coverages.{Covers};
 ghost use Rattle.htl_main.specs.Origins.{IsBetween, by_fault};
 ghost use Rattle.htl_main.specs.Reads.{NeverWrite};
 ghost use Rattle.htl_main.specs.Readings.{AreRead};
-ghost use Rattle.htl_main.specs.declared.coverage.Coverage.{Coverage};
 ghost use Rattle.htl_dialogue.specs.Dialogues.{Converses, StopsAt};
 ghost use Rattle.htl_dialogue.specs.declared.dialogue.DialogueFault.{DialogueFault};
 ghost use Rattle.htl_dialogue.specs.declared.dialogue.DialogueFault.TheVariants as dialogues;
 ghost use Rattle.htl_ask.specs.Asking.{BeginsAndGets, IsRunsCause, IsRunsSubject, IsRunsText};
-ghost use Rattle.htl_ask.specs.Asking.{before_dialogue};
+ghost use Rattle.htl_ask.specs.Asking.{Opening, Opens, before_dialogue};
 
 use crate::fault::AskFault;
 use crate::session::Session;
 use htl_command::Setting;
 use htl_device::{Parted, Sink, Source};
 use htl_dialogue::{Host, converse};
-use htl_main::{Coverage, load};
+use htl_main::{Coverage, CutInputs, load};
 use std::alloc::Global;
 use std::thread::Threads;
 
 /// Who is told what goes on beside the replies, and when questions can come.
 pub trait Audience: Host {
-    ghost use Rattle.htl_dialogue.specs.Notes.{begins};
+    ghost use Rattle.htl_ask.specs.Asking.{opening_note};
 
-    /// The inputs were read, and so much of their trace is there.
-    fn begins(&mut self, coverage: Coverage)
-        ensures told { self.new ≡ Self.told self.old (begins coverage.gaps coverage.complete_to) }
+    /// The inputs were read: so much of their trace is there, and these end within a segment.
+    fn begins(&mut self, coverage: Coverage, cut: Option<CutInputs>)
+        ensures told { self.new ≡ Self.told self.old (opening_note coverage cut) }
         ensures same { Self.wants_absence self.new ≡ Self.wants_absence self.old };
 }
 
@@ -58,21 +56,21 @@ pub fn ask_from<Rt: Threads + Sync, R: Parted, Q: Source, W: Sink, H: Audience>(
     // Each line gets what a run of its own prints, as its reply, and the audience its notes.
     ensures ok { (texts : List (List ℕ)) (lines : List ℕ)
         → map R.remaining inputs.old ≡ map Some texts → Q.remaining questions.old ≡ Some lines
-        → IfOk result (λ has_wrong. (coverage : Coverage) × Covers setting.hex texts coverage
+        → IfOk result (λ has_wrong. (opening : Opening) × Opens setting.form texts opening
         × Converses (IsRunsText setting texts (option_copied symbols.entry))
         (IsRunsSubject setting texts) (H.wants_absence audience.old) lines
         (BeginsAndGets (W.contents out.old) (W.contents out.new) H.told audience.old audience.new
-        coverage) has_wrong) }
+        opening) has_wrong) }
     // Or those before a fault do: where a read of the lines fails, these are all that were read.
     ensures stops { (texts : List (List ℕ)) (lines : List ℕ) (fault : DialogueFault)
         → map R.remaining inputs.old ≡ map Some texts → Q.remaining questions.old ≡ Some lines
         → result ≡ Err (AskFault.Dialogue fault)
-        → (coverage : Coverage) × Covers setting.hex texts coverage
+        → (opening : Opening) × Opens setting.form texts opening
         × StopsAt (IsRunsText setting texts (option_copied symbols.entry))
         (IsRunsSubject setting texts) (H.wants_absence audience.old) lines
         (Q.remaining questions.new) (Q.has_failed questions.new)
         (BeginsAndGets (W.contents out.old) (W.contents out.new) H.told audience.old audience.new
-        coverage) fault }
+        opening) fault }
     ensures fine { OnOk result ((Q.has_failed questions.new ≡ false)
         × (W.has_failed out.new ≡ false)) }
     // What failed is reported, and nothing else is reported as failed.
@@ -94,14 +92,14 @@ pub fn ask_from<Rt: Threads + Sync, R: Parted, Q: Source, W: Sink, H: Audience>(
     // Where a fault is about two segments, they are named.
     ensures between { (texts : List (List ℕ)) → map R.remaining inputs.old ≡ map Some texts
         → IfErr (before_dialogue result) (λ refused.
-        IsBetween setting.hex texts refused.fault refused.between) }
+        IsBetween setting.form texts refused.fault refused.between) }
     // The sources are read as by a run.
-    ensures reading { AreRead setting.hex R.has_failed R.has_ended R.good_reads
+    ensures reading { AreRead setting.form.hex R.has_failed R.has_ended R.good_reads
         R.remaining inputs.old inputs.new (by_fault (before_dialogue result)) }
     ensures no_write { NeverWrite (by_fault (before_dialogue result)) }
 {
     let loaded = load(rt, alloc, setting, None, inputs, symbols)?;
-    audience.begins(loaded.coverage);
+    audience.begins(loaded.coverage, loaded.cut);
     let session = Session { loaded };
     let has_wrong = converse(alloc, &session, questions, out, audience)?;
     Ok(has_wrong)

@@ -6,7 +6,7 @@ use Rattle.clap.specs.Words.{App, Kinds, Row, Rule, Text, fault_of, new_app, new
 use Rattle.clap.specs.declared.builder.ArgAction.TheVariants.{SetTrue}
 use Rattle.htl_command.specs.Commands.{commands, flag_name, is_required, name_of, option_name, own_flags, own_options}
 use Rattle.htl_command.specs.declared.names.CommandFlag.{CommandFlag}
-use Rattle.htl_command.specs.declared.names.CommandFlag.TheVariants.{Complete, Hex, Json, Notes}
+use Rattle.htl_command.specs.declared.names.CommandFlag.TheVariants.{Complete, Hex, Json, Notes, Partial}
 use Rattle.htl_command.specs.declared.names.CommandName.{CommandName}
 use Rattle.htl_command.specs.declared.names.CommandName.TheVariants.{Question, Ask, Explain, Dump, Encode}
 use Rattle.htl_command.specs.declared.names.CommandOption.{CommandOption}
@@ -34,23 +34,26 @@ files_rule = record (new_rule (codes "files")) {
 -- what every question has
 abbrev pub common_rules : List Rule
 common_rules =
-    option_rule Until ∷ option_rule Symbols ∷ option_rule Workers ∷ flag_rule Json ∷ flag_rule Complete ∷ flag_rule Hex ∷ flag_rule Notes
-    ∷ files_rule ∷ []
+    option_rule Until ∷ option_rule Symbols ∷ option_rule Workers ∷ flag_rule Json ∷ flag_rule Complete ∷ flag_rule Hex
+    ∷ flag_rule Partial ∷ flag_rule Notes ∷ files_rule ∷ []
 
 -- with these rules, in order
 abbrev pub with_rules : App → List Rule → App
 with_rules a [] = a
 with_rules a (rule ∷ more) = with_rules (with_rule a rule) more
 
--- what the two commands on texts of segments have
-abbrev pub text_rules : List Rule
-text_rules = flag_rule Hex ∷ flag_rule Notes ∷ files_rule ∷ []
+-- what the two commands on texts of segments have; one alone reads segments
+abbrev pub dump_rules : List Rule
+dump_rules = flag_rule Hex ∷ flag_rule Partial ∷ flag_rule Notes ∷ files_rule ∷ []
+
+abbrev pub encode_rules : List Rule
+encode_rules = flag_rule Hex ∷ flag_rule Notes ∷ files_rule ∷ []
 
 -- what a dialogue has: at least one file, since questions come from standard input
 abbrev pub dialogue_rules : List Rule
 dialogue_rules =
-    option_rule Symbols ∷ option_rule Workers ∷ flag_rule Complete ∷ flag_rule Hex ∷ flag_rule Notes ∷ record files_rule { required = true }
-    ∷ []
+    option_rule Symbols ∷ option_rule Workers ∷ flag_rule Complete ∷ flag_rule Hex ∷ flag_rule Partial ∷ flag_rule Notes
+    ∷ record files_rule { required = true } ∷ []
 
 -- a code is one argument
 abbrev pub code_rule : Rule
@@ -60,8 +63,8 @@ abbrev pub rules_of : CommandName → App → App
 rules_of (Question question) a =
     with_rules (with_rules (with_rules a (map option_rule (own_options question))) (map flag_rule (own_flags question))) common_rules
 rules_of Explain a = with_rules a (code_rule ∷ flag_rule Notes ∷ [])
-rules_of Dump a = with_rules a text_rules
-rules_of Encode a = with_rules a text_rules
+rules_of Dump a = with_rules a dump_rules
+rules_of Encode a = with_rules a encode_rules
 rules_of Ask a = with_rules a dialogue_rules
 
 abbrev pub command_app : CommandName → App

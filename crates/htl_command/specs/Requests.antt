@@ -23,6 +23,7 @@ use Rattle.htl_command.specs.declared.names.CommandOption.TheVariants.{Workers, 
 use Rattle.htl_command.specs.declared.printed.PrintedFault.{PrintedFault}
 use Rattle.htl_command.specs.declared.question.Format.{Format}
 use Rattle.htl_command.specs.declared.question.Format.TheVariants.{Plain, Json, Folded}
+use Rattle.htl_command.specs.declared.question.InputForm.{InputForm}
 use Rattle.htl_command.specs.declared.question.Job.{Job}
 use Rattle.htl_command.specs.declared.question.Question.{Question}
 use Rattle.htl_command.specs.declared.question.Setting.{Setting}
@@ -76,11 +77,15 @@ format_of rows =
     if is_given flag.Json rows then (if is_given flag.Folded rows then None else Some Json)
     else (if is_given flag.Folded rows then Some Folded else Some Plain)
 
+-- how the inputs hold segments
+abbrev pub input_form : List Row → InputForm
+input_form rows = record { hex = is_given flag.Hex rows; partial = is_given flag.Partial rows }
+
 unfoldable pub job_of : QuestionName → List Row → Option Job
 job_of name rows =
     option_and_then (λ question. option_and_then (λ format. option_and_then (λ u. both (λ n t. record {
       question = question;
-      hex = is_given flag.Hex rows;
+      form = input_form rows;
       workers = n;
       until = u;
       top = t;
@@ -99,7 +104,7 @@ pub record Work : Type 0 where
 pub data Request : Type 0 where
   answers : Work → Request
   explains : Text → Request
-  dumps : Bool → List Text → Request
+  dumps : InputForm → List Text → Request
   encodes : Bool → List Text → Request
   asks : Setting → List Text → Option Text → Request
 
@@ -112,13 +117,13 @@ with_files rows job = record { job = job; files = file_names rows; symbols = giv
 -- how the segments of a dialogue are read
 abbrev pub setting_of : List Row → Option Setting
 setting_of rows =
-    option_map (λ n. record { hex = is_given flag.Hex rows; workers = n; complete = is_given flag.Complete rows }) (workers rows)
+    option_map (λ n. record { form = input_form rows; workers = n; complete = is_given flag.Complete rows }) (workers rows)
 
 -- what a command asks for
 abbrev pub request_of : CommandName → List Row → Option Request
 request_of (command.Question name) rows = option_map (λ job. answers (with_files rows job)) (job_of name rows)
 request_of command.Explain rows = option_map (λ text. explains text) (first_of (codes "code") rows)
-request_of command.Dump rows = Some (dumps (is_given flag.Hex rows) (file_names rows))
+request_of command.Dump rows = Some (dumps (input_form rows) (file_names rows))
 request_of command.Encode rows = Some (encodes (is_given flag.Hex rows) (file_names rows))
 request_of command.Ask rows = option_map (λ setting. asks setting (file_names rows) (given Symbols rows)) (setting_of rows)
 
@@ -131,7 +136,7 @@ abbrev pub stored : Work
 stored = record {
   job = record {
     question = Outstanding 4;
-    hex = true;
+    form = record { hex = true; partial = false };
     workers = 1;
     until = None;
     top = None;
@@ -163,8 +168,9 @@ notes_in (argument ∷ more) = notes_met (entries (argument ∷ more))
 -- an option or a file that a run alone has, and no question of a dialogue
 abbrev pub is_of_run : List Row → Bool
 is_of_run rows =
-    is_given flag.Hex rows || (is_given flag.Complete rows || (is_given flag.ExitCode rows || (is_given flag.Notes rows
-    || (is_some (given Symbols rows) || (is_some (given Workers rows) || not (length (file_names rows) == 0))))))
+    is_given flag.Hex rows || (is_given flag.Partial rows || (is_given flag.Complete rows || (is_given flag.ExitCode rows
+    || (is_given flag.Notes rows || (is_some (given Symbols rows) || (is_some (given Workers rows)
+    || not (length (file_names rows) == 0)))))))
 
 -- the job of a question with these entries
 abbrev pub asked_by : CommandName → List Row → Option Job
@@ -191,8 +197,8 @@ abbrev pub Meets : Request → Command → Type 0
 Meets (explains text) (wish.Explain fault) = IsPrinted text fault
 Meets asked (wish.Explain fault) = ⊥
 Meets asked (wish.Question run) = asked ≡ answers (work run)
-Meets asked (wish.Dump of) = asked ≡ dumps of.hex (map string_bytes of.files.items)
-Meets asked (wish.Encode of) = asked ≡ encodes of.hex (map string_bytes of.files.items)
+Meets asked (wish.Dump form files) = asked ≡ dumps form (map string_bytes files.items)
+Meets asked (wish.Encode hex files) = asked ≡ encodes hex (map string_bytes files.items)
 Meets asked (wish.Ask of) = asked ≡ asks of.setting (map string_bytes of.files.items) (option_map string_bytes of.symbols)
 
 abbrev pub IsAskedFor : Option Request → Command → Type 0

@@ -5,9 +5,8 @@ ghost use Rattle.clap.specs.declared.builder.Command.TheViews.{out-Command as fi
 ghost use Rattle.htl_command.specs.Steps.{Describes};
 ghost use Rattle.htl_command.specs.Commands.{name_of};
 ghost use Rattle.htl_command.specs.Entries.{code_rule, common_rules, command_app, dialogue_rules};
-ghost use Rattle.htl_command.specs.Entries.{files_rule};
+ghost use Rattle.htl_command.specs.Entries.{dump_rules, encode_rules, files_rule};
 ghost use Rattle.htl_command.specs.Entries.{flag_rule, hleak_app, option_rule, program_app};
-ghost use Rattle.htl_command.specs.Entries.{text_rules};
 ghost use Rattle.htl_command.specs.Entries.{with_commands as with_commands_of, with_rules};
 ghost use Rattle.htl_command.specs.declared.names.CommandFlag.TheVariants as flags;
 
@@ -142,6 +141,7 @@ fn with_common_options<'a>(
             CommandFlag::Json,
             CommandFlag::Complete,
             CommandFlag::Hex,
+            CommandFlag::Partial,
             CommandFlag::Notes,
         ],
         place,
@@ -149,20 +149,35 @@ fn with_common_options<'a>(
     command.arg(files(alloc, FILES_HELP, place))
 }
 
-fn with_text_options<'a>(
+fn with_dump_options<'a>(
     alloc: Global,
     command: Command<'a>,
-    hex_help: &'a str,
-    files_help: &'a str,
     place: Place,
 ) -> Result<Command<'a>, AllocError>
     requires { (fields_of command).has_globals ≡ false }
-    ensures { IfOk result (Describes (with_rules (app_of command.entry) text_rules)) }
+    ensures { IfOk result (Describes (with_rules (app_of command.entry) dump_rules)) }
+{
+    let command = with_flags(
+        alloc,
+        command,
+        &[CommandFlag::Hex, CommandFlag::Partial, CommandFlag::Notes],
+        place,
+    )?;
+    command.arg(files(alloc, FILES_HELP, place))
+}
+
+fn with_encode_options<'a>(
+    alloc: Global,
+    command: Command<'a>,
+    place: Place,
+) -> Result<Command<'a>, AllocError>
+    requires { (fields_of command).has_globals ≡ false }
+    ensures { IfOk result (Describes (with_rules (app_of command.entry) encode_rules)) }
 {
     command
-        .arg(flag(alloc, CommandFlag::Hex, hex_help, place))?
+        .arg(flag(alloc, CommandFlag::Hex, HEX_TEXT_HELP, place))?
         .arg(notes(alloc, place))?
-        .arg(files(alloc, files_help, place))
+        .arg(files(alloc, TEXTS_HELP, place))
 }
 
 fn with_dialogue_options<'a>(
@@ -182,7 +197,12 @@ fn with_dialogue_options<'a>(
     let command = with_flags(
         alloc,
         command,
-        &[CommandFlag::Complete, CommandFlag::Hex, CommandFlag::Notes],
+        &[
+            CommandFlag::Complete,
+            CommandFlag::Hex,
+            CommandFlag::Partial,
+            CommandFlag::Notes,
+        ],
         place,
     )?;
     command.arg(files(alloc, DIALOGUE_FILES_HELP, place).required(true))
@@ -210,10 +230,8 @@ fn command<'a>(alloc: Global, name: CommandName, place: Place) -> Result<Command
             with_common_options(alloc, command, place)
         }
         CommandName::Explain => bare.arg(code(alloc))?.arg(notes(alloc, place)),
-        CommandName::Dump => {
-            with_text_options(alloc, bare, CommandFlag::Hex.help(), FILES_HELP, place)
-        }
-        CommandName::Encode => with_text_options(alloc, bare, HEX_TEXT_HELP, TEXTS_HELP, place),
+        CommandName::Dump => with_dump_options(alloc, bare, place),
+        CommandName::Encode => with_encode_options(alloc, bare, place),
         CommandName::Ask => with_dialogue_options(alloc, bare, place),
     }
 }

@@ -19,8 +19,8 @@ use crate::builder::{Place, program};
 use crate::fault::{ParseFault, no_command, of_clap, of_code, of_entries};
 use crate::names::{CommandFlag, CommandName, QuestionName};
 use crate::printed::PrintedFault;
-use crate::question::{Format, Job, Question, Setting};
-use crate::reading::{NoJob, files, is_given, job, printed_fault, setting, symbols};
+use crate::question::{Format, InputForm, Job, Question, Setting};
+use crate::reading::{NoJob, files, input_form, is_given, job, printed_fault, setting, symbols};
 use clap::ArgMatches;
 use std::alloc::{AllocError, Global};
 
@@ -40,9 +40,19 @@ pub enum Command {
     /// What a fault means, and what to do.
     Explain(PrintedFault),
     /// The text of segments.
-    Dump(Conversion),
+    Dump {
+        /// How the inputs hold segments.
+        form: InputForm,
+        /// The names of the inputs, in order. Where there is none, standard input is read.
+        files: Vec<String>,
+    },
     /// The segments of a text.
-    Encode(Conversion),
+    Encode {
+        /// Whether the segments that are written are digits in hexadecimal.
+        hex: bool,
+        /// The names of the inputs, in order. Where there is none, standard input is read.
+        files: Vec<String>,
+    },
     /// The answers to questions that come line by line.
     Ask(Dialogue),
 }
@@ -55,15 +65,6 @@ pub struct Run {
     pub files: Vec<String>,
     /// The name of the file with the symbol table.
     pub symbols: Option<String>,
-}
-
-/// What is made of files.
-#[derive(Debug, PartialEq, Eq, Drop)]
-pub struct Conversion {
-    /// Whether the segments, which are read or written, are digits in hexadecimal.
-    pub hex: bool,
-    /// The names of the inputs, in order. Where there is none, standard input is read.
-    pub files: Vec<String>,
 }
 
 /// What the questions of a dialogue are asked of.
@@ -110,7 +111,10 @@ fn stored(alloc: Global) -> Run
     Run {
         job: Job {
             question: Question::Outstanding { process: 4 },
-            hex: true,
+            form: InputForm {
+                hex: true,
+                partial: false,
+            },
             workers: 1,
             until: None,
             top: None,
@@ -257,8 +261,8 @@ fn read_command(
             Ok(fault) => Ok(Command::Explain(fault)),
             Err(given) => Err(of_code(alloc, given)),
         },
-        CommandName::Dump => Ok(Command::Dump(read_conversion(alloc, entries)?)),
-        CommandName::Encode => Ok(Command::Encode(read_conversion(alloc, entries)?)),
+        CommandName::Dump => Ok(read_dump(alloc, entries)?),
+        CommandName::Encode => Ok(read_encode(alloc, entries)?),
         CommandName::Ask => {
             let dialogue = read_dialogue(alloc, entries)?;
             Ok(Command::Ask(dialogue))
@@ -318,12 +322,19 @@ fn with_files(alloc: Global, job: Job, entries: &ArgMatches) -> Result<Run, Allo
     })
 }
 
-fn read_conversion(alloc: Global, entries: &ArgMatches) -> Result<Conversion, AllocError>
-    ensures hex { IfOk result (λ of. of.hex ≡ is_given_in flag.Hex (entries_of entries.now)) }
-    ensures files { IfOk result (λ of.
-        map string_bytes of.files.items ≡ file_names (entries_of entries.now)) }
+fn read_dump(alloc: Global, entries: &ArgMatches) -> Result<Command, AllocError>
+    ensures { IfOk result (IsAskedFor (request_of command.Dump (entries_of entries.now))) }
 {
-    Ok(Conversion {
+    Ok(Command::Dump {
+        form: input_form(entries),
+        files: files(alloc, entries)?,
+    })
+}
+
+fn read_encode(alloc: Global, entries: &ArgMatches) -> Result<Command, AllocError>
+    ensures { IfOk result (IsAskedFor (request_of command.Encode (entries_of entries.now))) }
+{
+    Ok(Command::Encode {
         hex: is_given(entries, CommandFlag::Hex),
         files: files(alloc, entries)?,
     })

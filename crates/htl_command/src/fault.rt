@@ -179,8 +179,8 @@ pub(crate) fn no_question(alloc: Global) -> ParseFault
     let why = "\
 a line is a question with its own options
 
-  tip: files, --symbols, --workers, --complete, --hex and --notes stand after
-  'hleak ask'";
+  tip: files, --symbols, --workers, --complete, --hex, --partial and --notes
+  stand after 'hleak ask'";
     of_line(alloc, why)
 }
 

@@ -19,6 +19,7 @@ Options of every question, from summary to growth:
       --json            One JSON object a line, for other programs
       --complete        Refuse segments of which one is missing (C8)
       --hex             The files hold hexadecimal digits, not bytes
+      --partial         A file may end within a segment, which is left out
       --notes           Notes on standard error also where it is no terminal
   [FILES]...            Trace segments; standard input where no file is given
 
@@ -269,6 +270,7 @@ impl CommandFlag {
             CommandFlag::Json => "One JSON object a line, for other programs",
             CommandFlag::Complete => "Refuse segments of which one is missing (C8)",
             CommandFlag::Hex => "The files hold hexadecimal digits, not bytes",
+            CommandFlag::Partial => "A file may end within a segment, which is left out",
             CommandFlag::Notes => "Notes on standard error also where it is no terminal",
         }
     }

@@ -26,8 +26,8 @@ mod reading;
 mod values;
 
 pub use code::Code;
-pub use command::{Command, CommandLine, Conversion, Dialogue, Run, parse};
+pub use command::{Command, CommandLine, Dialogue, Run, parse};
 pub use fault::ParseFault;
 pub use line::parse_question;
 pub use printed::{Parts, PrintedFault};
-pub use question::{Format, Job, Moment, Question, Setting, Since};
+pub use question::{Format, InputForm, Job, Moment, Question, Setting, Since};

@@ -57,6 +57,7 @@ pub(crate) enum CommandFlag {
     Json,
     Complete,
     Hex,
+    Partial,
     Notes,
 }
 
@@ -233,6 +234,7 @@ impl CommandFlag {
             CommandFlag::Json => "json",
             CommandFlag::Complete => "complete",
             CommandFlag::Hex => "hex",
+            CommandFlag::Partial => "partial",
             CommandFlag::Notes => "notes",
         }
     }

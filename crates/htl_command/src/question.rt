@@ -66,11 +66,20 @@ pub enum Moment {
     Complete,
 }
 
+/// How the inputs hold segments.
+#[derive(Clone, Copy, Debug, PartialEq, Eq)]
+pub struct InputForm {
+    /// Whether they are digits in hexadecimal.
+    pub hex: bool,
+    /// Whether one that ends within a segment counts with the whole segments before.
+    pub partial: bool,
+}
+
 /// How the segments are read of which many questions are asked.
 #[derive(Clone, Copy, Debug, PartialEq, Eq)]
 pub struct Setting {
-    /// Whether the inputs are digits in hexadecimal.
-    pub hex: bool,
+    /// How the inputs hold segments.
+    pub form: InputForm,
     /// How many threads decode segments, 1 to 8.
     pub workers: u32,
     /// Whether segments of which one is missing are refused.
@@ -93,8 +102,8 @@ pub enum Format {
 #[derive(Clone, Copy, Debug, PartialEq, Eq)]
 pub struct Job {
     pub question: Question,
-    /// Whether the inputs are digits in hexadecimal.
-    pub hex: bool,
+    /// How the inputs hold segments.
+    pub form: InputForm,
     /// How many threads decode segments, 1 to 8.
     pub workers: u32,
     /// Up to when events count. `None` stands for all of them.

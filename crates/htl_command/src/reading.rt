@@ -6,7 +6,8 @@ ghost use Rattle.clap.specs.Words.{all_of, first_of};
 ghost use Rattle.htl_command.specs.Steps.{IsFirstBroken, IsNoJob, IsTwoForms, Names, entries_of};
 ghost use Rattle.htl_command.specs.Steps.{breaks_rule, question_options};
 ghost use Rattle.htl_command.specs.Requests.{AsksNothing, IsAskedFor, defaulted, file_names};
-ghost use Rattle.htl_command.specs.Requests.{format_of, given as given_in, is_given as is_given_in};
+ghost use Rattle.htl_command.specs.Requests.{format_of, given as given_in, input_form};
+ghost use Rattle.htl_command.specs.Requests.{is_given as is_given_in};
 ghost use Rattle.htl_command.specs.Requests.{is_of_run, job_of, optional, question_of, request_of};
 ghost use Rattle.htl_command.specs.Requests.{setting_of, value, workers as workers_given};
 ghost use Rattle.htl_command.specs.Values.{count_in, handle_in, moment_in, object_in, points_in};
@@ -17,7 +18,7 @@ ghost use Rattle.htl_command.specs.declared.names.CommandOption.TheVariants as o
 
 use crate::names::{CommandFlag, CommandOption, QuestionName};
 use crate::printed::PrintedFault;
-use crate::question::{Format, Job, Moment, Question, Setting, Since};
+use crate::question::{Format, InputForm, Job, Moment, Question, Setting, Since};
 use crate::values;
 use clap::ArgMatches;
 use std::alloc::{AllocError, Global};
@@ -293,6 +294,7 @@ pub(crate) fn is_of_run(entries: &ArgMatches) -> bool
     ensures { result ≡ is_of_run (entries_of entries.now) }
 {
     is_given(entries, CommandFlag::Hex)
+        || is_given(entries, CommandFlag::Partial)
         || is_given(entries, CommandFlag::Complete)
         || is_given(entries, CommandFlag::ExitCode)
         || is_given(entries, CommandFlag::Notes)
@@ -324,10 +326,20 @@ pub(crate) fn setting<'a>(entries: &ArgMatches<'a>) -> Result<Setting, Refused<'
     ensures err { IfErr result (Names option.Workers (entries_of entries.now)) }
 {
     Ok(Setting {
-        hex: is_given(entries, CommandFlag::Hex),
+        form: input_form(entries),
         workers: workers(entries)?,
         complete: is_given(entries, CommandFlag::Complete),
     })
+}
+
+/// How the inputs hold segments.
+pub(crate) fn input_form(entries: &ArgMatches) -> InputForm
+    ensures { result ≡ input_form (entries_of entries.now) }
+{
+    InputForm {
+        hex: is_given(entries, CommandFlag::Hex),
+        partial: is_given(entries, CommandFlag::Partial),
+    }
 }
 
 /// `clap` gives a flag the text `true` or `false`.
@@ -364,7 +376,7 @@ pub(crate) fn job<'a>(name: QuestionName, entries: &ArgMatches<'a>) -> Result<Jo
 {
     Ok(Job {
         question: question(name, entries)?,
-        hex: is_given(entries, CommandFlag::Hex),
+        form: input_form(entries),
         workers: workers(entries)?,
         until: until(entries)?,
         top: top(entries)?,

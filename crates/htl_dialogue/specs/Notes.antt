@@ -1,5 +1,5 @@
 -- What a host is told beside the replies (this project's own).
-use Rattle.std.specs.Prelude.{◌≡◌, ◌≢◌, ⊤, ℕ, Bool, true, false, List, [], ◌∷◌, ◌++◌, if◌then◌else◌}
+use Rattle.std.specs.Prelude.{◌≡◌, ◌≢◌, ⊤, ℕ, Bool, true, false, List, [], ◌∷◌, ◌++◌, Option, if◌then◌else◌}
 use Rattle.htl_command.specs.Refusals.{IsUsageWith, RefusesQuestion}
 use Rattle.htl_command.specs.declared.fault.ParseFault.{ParseFault}
 use Rattle.htl_command.specs.declared.fault.ParseFault.TheVariants.{Memory}
@@ -8,10 +8,11 @@ use Rattle.htl_command.specs.declared.question.Question.{Question}
 use Rattle.htl_dialogue.specs.Lines.{arguments_of}
 use Rattle.htl_dialogue.specs.Sayings.{Saying, nothing, quits, asks, wrong, is_readable, meant, saying_of}
 
--- One note: that questions can come over a case with so many gaps, which is complete up to a sequence; that a line is awaited; why a
--- line is wrong; or that what a question names has no event.
+-- One note: that questions can come over a case with so many gaps, which is complete up to a sequence, and of which inputs end within a
+-- segment, the place of the first and how many others; that a line is awaited; why a line is wrong; or that what a question names has no
+-- event.
 pub data Note : Type 0 where
-  begins : ℕ → ℕ → Note
+  begins : ℕ → ℕ → Option (ℕ × ℕ) → Note
   awaits : Note
   refuses : ParseFault → Note
   lacks : Question → Note

@@ -22,11 +22,11 @@ use Rattle.htl_main.proofs.MomentLaws.{complete_until}
 
 -- how a run for the job reads its segments
 abbrev pub setting_of : Job → Setting
-setting_of job = record { hex = job.hex; workers = job.workers; complete = job.complete }
+setting_of job = record { form = job.form; workers = job.workers; complete = job.complete }
 
 -- what a run loads of its inputs, where its workers fit
 pub loaded_of : (job : Job) (inputs : List (List ℕ)) (symbols : Option (List ℕ)) (segments : List Content) (T : Trace) (table : List Range)
-    → WorkersFit job.workers → DecodeAll job.hex inputs segments → AreLoaded segments symbols job.complete job.until T table
+    → WorkersFit job.workers → DecodeAll job.form inputs segments → AreLoaded segments symbols job.complete job.until T table
     → AreLoadedOf inputs symbols (setting_of job) job.until T table
 loaded_of job inputs symbols segments T table workers decoded loaded =
     record { workers = workers; segments = segments; decoded = decoded; loaded = loaded }
@@ -67,7 +67,7 @@ module _ (setting : Setting) (inputs : List (List ℕ)) (symbols : Option (List 
       → (lines : List ℕ) × Printed (in_setting setting job) inputs symbols (Ok lines) × Written lines
   prints Written over = (over.lines, runs_text over.lines over.about over.is, over.written)
 
-  pub runs_coverage : (coverage : Coverage) → IsCoverage T coverage → Covers setting.hex inputs coverage
+  pub runs_coverage : (coverage : Coverage) → IsCoverage T coverage → Covers setting.form inputs coverage
   runs_coverage coverage is = (loaded.segments, loaded.decoded, (T, loaded.loaded.case, is))
 
   pub runs_subject : (found : Bool) → HasSubject T job found → ReportsSubject inputs (in_setting setting job) found

@@ -11,22 +11,25 @@ use Rattle.htl_segment.specs.Traces.{Trace}
 use Rattle.htl_segment.specs.declared.picks.Picks.{Picks}
 use Rattle.htl_case.specs.Cases.{IsCaseOf}
 use Rattle.htl_case.specs.Picked.{Picked, IsPickedOf}
+use Rattle.htl_command.specs.declared.question.InputForm.{InputForm}
 use Rattle.htl_command.specs.declared.question.Question.{Question}
 use Rattle.htl_command.specs.declared.question.Job.{Job}
 use Rattle.htl_main.specs.Causes.{IsCauseAfter, Prints, PrintsPart}
+use Rattle.htl_main.specs.CutInputs.{AreCut}
 use Rattle.htl_main.specs.Inputs.{DecodeAll}
 use Rattle.htl_main.specs.Picked.{NeverCase, Reports, asks_about, interest_of}
 use Rattle.htl_main.specs.Picking.{ArePickedFor, ArePicksOfAll, EndsPrinting, IsPickedFor, PrintsOf, ReportsOf}
 use Rattle.htl_main.specs.Printed.{WorkersFit}
 use Rattle.htl_main.specs.Sources.{IsSourcesCause}
 use Rattle.htl_main.specs.declared.completed.Completed.{Completed}
+use Rattle.htl_main.specs.declared.cut_inputs.CutInputs.{CutInputs}
 use Rattle.htl_main.specs.declared.fault.RunFault.{RunFault}
 use Rattle.htl_main.specs.declared.fault.RunFault.TheVariants.{Case, Incomplete, NoSubject, Symbols, Memory, Write}
 use Rattle.htl_main.proofs.AfterDecoding.{sources_cause_of}
 
 -- ---- what was picked
 
-bytes_of : (hex : Bool) (question : Question) (interest : Interest) → asks_about hex question ≡ Some interest → hex ≡ false
+pub bytes_of : (hex : Bool) (question : Question) (interest : Interest) → asks_about hex question ≡ Some interest → hex ≡ false
 bytes_of true question interest is = absurd (cc is)
 bytes_of false question interest is = refl
 
@@ -35,27 +38,27 @@ about_of : (hex : Bool) (question : Question) (interest : Interest) → asks_abo
 about_of true question interest is = absurd (cc is)
 about_of false question interest is = is
 
-decoded_fit : (hex : Bool) (inputs : List (List ℕ)) (segments : List Content) → DecodeAll hex inputs segments → All Fits segments
-decoded_fit hex [] segments decoded = rw decoded (All-nil Fits)
-decoded_fit hex (input ∷ inputs) segments decoded =
-    rw decoded.4 (All-append Fits decoded.0 decoded.1 decoded.2.splits.fits (decoded_fit hex inputs decoded.1 decoded.3))
+decoded_fit : (form : InputForm) (inputs : List (List ℕ)) (segments : List Content) → DecodeAll form inputs segments → All Fits segments
+decoded_fit form [] segments decoded = rw decoded (All-nil Fits)
+decoded_fit form (input ∷ inputs) segments decoded =
+    rw decoded.4 (All-append Fits decoded.0 decoded.1 decoded.2.splits.fits (decoded_fit form inputs decoded.1 decoded.3))
 
 -- the segments of all inputs, of which the picks are for the job's question
 pub record IsPickedRun (job : Job) (inputs : List (List ℕ)) (picks : Picks) : Type 0 where
   pub segments : List Content
-  pub decoded : DecodeAll job.hex inputs segments
+  pub decoded : DecodeAll job.form inputs segments
   pub picked : ArePickedFor job.question picks segments
 
 pub picked_run : (job : Job) (inputs : List (List ℕ)) (interest : Interest) (picks : Picks)
-    → asks_about job.hex job.question ≡ Some interest → ArePicksOfAll interest inputs picks → IsPickedRun job inputs picks
+    → asks_about job.form.hex job.question ≡ Some interest → ArePicksOfAll job.form interest inputs picks → IsPickedRun job inputs picks
 picked_run job inputs interest picks about all = record {
   segments = all.segments;
-  decoded = rw (bytes_of job.hex job.question interest about) all.decoded;
+  decoded = all.decoded;
   picked = record {
     interest = interest;
-    about = about_of job.hex job.question interest about;
+    about = about_of job.form.hex job.question interest about;
     picks_of = all.picks_of;
-    fits = decoded_fit false inputs all.segments all.decoded;
+    fits = decoded_fit job.form inputs all.segments all.decoded;
   };
 }
 
@@ -69,17 +72,19 @@ picked_for question picks segments case made are =
     record { trace = of.0; interest = are.interest; about = are.about; case_of = of.1; picked = of.2 }
 
 pub prints : (job : Job) (inputs : List (List ℕ)) (segments : List Content) (symbols old new : Option (List ℕ)) → WorkersFit job.workers
-    → DecodeAll job.hex inputs segments → PrintsOf segments symbols job (Appends old new) → Prints job inputs symbols old new
+    → DecodeAll job.form inputs segments → PrintsOf segments symbols job (Appends old new) → Prints job inputs symbols old new
 prints job inputs segments symbols old new fit decoded of = (of.lines, (fit, segments, decoded, of.are), of.written)
 
 pub prints_part : (job : Job) (inputs : List (List ℕ)) (segments : List Content) (symbols old new : Option (List ℕ)) → WorkersFit job.workers
-    → DecodeAll job.hex inputs segments → PrintsOf segments symbols job (AppendsPrefix old new) → PrintsPart job inputs symbols old new
+    → DecodeAll job.form inputs segments → PrintsOf segments symbols job (AppendsPrefix old new) → PrintsPart job inputs symbols old new
 prints_part job inputs segments symbols old new fit decoded of = (of.lines, (fit, segments, decoded, of.are), of.written)
 
-pub reports : (job : Job) (inputs : List (List ℕ)) (segments : List Content) (completed : Completed) → DecodeAll job.hex inputs segments
-    → ReportsOf segments job completed → Reports job inputs completed
-reports job inputs segments completed decoded of = record {
+pub reports : (job : Job) (inputs : List (List ℕ)) (segments : List Content) (cut : Option CutInputs) (completed : Completed)
+    → DecodeAll job.form inputs segments → AreCut job.form.hex inputs cut → ReportsOf segments job cut completed
+    → Reports job inputs completed
+reports job inputs segments cut completed decoded are of = record {
   coverage = (segments, decoded, of.coverage);
+  cut = rw (of.cut_are) are;
   subject = (segments, decoded, of.subject);
   finding = (segments, decoded, of.finding);
 }
@@ -100,7 +105,7 @@ if_whole (Err e) more is = tt
 
 pub ends_for : (job : Job) (inputs : List (List ℕ)) (lefts : List (Option (List ℕ))) (ends : List Bool) (symbols : Option (List ℕ))
     (segments : List Content) (Written : List ℕ → Type 0) (result : Result (Option Completed) RunFault) → WorkersFit job.workers
-    → DecodeAll job.hex inputs segments
+    → DecodeAll job.form inputs segments
     → IfErr result EndsPrinting → IfErr result (λ fault. fault ≢ Write → IsCauseAfter segments symbols job fault)
     → (result ≡ Err Write → PrintsOf segments symbols job Written)
     → IfErr result (IsSourcesCause job inputs lefts ends symbols)

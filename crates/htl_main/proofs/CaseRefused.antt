@@ -1,6 +1,7 @@
 -- A fault of all segments as one of the run, and that no other fault is about two segments.
 use Rattle.std.proofs.Common.{◌≡◌, ℕ, Bool, List, Option, refl, inl, inr}
 use Rattle.std.specs.Prelude.{Err}
+use Rattle.htl_command.specs.declared.question.InputForm.{InputForm}
 use Rattle.htl_segment.specs.Content.{Content}
 use Rattle.htl_segment.specs.Traces.{Trace}
 use Rattle.htl_case.specs.Cases.{IsCaseOf}
@@ -23,23 +24,23 @@ pub cause_of_case : (segments : List Content) (fault : CaseFault) → IsRefusal 
 cause_of_case segments NoMemory refusal symbols job = inl refusal
 cause_of_case segments fault refusal symbols job = ((λ same. cc), refusal)
 
-no_memory_between : (hex : Bool) (inputs : List (List ℕ)) (segments : List Content) (between : Between)
-    → IsBetweenOf hex inputs segments NoMemory between → between ≡ Nothing
-no_memory_between hex inputs segments Nothing is = refl
-no_memory_between hex inputs segments (Two first second) is = absurd is.broken
-no_memory_between hex inputs segments Unknown is = absurd cc
+no_memory_between : (form : InputForm) (inputs : List (List ℕ)) (segments : List Content) (between : Between)
+    → IsBetweenOf form inputs segments NoMemory between → between ≡ Nothing
+no_memory_between form inputs segments Nothing is = refl
+no_memory_between form inputs segments (Two first second) is = absurd is.broken
+no_memory_between form inputs segments Unknown is = absurd cc
 
-pub between_of_case : (hex : Bool) (inputs : List (List ℕ)) (segments : List Content) (fault : CaseFault) (between : Between)
-    → DecodeAll hex inputs segments → IsBetweenOf hex inputs segments fault between → IsBetween hex inputs (of_case fault) between
-between_of_case hex inputs segments NoMemory between decoded is = no_memory_between hex inputs segments between is
-between_of_case hex inputs segments fault between decoded is = (segments, decoded, is)
+pub between_of_case : (form : InputForm) (inputs : List (List ℕ)) (segments : List Content) (fault : CaseFault) (between : Between)
+    → DecodeAll form inputs segments → IsBetweenOf form inputs segments fault between → IsBetween form inputs (of_case fault) between
+between_of_case form inputs segments NoMemory between decoded is = no_memory_between form inputs segments between is
+between_of_case form inputs segments fault between decoded is = (segments, decoded, is)
 
 -- what ends a run after the case was made is about no two segments
-pub none_after : (hex : Bool) (all : List (List ℕ)) (segments : List Content) (T : Trace) (symbols : Option (List ℕ)) (job : Job)
+pub none_after : (form : InputForm) (all : List (List ℕ)) (segments : List Content) (T : Trace) (symbols : Option (List ℕ)) (job : Job)
     (fault : RunFault) → IsCaseOf segments T → IsCauseAfter segments symbols job fault
-    → IsBetween hex all fault Nothing
-none_after hex all segments T symbols job (Case fault) is cause = absurd (elim (exact_case segments T (Err fault) is cause) [
+    → IsBetween form all fault Nothing
+none_after form all segments T symbols job (Case fault) is cause = absurd (elim (exact_case segments T (Err fault) is cause) [
   | inl same ↦ cc
   | inr same ↦ cc
 ])
-none_after hex all segments T symbols job fault is cause = refl
+none_after form all segments T symbols job fault is cause = refl

@@ -1,7 +1,7 @@
 -- What was dumped of some bytes, and what is reported where no more of them is a segment.
 use Rattle.std.proofs.Common.{◌≡◌, ◌+◌, ◌-◌, ◌<◌, ◌≤◌, ℕ, Bool, true, false, List, [], ◌∷◌, ◌++◌, length, drop, take, refl, sym, ap, ◌∙◌}
 use Rattle.std.proofs.Common.{arith, inl, inr, subst, append_assoc, append-nil, Option, Some, None, IfSome, Result, Ok, Err}
-use Rattle.std.specs.Prelude.{is_err, slice_get, IfErr, OnOk}
+use Rattle.std.specs.Prelude.{is_err, slice_get, IfErr, IfOk}
 use Rattle.std.specs.Io.KnownBytes.{Appends, Consumes, IsAtEnd, ReadConsumes}
 use Rattle.std.proofs.KnownBytes.{Appends-trans, Consumes-kept, Consumes-trans}
 use Rattle.std.proofs.Math.Seq.{drop-append_seam, take-append_seam}
@@ -11,6 +11,7 @@ use Rattle.std.proofs.lemmas.List.{flat_map_more, length-append, take_all, take-
 use Rattle.std.proofs.lemmas.List.Elements.{All-append}
 use Rattle.htl_device.specs.Devices.{AppendsPrefix}
 use Rattle.htl_device.specs.declared.source.TheConstants.{MAX_READ_LEN}
+use Rattle.htl_command.specs.declared.question.InputForm.{InputForm}
 use Rattle.htl_segment.specs.Content.{Content, Fits}
 use Rattle.htl_segment.specs.Encoding.{BeginsWith}
 use Rattle.htl_segment.specs.Faults.{first_fault}
@@ -20,14 +21,16 @@ use Rattle.htl_segment.proofs.BundleLaws.{late_stays, no_fault_stays, splits_one
 use Rattle.htl_text.specs.Texts.{segment_text}
 use Rattle.htl_main.specs.Inputs.{AsksMemory, HasBytes}
 use Rattle.htl_main.specs.Sources.{EndsBefore}
-use Rattle.htl_main.specs.Dumps.{AreWritten, Dumps, DumpsInput, InputStops, texts_of}
-use Rattle.htl_main.specs.Dumping.{DumpedSoFar, EndsAt, FrontDumped, FrontStops, WholeStops}
+use Rattle.htl_main.specs.Dumps.{AreWritten, Dumps, InputStops, texts_of}
+use Rattle.htl_main.specs.Dumping.{DumpedSoFar, DumpsInput, EndsAt, FrontDumped, FrontStops, WholeStops}
+use Rattle.htl_main.specs.Ends.{IsEnd, IsEndRefused}
 use Rattle.htl_main.specs.declared.fault.RunFault.{RunFault}
 use Rattle.htl_main.specs.declared.fault.RunFault.TheVariants.{Segment, Read, Memory, Write}
+use Rattle.htl_main.proofs.EndLaws.{input_of}
 use Rattle.htl_main.proofs.InputLaws.{decode_next}
 use Rattle.htl_reading.specs.Keepers.{taken}
 use Rattle.htl_reading.specs.Sources.{IsReadToFault}
-use Rattle.htl_reading.proofs.FaultLaws.{ended_whole, read_more, read_without_fault, taken_splits}
+use Rattle.htl_reading.proofs.FaultLaws.{read_more, read_without_fault, taken_splits}
 use Rattle.htl_segment.proofs.PiecesLaws.{bundle-append}
 use Rattle.htl_device.proofs.KnownBytes.{prefix_after}
 
@@ -76,7 +79,7 @@ front_next bytes rest n s old mid new so_far front written = record {
 }
 
 -- the rest begins after the segments
-rest_at : (bytes rest : List ℕ) (ss : List Content) → Splits bytes ss rest → length bytes - length rest ≡ length (bundle ss)
+pub rest_at : (bytes rest : List ℕ) (ss : List Content) → Splits bytes ss rest → length bytes - length rest ≡ length (bundle ss)
 rest_at bytes rest ss split = omega (arith, ap length split.parts, length-append (bundle ss) rest)
 
 -- no segment follows, whatever follows
@@ -92,6 +95,7 @@ front_refused place start bytes rest old new fault so_far is late some = record 
     ap (λ (n : ℕ). start + n) (rest_at bytes rest so_far.segments so_far.splits),
     omega (arith, some, length-append rest more),
     late_stays rest more fault late is,
+    λ partial. late,
   );
   written = so_far.written;
 }
@@ -122,18 +126,59 @@ front_unwritten place start bytes rest n s old mid new so_far front part = recor
 
 -- ---- all bytes of an input
 
-pub whole_of_front : (place : ℕ) (bytes : List ℕ) (old new : Option (List ℕ)) (fault : RunFault) → FrontStops place 0 bytes old new fault
-    → WholeStops place bytes old new fault
-whole_of_front place bytes old new fault stops = record {
+-- what ends it where inputs may be partial ends it where they have to be whole
+ends_whole : (partial : Bool) (place offset : ℕ) (rest : List ℕ) (fault : RunFault) → EndsAt true place offset rest fault
+    → EndsAt partial place offset rest fault
+ends_whole partial place offset rest (Segment at there fault) ends = (ends.0, ends.1, ends.2, ends.3, λ may. ends.4 refl)
+ends_whole partial place offset rest Memory ends = ends
+ends_whole partial place offset rest Write ends = ends
+ends_whole partial place offset rest fault ends = absurd ends
+
+pub whole_of_front : (form : InputForm) (place : ℕ) (bytes : List ℕ) (old new : Option (List ℕ)) (fault : RunFault)
+    → FrontStops place 0 bytes old new fault → WholeStops form place bytes old new fault
+whole_of_front form place bytes old new fault stops = record {
   segments = stops.segments;
   rest = stops.rest;
   splits = stops.splits;
   ends =
       let start : 0 + length (bundle stops.segments) ≡ length (bundle stops.segments) = omega arith in
-      subst (λ (l : List ℕ). EndsAt place (length (bundle stops.segments)) l fault) (append-nil stops.rest)
-      (subst (λ (n : ℕ). EndsAt place n (stops.rest ++ []) fault) start (stops.ends []));
+      ends_whole form.partial place (length (bundle stops.segments)) stops.rest fault
+      (subst (λ (l : List ℕ). EndsAt true place (length (bundle stops.segments)) l fault) (append-nil stops.rest)
+      (subst (λ (n : ℕ). EndsAt true place n (stops.rest ++ []) fault) start (stops.ends [])));
   written = stops.written;
 }
+
+-- all bytes end within a segment and may not
+pub whole_refused : (form : InputForm) (place : ℕ) (bytes rest : List ℕ) (old new : Option (List ℕ)) (fault : RunFault)
+    (front : FrontDumped bytes rest old new) → IsEndRefused form place (length (bundle front.segments)) rest fault
+    → WholeStops form place bytes old new fault
+whole_refused form place bytes rest old new fault front refused = rw (refused.is) record {
+  segments = front.segments;
+  rest = rest;
+  splits = front.splits;
+  ends = (refl, refl, refused.some, refused.first_is, λ partial. absurd (cc (partial, refused.whole)));
+  written = front.written;
+}
+
+pub dumped_whole : (form : InputForm) (bytes rest : List ℕ) (old new : Option (List ℕ)) (result : Result Bool RunFault)
+    → FrontDumped bytes rest old new → IfOk result (IsEnd form rest)
+    → IfOk result (λ is_cut. (rest : List ℕ) × IsEnd form rest is_cut × FrontDumped bytes rest old new)
+dumped_whole form bytes rest old new (Ok is_cut) front end = (rest, end, front)
+dumped_whole form bytes rest old new (Err fault) front end = tt
+
+pub refused_whole : (form : InputForm) (place : ℕ) (bytes rest : List ℕ) (old new : Option (List ℕ)) (offset : ℕ)
+    (result : Result Bool RunFault) (front : FrontDumped bytes rest old new) → offset ≡ length (bundle front.segments)
+    → IfErr result (IsEndRefused form place offset rest) → IfErr result (WholeStops form place bytes old new)
+refused_whole form place bytes rest old new offset (Ok is_cut) front at refused = tt
+refused_whole form place bytes rest old new offset (Err fault) front at refused =
+    whole_refused form place bytes rest old new fault front
+    (subst (λ (n : ℕ). IsEndRefused form place n rest fault) at refused)
+
+-- an input of which all bytes were dumped, but for those that end within a segment and may
+pub dumps_front : (form : InputForm) (input bytes rest : List ℕ) (is_cut : Bool) (old new : Option (List ℕ)) → HasBytes form.hex input bytes
+    → IsEnd form rest is_cut → FrontDumped bytes rest old new → DumpsInput form input is_cut old new
+dumps_front form input bytes rest is_cut old new has end front =
+    (front.segments, input_of form input bytes rest front.segments has front.splits is_cut end, front.written)
 
 segment_at : (bytes rest : List ℕ) (ss : List Content) → Splits bytes ss rest → first_fault rest ≡ None → SegmentAt bytes (length (bundle ss))
 segment_at bytes rest ss split none = record { before = ss; rest = rest; splits = split; offset_is = refl; no_fault = none }
@@ -143,10 +188,10 @@ asks : (hex : Bool) (input bytes rest : List ℕ) (ss : List Content) → HasByt
 asks true input bytes rest ss has split none = has.0
 asks false input bytes rest ss has split none = (length (bundle ss), rw (← has) (segment_at bytes rest ss split none))
 
-pub input_stops : (hex : Bool) (left : Option (List ℕ)) (ended : Bool) (place : ℕ) (input bytes : List ℕ) (old new : Option (List ℕ))
-    (fault : RunFault) → HasBytes hex input bytes → WholeStops place bytes old new fault
-    → InputStops hex left ended place input old new fault
-input_stops hex left ended place input bytes old new (Segment at offset fault) has stops = record {
+pub input_stops : (form : InputForm) (left : Option (List ℕ)) (ended : Bool) (place : ℕ) (input bytes : List ℕ) (old new : Option (List ℕ))
+    (fault : RunFault) → HasBytes form.hex input bytes → WholeStops form place bytes old new fault
+    → InputStops form left ended place input old new fault
+input_stops form left ended place input bytes old new (Segment at offset fault) has stops = record {
   reported = (
     stops.ends.0,
     record {
@@ -160,25 +205,33 @@ input_stops hex left ended place input bytes old new (Segment at offset fault) h
         some = stops.ends.2;
         fault_is = stops.ends.3;
       };
+      late = stops.ends.4;
     },
   );
   segments = stops.segments;
   are = (bytes, stops.rest, has, stops.splits, stops.ends.1);
   written = stops.written;
 }
-input_stops hex left ended place input bytes old new Memory has stops = record {
-  reported = inl (asks hex input bytes stops.rest stops.segments has stops.splits stops.ends);
+input_stops form left ended place input bytes old new Memory has stops = record {
+  reported = inl (asks form.hex input bytes stops.rest stops.segments has stops.splits stops.ends);
   segments = stops.segments;
   are = inr (bytes, stops.rest, has, stops.splits);
   written = stops.written;
 }
-input_stops hex left ended place input bytes old new Write has stops = record {
+input_stops form left ended place input bytes old new Write has stops = record {
   reported = tt;
   segments = stops.segments;
   are = inr (bytes, stops.rest, has, stops.splits);
   written = stops.written;
 }
-input_stops hex left ended place input bytes old new fault has stops = absurd (stops.ends)
+input_stops form left ended place input bytes old new fault has stops = absurd (stops.ends)
+
+pub text_dumped : (form : InputForm) (text bytes : List ℕ) (old new : Option (List ℕ)) (result : Result Bool RunFault)
+    → HasBytes form.hex text bytes
+    → IfOk result (λ is_cut. (rest : List ℕ) × IsEnd form rest is_cut × FrontDumped bytes rest old new)
+    → IfOk result (λ is_cut. DumpsInput form text is_cut old new)
+text_dumped form text bytes old new (Ok is_cut) has dumped = dumps_front form text bytes dumped.0 is_cut old new has dumped.1 dumped.2
+text_dumped form text bytes old new (Err fault) has dumped = tt
 
 -- ---- a source that is dumped as it is read
 
@@ -208,22 +261,11 @@ so_far_next first mid last start held piece rest old out new so_far read next is
   written = appends_after old out new so_far.segments next.segments so_far.written next.written;
 }
 
--- the source has ended, and nothing is left
-pub so_far_whole : (first mid last : Option (List ℕ)) (start : ℕ) (held : List ℕ) (old new : Option (List ℕ))
-    → DumpedSoFar first mid start held old new → Consumes mid last [] → IsAtEnd last → held ≡ []
-    → IfSome first (λ bytes. DumpsInput false bytes old new)
-so_far_whole None mid last start held old new so_far none end empty = tt
-so_far_whole (Some xs) mid last start held old new so_far none end empty =
-    let read = subst (Consumes (Some xs) last) (append-nil (taken so_far.segments held))
-    (Consumes-trans (Some xs) mid last (taken so_far.segments held) [] so_far.given none) in
-    let whole = ended_whole (Some xs) last so_far.segments held so_far.fits read end empty in
-    (so_far.segments, record { bytes = xs; has = refl; splits = whole }, so_far.written)
-
 -- all bytes of a source whose next ones end the dump
 stops_behind : (xs ys zs : List ℕ) (place start : ℕ) (held piece : List ℕ) (old out new : Option (List ℕ)) (fault : RunFault)
     → DumpedSoFar (Some xs) (Some ys) start held old out → ys ≡ piece ++ zs → FrontStops place start (held ++ piece) out new fault
-    → WholeStops place xs old new fault
-stops_behind xs ys zs place start held piece old out new fault so_far read stops =
+    → (form : InputForm) → WholeStops form place xs old new fault
+stops_behind xs ys zs place start held piece old out new fault so_far read stops form =
     let ss = so_far.segments in
     let ts = stops.segments in
     let whole : xs ≡ bundle (ss ++ ts) ++ (stops.rest ++ zs) =
@@ -235,48 +277,54 @@ stops_behind xs ys zs place start held piece old out new fault so_far read stops
       segments = ss ++ ts;
       rest = stops.rest ++ zs;
       splits = record { parts = whole; fits = All-append Fits ss ts so_far.fits stops.splits.fits };
-      ends = subst (λ (n : ℕ). EndsAt place n (stops.rest ++ zs) fault) offset (stops.ends zs);
+      ends = ends_whole form.partial place (length (bundle (ss ++ ts))) (stops.rest ++ zs) fault
+          (subst (λ (n : ℕ). EndsAt true place n (stops.rest ++ zs) fault) offset (stops.ends zs));
       written = written_after old out new ss ts fault so_far.written stops.written;
     }
 
-pub so_far_stops : (first mid last : Option (List ℕ)) (ended : Bool) (place start : ℕ) (held piece : List ℕ) (old out new : Option (List ℕ))
-    (fault : RunFault) → DumpedSoFar first mid start held old out → Consumes mid last piece
+pub so_far_stops : (form : InputForm) (first mid last : Option (List ℕ)) (ended : Bool) (place start : ℕ) (held piece : List ℕ)
+    (old out new : Option (List ℕ)) (fault : RunFault) → form.hex ≡ false → DumpedSoFar first mid start held old out → Consumes mid last piece
     → FrontStops place start (held ++ piece) out new fault
-    → IfSome first (λ bytes. InputStops false last ended place bytes old new fault)
-so_far_stops None mid last ended place start held piece old out new fault so_far read stops = tt
-so_far_stops (Some xs) None last ended place start held piece old out new fault so_far read stops = absurd (so_far.given)
-so_far_stops (Some xs) (Some ys) None ended place start held piece old out new fault so_far read stops = absurd read
-so_far_stops (Some xs) (Some ys) (Some zs) ended place start held piece old out new fault so_far read stops =
-    input_stops false (Some zs) ended place xs xs old new fault refl
-    (stops_behind xs ys zs place start held piece old out new fault so_far read stops)
+    → IfSome first (λ bytes. InputStops form last ended place bytes old new fault)
+so_far_stops form None mid last ended place start held piece old out new fault is so_far read stops = tt
+so_far_stops form (Some xs) None last ended place start held piece old out new fault is so_far read stops = absurd (so_far.given)
+so_far_stops form (Some xs) (Some ys) None ended place start held piece old out new fault is so_far read stops = absurd read
+so_far_stops form (Some xs) (Some ys) (Some zs) ended place start held piece old out new fault is so_far read stops =
+    input_stops form (Some zs) ended place xs xs old new fault (rw is refl)
+    (stops_behind xs ys zs place start held piece old out new fault so_far read stops form)
 
--- the source has ended inside a segment
-pub so_far_cut : (first mid last : Option (List ℕ)) (ended : Bool) (place start : ℕ) (held : List ℕ) (old new : Option (List ℕ)) (fault : Fault)
-    → DumpedSoFar first mid start held old new → Consumes mid last [] → IsAtEnd last → 0 < length held → first_fault held ≡ Some fault
-    → IfSome first (λ bytes. InputStops false last ended place bytes old new (Segment place start fault))
-so_far_cut None mid last ended place start held old new fault so_far none end some is = tt
-so_far_cut (Some xs) None last ended place start held old new fault so_far none end some is = absurd (so_far.given)
-so_far_cut (Some xs) (Some ys) None ended place start held old new fault so_far none end some is = absurd none
-so_far_cut (Some xs) (Some ys) (Some zs) ended place start held old new fault so_far none end some is =
+-- the source has ended, and these are its bytes
+record HasEnded (first last : Option (List ℕ)) (start : ℕ) (held : List ℕ) (old new : Option (List ℕ)) (bytes : List ℕ) : Type 0 where
+  front : FrontDumped bytes held old new
+  start_is : start ≡ length (bundle front.segments)
+
+so_far_ended : (first mid last : Option (List ℕ)) (start : ℕ) (held : List ℕ) (old new : Option (List ℕ))
+    → DumpedSoFar first mid start held old new → Consumes mid last [] → IsAtEnd last → IfSome first (HasEnded first last start held old new)
+so_far_ended None mid last start held old new so_far none end = tt
+so_far_ended (Some xs) None last start held old new so_far none end = absurd (so_far.given)
+so_far_ended (Some xs) (Some ys) None start held old new so_far none end = absurd none
+so_far_ended (Some xs) (Some ys) (Some zs) start held old new so_far none end =
     let whole : xs ≡ bundle so_far.segments ++ held =
     so_far.given ∙ ap (λ (l : List ℕ). (bundle so_far.segments ++ held) ++ l) (none ∙ end)
     ∙ append-nil (bundle so_far.segments ++ held) in
-    input_stops false (Some zs) ended place xs xs old new (Segment place start fault) refl record {
-      segments = so_far.segments;
-      rest = held;
-      splits = record { parts = whole; fits = so_far.fits };
-      ends = (refl, so_far.start_is, some, is);
-      written = so_far.written;
+    record {
+      front = record {
+        segments = so_far.segments;
+        splits = record { parts = whole; fits = so_far.fits };
+        written = so_far.written;
+      };
+      start_is = so_far.start_is;
     }
 
 -- the source could not be read on
-pub so_far_unread : (first last : Option (List ℕ)) (ended : Bool) (place start : ℕ) (held : List ℕ) (old new : Option (List ℕ))
-    → DumpedSoFar first last start held old new → IfSome first (λ bytes. InputStops false last ended place bytes old new (Read place))
-so_far_unread None last ended place start held old new so_far = tt
-so_far_unread (Some xs) last ended place start held old new so_far = record {
+pub so_far_unread : (form : InputForm) (first last : Option (List ℕ)) (ended : Bool) (place start : ℕ) (held : List ℕ)
+    (old new : Option (List ℕ)) → form.hex ≡ false → DumpedSoFar first last start held old new
+    → IfSome first (λ bytes. InputStops form last ended place bytes old new (Read place))
+so_far_unread form None last ended place start held old new is so_far = tt
+so_far_unread form (Some xs) last ended place start held old new is so_far = record {
   reported = refl;
   segments = so_far.segments;
-  are = (
+  are = rw is (
     taken so_far.segments held,
     held,
     so_far.given,
@@ -301,12 +349,12 @@ so_far_failed first mid last start held buffer old new (Err e) failed read so_fa
 }
 
 -- memory was refused for the bytes that were read last
-pub so_far_memory : (first mid last : Option (List ℕ)) (ended : Bool) (place start : ℕ) (held piece : List ℕ) (old new : Option (List ℕ))
-    → DumpedSoFar first mid start held old new → Consumes mid last piece → ended ≡ false → 0 < length piece
-    → IfSome first (λ bytes. InputStops false last ended place bytes old new Memory)
-so_far_memory None mid last ended place start held piece old new so_far read inside some = tt
-so_far_memory (Some xs) None last ended place start held piece old new so_far read inside some = absurd (so_far.given)
-so_far_memory (Some xs) (Some ys) last ended place start held piece old new so_far read inside some = record {
+pub so_far_memory : (form : InputForm) (first mid last : Option (List ℕ)) (ended : Bool) (place start : ℕ) (held piece : List ℕ) (old new : Option (List ℕ))
+    → form.hex ≡ false → DumpedSoFar first mid start held old new → Consumes mid last piece → ended ≡ false → 0 < length piece
+    → IfSome first (λ bytes. InputStops form last ended place bytes old new Memory)
+so_far_memory form None mid last ended place start held piece old new is so_far read inside some = tt
+so_far_memory form (Some xs) None last ended place start held piece old new is so_far read inside some = absurd (so_far.given)
+so_far_memory form (Some xs) (Some ys) last ended place start held piece old new is so_far read inside some = record {
   reported = inr (
     inside,
     taken so_far.segments held ++ piece,
@@ -317,7 +365,7 @@ so_far_memory (Some xs) (Some ys) last ended place start held piece old new so_f
   are = inr (
     xs,
     held ++ ys,
-    refl,
+    rw is refl,
     record { parts = so_far.given ∙ append_assoc (bundle so_far.segments) held ys; fits = so_far.fits },
   );
   written = so_far.written;
@@ -350,20 +398,27 @@ front_named place start bytes old new fault stops later before = absurd (stops.e
 
 -- ---- the end of a source
 
-pub finished_whole : (first mid last : Option (List ℕ)) (start : ℕ) (held : List ℕ) (old new : Option (List ℕ))
-    (result : Result (Unit {0}) RunFault) → DumpedSoFar first mid start held old new → Consumes mid last [] → IsAtEnd last
-    → OnOk result (held ≡ []) → OnOk result (IfSome first (λ bytes. DumpsInput false bytes old new))
-finished_whole first mid last start held old new (Ok done) so_far none end empty =
-    so_far_whole first mid last start held old new so_far none end empty
-finished_whole first mid last start held old new (Err fault) so_far none end empty = tt
+pub finished : (form : InputForm) (first mid last : Option (List ℕ)) (start : ℕ) (held : List ℕ) (old new : Option (List ℕ))
+    (result : Result Bool RunFault) → form.hex ≡ false → DumpedSoFar first mid start held old new → Consumes mid last [] → IsAtEnd last
+    → ((segments : List Content) → start ≡ length (bundle segments) → IfOk result (IsEnd form held))
+    → IfOk result (λ is_cut. IfSome first (λ bytes. DumpsInput form bytes is_cut old new))
+finished form None mid last start held old new (Ok is_cut) is so_far none end ends = tt
+finished form (Some xs) mid last start held old new (Ok is_cut) is so_far none end ends =
+    dumps_front form xs xs held is_cut old new (rw is refl) (ends so_far.segments so_far.start_is)
+    (so_far_ended (Some xs) mid last start held old new so_far none end).front
+finished form first mid last start held old new (Err fault) is so_far none end ends = tt
 
-pub finished_cut : (first mid last : Option (List ℕ)) (ended : Bool) (place start : ℕ) (held : List ℕ) (old new : Option (List ℕ))
-    (result : Result (Unit {0}) RunFault) → DumpedSoFar first mid start held old new → Consumes mid last [] → IsAtEnd last
-    → IfErr result (λ fault. (found : Fault) × (fault ≡ Segment place start found) × (0 < length held) × (first_fault held ≡ Some found))
-    → IfErr result (λ fault. IfSome first (λ bytes. InputStops false last ended place bytes old new fault))
-finished_cut first mid last ended place start held old new (Ok done) so_far none end is = tt
-finished_cut first mid last ended place start held old new (Err fault) so_far none end is =
-    rw (is.1) (so_far_cut first mid last ended place start held old new is.0 so_far none end is.2 is.3)
+pub finished_cut : (form : InputForm) (first mid last : Option (List ℕ)) (ended : Bool) (place start : ℕ) (held : List ℕ)
+    (old new : Option (List ℕ)) (result : Result Bool RunFault) → form.hex ≡ false → DumpedSoFar first mid start held old new
+    → Consumes mid last [] → IsAtEnd last
+    → ((segments : List Content) → start ≡ length (bundle segments) → IfErr result (IsEndRefused form place start held))
+    → IfErr result (λ fault. IfSome first (λ bytes. InputStops form last ended place bytes old new fault))
+finished_cut form first mid last ended place start held old new (Ok is_cut) is so_far none end refused = tt
+finished_cut form None mid last ended place start held old new (Err fault) is so_far none end refused = tt
+finished_cut form (Some xs) mid last ended place start held old new (Err fault) is so_far none end refused =
+    let at = so_far_ended (Some xs) mid last start held old new so_far none end in
+    input_stops form last ended place xs xs old new fault (rw is refl) (whole_refused form place xs held old new fault at.front
+    (subst (λ (n : ℕ). IsEndRefused form place n held fault) at.start_is (refused so_far.segments so_far.start_is)))
 
 -- the bytes that are kept are the rest
 pub kept_last : (bytes rest : List ℕ) (old new : Option (List ℕ)) → FrontDumped bytes rest old new
@@ -377,11 +432,11 @@ rest_inside bytes rest old new so_far = omega (arith, ap length so_far.splits.pa
 
 -- ---- inputs one after another
 
-pub dumps_next : (hex : Bool) (texts : List (List ℕ)) (place : ℕ) (input : List ℕ) (old mid new : Option (List ℕ))
-    → slice_get texts place ≡ Some input → Dumps hex (take place texts) old mid → DumpsInput hex input mid new
-    → Dumps hex (take (place + 1) texts) old new
-dumps_next hex texts place input old mid new here so_far next = (
+pub dumps_next : (form : InputForm) (texts : List (List ℕ)) (place : ℕ) (input : List ℕ) (is_cut : Bool) (old mid new : Option (List ℕ))
+    → slice_get texts place ≡ Some input → Dumps form (take place texts) old mid → DumpsInput form input is_cut mid new
+    → Dumps form (take (place + 1) texts) old new
+dumps_next form texts place input is_cut old mid new here so_far next = (
   so_far.0 ++ next.0,
-  decode_next hex texts place input so_far.0 next.0 here so_far.1 next.1,
+  decode_next form texts place input so_far.0 next.0 here so_far.1 next.1.decoded,
   appends_after old mid new so_far.0 next.0 so_far.2 next.2,
 )

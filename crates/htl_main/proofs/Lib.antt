@@ -1,4 +1,6 @@
 pub mod InputLaws
+pub mod EndLaws
+pub mod CutLaws
 pub mod SourceLaws
 pub mod ReadingLaws
 pub mod DumpLaws

@@ -5,13 +5,14 @@ use Rattle.std.specs.Prelude.{Result, Ok, Err, slice_get}
 use Rattle.std.proofs.lemmas.Bool.{cases_order}
 use Rattle.std.specs.List.{list_any}
 use Rattle.htl_event.specs.Moments.{counted_events}
+use Rattle.htl_command.specs.declared.question.InputForm.{InputForm}
 use Rattle.htl_segment.specs.Content.{Content}
 use Rattle.htl_segment.specs.Traces.{Trace, all_events}
-use Rattle.htl_segment.specs.Bundles.{bundle, Splits, BundleFault}
+use Rattle.htl_segment.specs.Bundles.{bundle, cut_off, is_early_end, Splits, BundleFault}
 use Rattle.htl_segment.specs.Faults.{first_fault}
 use Rattle.htl_segment.specs.declared.fault.Fault.{Fault}
 use Rattle.htl_segment.specs.declared.hexadecimal.HexFault.{HexFault}
-use Rattle.htl_segment.proofs.BundleLaws.{split_in_one_way, nothing_short}
+use Rattle.htl_segment.proofs.BundleLaws.{first_fault-rest, split_in_one_way}
 use Rattle.htl_segment.proofs.PassedTests.{some_is}
 use Rattle.htl_case.specs.Cases.{IsCaseOf}
 use Rattle.htl_case.specs.Faults.{IsOutcome}
@@ -22,7 +23,7 @@ use Rattle.htl_symbols.specs.Ranges.{Range}
 use Rattle.htl_symbols.specs.Reading.{records_of}
 use Rattle.htl_symbols.specs.declared.fault.SymbolFault.{SymbolFault}
 use Rattle.htl_command.specs.declared.question.Job.{Job}
-use Rattle.htl_main.specs.Inputs.{HasBytes, Decodes, DecodeAll, HasBundleFault, HasHexFault, IsReported, StopsAt}
+use Rattle.htl_main.specs.Inputs.{HasBytes, Decodes, DecodeAll, HasBundleFault, HasHexFault, IsReported, MayBeLeft, StopsAt}
 use Rattle.htl_main.specs.Answers.{Finds, FindsIn, FindsOver, IsAnswer}
 use Rattle.htl_main.specs.Completeness.{IsLeastMissing}
 use Rattle.htl_main.specs.Moments.{IsCompleteUntil}
@@ -32,6 +33,7 @@ use Rattle.htl_case.specs.Complete.{IsFirstMissing}
 use Rattle.htl_main.specs.declared.fault.RunFault.{RunFault}
 use Rattle.htl_main.specs.declared.fault.RunFault.TheVariants.{Workers, Segment, Hex, Case, Incomplete, NoSubject, Symbols, Memory}
 use Rattle.htl_main.proofs.Covered.{one_first}
+use Rattle.htl_main.proofs.EndLaws.{cut_off_early, left_fault}
 use Rattle.htl_main.proofs.MomentLaws.{one_moment}
 use Rattle.htl_main.proofs.OneAnswer.{one_answer, same_finding, same_lines}
 use Rattle.htl_symbols.proofs.OneTable.{one_table, one_symbol_fault, table_has_no_fault}
@@ -42,25 +44,38 @@ one_bytes : (hex : Bool) (input a b : List ℕ) → HasBytes hex input a → Has
 one_bytes false input a b p q = p ∙ sym q
 one_bytes true input a b p q = let same = sym p.1 ∙ q.1 in cc
 
-one_content : (hex : Bool) (input : List ℕ) (ss ts : List Content) → Decodes hex input ss → Decodes hex input ts → ss ≡ ts
-one_content hex input ss ts p q =
-    let same = one_bytes hex input p.bytes q.bytes p.has q.has in
-    (split_in_one_way p.bytes [] [] ss ts _ _ p.splits (subst (λ (b : List ℕ). Splits b ts []) (sym same) q.splits)
-    nothing_short nothing_short).0
+-- what may be left has the fault of bytes that end too early
+left_short : (form : InputForm) (input : List ℕ) (ss : List Content) (p : Decodes form input ss) → first_fault p.rest ≡ Some (cut_off p.rest)
+left_short form input ss p = first_fault-rest p.rest (left_fault form.partial p.rest p.left)
+
+one_content : (form : InputForm) (input : List ℕ) (ss ts : List Content) → Decodes form input ss → Decodes form input ts → ss ≡ ts
+one_content form input ss ts p q =
+    let same = one_bytes form.hex input p.bytes q.bytes p.has q.has in
+    (split_in_one_way p.bytes p.rest q.rest ss ts _ _ p.splits (subst (λ (b : List ℕ). Splits b ts q.rest) (sym same) q.splits)
+    (left_short form input ss p) (left_short form input ts q)).0
+
+-- no fault has what may be left
+not_left : (partial : Bool) (rest : List ℕ) (fault : Fault) → MayBeLeft partial rest → 0 < length rest → first_fault rest ≡ Some fault
+    → (partial ≡ true → is_early_end fault ≡ false) → ⊥
+not_left false rest fault left some is late = omega (arith, ap length left, some)
+not_left true rest fault left some is late =
+    let same = some_is (cut_off rest) fault (sym (first_fault-rest rest left) ∙ is) in
+    cc (sym (cut_off_early rest) ∙ ap is_early_end same ∙ late refl)
 
 -- what is decoded has no fault
-not_faulty : (hex : Bool) (input : List ℕ) (ss : List Content) (offset : ℕ) (fault : Fault) → Decodes hex input ss
-    → HasBundleFault hex input offset fault → ⊥
-not_faulty hex input ss offset fault p q =
-    let same = one_bytes hex input p.bytes q.bytes p.has q.has in
+not_faulty : (form : InputForm) (input : List ℕ) (ss : List Content) (offset : ℕ) (fault : Fault) → Decodes form input ss
+    → HasBundleFault form input offset fault → ⊥
+not_faulty form input ss offset fault p q =
+    let same = one_bytes form.hex input p.bytes q.bytes p.has q.has in
     let found = subst (λ (b : List ℕ). BundleFault b offset fault) (sym same) q.is in
-    let both = split_in_one_way p.bytes [] found.rest ss found.before _ fault p.splits found.splits nothing_short found.fault_is in
-    omega (arith, ap length both.1, found.some)
+    let both = split_in_one_way p.bytes p.rest found.rest ss found.before _ fault p.splits found.splits (left_short form input ss p)
+    found.fault_is in
+    not_left form.partial found.rest fault (subst (MayBeLeft form.partial) both.1 p.left) found.some found.fault_is q.late
 
-one_bundle_fault : (hex : Bool) (input : List ℕ) (m n : ℕ) (f g : Fault) → HasBundleFault hex input m f → HasBundleFault hex input n g
-    → (m ≡ n) × (f ≡ g)
-one_bundle_fault hex input m n f g p q =
-    let same = one_bytes hex input p.bytes q.bytes p.has q.has in
+one_bundle_fault : (form : InputForm) (input : List ℕ) (m n : ℕ) (f g : Fault) → HasBundleFault form input m f
+    → HasBundleFault form input n g → (m ≡ n) × (f ≡ g)
+one_bundle_fault form input m n f g p q =
+    let same = one_bytes form.hex input p.bytes q.bytes p.has q.has in
     let a = p.is in
     let b = subst (λ (l : List ℕ). BundleFault l n g) (sym same) q.is in
     let both = split_in_one_way p.bytes a.rest b.rest a.before b.before f g a.splits b.splits a.fault_is b.fault_is in (
@@ -73,48 +88,48 @@ no_hex_fault false input bytes fault p has = let no = p.0 in cc
 no_hex_fault true input bytes fault p has = let none = has.0 in let some = p.1 in cc
 
 -- what is reported of an input, but for out of memory
-abbrev Reported : Bool → ℕ → List ℕ → RunFault → Type 0
-Reported hex place input fault =
-    ((offset : ℕ) × (f : Fault) × HasBundleFault hex input offset f × (fault ≡ Segment place offset f))
-    ⊎ ((f : HexFault) × HasHexFault hex input f × (fault ≡ Hex place f))
+abbrev Reported : InputForm → ℕ → List ℕ → RunFault → Type 0
+Reported form place input fault =
+    ((offset : ℕ) × (f : Fault) × HasBundleFault form input offset f × (fault ≡ Segment place offset f))
+    ⊎ ((f : HexFault) × HasHexFault form.hex input f × (fault ≡ Hex place f))
 
-cases_reported : (hex : Bool) (place : ℕ) (input : List ℕ) (fault : RunFault) → fault ≢ Memory → IsReported hex place input fault
-    → Reported hex place input fault
-cases_reported hex place input (Segment at offset f) reported is = inl (offset, f, is.1, ap (λ (p : ℕ). Segment p offset f) is.0)
-cases_reported hex place input (Hex at f) reported is = inr (f, is.1, ap (λ (p : ℕ). Hex p f) is.0)
-cases_reported hex place input Memory reported is = absurd (reported refl)
-cases_reported hex place input other reported is = absurd is
+cases_reported : (form : InputForm) (place : ℕ) (input : List ℕ) (fault : RunFault) → fault ≢ Memory → IsReported form place input fault
+    → Reported form place input fault
+cases_reported form place input (Segment at offset f) reported is = inl (offset, f, is.1, ap (λ (p : ℕ). Segment p offset f) is.0)
+cases_reported form place input (Hex at f) reported is = inr (f, is.1, ap (λ (p : ℕ). Hex p f) is.0)
+cases_reported form place input Memory reported is = absurd (reported refl)
+cases_reported form place input other reported is = absurd is
 
-one_reported : (hex : Bool) (place : ℕ) (input : List ℕ) (f g : RunFault) → Reported hex place input f → Reported hex place input g → f ≡ g
-one_reported hex place input f g (inl p) (inl q) =
-    let both = one_bundle_fault hex input p.0 q.0 p.1 q.1 p.2 q.2 in
+one_reported : (form : InputForm) (place : ℕ) (input : List ℕ) (f g : RunFault) → Reported form place input f → Reported form place input g → f ≡ g
+one_reported form place input f g (inl p) (inl q) =
+    let both = one_bundle_fault form input p.0 q.0 p.1 q.1 p.2 q.2 in
     p.3 ∙ ap (λ (n : ℕ). Segment place n p.1) both.0 ∙ ap (λ (x : Fault). Segment place q.0 x) both.1 ∙ sym q.3
-one_reported hex place input f g (inl p) (inr q) = absurd (no_hex_fault hex input p.2.bytes q.0 q.1 p.2.has)
-one_reported hex place input f g (inr p) (inl q) = absurd (no_hex_fault hex input q.2.bytes p.0 p.1 q.2.has)
-one_reported hex place input f g (inr p) (inr q) =
+one_reported form place input f g (inl p) (inr q) = absurd (no_hex_fault form.hex input p.2.bytes q.0 q.1 p.2.has)
+one_reported form place input f g (inr p) (inl q) = absurd (no_hex_fault form.hex input q.2.bytes p.0 p.1 q.2.has)
+one_reported form place input f g (inr p) (inr q) =
     let same = sym p.1.1 ∙ q.1.1 in
     let one : p.0 ≡ q.0 = cc in
     p.2 ∙ ap (λ (x : HexFault). Hex place x) one ∙ sym q.2
 
-decoded_not_reported : (hex : Bool) (place : ℕ) (input : List ℕ) (ss : List Content) (fault : RunFault) → Decodes hex input ss
-    → Reported hex place input fault → ⊥
-decoded_not_reported hex place input ss fault is (inl p) = not_faulty hex input ss p.0 p.1 is p.2
-decoded_not_reported hex place input ss fault is (inr p) = no_hex_fault hex input is.bytes p.0 p.1 is.has
+decoded_not_reported : (form : InputForm) (place : ℕ) (input : List ℕ) (ss : List Content) (fault : RunFault) → Decodes form input ss
+    → Reported form place input fault → ⊥
+decoded_not_reported form place input ss fault is (inl p) = not_faulty form input ss p.0 p.1 is p.2
+decoded_not_reported form place input ss fault is (inr p) = no_hex_fault form.hex input is.bytes p.0 p.1 is.has
 
 -- ---- all inputs
 
-pub one_decoding : (hex : Bool) (inputs : List (List ℕ)) (ss ts : List Content) → DecodeAll hex inputs ss → DecodeAll hex inputs ts → ss ≡ ts
-one_decoding hex [] ss ts p q = p ∙ sym q
-one_decoding hex (input ∷ inputs) ss ts p q =
-    p.4 ∙ ap (λ (l : List Content). l ++ p.1) (one_content hex input p.0 q.0 p.2 q.2)
-    ∙ ap (λ (l : List Content). q.0 ++ l) (one_decoding hex inputs p.1 q.1 p.3 q.3) ∙ sym q.4
+pub one_decoding : (form : InputForm) (inputs : List (List ℕ)) (ss ts : List Content) → DecodeAll form inputs ss → DecodeAll form inputs ts → ss ≡ ts
+one_decoding form [] ss ts p q = p ∙ sym q
+one_decoding form (input ∷ inputs) ss ts p q =
+    p.4 ∙ ap (λ (l : List Content). l ++ p.1) (one_content form input p.0 q.0 p.2 q.2)
+    ∙ ap (λ (l : List Content). q.0 ++ l) (one_decoding form inputs p.1 q.1 p.3 q.3) ∙ sym q.4
 
-decoded_at : (hex : Bool) (inputs : List (List ℕ)) (place : ℕ) (input : List ℕ) (ss : List Content) → DecodeAll hex inputs ss
-    → slice_get inputs place ≡ Some input → (ts : List Content) × Decodes hex input ts
-decoded_at hex [] place input ss all here = absurd cc
-decoded_at hex (x ∷ inputs) zero input ss all here =
-    let is : x ≡ input = some_is x input here in (all.0, subst (λ (i : List ℕ). Decodes hex i all.0) is all.2)
-decoded_at hex (x ∷ inputs) (suc place) input ss all here = decoded_at hex inputs place input all.1 all.3 here
+decoded_at : (form : InputForm) (inputs : List (List ℕ)) (place : ℕ) (input : List ℕ) (ss : List Content) → DecodeAll form inputs ss
+    → slice_get inputs place ≡ Some input → (ts : List Content) × Decodes form input ts
+decoded_at form [] place input ss all here = absurd cc
+decoded_at form (x ∷ inputs) zero input ss all here =
+    let is : x ≡ input = some_is x input here in (all.0, subst (λ (i : List ℕ). Decodes form i all.0) is all.2)
+decoded_at form (x ∷ inputs) (suc place) input ss all here = decoded_at form inputs place input all.1 all.3 here
 
 taken_at : (inputs : List (List ℕ)) (n place : ℕ) (input : List ℕ) → place < n → slice_get inputs place ≡ Some input
     → slice_get (take n inputs) place ≡ Some input
@@ -123,40 +138,40 @@ taken_at (x ∷ inputs) zero place input lt here = absurd (omega (arith, lt))
 taken_at (x ∷ inputs) (suc n) zero input lt here = here
 taken_at (x ∷ inputs) (suc n) (suc place) input lt here = taken_at inputs n place input (omega (arith, lt)) here
 
-abbrev Stops : Bool → List (List ℕ) → RunFault → Type 0
-Stops hex inputs fault = StopsAt hex (IsReported hex) inputs fault
+abbrev Stops : InputForm → List (List ℕ) → RunFault → Type 0
+Stops form inputs fault = StopsAt form (IsReported form) inputs fault
 
 -- of two inputs that are refused the first one would be decoded
-none_before : (hex : Bool) (inputs : List (List ℕ)) (f g : RunFault) (p : Stops hex inputs f) (q : Stops hex inputs g) → f ≢ Memory
+none_before : (form : InputForm) (inputs : List (List ℕ)) (f g : RunFault) (p : Stops form inputs f) (q : Stops form inputs g) → f ≢ Memory
     → p.place < q.place → ⊥
-none_before hex inputs f g p q reported lt =
-    let at = decoded_at hex (take q.place inputs) p.place p.input q.segments q.before
+none_before form inputs f g p q reported lt =
+    let at = decoded_at form (take q.place inputs) p.place p.input q.segments q.before
     (taken_at inputs q.place p.place p.input lt p.here) in
-    decoded_not_reported hex p.place p.input at.0 f at.1 (cases_reported hex p.place p.input f reported p.reported)
+    decoded_not_reported form p.place p.input at.0 f at.1 (cases_reported form p.place p.input f reported p.reported)
 
-same_input : (hex : Bool) (inputs : List (List ℕ)) (f g : RunFault) (p : Stops hex inputs f) (q : Stops hex inputs g) → f ≢ Memory
+same_input : (form : InputForm) (inputs : List (List ℕ)) (f g : RunFault) (p : Stops form inputs f) (q : Stops form inputs g) → f ≢ Memory
     → g ≢ Memory → p.place ≡ q.place → f ≡ g
-same_input hex inputs f g p q reported reported_too same =
+same_input form inputs f g p q reported reported_too same =
     let there = subst (λ (n : ℕ). slice_get inputs n ≡ Some q.input) (sym same) q.here in
     let input : q.input ≡ p.input = some_is q.input p.input (sym there ∙ p.here) in
-    one_reported hex p.place p.input f g (cases_reported hex p.place p.input f reported p.reported)
-    (cases_reported hex p.place p.input g reported_too
-    (subst (λ (i : List ℕ). IsReported hex p.place i g) input (subst (λ (n : ℕ). IsReported hex n q.input g) (sym same) q.reported)))
+    one_reported form p.place p.input f g (cases_reported form p.place p.input f reported p.reported)
+    (cases_reported form p.place p.input g reported_too
+    (subst (λ (i : List ℕ). IsReported form p.place i g) input (subst (λ (n : ℕ). IsReported form n q.input g) (sym same) q.reported)))
 
-one_stop : (hex : Bool) (inputs : List (List ℕ)) (f g : RunFault) → Stops hex inputs f → Stops hex inputs g → f ≢ Memory → g ≢ Memory
+one_stop : (form : InputForm) (inputs : List (List ℕ)) (f g : RunFault) → Stops form inputs f → Stops form inputs g → f ≢ Memory → g ≢ Memory
     → f ≡ g
-one_stop hex inputs f g p q reported reported_too =
+one_stop form inputs f g p q reported reported_too =
     elim (cases_order p.place q.place) [
-      | inl same ↦ same_input hex inputs f g p q reported reported_too same
-      | inr (inl lt) ↦ absurd (none_before hex inputs f g p q reported lt)
-      | inr (inr gt) ↦ absurd (none_before hex inputs g f q p reported_too gt)
+      | inl same ↦ same_input form inputs f g p q reported reported_too same
+      | inr (inl lt) ↦ absurd (none_before form inputs f g p q reported lt)
+      | inr (inr gt) ↦ absurd (none_before form inputs g f q p reported_too gt)
     ]
 
-not_decoded : (hex : Bool) (inputs : List (List ℕ)) (fault : RunFault) (ss : List Content) → Stops hex inputs fault → fault ≢ Memory
-    → DecodeAll hex inputs ss → ⊥
-not_decoded hex inputs fault ss p reported all =
-    let at = decoded_at hex inputs p.place p.input ss all p.here in
-    decoded_not_reported hex p.place p.input at.0 fault at.1 (cases_reported hex p.place p.input fault reported p.reported)
+not_decoded : (form : InputForm) (inputs : List (List ℕ)) (fault : RunFault) (ss : List Content) → Stops form inputs fault → fault ≢ Memory
+    → DecodeAll form inputs ss → ⊥
+not_decoded form inputs fault ss p reported all =
+    let at = decoded_at form inputs p.place p.input ss all p.here in
+    decoded_not_reported form p.place p.input at.0 fault at.1 (cases_reported form p.place p.input fault reported p.reported)
 
 -- ---- what decoded segments come to
 
@@ -286,17 +301,17 @@ one_printed segments symbols job (Err other) b p q = absurd p
 -- what a run comes to where the number of workers is allowed
 abbrev Comes : Job → List (List ℕ) → Option (List ℕ) → Result (List ℕ) RunFault → Type 0
 Comes job inputs symbols outcome =
-    ((fault : RunFault) × (outcome ≡ failed fault) × (fault ≢ Memory) × Stops job.hex inputs fault)
-    ⊎ ((segments : List Content) × DecodeAll job.hex inputs segments × IsPrinted segments symbols job outcome)
+    ((fault : RunFault) × (outcome ≡ failed fault) × (fault ≢ Memory) × Stops job.form inputs fault)
+    ⊎ ((segments : List Content) × DecodeAll job.form inputs segments × IsPrinted segments symbols job outcome)
 
 one_coming : (job : Job) (inputs : List (List ℕ)) (symbols : Option (List ℕ)) (a b : Result (List ℕ) RunFault)
     → Comes job inputs symbols a → Comes job inputs symbols b → a ≡ b
 one_coming job inputs symbols a b (inl p) (inl q) =
-    p.1 ∙ ap failed (one_stop job.hex inputs p.0 q.0 p.3 q.3 p.2 q.2) ∙ sym q.1
-one_coming job inputs symbols a b (inl p) (inr q) = absurd (not_decoded job.hex inputs p.0 q.0 p.3 p.2 q.1)
-one_coming job inputs symbols a b (inr p) (inl q) = absurd (not_decoded job.hex inputs q.0 p.0 q.3 q.2 p.1)
+    p.1 ∙ ap failed (one_stop job.form inputs p.0 q.0 p.3 q.3 p.2 q.2) ∙ sym q.1
+one_coming job inputs symbols a b (inl p) (inr q) = absurd (not_decoded job.form inputs p.0 q.0 p.3 p.2 q.1)
+one_coming job inputs symbols a b (inr p) (inl q) = absurd (not_decoded job.form inputs q.0 p.0 q.3 q.2 p.1)
 one_coming job inputs symbols a b (inr p) (inr q) =
-    let same = one_decoding job.hex inputs p.0 q.0 p.1 q.1 in
+    let same = one_decoding job.form inputs p.0 q.0 p.1 q.1 in
     one_printed q.0 symbols job a b (subst (λ (ss : List Content). IsPrinted ss symbols job a) same p.2) q.2
 
 cases_printed : (job : Job) (inputs : List (List ℕ)) (symbols : Option (List ℕ)) (outcome : Result (List ℕ) RunFault)
@@ -359,7 +374,7 @@ finds_one T job a b p q =
 
 pub one_finding : (job : Job) (inputs : List (List ℕ)) (a b : Bool) → Finds job inputs a → Finds job inputs b → a ≡ b
 one_finding job inputs a b p q =
-    let same = one_decoding job.hex inputs p.0 q.0 p.1 q.1 in
+    let same = one_decoding job.form inputs p.0 q.0 p.1 q.1 in
     let first = subst (λ (ss : List Content). FindsIn ss job a) same p.2 in
     let second = q.2 in
     let trace = one_case q.0 first.0 second.0 first.1 second.1 in

@@ -1,7 +1,8 @@
 -- One source of bytes: what is reported of it, as a fault of the run.
 use Rattle.std.proofs.Common.{◌≡◌, ◌≢◌, ◌⊎◌, ◌<◌, ◌≤◌, ◌+◌, ℕ, Bool, true, false, List, length, refl, sym, ap, inl, inr}
 use Rattle.std.proofs.Common.{Option, Some, None, IfSome, Result, Ok, Err}
-use Rattle.std.specs.Prelude.{slice_get, OnOk}
+use Rattle.std.specs.Prelude.{slice_get, IfErr, OnOk}
+use Rattle.htl_command.specs.declared.question.InputForm.{InputForm}
 use Rattle.htl_device.specs.declared.whole.ReadFault.{ReadFault}
 use Rattle.htl_device.specs.declared.whole.ReadFault.TheVariants as reads
 use Rattle.htl_device.specs.declared.whole.TheConstants.{MAX_READS}
@@ -11,6 +12,7 @@ use Rattle.htl_device.specs.declared.source.TheConstants.{MAX_READ_LEN}
 use Rattle.htl_reading.specs.Sources.{FailsOnly, IsReadToFault, IsReported}
 use Rattle.htl_main.specs.declared.fault.RunFault.{RunFault}
 use Rattle.htl_main.specs.declared.fault.RunFault.TheVariants.{Read, Write}
+use Rattle.htl_main.specs.Ends.{IsSegmentOf}
 use Rattle.htl_main.specs.Faults.{of_read, of_source}
 use Rattle.htl_main.specs.Reads.{IsRead, NamesOnly, NeverRead}
 use Rattle.htl_main.specs.Sources.{EndsBefore, IsReportedOfSource}
@@ -30,22 +32,23 @@ made_of value = Ok value
 abbrev refused : {S : Type 0} → ReadFault → Result S ReadFault
 refused fault = Err fault
 
-reported_source : (left : Option (List ℕ)) (ended : Bool) (place : ℕ) (bytes : List ℕ) (fault : SourceFault)
-    → IsReported left ended bytes fault → IsReportedOfSource false left ended place bytes (of_source place fault)
-reported_source left ended place bytes (sources.Segment offset fault) found = (refl, record { bytes = bytes; has = refl; is = found })
-reported_source left ended place bytes sources.Read found = refl
-reported_source left ended place bytes sources.NoMemory found =
+reported_source : (form : InputForm) (left : Option (List ℕ)) (ended : Bool) (place : ℕ) (bytes : List ℕ) (fault : SourceFault)
+    → form.hex ≡ false → IsReported left ended bytes fault → IsReportedOfSource form left ended place bytes (of_source place fault)
+reported_source form left ended place bytes (sources.Segment offset fault) is found =
+    (refl, record { bytes = bytes; has = rw is refl; is = found.0; late = λ partial. found.1 })
+reported_source form left ended place bytes sources.Read is found = refl
+reported_source form left ended place bytes sources.NoMemory is found =
     elim found [
-      | inl segment ↦ inl segment
-      | inr rest ↦ inr (rest.0, rest.1, rest.2, (rest.3, rest.4))
+      | inl segment ↦ inl (rw is segment)
+      | inr rest ↦ inr (rest.0, rest.1, rest.2, rw is (rest.3, rest.4))
     ]
 
 -- what is reported, where the bytes are known
-pub reported_bytes_of : (first left : Option (List ℕ)) (ended : Bool) (place : ℕ) (fault : SourceFault)
-    → IfSome first (λ bytes. IsReported left ended bytes fault)
-    → IfSome first (λ bytes. IsReportedOfSource false left ended place bytes (of_source place fault))
-reported_bytes_of None left ended place fault found = tt
-reported_bytes_of (Some bytes) left ended place fault found = reported_source left ended place bytes fault found
+pub reported_bytes_of : (form : InputForm) (first left : Option (List ℕ)) (ended : Bool) (place : ℕ) (fault : SourceFault)
+    → form.hex ≡ false → IfSome first (λ bytes. IsReported left ended bytes fault)
+    → IfSome first (λ bytes. IsReportedOfSource form left ended place bytes (of_source place fault))
+reported_bytes_of form None left ended place fault is found = tt
+reported_bytes_of form (Some bytes) left ended place fault is found = reported_source form left ended place bytes fault is found
 
 -- only a failed read is reported as one
 pub read_of : (place at : ℕ) (fault : SourceFault) → of_source place fault ≡ Read at → (fault ≡ sources.Read) × (at ≡ place)
@@ -82,7 +85,7 @@ always (Err fault) holds = tt
 module _ {R T : Type 0} (has_failed has_ended : R → Bool) (good_reads : R → ℕ) (remaining : R → Option (List ℕ))
     (place : ℕ) (old new : R) where
   -- so it is read as a source of the run, whatever is made of its segments
-  pub decoded_well : {S : Type 0} (made : S) (value : T) → IsDecoded has_failed has_ended good_reads remaining old new (made_of made)
+  decoded_well : {S : Type 0} (made : S) (value : T) → IsDecoded has_failed has_ended good_reads remaining old new (made_of made)
       → IsRead false MAX_READS has_failed has_ended good_reads remaining place old new (well value)
   decoded_well made value is = record {
     ended = is.ended;
@@ -93,6 +96,26 @@ module _ {R T : Type 0} (has_failed has_ended : R → Bool) (good_reads : R → 
     named = tt;
     to_fault = λ bytes. is.to_fault;
   }
+
+  -- or as one that ends within a segment and may not
+  decoded_early : {S : Type 0} (made : S) (fault : RunFault) → IsSegmentOf place fault
+      → IsDecoded has_failed has_ended good_reads remaining old new (made_of made)
+      → IsRead false MAX_READS has_failed has_ended good_reads remaining place old new (ill {S = T} fault)
+  decoded_early made fault segment is = rw (segment.2) record {
+    ended = tt;
+    reported = λ failed. absurd (cc (is.reported failed));
+    read = λ at given. absurd (cc given);
+    no_fault = λ at given. absurd (cc given);
+    bounded = is.bounded;
+    named = λ later before. before;
+    to_fault = λ bytes. is.to_fault;
+  }
+
+  pub accepted_read : {S : Type 0} (made : S) (result : Result T RunFault) → IfErr result (IsSegmentOf place)
+      → IsDecoded has_failed has_ended good_reads remaining old new (made_of made)
+      → IsRead false MAX_READS has_failed has_ended good_reads remaining place old new result
+  accepted_read made (Ok value) segment is = decoded_well made value is
+  accepted_read made (Err fault) segment is = decoded_early made fault segment is
 
   -- or as one with a fault
   pub decoded_ill : {S : Type 0} (fault : SourceFault) → IsDecoded has_failed has_ended good_reads remaining old new (told {S = S} fault)

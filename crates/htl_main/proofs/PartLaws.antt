@@ -5,14 +5,15 @@ use Rattle.std.proofs.lemmas.Bool.{le-ltb, lt-ltb}
 use Rattle.std.proofs.lemmas.List.Elements.{All-append, All-cons, All-head, All-nil, All-tail}
 use Rattle.std.proofs.lemmas.List.Folds.{find-append}
 use Rattle.std.proofs.lemmas.Option.{slice_get_within}
+use Rattle.htl_command.specs.declared.question.InputForm.{InputForm}
 use Rattle.htl_segment.specs.Content.{Content}
 use Rattle.htl_segment.proofs.Spans.{at_place}
 use Rattle.htl_main.specs.Inputs.{Decodes}
 use Rattle.htl_main.specs.Parts.{AreParts, part_at}
 use Rattle.htl_main.specs.declared.decoded.Part.{Part}
 
-pub no_parts : (hex : Bool) (inputs : List (List ℕ)) → AreParts hex inputs [] []
-no_parts hex inputs = record { within = All-nil _; each = λ place s at. absurd cc }
+pub no_parts : (form : InputForm) (inputs : List (List ℕ)) → AreParts form inputs [] []
+no_parts form inputs = record { within = All-nil _; each = λ place s at. absurd cc }
 
 -- an element of two lists is one of the first, or stands behind it and is one of the second
 at_append : {X : Type 0} (xs ys : List X) (i : ℕ) (x : X) → slice_get (xs ++ ys) i ≡ Some x
@@ -39,11 +40,11 @@ reach_more (part ∷ parts) n m below within =
     All-cons (λ (p : Part). p.end ≤ m) part parts (omega (arith, here, below))
     (reach_more parts n m below (All-tail (λ (p : Part). p.end ≤ n) part parts within))
 
-pub parts_more : (hex : Bool) (inputs : List (List ℕ)) (segments more : List Content) (parts : List Part) (part : Part) (text : List ℕ)
-    → slice_get inputs part.input ≡ Some text → Decodes hex text more → part.end ≡ length (segments ++ more)
+pub parts_more : (form : InputForm) (inputs : List (List ℕ)) (segments more : List Content) (parts : List Part) (part : Part) (text : List ℕ)
+    → slice_get inputs part.input ≡ Some text → Decodes form text more → part.end ≡ length (segments ++ more)
     → length (segments ++ more) ≡ length segments + length more
-    → AreParts hex inputs segments parts → AreParts hex inputs (segments ++ more) (parts ++ part ∷ [])
-parts_more hex inputs segments more parts part text here decoded end long are =
+    → AreParts form inputs segments parts → AreParts form inputs (segments ++ more) (parts ++ part ∷ [])
+parts_more form inputs segments more parts part text here decoded end long are =
     record {
       within = All-append (λ (p : Part). p.end ≤ length (segments ++ more)) parts (part ∷ [])
           (reach_more parts (length segments) (length (segments ++ more)) (omega (arith, long)) are.within)

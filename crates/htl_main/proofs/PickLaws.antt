@@ -1,47 +1,79 @@
 -- What is asked about of one source more.
-use Rattle.std.proofs.Common.{◌≡◌, ◌≢◌, ◌+◌, ℕ, false, List, [], ◌++◌, take, refl, sym, subst, Option, Some, None, IfSome}
+use Rattle.std.proofs.Common.{◌≡◌, ◌≢◌, ◌+◌, ℕ, Bool, false, List, [], ◌++◌, length, take, refl, sym, subst, Option, None, Some}
+use Rattle.std.proofs.Common.{IfErr, IfOk, IfSome, Result, Ok, Err}
 use Rattle.std.specs.Prelude.{slice_get}
+use Rattle.htl_command.specs.declared.question.InputForm.{InputForm}
 use Rattle.htl_event.specs.declared.interest.Interest.{Interest}
+use Rattle.htl_segment.specs.Bundles.{bundle, Splits}
 use Rattle.htl_segment.specs.Content.{Content}
 use Rattle.htl_segment.specs.Picks.{ArePicksOf}
 use Rattle.htl_segment.specs.declared.picks.Picks.{Picks}
 use Rattle.htl_case.specs.declared.fault.CaseFault.{CaseFault}
-use Rattle.htl_reading.specs.Keepers.{TookAll}
+use Rattle.htl_reading.specs.Sources.{IsLeft}
+use Rattle.htl_reading.specs.declared.outcome.Bundle.{Bundle}
 use Rattle.htl_reading.specs.declared.fault.SourceFault.{SourceFault}
 use Rattle.htl_reading.specs.declared.fault.SourceFault.TheVariants.{Segment, Read, NoMemory}
+use Rattle.htl_main.specs.Ends.{IsEnd, IsEndRefused}
 use Rattle.htl_main.specs.Faults.{of_source}
 use Rattle.htl_main.specs.Picking.{ArePicksMore, ArePicksOfAll}
+use Rattle.htl_main.specs.Sources.{IsReportedOfSource}
+use Rattle.htl_main.specs.declared.cut_inputs.Accepted.{Accepted}
+use Rattle.htl_main.specs.declared.fault.RunFault.{RunFault}
 use Rattle.htl_main.specs.declared.fault.RunFault.TheVariants.{Case}
+use Rattle.htl_main.proofs.EndLaws.{input_of, source_refused}
 use Rattle.htl_main.proofs.InputLaws.{decode_next}
 
 abbrev gathers : Picks → Picks → List Content → Type 0
 gathers start now segments = ArePicksOf start.interest now segments
 
-picks_more : (old new : Picks) (bytes : List ℕ) → TookAll gathers old new bytes → ArePicksMore old new bytes
-picks_more old new bytes took = record {
-  more = took.0;
-  splits = took.1;
+picks_more : (form : InputForm) (old new : Picks) (bytes rest : List ℕ) (more : List Content) (is_cut : Bool) → form.hex ≡ false
+    → Splits bytes more rest
+    → ((kind : Picks) (before : List Content) → gathers kind old before → gathers kind new (before ++ more)) → IsEnd form rest is_cut
+    → ArePicksMore form old new bytes is_cut
+picks_more form old new bytes rest more is_cut is split took end = record {
+  more = more;
+  are = input_of form bytes bytes rest more (rw is refl) split is_cut end;
   picks = λ interest segments are.
-      subst (λ (i : Interest). ArePicksOf i new (segments ++ took.0)) are.about
-      (took.2 old segments (subst (λ (i : Interest). ArePicksOf i old segments) (sym are.about) are));
+      subst (λ (i : Interest). ArePicksOf i new (segments ++ more)) are.about
+      (took old segments (subst (λ (i : Interest). ArePicksOf i old segments) (sym are.about) are));
 }
 
-pub known_more : (given : Option (List ℕ)) (old new : Picks) → IfSome given (TookAll gathers old new)
-    → IfSome given (ArePicksMore old new)
-known_more None old new took = tt
-known_more (Some bytes) old new took = picks_more old new bytes took
+-- what gathering says of a keeper of picks
+abbrev Gathered : Picks → Bundle Picks → List ℕ → Type 0
+Gathered old new bytes =
+    (more : List Content) × (rest : List ℕ) × Splits bytes more rest × IsLeft more rest new.early_end
+    × ((kind : Picks) (before : List Content) → gathers kind old before → gathers kind new.segments (before ++ more))
 
-pub none_picked : (interest : Interest) (inputs : List (List ℕ)) (picks : Picks) → ArePicksOf interest picks []
-    → ArePicksOfAll interest (take 0 inputs) picks
-none_picked interest inputs picks are = record { segments = []; decoded = refl; picks_of = are }
+pub accepted_more : (form : InputForm) (given : Option (List ℕ)) (old : Picks) (new : Bundle Picks)
+    (result : Result (Accepted Picks) RunFault) → form.hex ≡ false → IfSome given (Gathered old new)
+    → IfOk result (λ it. it.segments ≡ new.segments)
+    → ((segments : List Content) (rest : List ℕ) → IsLeft segments rest new.early_end → IfOk result (λ it. IsEnd form rest it.is_cut))
+    → IfOk result (λ it. IfSome given (λ bytes. ArePicksMore form old it.segments bytes it.is_cut))
+accepted_more form None old new (Ok it) is of kept end = tt
+accepted_more form (Some bytes) old new (Ok it) is of kept end =
+    rw kept (picks_more form old new.segments bytes of.1 of.0 it.is_cut is of.2 of.4 (end of.0 of.1 of.3))
+accepted_more form given old new (Err fault) is of kept end = tt
 
-pub one_picked : (interest : Interest) (inputs : List (List ℕ)) (place : ℕ) (input : List ℕ) (old new : Picks)
-    → slice_get inputs place ≡ Some input → ArePicksOfAll interest (take place inputs) old → ArePicksMore old new input
-    → ArePicksOfAll interest (take (place + 1) inputs) new
-one_picked interest inputs place input old new here before one = record {
+pub refused_more : (form : InputForm) (given left : Option (List ℕ)) (ended : Bool) (place : ℕ) (old : Picks) (new : Bundle Picks)
+    (result : Result (Accepted Picks) RunFault) → form.hex ≡ false → IfSome given (Gathered old new)
+    → ((segments : List Content) (rest : List ℕ) → IsLeft segments rest new.early_end
+    → IfErr result (IsEndRefused form place (length (bundle segments)) rest))
+    → IfErr result (λ fault. IfSome given (λ bytes. IsReportedOfSource form left ended place bytes fault))
+refused_more form given left ended place old new (Ok it) is of refused = tt
+refused_more form None left ended place old new (Err fault) is of refused = tt
+refused_more form (Some bytes) left ended place old new (Err fault) is of refused =
+    source_refused form bytes of.1 of.0 is of.2 left ended place fault (refused of.0 of.1 of.3)
+
+pub none_picked : (form : InputForm) (interest : Interest) (inputs : List (List ℕ)) (picks : Picks) → ArePicksOf interest picks []
+    → ArePicksOfAll form interest (take 0 inputs) picks
+none_picked form interest inputs picks are = record { segments = []; decoded = refl; picks_of = are }
+
+pub one_picked : (form : InputForm) (interest : Interest) (inputs : List (List ℕ)) (place : ℕ) (input : List ℕ) (old new : Picks)
+    (is_cut : Bool) → slice_get inputs place ≡ Some input → ArePicksOfAll form interest (take place inputs) old
+    → ArePicksMore form old new input is_cut → ArePicksOfAll form interest (take (place + 1) inputs) new
+one_picked form interest inputs place input old new is_cut here before one = record {
   segments = _;
-  decoded = decode_next false inputs place input before.segments one.more here before.decoded
-      (record { bytes = input; has = refl; splits = one.splits });
+  decoded = decode_next form inputs place input before.segments one.more here before.decoded one.are.decoded;
   picks_of = one.picks interest before.segments before.picks_of;
 }
 

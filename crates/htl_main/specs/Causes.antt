@@ -31,8 +31,8 @@ IsCauseAfter segments symbols job fault = IsPrinted segments symbols job (Err fa
 abbrev pub IsCause : Job → List (List ℕ) → Option (List ℕ) → RunFault → Type 0
 IsCause job inputs symbols Memory =
     WorkersFit job.workers
-    × (StopsAt job.hex (IsReported job.hex) inputs Memory
-    ⊎ ((segments : List Content) × DecodeAll job.hex inputs segments
+    × (StopsAt job.form (IsReported job.form) inputs Memory
+    ⊎ ((segments : List Content) × DecodeAll job.form inputs segments
     × IsCauseAfter segments symbols job Memory))
 IsCause job inputs symbols Write = (lines : List ℕ) × Printed job inputs symbols (Ok lines)
 IsCause job inputs symbols fault = Printed job inputs symbols (Err fault)

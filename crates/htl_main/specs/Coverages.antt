@@ -1,6 +1,7 @@
 -- How much of its trace a case has (this project's own): how many gaps there are, and up to which sequence no segment
 -- is missing.
-use Rattle.std.specs.Prelude.{◌≡◌, ℕ, Bool, List, length}
+use Rattle.std.specs.Prelude.{◌≡◌, ℕ, List, length}
+use Rattle.htl_command.specs.declared.question.InputForm.{InputForm}
 use Rattle.htl_segment.specs.Content.{Content}
 use Rattle.htl_segment.specs.Traces.{Trace, HasKey}
 use Rattle.htl_case.specs.Complete.{IsCompleteTo}
@@ -22,5 +23,5 @@ abbrev pub CoversSegments : List Content → Coverage → Type 0
 CoversSegments segments coverage = (T : Trace) × IsCaseOf segments T × IsCoverage T coverage
 
 -- that of the case of all segments of the inputs
-abbrev pub Covers : Bool → List (List ℕ) → Coverage → Type 0
-Covers hex inputs coverage = (segments : List Content) × DecodeAll hex inputs segments × CoversSegments segments coverage
+abbrev pub Covers : InputForm → List (List ℕ) → Coverage → Type 0
+Covers form inputs coverage = (segments : List Content) × DecodeAll form inputs segments × CoversSegments segments coverage

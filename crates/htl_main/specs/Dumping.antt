@@ -1,12 +1,19 @@
 -- For the clauses of private functions: how far a dump of bytes came.
-use Rattle.std.specs.Prelude.{◌≡◌, ◌<◌, ◌+◌, ℕ, List, ◌++◌, length, All, Option, Some, None}
+use Rattle.std.specs.Prelude.{◌≡◌, ◌<◌, ◌+◌, ℕ, Bool, true, false, List, ◌++◌, length, All, Option, Some, None}
 use Rattle.std.specs.Io.KnownBytes.{Appends, Consumes}
+use Rattle.htl_command.specs.declared.question.InputForm.{InputForm}
 use Rattle.htl_segment.specs.Content.{Content, Fits}
-use Rattle.htl_segment.specs.Bundles.{bundle, IsRest, Splits}
+use Rattle.htl_segment.specs.Bundles.{bundle, is_early_end, IsRest, Splits}
 use Rattle.htl_segment.specs.Faults.{first_fault}
 use Rattle.htl_main.specs.Dumps.{AreWritten, texts_of}
+use Rattle.htl_main.specs.Ends.{IsInput}
 use Rattle.htl_main.specs.declared.fault.RunFault.{RunFault}
 use Rattle.htl_main.specs.declared.fault.RunFault.TheVariants.{Segment, Memory, Write}
+
+-- the texts of an input's segments were written, and it ends within one more or not
+abbrev pub DumpsInput : InputForm → List ℕ → Bool → Option (List ℕ) → Option (List ℕ) → Type 0
+DumpsInput form input is_cut old new =
+    (segments : List Content) × IsInput form input segments is_cut × Appends old new (texts_of segments)
 
 -- the texts of segments at the front of the bytes were written, and the rest is left
 pub record FrontDumped (bytes rest : List ℕ) (old new : Option (List ℕ)) : Type 0 where
@@ -14,19 +21,21 @@ pub record FrontDumped (bytes rest : List ℕ) (old new : Option (List ℕ)) : T
   pub splits : Splits bytes segments rest
   pub written : Appends old new (texts_of segments)
 
--- why the dump of the input at a place ends at this offset, where the rest begins
-abbrev pub EndsAt : ℕ → ℕ → List ℕ → RunFault → Type 0
-EndsAt place offset rest (Segment at there fault) = (at ≡ place) × (there ≡ offset) × (0 < length rest) × (first_fault rest ≡ Some fault)
-EndsAt place offset rest Memory = first_fault rest ≡ None
-EndsAt place offset rest Write = Unit {0}
-EndsAt place offset rest other = ⊥
+-- why the dump of the input at a place ends at this offset, where the rest begins: not because it ends within a segment where it may
+abbrev pub EndsAt : Bool → ℕ → ℕ → List ℕ → RunFault → Type 0
+EndsAt partial place offset rest (Segment at there fault) =
+    (at ≡ place) × (there ≡ offset) × (0 < length rest) × (first_fault rest ≡ Some fault)
+    × (partial ≡ true → is_early_end fault ≡ false)
+EndsAt partial place offset rest Memory = first_fault rest ≡ None
+EndsAt partial place offset rest Write = Unit {0}
+EndsAt partial place offset rest other = ⊥
 
 -- The dump of all bytes of an input ends before their end.
-pub record WholeStops (place : ℕ) (bytes : List ℕ) (old new : Option (List ℕ)) (fault : RunFault) : Type 0 where
+pub record WholeStops (form : InputForm) (place : ℕ) (bytes : List ℕ) (old new : Option (List ℕ)) (fault : RunFault) : Type 0 where
   pub segments : List Content
   pub rest : List ℕ
   pub splits : Splits bytes segments rest
-  pub ends : EndsAt place (length (bundle segments)) rest fault
+  pub ends : EndsAt form.partial place (length (bundle segments)) rest fault
   pub written : AreWritten fault old new segments
 
 -- The dump of bytes that follow `start` others ends, whatever follows them.
@@ -34,7 +43,7 @@ pub record FrontStops (place start : ℕ) (bytes : List ℕ) (old new : Option (
   pub segments : List Content
   pub rest : List ℕ
   pub splits : Splits bytes segments rest
-  pub ends : (more : List ℕ) → EndsAt place (start + length (bundle segments)) (rest ++ more) fault
+  pub ends : (more : List ℕ) → EndsAt true place (start + length (bundle segments)) (rest ++ more) fault
   pub written : AreWritten fault old new segments
 
 -- The segments of what a source gave were dumped, but for the last bytes, which more may make a segment of.

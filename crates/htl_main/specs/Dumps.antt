@@ -3,10 +3,11 @@ use Rattle.std.specs.Prelude.{◌≡◌, ◌⊎◌, ◌<◌, ℕ, Bool, true, fa
 use Rattle.std.specs.Prelude.{Option, Some, Result, Err}
 use Rattle.std.specs.Io.KnownBytes.{Appends, Consumes}
 use Rattle.htl_device.specs.Devices.{AppendsPrefix}
+use Rattle.htl_command.specs.declared.question.InputForm.{InputForm}
 use Rattle.htl_segment.specs.Content.{Content}
 use Rattle.htl_segment.specs.Bundles.{bundle, IsRest, Splits}
 use Rattle.htl_text.specs.Texts.{segment_text}
-use Rattle.htl_main.specs.Inputs.{AsksMemory, DecodeAll, Decodes, HasBytes, IsReported}
+use Rattle.htl_main.specs.Inputs.{AsksMemory, DecodeAll, HasBytes, IsReported}
 use Rattle.htl_main.specs.declared.fault.RunFault.{RunFault}
 use Rattle.htl_main.specs.declared.fault.RunFault.TheVariants.{Segment, Hex, Read, Memory, Write}
 
@@ -14,13 +15,9 @@ use Rattle.htl_main.specs.declared.fault.RunFault.TheVariants.{Segment, Hex, Rea
 abbrev pub texts_of : List Content → List ℕ
 texts_of segments = flat_map segment_text segments
 
--- the known bytes of a sink got the texts of an input's segments
-abbrev pub DumpsInput : Bool → List ℕ → Option (List ℕ) → Option (List ℕ) → Type 0
-DumpsInput hex input old new = (segments : List Content) × Decodes hex input segments × Appends old new (texts_of segments)
-
--- or those of the segments of all inputs
-abbrev pub Dumps : Bool → List (List ℕ) → Option (List ℕ) → Option (List ℕ) → Type 0
-Dumps hex inputs old new = (segments : List Content) × DecodeAll hex inputs segments × Appends old new (texts_of segments)
+-- the known bytes of a sink got the texts of the segments of all inputs
+abbrev pub Dumps : InputForm → List (List ℕ) → Option (List ℕ) → Option (List ℕ) → Type 0
+Dumps form inputs old new = (segments : List Content) × DecodeAll form inputs segments × Appends old new (texts_of segments)
 
 -- the failure of a write is what is reported
 abbrev pub is_failed_write : {S : Type 0} → Result S RunFault → Bool
@@ -29,12 +26,12 @@ is_failed_write other = false
 
 -- What is reported of the source at a place that gave some of the input's bytes, has others left, and whose end was
 -- found or not. While its end isn't found, memory is asked for to keep what was read too.
-abbrev pub IsReportedOfDump : Bool → Option (List ℕ) → Bool → ℕ → List ℕ → RunFault → Type 0
-IsReportedOfDump hex left ended place input (Read at) = at ≡ place
-IsReportedOfDump hex left ended place input Write = Unit {0}
-IsReportedOfDump hex left ended place input Memory =
-    AsksMemory hex input ⊎ ((ended ≡ false) × (read : List ℕ) × (0 < length read) × Consumes (Some input) left read)
-IsReportedOfDump hex left ended place input fault = IsReported hex place input fault
+abbrev pub IsReportedOfDump : InputForm → Option (List ℕ) → Bool → ℕ → List ℕ → RunFault → Type 0
+IsReportedOfDump form left ended place input (Read at) = at ≡ place
+IsReportedOfDump form left ended place input Write = Unit {0}
+IsReportedOfDump form left ended place input Memory =
+    AsksMemory form.hex input ⊎ ((ended ≡ false) × (read : List ℕ) × (0 < length read) × Consumes (Some input) left read)
+IsReportedOfDump form left ended place input fault = IsReported form place input fault
 
 -- the input's bytes begin with those of these segments, if there are any
 abbrev pub AreFirst : Bool → List ℕ → List Content → Type 0
@@ -57,15 +54,15 @@ AreWritten Write old new segments = AppendsPrefix old new (texts_of segments)
 AreWritten fault old new segments = Appends old new (texts_of segments)
 
 -- Why the dump of an input ends before its end, and what was written of it.
-pub record InputStops (hex : Bool) (left : Option (List ℕ)) (ended : Bool) (place : ℕ) (input : List ℕ)
+pub record InputStops (form : InputForm) (left : Option (List ℕ)) (ended : Bool) (place : ℕ) (input : List ℕ)
     (old new : Option (List ℕ)) (fault : RunFault) : Type 0 where
-  pub reported : IsReportedOfDump hex left ended place input fault
+  pub reported : IsReportedOfDump form left ended place input fault
   pub segments : List Content
-  pub are : AreBefore hex left input fault segments
+  pub are : AreBefore form.hex left input fault segments
   pub written : AreWritten fault old new segments
 
 -- Why a dump ends: at one of its inputs, after the segments of those before it and some of its own. The later ones aren't read.
-pub record DumpStops (hex : Bool) (inputs : List (List ℕ)) (lefts : List (Option (List ℕ))) (ends : List Bool)
+pub record DumpStops (form : InputForm) (inputs : List (List ℕ)) (lefts : List (Option (List ℕ))) (ends : List Bool)
     (old new : Option (List ℕ)) (fault : RunFault) : Type 0 where
   pub place : ℕ
   pub input : List ℕ
@@ -75,9 +72,9 @@ pub record DumpStops (hex : Bool) (inputs : List (List ℕ)) (lefts : List (Opti
   pub ended : Bool
   pub ended_is : slice_get ends place ≡ Some ended
   pub before : List Content
-  pub decoded : DecodeAll hex (take place inputs) before
-  pub reported : IsReportedOfDump hex left ended place input fault
+  pub decoded : DecodeAll form (take place inputs) before
+  pub reported : IsReportedOfDump form left ended place input fault
   pub segments : List Content
-  pub are : AreBefore hex left input fault segments
+  pub are : AreBefore form.hex left input fault segments
   pub written : AreWritten fault old new (before ++ segments)
   pub unread : (later : ℕ) → place < later → slice_get lefts later ≡ slice_get (map Some inputs) later

@@ -2,9 +2,10 @@
 use Rattle.std.specs.Prelude.{◌≡◌, ℕ, Bool, true, false, List, [], ◌∷◌, ◌++◌, take, slice_get, Some, None}
 use Rattle.htl_segment.specs.Content.{Content}
 use Rattle.htl_segment.specs.Hexadecimal.{WritesBytes, hex_fault}
-use Rattle.htl_segment.specs.Bundles.{Splits, BundleFault, SegmentAt}
+use Rattle.htl_segment.specs.Bundles.{Splits, BundleFault, IsRest, SegmentAt, is_early_end}
 use Rattle.htl_segment.specs.declared.fault.Fault.{Fault}
 use Rattle.htl_segment.specs.declared.hexadecimal.HexFault.{HexFault}
+use Rattle.htl_command.specs.declared.question.InputForm.{InputForm}
 use Rattle.htl_main.specs.declared.fault.RunFault.{RunFault}
 use Rattle.htl_main.specs.declared.fault.RunFault.TheVariants.{Segment, Hex, Memory}
 
@@ -13,23 +14,32 @@ abbrev pub HasBytes : Bool → List ℕ → List ℕ → Type 0
 HasBytes false input bytes = bytes ≡ input
 HasBytes true input bytes = WritesBytes input bytes
 
--- the input's bytes are those of these segments, one after another
-pub record Decodes (hex : Bool) (input : List ℕ) (segments : List Content) : Type 0 where
+-- what may be left after the segments of an input: nothing, or bytes that end within a segment where inputs may be partial
+abbrev pub MayBeLeft : Bool → List ℕ → Type 0
+MayBeLeft false rest = rest ≡ []
+MayBeLeft true rest = IsRest rest
+
+-- the input's bytes are those of these segments, one after another, and what may be left
+pub record Decodes (form : InputForm) (input : List ℕ) (segments : List Content) : Type 0 where
   pub bytes : List ℕ
-  pub has : HasBytes hex input bytes
-  pub splits : Splits bytes segments []
+  pub has : HasBytes form.hex input bytes
+  pub rest : List ℕ
+  pub splits : Splits bytes segments rest
+  pub left : MayBeLeft form.partial rest
 
 -- the segments of all inputs, those of the first input first
-abbrev pub DecodeAll : Bool → List (List ℕ) → List Content → Type 0
-DecodeAll hex [] segments = segments ≡ []
-DecodeAll hex (input ∷ more) segments =
-    (first later : List Content) × Decodes hex input first × DecodeAll hex more later × (segments ≡ first ++ later)
+abbrev pub DecodeAll : InputForm → List (List ℕ) → List Content → Type 0
+DecodeAll form [] segments = segments ≡ []
+DecodeAll form (input ∷ more) segments =
+    (first later : List Content) × Decodes form input first × DecodeAll form more later × (segments ≡ first ++ later)
 
--- at this offset of the input's bytes stand some that begin with no segment: their first fault
-pub record HasBundleFault (hex : Bool) (input : List ℕ) (offset : ℕ) (fault : Fault) : Type 0 where
+-- At this offset of the input's bytes stand some that begin with no segment: their first fault. Where inputs may be partial, it isn't that
+-- the input ends within a segment.
+pub record HasBundleFault (form : InputForm) (input : List ℕ) (offset : ℕ) (fault : Fault) : Type 0 where
   pub bytes : List ℕ
-  pub has : HasBytes hex input bytes
+  pub has : HasBytes form.hex input bytes
   pub is : BundleFault bytes offset fault
+  pub late : form.partial ≡ true → is_early_end fault ≡ false
 
 -- the input is a text that writes no bytes
 abbrev pub HasHexFault : Bool → List ℕ → HexFault → Type 0
@@ -41,17 +51,17 @@ AsksMemory true input = hex_fault input ≡ None
 AsksMemory false input = (offset : ℕ) × SegmentAt input offset
 
 -- what is reported of the input at a place: its first fault, and out of memory only where it is asked for
-abbrev pub IsReported : Bool → ℕ → List ℕ → RunFault → Type 0
-IsReported hex place input (Segment at offset fault) = (at ≡ place) × HasBundleFault hex input offset fault
-IsReported hex place input (Hex at fault) = (at ≡ place) × HasHexFault hex input fault
-IsReported hex place input Memory = AsksMemory hex input
-IsReported hex place input other = ⊥
+abbrev pub IsReported : InputForm → ℕ → List ℕ → RunFault → Type 0
+IsReported form place input (Segment at offset fault) = (at ≡ place) × HasBundleFault form input offset fault
+IsReported form place input (Hex at fault) = (at ≡ place) × HasHexFault form.hex input fault
+IsReported form place input Memory = AsksMemory form.hex input
+IsReported form place input other = ⊥
 
 -- the inputs before one are decoded, and this is reported of that one
-pub record StopsAt (hex : Bool) (Reported : ℕ → List ℕ → RunFault → Type 0) (inputs : List (List ℕ)) (fault : RunFault) : Type 0 where
+pub record StopsAt (form : InputForm) (Reported : ℕ → List ℕ → RunFault → Type 0) (inputs : List (List ℕ)) (fault : RunFault) : Type 0 where
   pub place : ℕ
   pub input : List ℕ
   pub here : slice_get inputs place ≡ Some input
   pub segments : List Content
-  pub before : DecodeAll hex (take place inputs) segments
+  pub before : DecodeAll form (take place inputs) segments
   pub reported : Reported place input fault

@@ -1,5 +1,6 @@
 -- What public contracts cite.
 pub mod Inputs
+pub mod CutInputs
 pub mod Completeness
 pub mod Moments
 pub mod Summaries
@@ -17,6 +18,7 @@ pub mod Loading
 pub mod Picked
 pub mod Statuses
 -- What only private contracts cite.
+pub mod Ends
 pub mod Faults
 pub mod Questions
 pub mod Reads

@@ -1,5 +1,6 @@
 -- Which two segments of its inputs the fault of a run is about (this project's own).
 use Rattle.std.specs.Prelude.{◌≡◌, ◌≢◌, ℕ, ◌<◌, ◌≤◌, Bool, true, false, List, Contains, slice_get, Some, Result, Ok, Err}
+use Rattle.htl_command.specs.declared.question.InputForm.{InputForm}
 use Rattle.htl_event.specs.Events.{Event}
 use Rattle.htl_segment.specs.Content.{Content}
 use Rattle.htl_case.specs.Faults.{key_of}
@@ -56,34 +57,34 @@ pub record IsHeaderOf (s : Content) (origin : Origin) : Type 0 where
   pub number : origin.number ≡ s.number
 
 -- the input at a place has the segment
-pub record HasSegment (hex : Bool) (inputs : List (List ℕ)) (place : ℕ) (s : Content) : Type 0 where
+pub record HasSegment (form : InputForm) (inputs : List (List ℕ)) (place : ℕ) (s : Content) : Type 0 where
   pub input : List ℕ
   pub here : slice_get inputs place ≡ Some input
   pub own : List Content
-  pub decoded : Decodes hex input own
+  pub decoded : Decodes form input own
   pub has : Contains own s
 
 -- the origin of a segment of the inputs
-abbrev pub IsOriginOf : Bool → List (List ℕ) → Content → Origin → Type 0
-IsOriginOf hex inputs s origin = HasSegment hex inputs origin.input s × IsHeaderOf s origin
+abbrev pub IsOriginOf : InputForm → List (List ℕ) → Content → Origin → Type 0
+IsOriginOf form inputs s origin = HasSegment form inputs origin.input s × IsHeaderOf s origin
 
 -- the origins are those of two segments that break the rule
-pub record AreOriginsOf (hex : Bool) (inputs : List (List ℕ)) (segments : List Content) (fault : CaseFault) (first second : Origin)
+pub record AreOriginsOf (form : InputForm) (inputs : List (List ℕ)) (segments : List Content) (fault : CaseFault) (first second : Origin)
     : Type 0 where
   pub one : Content
   pub other : Content
   pub broken : BreakRule segments fault one other
-  pub of_one : IsOriginOf hex inputs one first
-  pub of_other : IsOriginOf hex inputs other second
+  pub of_one : IsOriginOf form inputs one first
+  pub of_other : IsOriginOf form inputs other second
 
 -- Between: which two segments a fault of all segments is about. They are unknown only where there are two.
-abbrev pub IsBetweenOf : Bool → List (List ℕ) → List Content → CaseFault → Between → Type 0
-IsBetweenOf hex inputs segments fault Nothing = is_about_two fault ≡ false
-IsBetweenOf hex inputs segments fault (Two first second) = AreOriginsOf hex inputs segments fault first second
-IsBetweenOf hex inputs segments fault Unknown = is_about_two fault ≡ true
+abbrev pub IsBetweenOf : InputForm → List (List ℕ) → List Content → CaseFault → Between → Type 0
+IsBetweenOf form inputs segments fault Nothing = is_about_two fault ≡ false
+IsBetweenOf form inputs segments fault (Two first second) = AreOriginsOf form inputs segments fault first second
+IsBetweenOf form inputs segments fault Unknown = is_about_two fault ≡ true
 
 -- which two a fault of a run is about, which only one of all segments is
-abbrev pub IsBetween : Bool → List (List ℕ) → RunFault → Between → Type 0
-IsBetween hex inputs (Case fault) between =
-    (segments : List Content) × DecodeAll hex inputs segments × IsBetweenOf hex inputs segments fault between
-IsBetween hex inputs fault between = between ≡ Nothing
+abbrev pub IsBetween : InputForm → List (List ℕ) → RunFault → Between → Type 0
+IsBetween form inputs (Case fault) between =
+    (segments : List Content) × DecodeAll form inputs segments × IsBetweenOf form inputs segments fault between
+IsBetween form inputs fault between = between ≡ Nothing

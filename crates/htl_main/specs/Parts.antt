@@ -1,6 +1,7 @@
 -- For the clauses of private functions: which input each of the decoded segments is of.
 use Rattle.std.specs.Prelude.{◌≡◌, ℕ, ◌≤◌, nat_lt, Bool, List, All, length, slice_get, Option, Some}
 use Rattle.std.specs.List.{find}
+use Rattle.htl_command.specs.declared.question.InputForm.{InputForm}
 use Rattle.htl_segment.specs.Content.{Content}
 use Rattle.htl_main.specs.Origins.{HasSegment}
 use Rattle.htl_main.specs.declared.decoded.Part.{Part}
@@ -10,8 +11,8 @@ abbrev pub part_at : List Part → ℕ → Option Part
 part_at parts place = find (λ part. nat_lt place part.end) parts
 
 -- the part of each segment names an input that has the segment
-pub record AreParts (hex : Bool) (inputs : List (List ℕ)) (segments : List Content) (parts : List Part) : Type 0 where
+pub record AreParts (form : InputForm) (inputs : List (List ℕ)) (segments : List Content) (parts : List Part) : Type 0 where
   pub within : All (λ part. part.end ≤ length segments) parts
   pub each :
       (place : ℕ) (s : Content) → slice_get segments place ≡ Some s
-      → (part : Part) × (part_at parts place ≡ Some part) × HasSegment hex inputs part.input s
+      → (part : Part) × (part_at parts place ≡ Some part) × HasSegment form inputs part.input s

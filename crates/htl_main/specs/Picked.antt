@@ -5,11 +5,13 @@ use Rattle.htl_event.specs.declared.interest.Interest.TheVariants.{Process, Obje
 use Rattle.htl_segment.specs.Content.{Content}
 use Rattle.htl_case.specs.Picked.{NeedsWhole}
 use Rattle.htl_case.specs.declared.fault.CaseFault.{CaseFault}
+use Rattle.htl_command.specs.declared.question.InputForm.{InputForm}
 use Rattle.htl_command.specs.declared.question.Job.{Job}
 use Rattle.htl_command.specs.declared.question.Question.{Question}
 use Rattle.htl_command.specs.declared.question.Question.TheVariants as questions
 use Rattle.htl_main.specs.Answers.{Finds}
 use Rattle.htl_main.specs.Coverages.{Covers}
+use Rattle.htl_main.specs.CutInputs.{AreCut}
 use Rattle.htl_main.specs.Inputs.{DecodeAll}
 use Rattle.htl_main.specs.Subjects.{ReportsSubject}
 use Rattle.htl_main.specs.declared.completed.Completed.{Completed}
@@ -35,13 +37,14 @@ asks_about false question = interest_of question
 
 -- what is reported beside the answer holds of the inputs
 pub record Reports (job : Job) (inputs : List (List ℕ)) (completed : Completed) : Type 0 where
-  pub coverage : Covers job.hex inputs completed.coverage
+  pub coverage : Covers job.form inputs completed.coverage
+  pub cut : AreCut job.form.hex inputs completed.cut
   pub subject : ReportsSubject inputs job completed.has_subject
   pub finding : Finds job inputs completed.has_finding
 
 -- Whole segments tell what comes of the inputs: a key comes twice in them, or they are no case.
-abbrev pub AskForWhole : Bool → List (List ℕ) → Type 0
-AskForWhole hex inputs = (segments : List Content) × DecodeAll hex inputs segments × NeedsWhole segments
+abbrev pub AskForWhole : InputForm → List (List ℕ) → Type 0
+AskForWhole form inputs = (segments : List Content) × DecodeAll form inputs segments × NeedsWhole segments
 
 -- no rule of a case is reported as broken
 abbrev pub NeverCase : {S : Type 0} → Result S RunFault → Type 0

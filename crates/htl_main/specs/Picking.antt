@@ -1,36 +1,38 @@
 -- For the clauses of private functions: what is picked of one source more, and of all, and why no answer is made of it.
-use Rattle.std.specs.Prelude.{◌≡◌, ⊤, ℕ, List, [], ◌++◌, false, All, Option, Some}
+use Rattle.std.specs.Prelude.{◌≡◌, ⊤, ℕ, Bool, List, ◌++◌, All, Option, Some}
 use Rattle.htl_event.specs.declared.interest.Interest.{Interest}
-use Rattle.htl_segment.specs.Bundles.{Splits}
 use Rattle.htl_segment.specs.Content.{Content, Fits}
 use Rattle.htl_segment.specs.Picks.{ArePicksOf}
 use Rattle.htl_segment.specs.declared.picks.Picks.{Picks}
 use Rattle.htl_segment.specs.Traces.{Trace}
 use Rattle.htl_case.specs.Cases.{IsCaseOf}
 use Rattle.htl_case.specs.Picked.{Picked, IsPickedOf, IsPickedUntil}
+use Rattle.htl_command.specs.declared.question.InputForm.{InputForm}
 use Rattle.htl_command.specs.declared.question.Question.{Question}
 use Rattle.htl_command.specs.declared.question.Job.{Job}
 use Rattle.htl_main.specs.Answers.{FindsIn}
 use Rattle.htl_main.specs.Coverages.{CoversSegments}
+use Rattle.htl_main.specs.Ends.{IsInput}
 use Rattle.htl_main.specs.Inputs.{DecodeAll}
 use Rattle.htl_main.specs.Picked.{interest_of}
 use Rattle.htl_main.specs.Printed.{AreAnswerLines}
 use Rattle.htl_main.specs.Subjects.{HasSubjectIn}
 use Rattle.htl_main.specs.declared.completed.Completed.{Completed}
+use Rattle.htl_main.specs.declared.cut_inputs.CutInputs.{CutInputs}
 use Rattle.htl_main.specs.declared.fault.RunFault.{RunFault}
 use Rattle.htl_main.specs.declared.fault.RunFault.TheVariants.{Incomplete, NoSubject, Symbols, Memory, Write}
 
--- the picks are those of these bytes too, after whichever they were of before
-pub record ArePicksMore (old new : Picks) (bytes : List ℕ) : Type 0 where
+-- the picks are those of this input too, after whichever they were of before
+pub record ArePicksMore (form : InputForm) (old new : Picks) (input : List ℕ) (is_cut : Bool) : Type 0 where
   pub more : List Content
-  pub splits : Splits bytes more []
+  pub are : IsInput form input more is_cut
   pub picks : (interest : Interest) (segments : List Content) → ArePicksOf interest old segments
       → ArePicksOf interest new (segments ++ more)
 
 -- the picks are those of all inputs
-pub record ArePicksOfAll (interest : Interest) (inputs : List (List ℕ)) (picks : Picks) : Type 0 where
+pub record ArePicksOfAll (form : InputForm) (interest : Interest) (inputs : List (List ℕ)) (picks : Picks) : Type 0 where
   pub segments : List Content
-  pub decoded : DecodeAll false inputs segments
+  pub decoded : DecodeAll form inputs segments
   pub picks_of : ArePicksOf interest picks segments
 
 -- what a question is about was picked of the case of these segments
@@ -62,9 +64,10 @@ pub record PrintsOf (segments : List Content) (symbols : Option (List ℕ)) (job
   pub are : AreAnswerLines segments symbols job lines
   pub written : Written lines
 
--- what is reported beside the answer holds of the case of these segments
-pub record ReportsOf (segments : List Content) (job : Job) (completed : Completed) : Type 0 where
+-- what is reported beside the answer holds of the case of these segments, and of the inputs that were cut
+pub record ReportsOf (segments : List Content) (job : Job) (cut : Option CutInputs) (completed : Completed) : Type 0 where
   pub coverage : CoversSegments segments completed.coverage
+  pub cut_are : completed.cut ≡ cut
   pub subject : HasSubjectIn segments job completed.has_subject
   pub finding : FindsIn segments job completed.has_finding
 

@@ -83,8 +83,8 @@ WorkersFit workers = (0 < workers) × (workers ≤ 8)
 abbrev pub Printed : Job → List (List ℕ) → Option (List ℕ) → Result (List ℕ) RunFault → Type 0
 Printed job inputs symbols (Err Workers) = WorkersFit job.workers → ⊥
 Printed job inputs symbols (Err (Segment at offset fault)) =
-    WorkersFit job.workers × StopsAt job.hex (IsReported job.hex) inputs (Segment at offset fault)
-Printed job inputs symbols (Err (Hex at fault)) = WorkersFit job.workers × StopsAt job.hex (IsReported job.hex) inputs (Hex at fault)
+    WorkersFit job.workers × StopsAt job.form (IsReported job.form) inputs (Segment at offset fault)
+Printed job inputs symbols (Err (Hex at fault)) = WorkersFit job.workers × StopsAt job.form (IsReported job.form) inputs (Hex at fault)
 Printed job inputs symbols outcome =
     WorkersFit job.workers
-    × (segments : List Content) × DecodeAll job.hex inputs segments × IsPrinted segments symbols job outcome
+    × (segments : List Content) × DecodeAll job.form inputs segments × IsPrinted segments symbols job outcome

@@ -3,6 +3,7 @@ use Rattle.std.specs.Prelude.{◌≡◌, ◌<◌, ◌≤◌, ◌+◌, ◌⊎◌,
 use Rattle.std.specs.Prelude.{Option, Some, IfSome, Result, Err}
 use Rattle.std.specs.Io.KnownBytes.{Consumes}
 use Rattle.htl_device.specs.declared.whole.TheConstants.{MAX_READS}
+use Rattle.htl_command.specs.declared.question.InputForm.{InputForm}
 use Rattle.htl_command.specs.declared.question.Job.{Job}
 use Rattle.htl_segment.specs.Content.{Content}
 use Rattle.htl_segment.specs.Bundles.{RestAt}
@@ -20,27 +21,27 @@ KeepsSome false read = (offset : ℕ) × RestAt read offset
 
 -- What is reported of the source at a place that gave some of these bytes, has others left, and whose end was found or not.
 -- While its end isn't found, memory is asked for to keep what was read too.
-abbrev pub IsReportedOfSource : Bool → Option (List ℕ) → Bool → ℕ → List ℕ → RunFault → Type 0
-IsReportedOfSource hex left ended place input (Read at) = at ≡ place
-IsReportedOfSource hex left ended place input Memory =
-    AsksMemory hex input ⊎ ((ended ≡ false) × (read : List ℕ) × Consumes (Some input) left read × KeepsSome hex read)
-IsReportedOfSource hex left ended place input fault = IsReported hex place input fault
+abbrev pub IsReportedOfSource : InputForm → Option (List ℕ) → Bool → ℕ → List ℕ → RunFault → Type 0
+IsReportedOfSource form left ended place input (Read at) = at ≡ place
+IsReportedOfSource form left ended place input Memory =
+    AsksMemory form.hex input ⊎ ((ended ≡ false) × (read : List ℕ) × Consumes (Some input) left read × KeepsSome form.hex read)
+IsReportedOfSource form left ended place input fault = IsReported form place input fault
 
 -- the same where this is left of each source, and these ends were found
-abbrev pub IsReportedAt : Bool → List (Option (List ℕ)) → List Bool → ℕ → List ℕ → RunFault → Type 0
-IsReportedAt hex lefts ends place input fault =
+abbrev pub IsReportedAt : InputForm → List (Option (List ℕ)) → List Bool → ℕ → List ℕ → RunFault → Type 0
+IsReportedAt form lefts ends place input fault =
     (left : Option (List ℕ)) × (ended : Bool) × (slice_get lefts place ≡ Some left) × (slice_get ends place ≡ Some ended)
-    × IsReportedOfSource hex left ended place input fault
+    × IsReportedOfSource form left ended place input fault
 
 -- Why a run over sources of these bytes ends: as one over the bytes does, or at a source that could not be read, or
 -- for which memory was refused.
 abbrev pub IsSourcesCause : Job → List (List ℕ) → List (Option (List ℕ)) → List Bool → Option (List ℕ) → RunFault → Type 0
 IsSourcesCause job inputs lefts ends symbols (Read at) =
-    WorkersFit job.workers × StopsAt job.hex (IsReportedAt job.hex lefts ends) inputs (Read at)
+    WorkersFit job.workers × StopsAt job.form (IsReportedAt job.form lefts ends) inputs (Read at)
 IsSourcesCause job inputs lefts ends symbols Memory =
     WorkersFit job.workers
-    × (StopsAt job.hex (IsReportedAt job.hex lefts ends) inputs Memory
-    ⊎ ((segments : List Content) × DecodeAll job.hex inputs segments
+    × (StopsAt job.form (IsReportedAt job.form lefts ends) inputs Memory
+    ⊎ ((segments : List Content) × DecodeAll job.form inputs segments
     × IsCauseAfter segments symbols job Memory))
 IsSourcesCause job inputs lefts ends symbols fault = IsCause job inputs symbols fault
 

@@ -1,10 +1,11 @@
 //! The case of decoded segments, or which two of them break a rule of a case.
 
-ghost use Rattle.std.specs.Prelude.{◌≡◌, ℕ, Bool, List, Option, IfOk, IfErr, IfNone, IfSome};
+ghost use Rattle.std.specs.Prelude.{◌≡◌, ℕ, List, Option, IfOk, IfErr, IfNone, IfSome};
 ghost use Rattle.std.specs.Prelude.{Some, slice_get};
 ghost use Rattle.htl_segment.specs.Content.{Content};
 ghost use Rattle.htl_case.specs.Cases.{IsCaseOf};
 ghost use Rattle.htl_case.specs.Faults.{IsRefusal};
+ghost use Rattle.htl_command.specs.declared.question.InputForm.{InputForm};
 ghost use Rattle.htl_command.specs.declared.question.Job.{Job};
 ghost use Rattle.htl_main.specs.Causes.{IsCauseAfter};
 ghost use Rattle.htl_main.specs.Inputs.{DecodeAll};
@@ -29,12 +30,16 @@ pub(crate) fn case_of(alloc: Global, decoded: Decoded) -> Result<Case, Refused>
     ensures err { IfErr result (λ refused.
         (symbols : Option (List ℕ)) (job : Job)
         → IsCauseAfter decoded.segments.items symbols job refused.fault) }
-    ensures between { IfErr result (λ refused. (hex : Bool) (inputs : List (List ℕ))
-        → DecodeAll hex inputs decoded.segments.items
-        → AreParts hex inputs decoded.segments.items decoded.parts.items
-        → IsBetween hex inputs refused.fault refused.between) }
+    ensures between { IfErr result (λ refused. (form : InputForm) (inputs : List (List ℕ))
+        → DecodeAll form inputs decoded.segments.items
+        → AreParts form inputs decoded.segments.items decoded.parts.items
+        → IsBetween form inputs refused.fault refused.between) }
 {
-    let Decoded { segments, parts } = decoded;
+    let Decoded {
+        segments,
+        parts,
+        ..
+    } = decoded;
     let kept = copies(alloc, &segments);
     match Case::of(alloc, segments) {
         Ok(case) => Ok(case),
@@ -62,8 +67,8 @@ fn copies(alloc: Global, segments: &[Segment]) -> Result<Vec<Segment>, NoMemory>
 /// The origins of the two segments that break the rule of the fault.
 fn between(segments: &[Segment], parts: &[Part], fault: CaseFault) -> Between
     requires { IsRefusal segments.now fault }
-    ensures { (hex : Bool) (inputs : List (List ℕ)) → AreParts hex inputs segments.now parts.now
-        → IsBetweenOf hex inputs segments.now fault result }
+    ensures { (form : InputForm) (inputs : List (List ℕ)) → AreParts form inputs segments.now parts.now
+        → IsBetweenOf form inputs segments.now fault result }
 {
     let Some((first, second)) = pair(segments, fault) else {
         return Between::Nothing;
@@ -79,8 +84,8 @@ fn between(segments: &[Segment], parts: &[Part], fault: CaseFault) -> Between
 
 /// What is said of the two segments where no copies of them were kept.
 fn unknown(fault: CaseFault) -> Between
-    ensures { (hex : Bool) (inputs : List (List ℕ)) (segments : List Content)
-        → IsBetweenOf hex inputs segments fault result }
+    ensures { (form : InputForm) (inputs : List (List ℕ)) (segments : List Content)
+        → IsBetweenOf form inputs segments fault result }
 {
     match fault {
         CaseFault::Empty | CaseFault::NoMemory => Between::Nothing,
@@ -90,11 +95,11 @@ fn unknown(fault: CaseFault) -> Between
 
 /// The origin of the segment at a place.
 fn origin(segments: &[Segment], parts: &[Part], place: usize) -> Option<Origin>
-    ensures some { IfSome result (λ origin. (hex : Bool) (inputs : List (List ℕ)) (s : Content)
-        → AreParts hex inputs segments.now parts.now → slice_get segments.now place ≡ Some s
-        → IsOriginOf hex inputs s origin) }
-    ensures none { IfNone result ((hex : Bool) (inputs : List (List ℕ)) (s : Content)
-        → AreParts hex inputs segments.now parts.now → slice_get segments.now place ≡ Some s → ⊥) }
+    ensures some { IfSome result (λ origin. (form : InputForm) (inputs : List (List ℕ)) (s : Content)
+        → AreParts form inputs segments.now parts.now → slice_get segments.now place ≡ Some s
+        → IsOriginOf form inputs s origin) }
+    ensures none { IfNone result ((form : InputForm) (inputs : List (List ℕ)) (s : Content)
+        → AreParts form inputs segments.now parts.now → slice_get segments.now place ≡ Some s → ⊥) }
 {
     let segment = segments.get(place)?;
     let part = part_at(parts, place)?;

@@ -8,6 +8,7 @@ ghost use Rattle.htl_main.specs.Coverages.{IsCoverage};
 ghost use Rattle.htl_main.specs.Subjects.{HasSubject, is_about, names_handle, names_object};
 
 use crate::coverage::Coverage;
+use crate::cut_inputs::CutInputs;
 use crate::loading::Loaded;
 use htl_command::{Job, Question};
 use htl_event::{Count, EventList, Kind, ProcessRow, SharedEvent, Until, base};
@@ -19,6 +20,8 @@ use htl_segment::Segment;
 pub struct Completed {
     /// How much of its trace the case has.
     pub coverage: Coverage,
+    /// The inputs that ended within a segment.
+    pub cut: Option<CutInputs>,
     /// Whether an event that counts is of what the question is about: of its process, in events of
     /// each kind; of its object, or of its tag of the object, in references and dereferences; or of
     /// its handle, in opens, closes and bad references. Where none is, a number may be mistyped. A

@@ -1,10 +1,13 @@
 //! The segments of inputs, and which input each is of.
 
-ghost use Rattle.std.specs.Prelude.{◌≡◌, ◌<◌, ℕ, Bool, List, ◌++◌, [], length, slice_get, Some};
-ghost use Rattle.std.specs.Prelude.{OnErr, OnOk};
+ghost use Rattle.std.specs.Prelude.{◌≡◌, ◌<◌, ℕ, List, ◌++◌, [], length, slice_get, Some};
+ghost use Rattle.std.specs.Prelude.{OnErr, OnOk, None};
+ghost use Rattle.htl_command.specs.declared.question.InputForm.{InputForm};
+ghost use Rattle.htl_main.specs.Ends.{OthersFit, with_input as with_input_of};
 ghost use Rattle.htl_main.specs.Inputs.{Decodes};
 ghost use Rattle.htl_main.specs.Parts.{AreParts, part_at};
 
+use crate::cut_inputs::{Accepted, CutInputs, with_input};
 use htl_event::NoMemory;
 use htl_segment::Segment;
 use std::alloc::Global;
@@ -16,11 +19,13 @@ pub(crate) struct Part {
     pub end: usize,
 }
 
-/// The segments of inputs, those of the first input first, and which part of them each input has.
+/// The segments of inputs, those of the first input first, which part of them each input has, and
+/// which inputs end within one more.
 #[derive(Drop)]
 pub(crate) struct Decoded {
     pub segments: Vec<Segment>,
     pub parts: Vec<Part>,
+    pub cut: Option<CutInputs>,
 }
 
 impl Decoded {
@@ -28,23 +33,43 @@ impl Decoded {
     #[tactic(auto, using(crate::proofs::PartLaws::no_parts))]
     pub fn new(alloc: Global) -> Decoded
         ensures segments { result.segments.items ≡ [] }
-        ensures parts { (hex : Bool) (inputs : List (List ℕ))
-            → AreParts hex inputs result.segments.items result.parts.items }
+        ensures parts { (form : InputForm) (inputs : List (List ℕ))
+            → AreParts form inputs result.segments.items result.parts.items }
+        ensures cut { result.cut ≡ None }
     {
         Decoded {
             segments: Vec::new(alloc),
             parts: Vec::new(alloc),
+            cut: None,
         }
     }
 
+    /// Adds one more input, the one at a place.
+    pub fn add(&mut self, place: u64, more: Accepted<Vec<Segment>>) -> Result<(), NoMemory>
+        requires few { OthersFit self.old.cut place }
+        ensures segments { OnOk result
+            (self.new.segments.items ≡ self.old.segments.items ++ more.segments.items) }
+        ensures parts { OnOk result ((form : InputForm) (inputs : List (List ℕ)) (text : List ℕ)
+            → slice_get inputs place ≡ Some text → Decodes form text more.segments.items
+            → AreParts form inputs self.old.segments.items self.old.parts.items
+            → AreParts form inputs self.new.segments.items self.new.parts.items) }
+        ensures cut { self.new.cut ≡ with_input_of more.is_cut place self.old.cut }
+        ensures full { OnErr result (0 < length more.segments.items) }
+    {
+        self.cut = with_input(self.cut, place, more.is_cut);
+        self.add_segments(place, more.segments)?;
+        Ok(())
+    }
+
     /// Adds the segments of one more input.
-    pub fn add(&mut self, input: u64, mut more: Vec<Segment>) -> Result<(), NoMemory>
+    fn add_segments(&mut self, input: u64, mut more: Vec<Segment>) -> Result<(), NoMemory>
         ensures segments { OnOk result
             (self.new.segments.items ≡ self.old.segments.items ++ more.items) }
-        ensures parts { OnOk result ((hex : Bool) (inputs : List (List ℕ)) (text : List ℕ)
-            → slice_get inputs input ≡ Some text → Decodes hex text more.items
-            → AreParts hex inputs self.old.segments.items self.old.parts.items
-            → AreParts hex inputs self.new.segments.items self.new.parts.items) }
+        ensures parts { OnOk result ((form : InputForm) (inputs : List (List ℕ)) (text : List ℕ)
+            → slice_get inputs input ≡ Some text → Decodes form text more.items
+            → AreParts form inputs self.old.segments.items self.old.parts.items
+            → AreParts form inputs self.new.segments.items self.new.parts.items) }
+        ensures kept { self.new.cut ≡ self.old.cut }
         ensures full { OnErr result (0 < length more.items) }
     {
         if more.is_empty() {

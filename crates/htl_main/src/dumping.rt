@@ -2,24 +2,29 @@
 
 ghost use Rattle.std.specs.Prelude.{◌≡◌, ◌⊎◌, ◌+◌, ◌*◌, ◌-◌, ◌<◌, ◌≤◌, ◌^◌};
 ghost use Rattle.std.specs.Prelude.{ℕ, Bool, List, Option, [], All, Some, Err, false, true, drop};
-ghost use Rattle.std.specs.Prelude.{length, map, IfErr, IfSome, MatchResult, OnOk};
+ghost use Rattle.std.specs.Prelude.{length, map, IfErr, IfOk, IfSome, MatchResult, OnOk};
 ghost use Rattle.std.specs.Io.KnownBytes.{Appends};
 ghost use Rattle.htl_device.specs.Devices.{AppendsPrefix};
-ghost use Rattle.htl_segment.specs.Bundles.{is_early_end, IsRest};
+ghost use Rattle.htl_segment.specs.Bundles.{bundle, is_early_end, IsRest};
 ghost use Rattle.htl_segment.specs.Content.{Content};
 ghost use Rattle.htl_segment.specs.Faults.{first_fault};
 ghost use Rattle.htl_segment.specs.declared.fault.Fault.{Fault};
 ghost use Rattle.htl_text.specs.Texts.{segment_text};
 ghost use Rattle.htl_reading.specs.Sources.{IsReadToFault};
-ghost use Rattle.htl_main.specs.Dumping.{FrontDumped, FrontStops, WholeStops};
-ghost use Rattle.htl_main.specs.Dumps.{Dumps, DumpsInput, DumpStops, InputStops};
+ghost use Rattle.htl_main.specs.CutInputs.{AreCut};
+ghost use Rattle.htl_main.specs.Dumping.{DumpsInput, FrontDumped, FrontStops, WholeStops};
+ghost use Rattle.htl_main.specs.Dumps.{Dumps, DumpStops, InputStops};
+ghost use Rattle.htl_main.specs.Ends.{IsEnd, IsEndRefused, IsSegmentOf};
 ghost use Rattle.htl_main.specs.Dumps.{is_failed_write};
 ghost use Rattle.htl_main.specs.Reads.{FailsOnly, IsRead, NamesOnly, NeverRead};
 ghost use Rattle.htl_main.specs.Readings.{AreRead};
 
+use crate::cut_inputs::{CutInputs, check_end, with_input};
 use crate::fault::RunFault;
 use crate::printing::write_lines;
+use htl_command::InputForm;
 use htl_device::{MAX_READ_LEN, MAX_READS, MIN_READ_LEN, Sink, Source, read_whole};
+use htl_reading::early_end;
 use htl_segment::{Fault, SegmentBytes, from_hex};
 use htl_text::dump;
 use std::alloc::Global;
@@ -33,108 +38,128 @@ use std::alloc::Global;
 /// first; of bytes no more is kept than one segment that isn't there whole yet, and one read.
 pub fn dump_from<R: Source, W: Sink>(
     alloc: Global,
-    hex: bool,
+    form: InputForm,
     inputs: &mut [R],
     out: &mut W,
-) -> Result<(), RunFault>
+) -> Result<Option<CutInputs>, RunFault>
     requires inputs { All (λ source. R.has_failed source ≡ false) inputs.old }
     requires inside { All (λ source. R.has_ended source ≡ false) inputs.old }
     requires out { W.has_failed out.old ≡ false }
     // The texts of all segments are written; or of those before what is reported.
     ensures ok { (texts : List (List ℕ)) → map R.remaining inputs.old ≡ map Some texts
-        → OnOk result (Dumps hex texts (W.contents out.old) (W.contents out.new)) }
+        → OnOk result (Dumps form texts (W.contents out.old) (W.contents out.new)) }
+    ensures cut { (texts : List (List ℕ)) → map R.remaining inputs.old ≡ map Some texts
+        → IfOk result (AreCut form.hex texts) }
     ensures stops { (texts : List (List ℕ)) → map R.remaining inputs.old ≡ map Some texts
-        → IfErr result (λ fault. DumpStops hex texts (map R.remaining inputs.new)
+        → IfErr result (λ fault. DumpStops form texts (map R.remaining inputs.new)
         (map R.has_ended inputs.new) (W.contents out.old) (W.contents out.new) fault) }
     ensures failed { W.has_failed out.new ≡ is_failed_write result }
-    ensures reading { AreRead hex R.has_failed R.has_ended R.good_reads R.remaining
+    ensures reading { AreRead form.hex R.has_failed R.has_ended R.good_reads R.remaining
         inputs.old inputs.new result }
 {
+    let mut cut = None;
     for (place, source) in inputs.iter_mut().enumerate() {
-        dump_input(alloc, hex, place as u64, source, out)?;
+        let is_cut = dump_input(alloc, form, place as u64, source, out)?;
+        cut = with_input(cut, place as u64, is_cut);
     }
-    Ok(())
+    Ok(cut)
 }
 
 /// Dumps the source at a place. A text in hexadecimal is gathered whole first; of bytes each read is
 /// dumped at once.
 fn dump_input<R: Source, W: Sink>(
     alloc: Global,
-    hex: bool,
+    form: InputForm,
     place: u64,
     source: &mut R,
     out: &mut W,
-) -> Result<(), RunFault>
+) -> Result<bool, RunFault>
     requires fresh { R.has_failed source.old ≡ false }
     requires inside { R.has_ended source.old ≡ false }
     requires out { W.has_failed out.old ≡ false }
-    ensures ok { OnOk result (IfSome (R.remaining source.old)
-        (λ bytes. DumpsInput hex bytes (W.contents out.old) (W.contents out.new))) }
+    ensures ok { IfOk result (λ is_cut. IfSome (R.remaining source.old) (λ bytes.
+        DumpsInput form bytes is_cut (W.contents out.old) (W.contents out.new))) }
     ensures stops { IfErr result (λ fault. IfSome (R.remaining source.old) (λ bytes.
-        InputStops hex (R.remaining source.new) (R.has_ended source.new) place bytes
+        InputStops form (R.remaining source.new) (R.has_ended source.new) place bytes
         (W.contents out.old) (W.contents out.new) fault)) }
     ensures failed { W.has_failed out.new ≡ is_failed_write result }
-    ensures reading { IsRead hex MAX_READS R.has_failed R.has_ended R.good_reads R.remaining
+    ensures reading { IsRead form.hex MAX_READS R.has_failed R.has_ended R.good_reads R.remaining
         place source.old source.new result }
 {
-    if hex {
+    if form.hex {
         return match read_whole(alloc, source) {
-            Ok(text) => dump_text(alloc, place, &text, out),
+            Ok(text) => dump_text(alloc, form, place, &text, out),
             Err(fault) => Err(RunFault::of_read(place, fault)),
         };
     }
     let mut buffer = [0u8; MIN_READ_LEN];
-    dump_within(alloc, place, source, &mut buffer, MAX_READS, out)
+    dump_within(alloc, form, place, source, &mut buffer, MAX_READS, out)
 }
 
 /// Dumps the text in hexadecimal of the input at a place.
-fn dump_text<W: Sink>(alloc: Global, place: u64, text: &[u8], out: &mut W) -> Result<(), RunFault>
-    requires { W.has_failed out.old ≡ false }
-    ensures ok { OnOk result
-        (DumpsInput true text.now (W.contents out.old) (W.contents out.new)) }
+fn dump_text<W: Sink>(
+    alloc: Global,
+    form: InputForm,
+    place: u64,
+    text: &[u8],
+    out: &mut W,
+) -> Result<bool, RunFault>
+    requires out { W.has_failed out.old ≡ false }
+    requires digits { form.hex ≡ true }
+    ensures ok { IfOk result (λ is_cut.
+        DumpsInput form text.now is_cut (W.contents out.old) (W.contents out.new)) }
     ensures stops { IfErr result (λ fault. (left : Option (List ℕ)) (ended : Bool)
-        → InputStops true left ended place text.now
+        → InputStops form left ended place text.now
         (W.contents out.old) (W.contents out.new) fault) }
     ensures failed { W.has_failed out.new ≡ is_failed_write result }
     ensures no_read { NeverRead result }
     ensures named { NamesOnly place result }
 {
     match from_hex(alloc, text) {
-        Ok(bytes) => dump_whole(alloc, place, &bytes, out),
+        Ok(bytes) => dump_whole(alloc, form, place, &bytes, out),
         Err(fault) => Err(RunFault::of_hex(place, fault)),
     }
 }
 
 /// Dumps all bytes of the input at a place.
-fn dump_whole<W: Sink>(alloc: Global, place: u64, bytes: &[u8], out: &mut W) -> Result<(), RunFault>
+fn dump_whole<W: Sink>(
+    alloc: Global,
+    form: InputForm,
+    place: u64,
+    bytes: &[u8],
+    out: &mut W,
+) -> Result<bool, RunFault>
     requires { W.has_failed out.old ≡ false }
-    ensures ok { OnOk result (FrontDumped bytes.now [] (W.contents out.old) (W.contents out.new)) }
+    ensures ok { IfOk result (λ is_cut. (rest : List ℕ) × IsEnd form rest is_cut
+        × FrontDumped bytes.now rest (W.contents out.old) (W.contents out.new)) }
     ensures stops { IfErr result (λ fault.
-        WholeStops place bytes.now (W.contents out.old) (W.contents out.new) fault) }
+        WholeStops form place bytes.now (W.contents out.old) (W.contents out.new) fault) }
     ensures failed { W.has_failed out.new ≡ is_failed_write result }
 {
     let rest = dump_front(alloc, place, 0, bytes, out)?;
-    finish(place, (bytes.len() - rest.len()) as u64, rest)
+    finish(form, place, (bytes.len() - rest.len()) as u64, rest)
 }
 
 /// Dumps the source at a place in reads of the buffer's length, of which at most `most` give bytes.
 fn dump_within<R: Source, W: Sink>(
     alloc: Global,
+    form: InputForm,
     place: u64,
     source: &mut R,
     buffer: &mut [u8],
     most: u64,
     out: &mut W,
-) -> Result<(), RunFault>
+) -> Result<bool, RunFault>
     requires fresh { R.has_failed source.old ≡ false }
     requires inside { R.has_ended source.old ≡ false }
     requires out { W.has_failed out.old ≡ false }
     requires whole { length buffer.old ≡ MIN_READ_LEN }
     requires few { most * MAX_READ_LEN < 2 ^ 64 }
-    ensures ok { OnOk result (IfSome (R.remaining source.old)
-        (λ bytes. DumpsInput false bytes (W.contents out.old) (W.contents out.new))) }
+    requires bytes { form.hex ≡ false }
+    ensures ok { IfOk result (λ is_cut. IfSome (R.remaining source.old) (λ bytes.
+        DumpsInput form bytes is_cut (W.contents out.old) (W.contents out.new))) }
     ensures stops { IfErr result (λ fault. IfSome (R.remaining source.old) (λ bytes.
-        InputStops false (R.remaining source.new) (R.has_ended source.new) place bytes
+        InputStops form (R.remaining source.new) (R.has_ended source.new) place bytes
         (W.contents out.old) (W.contents out.new) fault)) }
     ensures failed { W.has_failed out.new ≡ is_failed_write result }
     ensures ended { OnOk result (R.has_ended source.new ≡ true) }
@@ -154,7 +179,7 @@ fn dump_within<R: Source, W: Sink>(
             return Err(RunFault::Read { input: place });
         };
         if count == 0 {
-            return finish(place, start, &held);
+            return finish(form, place, start, &held);
         }
         held.extend_from_slice(&buffer[..count])?;
         let left = dump_front(alloc, place, start, &held, out)?.len();
@@ -173,25 +198,17 @@ fn keep_last(bytes: &mut Vec<u8>, count: usize)
     bytes.truncate(count);
 }
 
-/// Ends the input at a place, whose last bytes are left from this offset on and make no segment.
-fn finish(place: u64, offset: u64, rest: &[u8]) -> Result<(), RunFault>
+/// Ends the input at a place, whose last bytes are left from this offset on and make no segment, and
+/// tells whether it was cut.
+fn finish(form: InputForm, place: u64, offset: u64, rest: &[u8]) -> Result<bool, RunFault>
     requires { IsRest rest.now }
-    ensures ok { OnOk result (rest.now ≡ []) }
-    ensures stops { IfErr result (λ fault. (first : Fault)
-        × (fault ≡ RunFault.Segment place offset first)
-        × (0 < length rest.now) × (first_fault rest.now ≡ Some first)) }
+    ensures ok { (segments : List Content) → offset ≡ length (bundle segments)
+        → IfOk result (IsEnd form rest.now) }
+    ensures stops { (segments : List Content) → offset ≡ length (bundle segments)
+        → IfErr result (IsEndRefused form place offset rest.now) }
+    ensures segment { IfErr result (IsSegmentOf place) }
 {
-    if rest.is_empty() {
-        return Ok(());
-    }
-    match SegmentBytes::check(rest) {
-        Ok(_) => Ok(()),
-        Err(fault) => Err(RunFault::Segment {
-            input: place,
-            offset,
-            fault,
-        }),
-    }
+    check_end(form, place, early_end(offset, rest))
 }
 
 /// Dumps the whole segments at the front of some bytes of the input at a place, which follow `start`

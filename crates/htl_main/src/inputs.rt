@@ -1,27 +1,37 @@
 //! The segments of inputs that lie in memory.
 
-ghost use Rattle.std.specs.Prelude.{◌≡◌, false, true, IfOk, IfErr, map};
-ghost use Rattle.htl_segment.specs.Bundles.{Splits, BundleFault};
-ghost use Rattle.htl_main.specs.Inputs.{Decodes, DecodeAll, IsReported, StopsAt};
+ghost use Rattle.std.specs.Prelude.{ℕ, List, IfOk, IfErr, map};
+ghost use Rattle.htl_main.specs.CutInputs.{AreCut};
+ghost use Rattle.htl_main.specs.Ends.{IsInput};
+ghost use Rattle.htl_main.specs.Inputs.{DecodeAll, HasBytes, IsReported, StopsAt};
 ghost use Rattle.htl_main.specs.Parts.{AreParts};
 ghost use Rattle.htl_main.specs.Reads.{NamesOnly, NeverRead};
 
+use crate::cut_inputs::{Accepted, accept};
 use crate::decoded::Decoded;
 use crate::fault::RunFault;
-use htl_segment::{Segment, decode_bundle, from_hex};
+use htl_command::InputForm;
+use htl_reading::{Bundle, early_end};
+use htl_segment::{Segment, Segments, from_hex, split};
 use std::alloc::Global;
 
 /// The segments of all inputs, those of the first input first. The first fault is reported.
-pub(crate) fn decode_all(alloc: Global, hex: bool, inputs: &[Vec<u8>]) -> Result<Decoded, RunFault>
+pub(crate) fn decode_all(
+    alloc: Global,
+    form: InputForm,
+    inputs: &[Vec<u8>],
+) -> Result<Decoded, RunFault>
     ensures ok { IfOk result (λ decoded.
-        DecodeAll hex (map (λ input. input.items) inputs.now) decoded.segments.items) }
-    ensures parts { IfOk result (λ decoded. AreParts hex (map (λ input. input.items) inputs.now)
+        DecodeAll form (map (λ input. input.items) inputs.now) decoded.segments.items) }
+    ensures parts { IfOk result (λ decoded. AreParts form (map (λ input. input.items) inputs.now)
         decoded.segments.items decoded.parts.items) }
-    ensures err { IfErr result (StopsAt hex (IsReported hex) (map (λ input. input.items) inputs.now)) }
+    ensures cut { IfOk result (λ decoded.
+        AreCut form.hex (map (λ input. input.items) inputs.now) decoded.cut) }
+    ensures err { IfErr result (StopsAt form (IsReported form) (map (λ input. input.items) inputs.now)) }
 {
     let mut decoded = Decoded::new(alloc);
     for (place, input) in inputs.iter().enumerate() {
-        let more = decode_input(alloc, hex, place as u64, input)?;
+        let more = decode_input(alloc, form, place as u64, input)?;
         decoded.add(place as u64, more)?;
     }
     Ok(decoded)
@@ -30,29 +40,51 @@ pub(crate) fn decode_all(alloc: Global, hex: bool, inputs: &[Vec<u8>]) -> Result
 /// The segments of the input at a place.
 pub(crate) fn decode_input(
     alloc: Global,
-    hex: bool,
+    form: InputForm,
     place: u64,
     input: &[u8],
-) -> Result<Vec<Segment>, RunFault>
-    ensures ok { IfOk result (λ segments. Decodes hex input.now segments.items) }
-    ensures err { IfErr result (IsReported hex place input.now) }
+) -> Result<Accepted<Vec<Segment>>, RunFault>
+    ensures ok { IfOk result (λ decoded.
+        IsInput form input.now decoded.segments.items decoded.is_cut) }
+    ensures err { IfErr result (IsReported form place input.now) }
     ensures no_read { NeverRead result }
     ensures named { NamesOnly place result }
 {
-    if !hex {
-        return decode_bytes(alloc, place, input);
+    if !form.hex {
+        return decode_bytes(alloc, form, place, input);
     }
     let bytes = from_hex(alloc, input).map_err(|fault| RunFault::of_hex(place, fault))?;
-    decode_bytes(alloc, place, &bytes)
+    decode_bytes(alloc, form, place, &bytes)
 }
 
 /// The segments that the bytes of the input at a place encode.
-#[tactic(auto, using(crate::proofs::InputLaws::reported_bytes))]
-fn decode_bytes(alloc: Global, place: u64, bytes: &[u8]) -> Result<Vec<Segment>, RunFault>
-    ensures ok { IfOk result (λ segments. Decodes false bytes.now segments.items) }
-    ensures err { IfErr result (IsReported false place bytes.now) }
+fn decode_bytes(
+    alloc: Global,
+    form: InputForm,
+    place: u64,
+    bytes: &[u8],
+) -> Result<Accepted<Vec<Segment>>, RunFault>
+    ensures ok { (input : List ℕ) → HasBytes form.hex input bytes.now
+        → IfOk result (λ decoded. IsInput form input decoded.segments.items decoded.is_cut) }
+    ensures err { (input : List ℕ) → HasBytes form.hex input bytes.now
+        → IfErr result (IsReported form place input) }
+    ensures no_read { NeverRead result }
+    ensures named { NamesOnly place result }
 {
-    decode_bundle(alloc, bytes).map_err(|(offset, fault)| RunFault::of_segment(
-        place, offset, fault,
-    ))
+    let mut segments = Segments::new(alloc);
+    let rest = match split(alloc, &mut segments, bytes) {
+        Ok(rest) => rest,
+        Err((offset, fault)) => return Err(RunFault::of_segment(place, offset, fault)),
+    };
+    let offset = (bytes.len() - rest.len()) as u64;
+    let early_end = early_end(offset, rest);
+    let segments = segments.list;
+    accept(
+        form,
+        place,
+        Bundle {
+            segments,
+            early_end,
+        },
+    )
 }

@@ -13,6 +13,7 @@ ghost use Rattle.htl_case.specs.declared.question.AnalystAnswer.TheVariants as f
 ghost use Rattle.htl_case.specs.declared.question.AnalystQuestion.TheVariants as analysts;
 ghost use Rattle.htl_report.specs.declared.answer.Answer.TheVariants as answers;
 ghost use Rattle.htl_report.specs.declared.summary.Totals.{Totals};
+ghost use Rattle.htl_command.specs.declared.question.InputForm.{InputForm};
 ghost use Rattle.htl_command.specs.declared.question.Job.{Job};
 ghost use Rattle.htl_command.specs.declared.question.Question.TheVariants as questions;
 ghost use Rattle.htl_command.specs.declared.question.Since.TheVariants.{Sequence};
@@ -70,8 +71,8 @@ pub fn analysts_agree()
 
 /// Inputs have one coverage, and a summary reports the same.
 pub fn one_coverage()
-    ensures one { (hex : Bool) (inputs : List (List ℕ)) (a b : Coverage)
-        → Covers hex inputs a → Covers hex inputs b → a ≡ b }
+    ensures one { (form : InputForm) (inputs : List (List ℕ)) (a b : Coverage)
+        → Covers form inputs a → Covers form inputs b → a ≡ b }
     ensures summary { (T : Trace) (until : Option ℕ) (coverage : Coverage) (totals : Totals)
         (gaps : List Gap)
         → IsCoverage T coverage → AreTotals T until totals → IsGaps (HasKey T) T.processors gaps

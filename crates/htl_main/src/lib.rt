@@ -14,29 +14,31 @@
 //! `sources.rt` and `inputs.rt` (the segments of sources and of inputs in memory), `decoded.rt`
 //! (which input each segment is of), `casing.rt` and `pairing.rt` (the case of all segments, or the
 //! two that a fault is about), `origin.rt` (where these two came from), `coverage.rt` (what a case
-//! misses of its trace), `answering.rt` (the answer over a case), `unfolded.rt` (segments as they
-//! are, over which a run answers), `summarizing.rt` (the summary of a case), `completed.rt` (what a
-//! run reports beside its answer), `picked_run.rt`, `picking.rt` and `picked.rt` (the run that keeps
+//! misses of its trace), `cut_inputs.rt` (which inputs end within a segment), `answering.rt` (the
+//! answer over a case), `unfolded.rt` (segments as they are, over which a run answers),
+//! `summarizing.rt` (the summary of a case), `completed.rt` (what a run reports beside its answer),
+//! `picked_run.rt`, `picking.rt` and `picked.rt` (the run that keeps
 //! only what its question asks about), `dumping.rt` and `encoding.rt` (the runs of `dump` and
 //! `encode`), `fault.rt` (the faults, their lines and statuses), `refused.rt` (a fault and the two
 //! segments it is about), `laws.rt` (a run has one outcome, inputs have one coverage, and runs and
 //! analysts give the same answers).
 //!
 //! `specs/` is read in this order: `Inputs` (which segments the inputs encode, and which input is
-//! refused first), `Summaries` (what a summary says of a trace), `Coverages` (how much of its trace
-//! a case has), `Subjects` (whether what was asked about has an event), `Answers` and `Printed` (the
-//! answer and its lines, or the first fault in the order of a run), `Origins` (which two segments a
-//! fault is about), `Causes` and `Sources` (how a run ends for out of memory or by a failing device),
-//! `Readings` (how any run reads its sources, in one record), `Dumps` and `Encodings` (what the runs
-//! of `dump` and `encode` write, and why they end), `Loading` (what is loaded before a question is
-//! answered), `Picked` (what a run that keeps only what its question asks about reports, and when
-//! only whole segments tell).
+//! refused first), `CutInputs` (which of them end within a segment), `Summaries` (what a summary says
+//! of a trace), `Coverages` (how much of its trace a case has), `Subjects` (whether what was asked
+//! about has an event), `Answers` and `Printed` (the answer and its lines, or the first fault in the
+//! order of a run), `Origins` (which two segments a fault is about), `Causes` and `Sources` (how a run
+//! ends for out of memory or by a failing device), `Readings` (how any run reads its sources, in one
+//! record), `Dumps` and `Encodings` (what the runs of `dump` and `encode` write, and why they end),
+//! `Loading` (what is loaded before a question is answered), `Picked` (what a run that keeps only what
+//! its question asks about reports, and when only whole segments tell).
 #![tactic(auto)]
 
 mod answering;
 mod casing;
 mod completed;
 mod coverage;
+mod cut_inputs;
 mod decoded;
 mod dumping;
 mod encoding;
@@ -58,6 +60,7 @@ mod unfolded;
 
 pub use completed::{Completed, has_subject};
 pub use coverage::Coverage;
+pub use cut_inputs::CutInputs;
 pub use dumping::dump_from;
 pub use encoding::encode_from;
 pub use fault::RunFault;

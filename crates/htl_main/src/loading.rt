@@ -7,6 +7,7 @@ ghost use Rattle.htl_case.specs.Cases.{IsCase, IsCaseOf};
 ghost use Rattle.htl_command.specs.declared.question.Job.{Job};
 ghost use Rattle.htl_main.specs.Causes.{IsCauseAfter};
 ghost use Rattle.htl_main.specs.Coverages.{IsCoverage};
+ghost use Rattle.htl_main.specs.CutInputs.{AreCut};
 ghost use Rattle.htl_main.specs.Origins.{IsBetween, by_fault};
 ghost use Rattle.htl_main.specs.Readings.{AreRead};
 ghost use Rattle.htl_main.specs.Reads.{NeverWrite};
@@ -15,6 +16,7 @@ ghost use Rattle.htl_main.specs.Loading.{AreLoaded, AreLoadedOf, in_setting};
 
 use crate::casing::case_of;
 use crate::coverage::{Coverage, Missed};
+use crate::cut_inputs::CutInputs;
 use crate::fault::RunFault;
 use crate::printing::{check_gaps, check_workers, read_symbols};
 use crate::refused::Refused;
@@ -26,11 +28,14 @@ use htl_symbols::Symbols;
 use std::alloc::Global;
 use std::thread::Threads;
 
-/// The case of all segments, how much of its trace it has, and the names of its addresses.
+/// The case of all segments, how much of its trace it has, which inputs were cut, and the names of its
+/// addresses.
 #[derive(Drop)]
 pub struct Loaded {
     pub case: Case,
     pub coverage: Coverage,
+    /// The inputs that ended within a segment.
+    pub cut: Option<CutInputs>,
     pub symbols: Symbols,
 }
 
@@ -65,6 +70,8 @@ pub fn load<Rt: Threads + Sync, R: Parted>(
         loaded.case loaded.symbols) }
     ensures case { IfOk result (λ loaded. IsCase loaded.case) }
     ensures coverage { IfOk result (λ loaded. IsCoverage loaded.case loaded.coverage) }
+    ensures cut { (texts : List (List ℕ)) → map R.remaining inputs.old ≡ map Some texts
+        → IfOk result (λ loaded. AreCut setting.form.hex texts loaded.cut) }
     ensures cause { (texts : List (List ℕ)) → map R.remaining inputs.old ≡ map Some texts
         → IfErr (by_fault result) (λ fault. (job : Job) → job.until ≡ until
         → IsSourcesCause (in_setting setting job) texts (map R.remaining inputs.new)
@@ -72,15 +79,16 @@ pub fn load<Rt: Threads + Sync, R: Parted>(
     // Where a fault is about two segments, they are named.
     ensures between { (texts : List (List ℕ)) → map R.remaining inputs.old ≡ map Some texts
         → IfErr result (λ refused.
-        IsBetween setting.hex texts refused.fault refused.between) }
-    ensures reading { AreRead setting.hex R.has_failed R.has_ended R.good_reads
+        IsBetween setting.form texts refused.fault refused.between) }
+    ensures reading { AreRead setting.form.hex R.has_failed R.has_ended R.good_reads
         R.remaining inputs.old inputs.new (by_fault result) }
     ensures no_write { NeverWrite (by_fault result) }
 {
     check_workers(setting.workers)?;
-    let decoded = read_all(rt, alloc, setting.hex, setting.workers, inputs)?;
+    let decoded = read_all(rt, alloc, setting.form, setting.workers, inputs)?;
+    let cut = decoded.cut;
     let case = case_of(alloc, decoded)?;
-    let loaded = with_symbols(alloc, setting.complete, until, case, symbols)?;
+    let loaded = with_symbols(alloc, setting.complete, until, case, cut, symbols)?;
     Ok(loaded)
 }
 
@@ -91,6 +99,7 @@ pub(crate) fn with_symbols(
     complete: bool,
     until: Option<Moment>,
     case: Case,
+    cut: Option<CutInputs>,
     symbols: Option<&[u8]>,
 ) -> Result<Loaded, RunFault>
     ensures ok { IfOk result (λ loaded. (segments : List Content) → IsCaseOf segments case
@@ -98,6 +107,7 @@ pub(crate) fn with_symbols(
         loaded.symbols) }
     ensures case { IfOk result (λ loaded. IsCase loaded.case) }
     ensures coverage { IfOk result (λ loaded. IsCoverage loaded.case loaded.coverage) }
+    ensures cut { IfOk result (λ loaded. loaded.cut ≡ cut) }
     ensures err { IfErr result (λ fault. (segments : List Content) (job : Job)
         → IsCaseOf segments case → job.complete ≡ complete → job.until ≡ until
         → IsCauseAfter segments (option_copied symbols.entry) job fault) }
@@ -109,6 +119,7 @@ pub(crate) fn with_symbols(
     Ok(Loaded {
         case,
         coverage,
+        cut,
         symbols,
     })
 }

@@ -12,6 +12,7 @@ ghost use Rattle.htl_main.specs.Printed.{AreAnswerLines};
 use crate::answering::{answer_of_lists, span_until};
 use crate::completed::{Completed, has_event_about, has_finding};
 use crate::coverage::Missed;
+use crate::cut_inputs::CutInputs;
 use crate::fault::RunFault;
 use crate::printing::{check_gaps, check_subject, lines, read_symbols};
 use htl_answers::growth;
@@ -28,6 +29,7 @@ pub(crate) fn answered_of_picks(
     alloc: Global,
     job: &Job,
     mut case: PickedCase,
+    cut: Option<CutInputs>,
     symbols: Option<&[u8]>,
 ) -> Result<(Vec<u8>, Completed), RunFault>
     requires { is_some (interest_of job.now.question) ≡ true }
@@ -36,7 +38,7 @@ pub(crate) fn answered_of_picks(
         → AreAnswerLines segments (option_copied symbols.entry) job.now answered.0.items) }
     ensures reports { IfOk result (λ answered. (segments : List Content)
         → IsPickedFor job.now.question case segments
-        → ReportsOf segments job.now answered.1) }
+        → ReportsOf segments job.now cut answered.1) }
     ensures err { IfErr result (λ fault. (segments : List Content)
         → IsPickedFor job.now.question case segments
         → IsCauseAfter segments (option_copied symbols.entry) job.now fault) }
@@ -56,6 +58,7 @@ pub(crate) fn answered_of_picks(
         lines,
         Completed {
             coverage,
+            cut,
             has_subject,
             has_finding: has_finding(&answer),
         },

@@ -15,6 +15,7 @@ ghost use Rattle.htl_main.specs.Readings.{AreRead};
 ghost use Rattle.htl_main.specs.Sources.{IsSourcesCause};
 
 use crate::completed::Completed;
+use crate::cut_inputs::CutInputs;
 use crate::fault::RunFault;
 use crate::picked::answered_of_picks;
 use crate::picking::pick_all;
@@ -29,9 +30,9 @@ use std::thread::Threads;
 
 /// The process or the object that the job asks about, where its inputs are bytes.
 pub fn interest(job: &Job) -> Option<Interest>
-    ensures { result ≡ asks_about job.now.hex job.now.question }
+    ensures { result ≡ asks_about job.now.form.hex job.now.question }
 {
-    if job.hex {
+    if job.form.hex {
         return None;
     }
     match job.question {
@@ -66,7 +67,7 @@ pub fn pick_from<Rt: Threads + Sync, R: Parted, W: Sink>(
     requires inputs { All (λ source. R.has_failed source ≡ false) inputs.old }
     requires inside { All (λ source. R.has_ended source ≡ false) inputs.old }
     requires out { W.has_failed out.old ≡ false }
-    requires about { asks_about job.now.hex job.now.question ≡ Some interest }
+    requires about { asks_about job.now.form.hex job.now.question ≡ Some interest }
     // What the sources' bytes come to is printed, or reported.
     ensures ok { (texts : List (List ℕ)) → map R.remaining inputs.old ≡ map Some texts
         → IfOk result (λ done. IfSome done (λ _. Prints job.now texts
@@ -74,7 +75,7 @@ pub fn pick_from<Rt: Threads + Sync, R: Parted, W: Sink>(
     ensures reports { (texts : List (List ℕ)) → map R.remaining inputs.old ≡ map Some texts
         → IfOk result (λ done. IfSome done (Reports job.now texts)) }
     ensures whole { (texts : List (List ℕ)) → map R.remaining inputs.old ≡ map Some texts
-        → IfOk result (λ done. IfNone done (AskForWhole job.now.hex texts)) }
+        → IfOk result (λ done. IfNone done (AskForWhole job.now.form texts)) }
     ensures unwritten { IfOk result (λ done. IfNone done (out.new ≡ out.old)) }
     ensures fine { OnOk result (W.has_failed out.new ≡ false) }
     ensures cause { (texts : List (List ℕ)) → map R.remaining inputs.old ≡ map Some texts
@@ -91,8 +92,8 @@ pub fn pick_from<Rt: Threads + Sync, R: Parted, W: Sink>(
         inputs.old inputs.new result }
 {
     check_workers(job.workers)?;
-    let picks = pick_all(rt, alloc, interest, job.workers, inputs)?;
-    print_picks(alloc, job, picks, symbols, out)
+    let all = pick_all(rt, alloc, job.form, interest, job.workers, inputs)?;
+    print_picks(alloc, job, all.picks, all.cut, symbols, out)
 }
 
 /// Prints the answer over the case of what was picked, or does nothing where only whole segments
@@ -101,6 +102,7 @@ fn print_picks<W: Sink>(
     alloc: Global,
     job: &Job,
     picks: Picks,
+    cut: Option<CutInputs>,
     symbols: Option<&[u8]>,
     out: &mut W,
 ) -> Result<Option<Completed>, RunFault>
@@ -110,7 +112,7 @@ fn print_picks<W: Sink>(
         → IfOk result (λ done. IfSome done (λ _. PrintsOf segments (option_copied symbols.entry)
         job.now (Appends (W.contents out.old) (W.contents out.new)))) }
     ensures reports { (segments : List Content) → ArePickedFor job.now.question picks segments
-        → IfOk result (λ done. IfSome done (ReportsOf segments job.now)) }
+        → IfOk result (λ done. IfSome done (ReportsOf segments job.now cut)) }
     ensures whole { (segments : List Content) → ArePickedFor job.now.question picks segments
         → IfOk result (λ done. IfNone done (NeedsWhole segments)) }
     ensures unwritten { IfOk result (λ done. IfNone done (out.new ≡ out.old)) }
@@ -128,7 +130,7 @@ fn print_picks<W: Sink>(
     let Some(case) = PickedCase::of(picks) else {
         return Ok(None);
     };
-    let (lines, completed) = answered_of_picks(alloc, job, case, symbols)?;
+    let (lines, completed) = answered_of_picks(alloc, job, case, cut, symbols)?;
     write_lines(out, &lines)?;
     Ok(Some(completed))
 }

@@ -3,6 +3,7 @@
 
 ghost use Rattle.std.specs.Prelude.{◌≡◌, ℕ, List, All, Some, false, map};
 ghost use Rattle.std.specs.Prelude.{IfErr, IfOk, IfSome};
+ghost use Rattle.htl_main.specs.CutInputs.{AreCut};
 ghost use Rattle.htl_main.specs.Inputs.{StopsAt};
 ghost use Rattle.htl_main.specs.Picked.{NeverCase};
 ghost use Rattle.htl_main.specs.Picking.{ArePicksMore, ArePicksOfAll};
@@ -10,7 +11,9 @@ ghost use Rattle.htl_main.specs.Reads.{IsRead, NeverWrite};
 ghost use Rattle.htl_main.specs.Readings.{AreRead};
 ghost use Rattle.htl_main.specs.Sources.{IsReportedAt, IsReportedOfSource};
 
+use crate::cut_inputs::{Accepted, CutInputs, accept, with_input};
 use crate::fault::RunFault;
+use htl_command::InputForm;
 use htl_device::{MAX_READS, Parted};
 use htl_event::Interest;
 use htl_reading::gather_bundle;
@@ -18,20 +21,32 @@ use htl_segment::Picks;
 use std::alloc::Global;
 use std::thread::Threads;
 
-/// Picks what is asked about from all sources. The first fault is reported, and ends the reading.
+/// What was picked of all sources, and which of them were cut.
+#[derive(Drop)]
+pub(crate) struct AllPicks {
+    pub picks: Picks,
+    pub cut: Option<CutInputs>,
+}
+
+/// Picks what is asked about from all sources, and tells which of them were cut. The first fault is
+/// reported, and ends the reading.
 pub(crate) fn pick_all<Rt: Threads + Sync, R: Parted>(
     rt: &Rt,
     alloc: Global,
+    form: InputForm,
     interest: Interest,
     workers: u32,
     sources: &mut [R],
-) -> Result<Picks, RunFault>
+) -> Result<AllPicks, RunFault>
     requires fresh { All (λ source. R.has_failed source ≡ false) sources.old }
     requires inside { All (λ source. R.has_ended source ≡ false) sources.old }
+    requires bytes { form.hex ≡ false }
     ensures ok { (inputs : List (List ℕ)) → map R.remaining sources.old ≡ map Some inputs
-        → IfOk result (ArePicksOfAll interest inputs) }
+        → IfOk result (λ all. ArePicksOfAll form interest inputs all.picks) }
+    ensures cut { (inputs : List (List ℕ)) → map R.remaining sources.old ≡ map Some inputs
+        → IfOk result (λ all. AreCut form.hex inputs all.cut) }
     ensures err { (inputs : List (List ℕ)) → map R.remaining sources.old ≡ map Some inputs
-        → IfErr result (StopsAt false (IsReportedAt false (map R.remaining sources.new)
+        → IfErr result (StopsAt form (IsReportedAt form (map R.remaining sources.new)
         (map R.has_ended sources.new)) inputs) }
     ensures reading { AreRead false R.has_failed R.has_ended R.good_reads R.remaining
         sources.old sources.new result }
@@ -39,33 +54,39 @@ pub(crate) fn pick_all<Rt: Threads + Sync, R: Parted>(
     ensures no_case { NeverCase result }
 {
     let mut picks = Picks::new(alloc, interest);
+    let mut cut = None;
     for (place, source) in sources.iter_mut().enumerate() {
-        picks = pick_source(rt, alloc, workers, place as u64, source, picks)?;
+        let more = pick_source(rt, alloc, form, workers, place as u64, source, picks)?;
+        picks = more.segments;
+        cut = with_input(cut, place as u64, more.is_cut);
     }
-    Ok(picks)
+    Ok(AllPicks { picks, cut })
 }
 
-/// Adds to the picks what is asked about from the source at a place.
+/// Adds to the picks what is asked about from the source at a place, and tells whether it was cut.
 fn pick_source<Rt: Threads + Sync, R: Parted>(
     rt: &Rt,
     alloc: Global,
+    form: InputForm,
     workers: u32,
     place: u64,
     source: &mut R,
     picks: Picks,
-) -> Result<Picks, RunFault>
+) -> Result<Accepted<Picks>, RunFault>
     requires fresh { R.has_failed source.old ≡ false }
     requires inside { R.has_ended source.old ≡ false }
-    ensures ok { IfOk result (λ new. IfSome (R.remaining source.old) (ArePicksMore picks new)) }
+    requires bytes { form.hex ≡ false }
+    ensures ok { IfOk result (λ new. IfSome (R.remaining source.old) (λ bytes.
+        ArePicksMore form picks new.segments bytes new.is_cut)) }
     ensures err { IfErr result (λ fault. IfSome (R.remaining source.old) (λ bytes.
-        IsReportedOfSource false (R.remaining source.new) (R.has_ended source.new) place bytes fault)) }
+        IsReportedOfSource form (R.remaining source.new) (R.has_ended source.new) place bytes fault)) }
     ensures reading { IsRead false MAX_READS R.has_failed R.has_ended R.good_reads
         R.remaining place source.old source.new result }
     ensures no_write { NeverWrite result }
     ensures no_case { NeverCase result }
 {
     match gather_bundle(rt, alloc, workers, source, picks) {
-        Ok(picks) => Ok(picks),
+        Ok(bundle) => accept(form, place, bundle),
         Err(fault) => Err(RunFault::of_source(place, fault)),
     }
 }

@@ -9,6 +9,7 @@ ghost use Rattle.htl_main.specs.Answers.{Finds, FindsOver};
 ghost use Rattle.htl_main.specs.CaseOutlines.{IsMissed};
 ghost use Rattle.htl_main.specs.Completeness.{ReportsMissing};
 ghost use Rattle.htl_main.specs.Coverages.{Covers, IsCoverage};
+ghost use Rattle.htl_main.specs.CutInputs.{AreCut};
 ghost use Rattle.htl_main.specs.Printed.{HasSymbols, HasSymbolFault, IsText, WorkersFit, lines_of};
 ghost use Rattle.htl_main.specs.Causes.{Prints, PrintsPart, IsCause};
 ghost use Rattle.htl_main.specs.Moments.{IsCompleteUntil};
@@ -56,7 +57,9 @@ pub fn run<Rt: Threads + Sync, W: Sink>(
     ensures ok { OnOk result (Prints job.now (map (λ input. input.items) inputs.now)
         (option_copied symbols.entry) (W.contents out.old) (W.contents out.new)) }
     ensures coverage { IfOk result (λ completed.
-        Covers job.now.hex (map (λ input. input.items) inputs.now) completed.coverage) }
+        Covers job.now.form (map (λ input. input.items) inputs.now) completed.coverage) }
+    ensures cut { IfOk result (λ completed.
+        AreCut job.now.form.hex (map (λ input. input.items) inputs.now) completed.cut) }
     ensures subject { IfOk result (λ completed. ReportsSubject
         (map (λ input. input.items) inputs.now) job.now completed.has_subject) }
     ensures finding { IfOk result (λ completed. Finds job.now
@@ -64,7 +67,7 @@ pub fn run<Rt: Threads + Sync, W: Sink>(
     ensures fine { OnOk result (W.has_failed out.new ≡ false) }
     ensures cause { IfErr (by_fault result) (IsCause job.now (map (λ input. input.items) inputs.now)
         (option_copied symbols.entry)) }
-    ensures between { IfErr result (λ refused. IsBetween job.now.hex
+    ensures between { IfErr result (λ refused. IsBetween job.now.form
         (map (λ input. input.items) inputs.now) refused.fault refused.between) }
     ensures write { by_fault result ≡ Err RunFault.Write
         → PrintsPart job.now (map (λ input. input.items) inputs.now)
@@ -73,9 +76,10 @@ pub fn run<Rt: Threads + Sync, W: Sink>(
     ensures untouched { IfErr (by_fault result) (λ fault. fault ≢ RunFault.Write → out.new ≡ out.old) }
 {
     check_workers(job.workers)?;
-    let decoded = decode_all(alloc, job.hex, inputs)?;
+    let decoded = decode_all(alloc, job.form, inputs)?;
+    let cut = decoded.cut;
     let case = case_of(alloc, decoded)?;
-    let loaded = with_symbols(alloc, job.complete, job.until, case, symbols)?;
+    let loaded = with_symbols(alloc, job.complete, job.until, case, cut, symbols)?;
     let completed = print_answer(alloc, job, &loaded, out)?;
     Ok(completed)
 }
@@ -93,6 +97,7 @@ pub(crate) fn print_answer<W: Sink>(
     ensures ok { OnOk result (PrintsOver loaded.now.case loaded.now.symbols job.now
         (Appends (W.contents out.old) (W.contents out.new))) }
     ensures coverage { IfOk result (λ completed. completed.coverage ≡ loaded.now.coverage) }
+    ensures cut { IfOk result (λ completed. completed.cut ≡ loaded.now.cut) }
     ensures subject { IfOk result (λ completed.
         HasSubject loaded.now.case job.now completed.has_subject) }
     ensures finding { IfOk result (λ completed.
@@ -110,6 +115,7 @@ pub(crate) fn print_answer<W: Sink>(
     write_lines(out, &text.lines)?;
     Ok(Completed {
         coverage: loaded.coverage,
+        cut: loaded.cut,
         has_subject,
         has_finding: text.has_finding,
     })

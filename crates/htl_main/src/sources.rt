@@ -2,15 +2,19 @@
 
 ghost use Rattle.std.specs.Prelude.{◌≡◌, ℕ, List, All, Some, false};
 ghost use Rattle.std.specs.Prelude.{map, IfOk, IfErr, IfSome};
-ghost use Rattle.htl_main.specs.Inputs.{Decodes, DecodeAll, StopsAt};
+ghost use Rattle.htl_main.specs.CutInputs.{AreCut};
+ghost use Rattle.htl_main.specs.Ends.{IsInput};
+ghost use Rattle.htl_main.specs.Inputs.{DecodeAll, StopsAt};
 ghost use Rattle.htl_main.specs.Parts.{AreParts};
 ghost use Rattle.htl_main.specs.Reads.{IsRead, NeverWrite};
 ghost use Rattle.htl_main.specs.Readings.{AreRead};
 ghost use Rattle.htl_main.specs.Sources.{IsReportedAt, IsReportedOfSource};
 
+use crate::cut_inputs::{Accepted, accept};
 use crate::decoded::Decoded;
 use crate::fault::RunFault;
 use crate::inputs::decode_input;
+use htl_command::InputForm;
 use htl_device::{MAX_READS, Parted, read_whole};
 use htl_reading::read_bundle;
 use htl_segment::Segment;
@@ -22,27 +26,29 @@ use std::thread::Threads;
 pub(crate) fn read_all<Rt: Threads + Sync, R: Parted>(
     rt: &Rt,
     alloc: Global,
-    hex: bool,
+    form: InputForm,
     workers: u32,
     sources: &mut [R],
 ) -> Result<Decoded, RunFault>
     requires fresh { All (λ source. R.has_failed source ≡ false) sources.old }
     requires inside { All (λ source. R.has_ended source ≡ false) sources.old }
     ensures ok { (inputs : List (List ℕ)) → map R.remaining sources.old ≡ map Some inputs
-        → IfOk result (λ decoded. DecodeAll hex inputs decoded.segments.items) }
+        → IfOk result (λ decoded. DecodeAll form inputs decoded.segments.items) }
     ensures parts { (inputs : List (List ℕ)) → map R.remaining sources.old ≡ map Some inputs
         → IfOk result (λ decoded.
-        AreParts hex inputs decoded.segments.items decoded.parts.items) }
+        AreParts form inputs decoded.segments.items decoded.parts.items) }
+    ensures cut { (inputs : List (List ℕ)) → map R.remaining sources.old ≡ map Some inputs
+        → IfOk result (λ decoded. AreCut form.hex inputs decoded.cut) }
     ensures err { (inputs : List (List ℕ)) → map R.remaining sources.old ≡ map Some inputs
-        → IfErr result (StopsAt hex (IsReportedAt hex (map R.remaining sources.new)
+        → IfErr result (StopsAt form (IsReportedAt form (map R.remaining sources.new)
         (map R.has_ended sources.new)) inputs) }
-    ensures reading { AreRead hex R.has_failed R.has_ended R.good_reads R.remaining
+    ensures reading { AreRead form.hex R.has_failed R.has_ended R.good_reads R.remaining
         sources.old sources.new result }
     ensures no_write { NeverWrite result }
 {
     let mut decoded = Decoded::new(alloc);
     for (place, source) in sources.iter_mut().enumerate() {
-        let more = read_input(rt, alloc, hex, workers, place as u64, source)?;
+        let more = read_input(rt, alloc, form, workers, place as u64, source)?;
         decoded.add(place as u64, more)?;
     }
     Ok(decoded)
@@ -53,29 +59,29 @@ pub(crate) fn read_all<Rt: Threads + Sync, R: Parted>(
 fn read_input<Rt: Threads + Sync, R: Parted>(
     rt: &Rt,
     alloc: Global,
-    hex: bool,
+    form: InputForm,
     workers: u32,
     place: u64,
     source: &mut R,
-) -> Result<Vec<Segment>, RunFault>
+) -> Result<Accepted<Vec<Segment>>, RunFault>
     requires fresh { R.has_failed source.old ≡ false }
     requires inside { R.has_ended source.old ≡ false }
-    ensures ok { IfOk result (λ segments. IfSome (R.remaining source.old)
-        (λ bytes. Decodes hex bytes segments.items)) }
+    ensures ok { IfOk result (λ input. IfSome (R.remaining source.old)
+        (λ bytes. IsInput form bytes input.segments.items input.is_cut)) }
     ensures err { IfErr result (λ fault. IfSome (R.remaining source.old) (λ bytes.
-        IsReportedOfSource hex (R.remaining source.new) (R.has_ended source.new) place bytes fault)) }
-    ensures reading { IsRead hex MAX_READS R.has_failed R.has_ended R.good_reads R.remaining
+        IsReportedOfSource form (R.remaining source.new) (R.has_ended source.new) place bytes fault)) }
+    ensures reading { IsRead form.hex MAX_READS R.has_failed R.has_ended R.good_reads R.remaining
         place source.old source.new result }
     ensures no_write { NeverWrite result }
 {
-    if hex {
+    if form.hex {
         return match read_whole(alloc, source) {
-            Ok(text) => decode_input(alloc, true, place, &text),
+            Ok(text) => decode_input(alloc, form, place, &text),
             Err(fault) => Err(RunFault::of_read(place, fault)),
         };
     }
     match read_bundle(rt, alloc, workers, source) {
-        Ok(segments) => Ok(segments),
+        Ok(bundle) => accept(form, place, bundle),
         Err(fault) => Err(RunFault::of_source(place, fault)),
     }
 }

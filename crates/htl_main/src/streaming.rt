@@ -6,6 +6,7 @@ ghost use Rattle.std.specs.Option.{option_copied};
 ghost use Rattle.htl_main.specs.Answers.{Finds};
 ghost use Rattle.htl_main.specs.Causes.{Prints, PrintsPart};
 ghost use Rattle.htl_main.specs.Coverages.{Covers};
+ghost use Rattle.htl_main.specs.CutInputs.{AreCut};
 ghost use Rattle.htl_main.specs.Origins.{IsBetween, by_fault};
 ghost use Rattle.htl_main.specs.Readings.{AreRead};
 ghost use Rattle.htl_main.specs.Sources.{IsSourcesCause};
@@ -44,7 +45,9 @@ pub fn run_from<Rt: Threads + Sync, R: Parted, W: Sink>(
         → OnOk result (Prints job.now texts (option_copied symbols.entry)
         (W.contents out.old) (W.contents out.new)) }
     ensures coverage { (texts : List (List ℕ)) → map R.remaining inputs.old ≡ map Some texts
-        → IfOk result (λ completed. Covers job.now.hex texts completed.coverage) }
+        → IfOk result (λ completed. Covers job.now.form texts completed.coverage) }
+    ensures cut { (texts : List (List ℕ)) → map R.remaining inputs.old ≡ map Some texts
+        → IfOk result (λ completed. AreCut job.now.form.hex texts completed.cut) }
     ensures subject { (texts : List (List ℕ)) → map R.remaining inputs.old ≡ map Some texts
         → IfOk result (λ completed. ReportsSubject texts job.now completed.has_subject) }
     ensures finding { (texts : List (List ℕ)) → map R.remaining inputs.old ≡ map Some texts
@@ -60,14 +63,14 @@ pub fn run_from<Rt: Threads + Sync, R: Parted, W: Sink>(
     // Where a fault is about two segments, they are named.
     ensures between { (texts : List (List ℕ)) → map R.remaining inputs.old ≡ map Some texts
         → IfErr result (λ refused.
-        IsBetween job.now.hex texts refused.fault refused.between) }
+        IsBetween job.now.form texts refused.fault refused.between) }
     ensures failed { by_fault result ≡ Err RunFault.Write → W.has_failed out.new ≡ true }
-    ensures reading { AreRead job.now.hex R.has_failed R.has_ended R.good_reads
+    ensures reading { AreRead job.now.form.hex R.has_failed R.has_ended R.good_reads
         R.remaining inputs.old inputs.new (by_fault result) }
     ensures untouched { IfErr (by_fault result) (λ fault. fault ≢ RunFault.Write → out.new ≡ out.old) }
 {
     let setting = Setting {
-        hex: job.hex,
+        form: job.form,
         workers: job.workers,
         complete: job.complete,
     };

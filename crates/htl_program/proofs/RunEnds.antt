@@ -5,6 +5,7 @@ use Rattle.htl_command.specs.declared.question.Job.{Job}
 use Rattle.htl_main.specs.Answers.{Finds}
 use Rattle.htl_main.specs.Causes.{Prints, PrintsPart}
 use Rattle.htl_main.specs.Coverages.{Covers}
+use Rattle.htl_main.specs.CutInputs.{AreCut}
 use Rattle.htl_main.specs.Origins.{IsBetween, by_fault}
 use Rattle.htl_main.specs.Sources.{IsSourcesCause}
 use Rattle.htl_main.specs.Subjects.{ReportsSubject}
@@ -17,16 +18,17 @@ use Rattle.htl_program.specs.Endings.{Ends}
 -- the clauses of a run say how it ends
 pub run_ends : (job : Job) (texts : List (List ℕ)) (table : Option (List ℕ)) (lefts : List (Option (List ℕ))) (ends : List Bool)
     (old new : Option (List ℕ)) (result : Result Completed Refused) → OnOk result (Prints job texts table old new)
-    → IfOk result (λ completed. Covers job.hex texts completed.coverage)
+    → IfOk result (λ completed. Covers job.form texts completed.coverage)
+    → IfOk result (λ completed. AreCut job.form.hex texts completed.cut)
     → IfOk result (λ completed. ReportsSubject texts job completed.has_subject)
     → IfOk result (λ completed. Finds job texts completed.has_finding)
     → IfErr (by_fault result) (IsSourcesCause job texts lefts ends table)
     → (by_fault result ≡ Err Write → PrintsPart job texts table old new)
-    → IfErr result (λ refused. IsBetween job.hex texts refused.fault refused.between)
+    → IfErr result (λ refused. IsBetween job.form texts refused.fault refused.between)
     → Ends job texts table lefts ends old new result
-run_ends job texts table lefts ends old new (Ok completed) prints covers subject finds cause write between =
-    (prints, record { coverage = covers; subject = subject; finding = finds })
-run_ends job texts table lefts ends old new (Err refused) prints covers subject finds cause write between = record {
+run_ends job texts table lefts ends old new (Ok completed) prints covers cut subject finds cause write between =
+    (prints, record { coverage = covers; cut = cut; subject = subject; finding = finds })
+run_ends job texts table lefts ends old new (Err refused) prints covers cut subject finds cause write between = record {
   cause = cause;
   between = between;
   written = λ is. write (ap Err is);

@@ -1,13 +1,16 @@
 -- How a run in a world ends (this project's own).
 use Rattle.std.specs.Prelude.{◌≡◌, ◌⊎◌, ℕ, Bool, List, Option, Result, Ok, Err}
+use Rattle.htl_command.specs.declared.question.InputForm.{InputForm}
 use Rattle.htl_command.specs.declared.question.Job.{Job}
 use Rattle.htl_main.specs.Causes.{Prints, PrintsPart}
+use Rattle.htl_main.specs.CutInputs.{AreCut}
 use Rattle.htl_main.specs.Dumps.{Dumps, DumpStops}
 use Rattle.htl_main.specs.Encodings.{EncodesInto, EncodesPart, EncodingStops}
 use Rattle.htl_main.specs.Origins.{IsBetween}
 use Rattle.htl_main.specs.Picked.{Reports}
 use Rattle.htl_main.specs.Sources.{IsSourcesCause}
 use Rattle.htl_main.specs.declared.completed.Completed.{Completed}
+use Rattle.htl_main.specs.declared.cut_inputs.CutInputs.{CutInputs}
 use Rattle.htl_main.specs.declared.fault.RunFault.{RunFault}
 use Rattle.htl_main.specs.declared.fault.RunFault.TheVariants.{Memory, Read, SymbolsRead, Write}
 use Rattle.htl_main.specs.declared.origin.Between.TheVariants.{Nothing}
@@ -18,7 +21,7 @@ use Rattle.htl_main.specs.declared.refused.Refused.{Refused}
 pub record IsRefusal (job : Job) (texts : List (List ℕ)) (table : Option (List ℕ)) (lefts : List (Option (List ℕ))) (ends : List Bool)
     (old new : Option (List ℕ)) (refused : Refused) : Type 0 where
   pub cause : IsSourcesCause job texts lefts ends table refused.fault
-  pub between : IsBetween job.hex texts refused.fault refused.between
+  pub between : IsBetween job.form texts refused.fault refused.between
   pub written : refused.fault ≡ Write → PrintsPart job texts table old new
 
 -- The answer was printed, and what is reported beside it holds; or there is a reason why not.
@@ -33,11 +36,12 @@ abbrev pub RunsOut : {S : Type 0} → Result S Refused → Type 0
 RunsOut (Ok done) = ⊥
 RunsOut (Err refused) = (refused.fault ≡ Memory) × (refused.between ≡ Nothing)
 
--- the texts of the segments were written, or there is a reason why not, which may be that memory was refused before any was read
-abbrev pub EndsDump : {S : Type 0} → Bool → List (List ℕ) → List (Option (List ℕ)) → List Bool → Option (List ℕ) → Option (List ℕ)
-    → Result S RunFault → Type 0
-EndsDump hex texts lefts ends old new (Ok done) = Dumps hex texts old new
-EndsDump hex texts lefts ends old new (Err fault) = DumpStops hex texts lefts ends old new fault ⊎ ((fault ≡ Memory) × (new ≡ old))
+-- The texts of the segments were written, of inputs of which these were cut; or there is a reason why not, which may be that memory was
+-- refused before any was read.
+abbrev pub EndsDump : InputForm → List (List ℕ) → List (Option (List ℕ)) → List Bool → Option (List ℕ) → Option (List ℕ)
+    → Result (Option CutInputs) RunFault → Type 0
+EndsDump form texts lefts ends old new (Ok cut) = Dumps form texts old new × AreCut form.hex texts cut
+EndsDump form texts lefts ends old new (Err fault) = DumpStops form texts lefts ends old new fault ⊎ ((fault ≡ Memory) × (new ≡ old))
 
 -- the same of the segments that texts encode
 abbrev pub EndsEncoding : {S : Type 0} → Bool → List (List ℕ) → List (Option (List ℕ)) → List Bool → Option (List ℕ) → Option (List ℕ)

@@ -2,7 +2,7 @@
 use Rattle.std.specs.Prelude.{◌≡◌, ◌≢◌, ◌≤◌, ◌⊎◌, ◌&&◌, ◌||◌, ⊤, not, ℕ, Bool, true, false, List, map, length, Option, Some}
 use Rattle.std.specs.Prelude.{IfErr, IfOk, IfSome, OnOk, Result, Ok, Err, String, string_bytes}
 use Rattle.std.specs.Io.KnownBytes.{Appends}
-use Rattle.htl_ask.specs.Asking.{BeginsAndGets, IsRunsCause, IsRunsSubject, IsRunsText, before_dialogue}
+use Rattle.htl_ask.specs.Asking.{BeginsAndGets, IsRunsCause, IsRunsSubject, IsRunsText, Opening, Opens, before_dialogue}
 use Rattle.htl_ask.specs.declared.fault.AskFault.{AskFault}
 use Rattle.htl_ask.specs.declared.fault.AskFault.TheVariants as asks
 use Rattle.htl_command.specs.Refusals.{IsUsageWith, RefusesArguments}
@@ -11,29 +11,28 @@ use Rattle.htl_command.specs.declared.command.Run.{Run}
 use Rattle.htl_command.specs.declared.command.Command.{Command}
 use Rattle.htl_command.specs.declared.command.Command.TheVariants as wish
 use Rattle.htl_command.specs.declared.command.CommandLine.{CommandLine}
-use Rattle.htl_command.specs.declared.command.Conversion.{Conversion}
 use Rattle.htl_command.specs.declared.command.Dialogue.{Dialogue}
 use Rattle.htl_command.specs.declared.fault.ParseFault.{ParseFault}
 use Rattle.htl_command.specs.declared.fault.ParseFault.TheVariants.{Help, Usage, Memory}
+use Rattle.htl_command.specs.declared.question.InputForm.{InputForm}
 use Rattle.htl_device.specs.Devices.{AppendsPrefix}
 use Rattle.htl_device.specs.declared.whole.TheConstants.{MAX_READS}
 use Rattle.htl_dialogue.specs.Dialogues.{Converses, StopsAt}
 use Rattle.htl_dialogue.specs.Notes.{Note}
 use Rattle.htl_dialogue.specs.declared.dialogue.DialogueFault.{DialogueFault}
 use Rattle.htl_dialogue.specs.declared.dialogue.DialogueFault.TheVariants as dialogues
-use Rattle.htl_main.specs.Coverages.{Covers}
 use Rattle.htl_main.specs.Dumps.{is_failed_write}
 use Rattle.htl_main.specs.Origins.{IsBetween, by_fault}
 use Rattle.htl_main.specs.Sources.{IsEndless, IsTrueAt}
 use Rattle.htl_main.specs.declared.completed.Completed.{Completed}
-use Rattle.htl_main.specs.declared.coverage.Coverage.{Coverage}
+use Rattle.htl_main.specs.declared.cut_inputs.CutInputs.{CutInputs}
 use Rattle.htl_main.specs.declared.fault.RunFault.{RunFault}
 use Rattle.htl_main.specs.declared.fault.RunFault.TheVariants as faults
 use Rattle.htl_main.specs.declared.refused.Refused.{Refused}
 use Rattle.htl_program.specs.Endings.{Ends, EndsDump, EndsEncoding, IsUnopened, IsUntabled, RunsOut}
 use Rattle.htl_program.specs.Readings.{AreInputs}
-use Rattle.htl_program.specs.Sayings.{Hears, HearsAll, HearsRun, Saying, alone, fault, fault_said, no_memory, notes_said, stop_said, text}
-use Rattle.htl_program.specs.Sayings.{unwritten}
+use Rattle.htl_program.specs.Sayings.{Hears, HearsAll, HearsRun, Saying, alone, cut_noted, fault, fault_said, no_memory, notes_said}
+use Rattle.htl_program.specs.Sayings.{stop_said, text, unwritten}
 use Rattle.htl_program.specs.Statuses.{conversion_status, dialogue_status, end_status}
 use Rattle.htl_program.specs.Words.{explained}
 use Rattle.htl_program.specs.Worlds.{IsFirstAbsent, IsFirstRefused, IsTable, IsTableAbsent, of_each, of_inputs}
@@ -108,7 +107,7 @@ pub record IsAnswered {R : Type 0} (world : Known) (inputs : Opened R) (old new 
   pub absent : (place : ℕ) → IsAbsentAt world run.files.items place → IsUnopened place (by_fault ended)
   pub untabled : (texts : List (List ℕ)) → HaveTexts world run.files.items texts → IsTableAbsent world.is_absent run.symbols
       → IsUntabled (by_fault ended)
-  pub reading : AreInputs run.job.hex inputs.has_failed inputs.has_ended inputs.good_reads inputs.remaining
+  pub reading : AreInputs run.job.form.hex inputs.has_failed inputs.has_ended inputs.good_reads inputs.remaining
       (of_inputs world.holds world.standard run.files.items) inputs.files (by_fault ended)
   pub read : ReportsRead world inputs run.files.items (by_fault ended)
   pub untouched : IfErr (by_fault ended) (λ reported. reported ≢ faults.Write → new.out ≡ old.out)
@@ -139,30 +138,35 @@ abbrev pub SaysConversion : {S : Type 0} → Bool → Option (List Saying) → O
 SaysConversion in_words old new command (Ok done) = new ≡ old
 SaysConversion in_words old new command (Err reported) = SaysFault in_words old new command (alone reported)
 
-pub record DoesDump {R : Type 0} (in_words : Bool) (world : Known) (inputs : Opened R) (old new : Told) (command : Command)
-    (of : Conversion) (status : ℕ) : Type 0 where
-  pub ended : Result (Unit {0}) RunFault
-  pub ends : (texts : List (List ℕ)) → HaveTexts world of.files.items texts
-      → EndsDump of.hex texts (lefts inputs) (ends inputs) old.out new.out ended
-  pub absent : (place : ℕ) → IsAbsentAt world of.files.items place → IsUnopened place ended × (new.out ≡ old.out)
-  pub reading : AreInputs of.hex inputs.has_failed inputs.has_ended inputs.good_reads inputs.remaining
-      (of_inputs world.holds world.standard of.files.items) inputs.files ended
-  pub read : ReportsRead world inputs of.files.items ended
+-- the same of a dump: which inputs end within a segment, where they may
+abbrev pub SaysDump : Bool → Option (List Saying) → Option (List Saying) → Command → Result (Option CutInputs) RunFault → Type 0
+SaysDump in_words old new command (Ok cut) = HearsAll old new (cut_noted in_words cut)
+SaysDump in_words old new command (Err reported) = SaysFault in_words old new command (alone reported)
+
+pub record DoesDump {R A : Type 0} (in_words : Bool) (world : Known) (inputs : Opened R) (old new : Told) (command : Command)
+    (form : InputForm) (files : List (String A)) (status : ℕ) : Type 0 where
+  pub ended : Result (Option CutInputs) RunFault
+  pub ends : (texts : List (List ℕ)) → HaveTexts world files texts
+      → EndsDump form texts (lefts inputs) (ends inputs) old.out new.out ended
+  pub absent : (place : ℕ) → IsAbsentAt world files place → IsUnopened place ended × (new.out ≡ old.out)
+  pub reading : AreInputs form.hex inputs.has_failed inputs.has_ended inputs.good_reads inputs.remaining
+      (of_inputs world.holds world.standard files) inputs.files ended
+  pub read : ReportsRead world inputs files ended
   pub failed : new.is_full ≡ is_failed_write ended
   pub status_is : status ≡ conversion_status ended
   pub after_run : Option (List Saying)
   pub hears_run : HearsRun command old.heard after_run
-  pub said : SaysConversion in_words after_run new.heard command ended
+  pub said : SaysDump in_words after_run new.heard command ended
 
-pub record DoesEncode {R : Type 0} (in_words : Bool) (world : Known) (inputs : Opened R) (old new : Told) (command : Command)
-    (of : Conversion) (status : ℕ) : Type 0 where
+pub record DoesEncode {R A : Type 0} (in_words : Bool) (world : Known) (inputs : Opened R) (old new : Told) (command : Command)
+    (hex : Bool) (files : List (String A)) (status : ℕ) : Type 0 where
   pub ended : Result (Unit {0}) RunFault
-  pub ends : (texts : List (List ℕ)) → HaveTexts world of.files.items texts
-      → EndsEncoding of.hex texts (lefts inputs) (ends inputs) old.out new.out ended
-  pub absent : (place : ℕ) → IsAbsentAt world of.files.items place → IsUnopened place ended
+  pub ends : (texts : List (List ℕ)) → HaveTexts world files texts
+      → EndsEncoding hex texts (lefts inputs) (ends inputs) old.out new.out ended
+  pub absent : (place : ℕ) → IsAbsentAt world files place → IsUnopened place ended
   pub reading : AreInputs true inputs.has_failed inputs.has_ended inputs.good_reads inputs.remaining
-      (of_inputs world.holds world.standard of.files.items) inputs.files ended
-  pub read : ReportsRead world inputs of.files.items ended
+      (of_inputs world.holds world.standard files) inputs.files ended
+  pub read : ReportsRead world inputs files ended
   pub failed : new.is_full ≡ is_failed_write ended
   pub untouched : IfErr ended (λ reported. reported ≢ faults.Write → new.out ≡ old.out)
   pub status_is : status ≡ conversion_status ended
@@ -189,9 +193,10 @@ Explains old new bytes status =
     ⊎ ((status ≡ 6) × (new.out ≡ old.out) × Hears old.heard new.heard (fault (alone faults.Memory)))
 
 -- Segments are made of text, but their bytes aren't shown to a person.
-abbrev pub Encodes : {R : Type 0} → Bool → Bool → Known → Opened R → Told → Told → Command → Conversion → ℕ → Type 0
-Encodes true in_words world inputs old new command of status = (why : ParseFault) × IsUsageWith ⊤ why × Refuses old new why status
-Encodes false in_words world inputs old new command of status = DoesEncode in_words world inputs old new command of status
+abbrev pub Encodes : {R A : Type 0} → Bool → Bool → Known → Opened R → Told → Told → Command → Bool → List (String A) → ℕ → Type 0
+Encodes true in_words world inputs old new command hex files status =
+    (why : ParseFault) × IsUsageWith ⊤ why × Refuses old new why status
+Encodes false in_words world inputs old new command hex files status = DoesEncode in_words world inputs old new command hex files status
 
 -- how a dialogue's end is said, once it is over: nothing, if it ended well
 abbrev pub SaysDialogue : {S : Type 0} → Bool → Option (List Saying) → Option (List Saying) → Command → Result S AskFault → Type 0
@@ -230,9 +235,9 @@ with_notes notes speaker = record speaker {
   wants_absence = speaker.wants_absence || notes;
 }
 
--- the output got these replies, and who types the lines these notes, after they were told how much of its trace the case has
-abbrev pub HasGot : {S : Type 0} → Spoken S → S → Told → Told → Coverage → List ℕ → List Note → Type 0
-HasGot speaker listening old new coverage = BeginsAndGets old.out new.out speaker.told speaker.before listening coverage
+-- the output got these replies, and who types the lines these notes, after they were told this
+abbrev pub HasGot : {S : Type 0} → Spoken S → S → Told → Told → Opening → List ℕ → List Note → Type 0
+HasGot speaker listening old new opening = BeginsAndGets old.out new.out speaker.told speaker.before listening opening
 
 -- Nothing was read of the questions, of which these are the bytes.
 pub record IsUnread {R : Type 0} (inputs : Opened R) (questions : R) (bytes : Option (List ℕ)) : Type 0 where
@@ -249,14 +254,14 @@ pub record DoesConverse {S R : Type 0} (in_words : Bool) (speaker : Spoken S) (w
   pub asked : inputs.questions ≡ Some questions
   pub replies : (texts : List (List ℕ)) → (table : Option (List ℕ)) → (lines : List ℕ) → HaveTexts world of.files.items texts
       → IsTable world.holds of.symbols table → world.standard ≡ Some lines
-      → IfOk ended (λ has_wrong. (coverage : Coverage) × Covers of.setting.hex texts coverage
+      → IfOk ended (λ has_wrong. (opening : Opening) × Opens of.setting.form texts opening
       × Converses (IsRunsText of.setting texts table) (IsRunsSubject of.setting texts) speaker.wants_absence lines
-      (HasGot speaker listening old new coverage) has_wrong)
+      (HasGot speaker listening old new opening) has_wrong)
   pub stops : (texts : List (List ℕ)) → (table : Option (List ℕ)) → (lines : List ℕ) → (stopped : DialogueFault)
       → HaveTexts world of.files.items texts → IsTable world.holds of.symbols table → world.standard ≡ Some lines
-      → ended ≡ Err (asks.Dialogue stopped) → (coverage : Coverage) × Covers of.setting.hex texts coverage
+      → ended ≡ Err (asks.Dialogue stopped) → (opening : Opening) × Opens of.setting.form texts opening
       × StopsAt (IsRunsText of.setting texts table) (IsRunsSubject of.setting texts) speaker.wants_absence lines
-      (inputs.remaining questions) (inputs.has_failed questions) (HasGot speaker listening old new coverage) stopped
+      (inputs.remaining questions) (inputs.has_failed questions) (HasGot speaker listening old new opening) stopped
   -- What failed is reported, and nothing else is reported as failed.
   pub lines : inputs.has_failed questions ≡ true → ended ≡ Err (asks.Dialogue dialogues.Questions)
   pub unread : ended ≡ Err (asks.Dialogue dialogues.Questions)
@@ -268,11 +273,11 @@ pub record DoesConverse {S R : Type 0} (in_words : Bool) (speaker : Spoken S) (w
       → IfErr (by_fault (before_dialogue ended)) (λ reported.
       IsRunsCause of.setting texts (lefts inputs) (ends inputs) table reported ⊎ (reported ≡ faults.Memory))
   pub between : (texts : List (List ℕ)) → HaveTexts world of.files.items texts
-      → IfErr (before_dialogue ended) (λ refused. IsBetween of.setting.hex texts refused.fault refused.between)
+      → IfErr (before_dialogue ended) (λ refused. IsBetween of.setting.form texts refused.fault refused.between)
   pub absent : (place : ℕ) → IsAbsentAt world of.files.items place → IsUnopened place (by_fault (before_dialogue ended))
   pub untabled : (texts : List (List ℕ)) → HaveTexts world of.files.items texts → IsTableAbsent world.is_absent of.symbols
       → IsUntabled (by_fault (before_dialogue ended))
-  pub reading : AreInputs of.setting.hex inputs.has_failed inputs.has_ended inputs.good_reads inputs.remaining
+  pub reading : AreInputs of.setting.form.hex inputs.has_failed inputs.has_ended inputs.good_reads inputs.remaining
       (of_inputs world.holds world.standard of.files.items) inputs.files (by_fault (before_dialogue ended))
   pub read : ReportsRead world inputs of.files.items (by_fault (before_dialogue ended))
   -- Before the files are read no line is, and nothing is written or told.
@@ -290,9 +295,10 @@ abbrev pub Does : {S R : Type 0} → Bool → Bool → Spoken S → Known → Op
 Does sees in_words speaker world inputs old new (wish.Question run) status =
     DoesAnswer in_words world inputs old new (wish.Question run) run status
 Does sees in_words speaker world inputs old new (wish.Explain reported) status = Explains old new (explained reported) status
-Does sees in_words speaker world inputs old new (wish.Dump of) status = DoesDump in_words world inputs old new (wish.Dump of) of status
-Does sees in_words speaker world inputs old new (wish.Encode of) status =
-    Encodes (not of.hex && sees) in_words world inputs old new (wish.Encode of) of status
+Does sees in_words speaker world inputs old new (wish.Dump form files) status =
+    DoesDump in_words world inputs old new (wish.Dump form files) form files.items status
+Does sees in_words speaker world inputs old new (wish.Encode hex files) status =
+    Encodes (not hex && sees) in_words world inputs old new (wish.Encode hex files) hex files.items status
 Does sees in_words speaker world inputs old new (wish.Ask of) status =
     DoesConverse in_words speaker world inputs old new (wish.Ask of) of status
 

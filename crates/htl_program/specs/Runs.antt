@@ -15,7 +15,7 @@ pub record IsRun {R O : Type 0} (job : Job) (table : Option (List ℕ)) (has_fai
     (result : Result Completed Refused) : Type 0 where
   pub ends : (texts : List (List ℕ)) → map remaining old ≡ map Some texts
       → Ends job texts table (map remaining new) (map has_ended new) (contents before) (contents after) result
-  pub reading : AreRead job.hex has_failed has_ended good_reads remaining old new (by_fault result)
+  pub reading : AreRead job.form.hex has_failed has_ended good_reads remaining old new (by_fault result)
   pub untouched : IfErr (by_fault result) (λ fault. fault ≢ Write → after ≡ before)
   pub failed : by_fault result ≡ Err Write → is_full after ≡ true
   pub fine : OnOk result (is_full after ≡ false)

@@ -11,6 +11,7 @@ use Rattle.htl_dialogue.specs.declared.dialogue.DialogueFault.{DialogueFault}
 use Rattle.htl_main.specs.Moments.{is_above}
 use Rattle.htl_main.specs.declared.completed.Completed.{Completed}
 use Rattle.htl_main.specs.declared.coverage.Coverage.{Coverage}
+use Rattle.htl_main.specs.declared.cut_inputs.CutInputs.{CutInputs}
 use Rattle.htl_main.specs.declared.fault.RunFault.{RunFault}
 use Rattle.htl_main.specs.declared.origin.Between.TheVariants.{Nothing}
 use Rattle.htl_main.specs.declared.refused.Refused.{Refused}
@@ -19,7 +20,8 @@ use Rattle.htl_program.specs.declared.subject.Subject.{Subject}
 
 -- One thing that a person is told: that the run of a command begins, and that it has ended; a text as it stands; that memory was refused;
 -- that a text could not be written; the fault that ended a run, and the same in words, by what its command names; that what was asked
--- about has no event; that segments are missing; why the replies of a dialogue stopped, and the same in words.
+-- about has no event; that segments are missing; which inputs end within a segment; why the replies of a dialogue stopped, and the same in
+-- words.
 pub data Saying : Type 0 where
   begun : Command → Saying
   over : Saying
@@ -30,6 +32,7 @@ pub data Saying : Type 0 where
   meaning : Command → Refused → Saying
   absence : Subject → Saying
   gaps : Coverage → Saying
+  cut : CutInputs → Saying
   stop : DialogueFault → Saying
   stop_meaning : DialogueFault → Saying
 
@@ -69,11 +72,22 @@ is_touched coverage until = not (coverage.gaps == 0) && is_above until coverage.
 abbrev pub gaps_said : Coverage → Option Moment → List Saying
 gaps_said coverage until = if is_touched coverage until then gaps coverage ∷ [] else []
 
+-- some inputs end within a segment
+abbrev pub cut_said : Option CutInputs → List Saying
+cut_said None = []
+cut_said (Some inputs) = cut inputs ∷ []
+
+-- what is said beside the text of segments, where words are wanted
+abbrev pub cut_noted : Bool → Option CutInputs → List Saying
+cut_noted false inputs = []
+cut_noted true inputs = cut_said inputs
+
 -- what is said beside an answer, where words are wanted
 abbrev pub notes_said : Bool → Job → Completed → List Saying
 notes_said false job completed = []
 notes_said true job completed =
-    absence_said (absent_subject job.question completed.has_subject) ++ gaps_said completed.coverage job.until
+    absence_said (absent_subject job.question completed.has_subject)
+    ++ (gaps_said completed.coverage job.until ++ cut_said completed.cut)
 
 -- These things were said, one after the other, and nothing else.
 abbrev pub HearsAll : Option (List Saying) → Option (List Saying) → List Saying → Type 0

@@ -52,7 +52,7 @@ pub fn answer<Rt: Threads + Sync, W: World, O: Sink>(
         → of_inputs (W.holds world.now) (W.standard world.now) run.now.files.items ≡ map Some texts
         → IsTableAbsent (W.is_absent world.now) run.now.symbols → IsUntabled (by_fault result) }
     // The inputs were read as any run reads its sources.
-    ensures reading { AreInputs run.now.job.hex W.Input.has_failed
+    ensures reading { AreInputs run.now.job.form.hex W.Input.has_failed
         W.Input.has_ended W.Input.good_reads W.Input.remaining
         (of_inputs (W.holds world.now) (W.standard world.now) run.now.files.items)
         inputs.new.items (by_fault result) }
@@ -93,7 +93,7 @@ fn run_inputs<Rt: Threads + Sync, W: World, O: Sink>(
         → Ends run.now.job texts (option_copied symbols.entry)
         (map W.Input.remaining inputs.new.items) (map W.Input.has_ended inputs.new.items)
         (O.contents out.old) (O.contents out.new) result ⊎ RunsOut result }
-    ensures reading { AreInputs run.now.job.hex W.Input.has_failed
+    ensures reading { AreInputs run.now.job.form.hex W.Input.has_failed
         W.Input.has_ended W.Input.good_reads W.Input.remaining
         (of_inputs (W.holds world.now) (W.standard world.now) run.now.files.items)
         inputs.new.items (by_fault result) }
@@ -122,7 +122,7 @@ fn run_inputs<Rt: Threads + Sync, W: World, O: Sink>(
 /// once more.
 fn pickable<W: World>(world: &W, run: &Run) -> Option<Interest>
     ensures { IfSome result (λ interest.
-        asks_about run.now.job.hex run.now.job.question ≡ Some interest) }
+        asks_about run.now.job.form.hex run.now.job.question ≡ Some interest) }
 {
     if can_be_read_again(world, &run.files) {
         interest(&run.job)

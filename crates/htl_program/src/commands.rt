@@ -3,23 +3,22 @@
 ghost use Rattle.std.specs.Prelude.{◌≡◌, ◌&&◌, ◌||◌, false, map, not, string_bytes};
 ghost use Rattle.htl_program.specs.Programs.{Does, DoesAnswer, DoesConverse, DoesDump, DoesEncode};
 ghost use Rattle.htl_program.specs.Programs.{Encodes, Explains, IsPrinted, Obeys, Refuses};
-ghost use Rattle.htl_program.specs.Programs.{SaysConversion, known, opened, spoken, told, with_notes};
-ghost use Rattle.htl_program.specs.Statuses.{conversion_status};
+ghost use Rattle.htl_program.specs.Programs.{known, opened, spoken, told, with_notes};
 ghost use Rattle.htl_program.specs.Words.{explained};
 
 use crate::answering::answer;
 use crate::conversing::converse;
 use crate::converting::{dump, encode};
-use crate::ending::{status_after, status_of_answer};
+use crate::ending::{status_after, status_of_answer, status_of_conversion};
 use crate::explained::Explained;
 use crate::inputs::Inputs;
 use crate::output::Output;
 use crate::person::Person;
-use crate::saying::{alone, report, say_answer, say_dialogue};
+use crate::saying::{alone, say_answer, say_dialogue, say_dump, say_encoding};
 use crate::speaker::Speaker;
 use crate::world::World;
 use htl_command::{
-    Command, CommandLine, Conversion, Dialogue, ParseFault, PrintedFault, Run, parse,
+    Command, CommandLine, Dialogue, InputForm, ParseFault, PrintedFault, Run, parse,
 };
 use htl_device::{Sink, Source, write_whole};
 use htl_main::RunFault;
@@ -115,8 +114,12 @@ fn obey<Rt: Threads + Sync, W: World, O: Output, P: Person, S: Speaker>(
             )
         }
         Command::Explain(fault) => do_explain(alloc, *fault, out, person),
-        Command::Dump(of) => do_dump(alloc, world, command, of, in_words, inputs, out, person),
-        Command::Encode(of) => do_encode(alloc, world, command, of, in_words, inputs, out, person),
+        Command::Dump { form, files } => do_dump(
+            alloc, world, command, *form, files, in_words, inputs, out, person,
+        ),
+        Command::Encode { hex, files } => do_encode(
+            alloc, world, command, *hex, files, in_words, inputs, out, person,
+        ),
         Command::Ask(of) => {
             speaker.takes_notes(line.notes);
             do_converse(
@@ -178,7 +181,8 @@ fn do_dump<W: World, O: Output, P: Person>(
     alloc: Global,
     world: &W,
     command: &Command,
-    of: &Conversion,
+    form: InputForm,
+    files: &[String],
     in_words: bool,
     inputs: &mut Inputs<W::Input>,
     out: &mut O,
@@ -189,12 +193,13 @@ fn do_dump<W: World, O: Output, P: Person>(
         (opened W.Input.remaining W.Input.has_ended W.Input.has_failed W.Input.good_reads
         inputs.new)
         (told O.contents O.has_failed P.heard out.old person.old)
-        (told O.contents O.has_failed P.heard out.new person.new) command.now of.now result }
+        (told O.contents O.has_failed P.heard out.new person.new) command.now form files.now result }
 {
     person.begins(command);
-    let ended = dump(alloc, world, of, &mut inputs.files, out);
+    let ended = dump(alloc, world, form, files, &mut inputs.files, out);
     person.ends();
-    end_conversion(command, in_words, ended, out, person)
+    say_dump(command, in_words, ended, out, person);
+    status_of_conversion(ended)
 }
 
 /// Makes segments of text. Their bytes are of no use to a person.
@@ -202,24 +207,27 @@ fn do_encode<W: World, O: Output, P: Person>(
     alloc: Global,
     world: &W,
     command: &Command,
-    of: &Conversion,
+    hex: bool,
+    files: &[String],
     in_words: bool,
     inputs: &mut Inputs<W::Input>,
     out: &mut O,
     person: &mut P,
 ) -> u8
     requires { O.has_failed out.old ≡ false }
-    ensures { Encodes (not of.now.hex && P.sees_output person.old) in_words
+    ensures { Encodes (not hex && P.sees_output person.old) in_words
         (known W.holds W.is_absent W.standard world.now)
         (opened W.Input.remaining W.Input.has_ended W.Input.has_failed W.Input.good_reads
         inputs.new)
         (told O.contents O.has_failed P.heard out.old person.old)
-        (told O.contents O.has_failed P.heard out.new person.new) command.now of.now result }
+        (told O.contents O.has_failed P.heard out.new person.new) command.now hex files.now result }
 {
-    if !of.hex && person.sees_output() {
+    if !hex && person.sees_output() {
         return refuse(&ParseFault::bytes_at_terminal(alloc), out, person);
     }
-    encode_into(alloc, world, command, of, in_words, inputs, out, person)
+    encode_into(
+        alloc, world, command, hex, files, in_words, inputs, out, person,
+    )
 }
 
 /// Makes segments of text for whoever takes their bytes.
@@ -227,7 +235,8 @@ fn encode_into<W: World, O: Output, P: Person>(
     alloc: Global,
     world: &W,
     command: &Command,
-    of: &Conversion,
+    hex: bool,
+    files: &[String],
     in_words: bool,
     inputs: &mut Inputs<W::Input>,
     out: &mut O,
@@ -238,31 +247,13 @@ fn encode_into<W: World, O: Output, P: Person>(
         (opened W.Input.remaining W.Input.has_ended W.Input.has_failed W.Input.good_reads
         inputs.new)
         (told O.contents O.has_failed P.heard out.old person.old)
-        (told O.contents O.has_failed P.heard out.new person.new) command.now of.now result }
+        (told O.contents O.has_failed P.heard out.new person.new) command.now hex files.now result }
 {
     person.begins(command);
-    let ended = encode(alloc, world, of, &mut inputs.files, out);
+    let ended = encode(alloc, world, hex, files, &mut inputs.files, out);
     person.ends();
-    end_conversion(command, in_words, ended, out, person)
-}
-
-/// Says how a conversion ended, where it has no good end.
-fn end_conversion<O: Output, P: Person>(
-    command: &Command,
-    in_words: bool,
-    ended: Result<(), RunFault>,
-    out: &O,
-    person: &mut P,
-) -> u8
-    ensures status { result ≡ conversion_status ended }
-    ensures said { SaysConversion in_words (P.heard person.old) (P.heard person.new) command.now
-        ended }
-{
-    let Err(fault) = ended else {
-        return 0;
-    };
-    report(command, in_words, alone(fault), out, person);
-    fault.status()
+    say_encoding(command, in_words, ended, out, person);
+    status_of_conversion(ended)
 }
 
 /// Replies to the lines of standard input.

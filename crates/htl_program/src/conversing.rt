@@ -3,17 +3,16 @@
 ghost use Rattle.std.specs.Prelude.{◌≡◌, ◌⊎◌, ℕ, All, Bool, Err, IfErr, IfOk, List, OnOk, Option, Some};
 ghost use Rattle.std.specs.Prelude.{IfSome, ◌≤◌, false, length, map, option_copied, option_map};
 ghost use Rattle.std.specs.Prelude.{true};
+ghost use Rattle.htl_command.specs.declared.question.InputForm.{InputForm};
 ghost use Rattle.htl_ask.specs.Asking.{BeginsAndGets, IsRunsCause, IsRunsSubject, IsRunsText};
-ghost use Rattle.htl_ask.specs.Asking.{before_dialogue};
+ghost use Rattle.htl_ask.specs.Asking.{Opening, Opens, before_dialogue};
 ghost use Rattle.htl_dialogue.specs.Dialogues.{Converses, StopsAt};
 ghost use Rattle.htl_device.specs.declared.whole.TheConstants.{MAX_READS};
 ghost use Rattle.htl_dialogue.specs.declared.dialogue.DialogueFault.{DialogueFault};
 ghost use Rattle.htl_dialogue.specs.declared.dialogue.DialogueFault.TheVariants as dialogues;
-ghost use Rattle.htl_main.specs.Coverages.{Covers};
 ghost use Rattle.htl_main.specs.Origins.{IsBetween, by_fault};
 ghost use Rattle.htl_main.specs.Readings.{AreRead};
 ghost use Rattle.htl_main.specs.Sources.{IsEndless, IsTrueAt};
-ghost use Rattle.htl_main.specs.declared.coverage.Coverage.{Coverage};
 ghost use Rattle.htl_program.specs.Endings.{IsUnopened, IsUntabled};
 ghost use Rattle.htl_program.specs.Readings.{AreInputs};
 ghost use Rattle.htl_program.specs.Worlds.{IsFirstAbsent, IsFirstRefused, IsTable, IsTableAbsent};
@@ -50,22 +49,22 @@ pub fn converse<Rt: Threads + Sync, W: World, Q: Source, O: Sink, H: Audience>(
     ensures replies { (texts : List (List ℕ)) → (table : Option (List ℕ)) → (lines : List ℕ)
         → of_inputs (W.holds world.now) (W.standard world.now) of.now.files.items ≡ map Some texts
         → IsTable (W.holds world.now) of.now.symbols table → Q.remaining questions.old ≡ Some lines
-        → IfOk result (λ has_wrong. (coverage : Coverage) × Covers of.now.setting.hex texts coverage
+        → IfOk result (λ has_wrong. (opening : Opening) × Opens of.now.setting.form texts opening
         × Converses (IsRunsText of.now.setting texts table)
         (IsRunsSubject of.now.setting texts) (H.wants_absence audience.old) lines
         (BeginsAndGets (O.contents out.old) (O.contents out.new) H.told audience.old audience.new
-        coverage) has_wrong) }
+        opening) has_wrong) }
     ensures stops { (texts : List (List ℕ)) → (table : Option (List ℕ)) → (lines : List ℕ)
         → (stopped : DialogueFault)
         → of_inputs (W.holds world.now) (W.standard world.now) of.now.files.items ≡ map Some texts
         → IsTable (W.holds world.now) of.now.symbols table → Q.remaining questions.old ≡ Some lines
         → result ≡ Err (AskFault.Dialogue stopped)
-        → (coverage : Coverage) × Covers of.now.setting.hex texts coverage
+        → (opening : Opening) × Opens of.now.setting.form texts opening
         × StopsAt (IsRunsText of.now.setting texts table)
         (IsRunsSubject of.now.setting texts) (H.wants_absence audience.old) lines
         (Q.remaining questions.new) (Q.has_failed questions.new)
         (BeginsAndGets (O.contents out.old) (O.contents out.new) H.told audience.old audience.new
-        coverage) stopped }
+        opening) stopped }
     // What failed is reported, and nothing else is reported as failed.
     ensures lines { Q.has_failed questions.new ≡ true
         → result ≡ Err (AskFault.Dialogue dialogues.Questions) }
@@ -86,7 +85,7 @@ pub fn converse<Rt: Threads + Sync, W: World, Q: Source, O: Sink, H: Audience>(
     ensures between { (texts : List (List ℕ))
         → of_inputs (W.holds world.now) (W.standard world.now) of.now.files.items ≡ map Some texts
         → IfErr (before_dialogue result) (λ refused.
-        IsBetween of.now.setting.hex texts refused.fault refused.between) }
+        IsBetween of.now.setting.form texts refused.fault refused.between) }
     // The first name for which there is nothing is reported by its place.
     ensures absent { (place : ℕ) → IsFirstAbsent (of_each (W.holds world.now) of.now.files.items)
         (of_each (W.is_absent world.now) of.now.files.items) place
@@ -96,7 +95,7 @@ pub fn converse<Rt: Threads + Sync, W: World, Q: Source, O: Sink, H: Audience>(
         → IsTableAbsent (W.is_absent world.now) of.now.symbols
         → IsUntabled (by_fault (before_dialogue result)) }
     // The inputs were read as any run reads its sources.
-    ensures reading { AreInputs of.now.setting.hex W.Input.has_failed
+    ensures reading { AreInputs of.now.setting.form.hex W.Input.has_failed
         W.Input.has_ended W.Input.good_reads W.Input.remaining
         (of_inputs (W.holds world.now) (W.standard world.now) of.now.files.items)
         inputs.new.items (by_fault (before_dialogue result)) }
@@ -152,8 +151,8 @@ fn open_all<W: World>(
     ensures untabled { (texts : List (List ℕ))
         → of_inputs (W.holds world.now) (W.standard world.now) of.now.files.items ≡ map Some texts
         → IsTableAbsent (W.is_absent world.now) of.now.symbols → IsUntabled result }
-    ensures alone { (hex : Bool) → (texts : List (List ℕ)) → IfErr result (λ fault.
-        IsBetween hex texts fault Between.Nothing) }
+    ensures alone { (form : InputForm) → (texts : List (List ℕ)) → IfErr result (λ fault.
+        IsBetween form texts fault Between.Nothing) }
     ensures read { (place : ℕ) → result ≡ Err (RunFault.Read place)
         → IsFirstRefused (of_each (W.holds world.now) of.now.files.items)
         (of_each (W.is_absent world.now) of.now.files.items) place }
@@ -181,20 +180,20 @@ fn ask_opened<Rt: Threads + Sync, R: Parted, Q: Source, O: Sink, H: Audience>(
     requires out { O.has_failed out.old ≡ false }
     ensures replies { (texts : List (List ℕ)) → (lines : List ℕ)
         → map R.remaining inputs.old.items ≡ map Some texts → Q.remaining questions.old ≡ Some lines
-        → IfOk result (λ has_wrong. (coverage : Coverage) × Covers setting.hex texts coverage
+        → IfOk result (λ has_wrong. (opening : Opening) × Opens setting.form texts opening
         × Converses (IsRunsText setting texts (option_copied symbols.entry))
         (IsRunsSubject setting texts) (H.wants_absence audience.old) lines
         (BeginsAndGets (O.contents out.old) (O.contents out.new) H.told audience.old audience.new
-        coverage) has_wrong) }
+        opening) has_wrong) }
     ensures stops { (texts : List (List ℕ)) → (lines : List ℕ) → (stopped : DialogueFault)
         → map R.remaining inputs.old.items ≡ map Some texts → Q.remaining questions.old ≡ Some lines
         → result ≡ Err (AskFault.Dialogue stopped)
-        → (coverage : Coverage) × Covers setting.hex texts coverage
+        → (opening : Opening) × Opens setting.form texts opening
         × StopsAt (IsRunsText setting texts (option_copied symbols.entry))
         (IsRunsSubject setting texts) (H.wants_absence audience.old) lines
         (Q.remaining questions.new) (Q.has_failed questions.new)
         (BeginsAndGets (O.contents out.old) (O.contents out.new) H.told audience.old audience.new
-        coverage) stopped }
+        opening) stopped }
     // What failed is reported, and nothing else is reported as failed.
     ensures lines { Q.has_failed questions.new ≡ true
         → result ≡ Err (AskFault.Dialogue dialogues.Questions) }
@@ -211,8 +210,8 @@ fn ask_opened<Rt: Threads + Sync, R: Parted, Q: Source, O: Sink, H: Audience>(
         (option_copied symbols.entry)) }
     ensures between { (texts : List (List ℕ)) → map R.remaining inputs.old.items ≡ map Some texts
         → IfErr (before_dialogue result) (λ refused.
-        IsBetween setting.hex texts refused.fault refused.between) }
-    ensures reading { AreRead setting.hex R.has_failed R.has_ended R.good_reads
+        IsBetween setting.form texts refused.fault refused.between) }
+    ensures reading { AreRead setting.form.hex R.has_failed R.has_ended R.good_reads
         R.remaining inputs.old.items inputs.new.items (by_fault (before_dialogue result)) }
     ensures untouched { IfErr (before_dialogue result)
         (λ _. (questions.new ≡ questions.old) × (out.new ≡ out.old)

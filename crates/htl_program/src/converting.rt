@@ -11,67 +11,69 @@ ghost use Rattle.htl_program.specs.Worlds.{IsFirstAbsent, IsFirstRefused, of_eac
 
 use crate::opening::open_inputs;
 use crate::world::World;
-use htl_command::Conversion;
+use htl_command::InputForm;
 use htl_device::{Sink, Source};
-use htl_main::{RunFault, dump_from, encode_from};
+use htl_main::{CutInputs, RunFault, dump_from, encode_from};
 use std::alloc::Global;
 
 /// Prints the segments of the files as text, or those of standard input where no file is named.
+/// Tells which of them end within a segment, where they may.
 ///
 /// `inputs` has then what was opened, as far as it was read.
 pub fn dump<W: World, O: Sink>(
     alloc: Global,
     world: &W,
-    of: &Conversion,
+    form: InputForm,
+    files: &[String],
     inputs: &mut Vec<W::Input>,
     out: &mut O,
-) -> Result<(), RunFault>
+) -> Result<Option<CutInputs>, RunFault>
     requires { O.has_failed out.old ≡ false }
     ensures ends { (texts : List (List ℕ))
-        → of_inputs (W.holds world.now) (W.standard world.now) of.now.files.items ≡ map Some texts
-        → EndsDump of.now.hex texts (map W.Input.remaining inputs.new.items)
+        → of_inputs (W.holds world.now) (W.standard world.now) files.now ≡ map Some texts
+        → EndsDump form texts (map W.Input.remaining inputs.new.items)
         (map W.Input.has_ended inputs.new.items) (O.contents out.old) (O.contents out.new) result }
     // The first name for which there is nothing is reported by its place.
-    ensures absent { (place : ℕ) → IsFirstAbsent (of_each (W.holds world.now) of.now.files.items)
-        (of_each (W.is_absent world.now) of.now.files.items) place
+    ensures absent { (place : ℕ) → IsFirstAbsent (of_each (W.holds world.now) files.now)
+        (of_each (W.is_absent world.now) files.now) place
         → IsUnopened place result × (out.new ≡ out.old) }
     // The inputs were read as any run reads its sources.
-    ensures reading { AreInputs of.now.hex W.Input.has_failed W.Input.has_ended
+    ensures reading { AreInputs form.hex W.Input.has_failed W.Input.has_ended
         W.Input.good_reads W.Input.remaining
-        (of_inputs (W.holds world.now) (W.standard world.now) of.now.files.items)
+        (of_inputs (W.holds world.now) (W.standard world.now) files.now)
         inputs.new.items result }
     // A failed read is reported of a name that was refused, or of an input whose read failed.
     ensures read { (place : ℕ) → result ≡ Err (RunFault.Read place)
-        → IsFirstRefused (of_each (W.holds world.now) of.now.files.items)
-        (of_each (W.is_absent world.now) of.now.files.items) place
+        → IsFirstRefused (of_each (W.holds world.now) files.now)
+        (of_each (W.is_absent world.now) files.now) place
         ⊎ (IsTrueAt (map W.Input.has_failed inputs.new.items) place
         ⊎ IsEndless (map W.Input.good_reads inputs.new.items)
-        (of_inputs (W.holds world.now) (W.standard world.now) of.now.files.items) place) }
+        (of_inputs (W.holds world.now) (W.standard world.now) files.now) place) }
     ensures failed { O.has_failed out.new ≡ is_failed_write result }
 {
     inputs.clear();
-    *inputs = open_inputs(alloc, world, &of.files)?;
-    dump_opened(alloc, of.hex, inputs, out)
+    *inputs = open_inputs(alloc, world, files)?;
+    dump_opened(alloc, form, inputs, out)
 }
 
 /// Prints the segments of opened inputs as text.
 fn dump_opened<R: Source, O: Sink>(
     alloc: Global,
-    hex: bool,
+    form: InputForm,
     inputs: &mut Vec<R>,
     out: &mut O,
-) -> Result<(), RunFault>
+) -> Result<Option<CutInputs>, RunFault>
     requires fresh { All (λ input. R.has_failed input ≡ false) inputs.old.items }
     requires inside { All (λ input. R.has_ended input ≡ false) inputs.old.items }
     requires out { O.has_failed out.old ≡ false }
     ensures ends { (texts : List (List ℕ)) → map R.remaining inputs.old.items ≡ map Some texts
-        → EndsDump hex texts (map R.remaining inputs.new.items) (map R.has_ended inputs.new.items)
+        → EndsDump form texts (map R.remaining inputs.new.items) (map R.has_ended inputs.new.items)
         (O.contents out.old) (O.contents out.new) result }
-    ensures reading { AreRead hex R.has_failed R.has_ended R.good_reads R.remaining
+    ensures reading { AreRead form.hex R.has_failed R.has_ended R.good_reads R.remaining
         inputs.old.items inputs.new.items result }
     ensures failed { O.has_failed out.new ≡ is_failed_write result }
 {
-    dump_from(alloc, hex, inputs, out)
+    dump_from(alloc, form, inputs, out)
 }
 
 /// Writes the segments that the texts of the files encode, or the text of standard input where no file
@@ -81,36 +83,37 @@ fn dump_opened<R: Source, O: Sink>(
 pub fn encode<W: World, O: Sink>(
     alloc: Global,
     world: &W,
-    of: &Conversion,
+    hex: bool,
+    files: &[String],
     inputs: &mut Vec<W::Input>,
     out: &mut O,
 ) -> Result<(), RunFault>
     requires { O.has_failed out.old ≡ false }
     ensures ends { (texts : List (List ℕ))
-        → of_inputs (W.holds world.now) (W.standard world.now) of.now.files.items ≡ map Some texts
-        → EndsEncoding of.now.hex texts (map W.Input.remaining inputs.new.items)
+        → of_inputs (W.holds world.now) (W.standard world.now) files.now ≡ map Some texts
+        → EndsEncoding hex texts (map W.Input.remaining inputs.new.items)
         (map W.Input.has_ended inputs.new.items) (O.contents out.old) (O.contents out.new) result }
     // The first name for which there is nothing is reported by its place.
-    ensures absent { (place : ℕ) → IsFirstAbsent (of_each (W.holds world.now) of.now.files.items)
-        (of_each (W.is_absent world.now) of.now.files.items) place → IsUnopened place result }
+    ensures absent { (place : ℕ) → IsFirstAbsent (of_each (W.holds world.now) files.now)
+        (of_each (W.is_absent world.now) files.now) place → IsUnopened place result }
     // The inputs were read as any run reads its sources.
     ensures reading { AreInputs true W.Input.has_failed W.Input.has_ended
         W.Input.good_reads W.Input.remaining
-        (of_inputs (W.holds world.now) (W.standard world.now) of.now.files.items)
+        (of_inputs (W.holds world.now) (W.standard world.now) files.now)
         inputs.new.items result }
     // A failed read is reported of a name that was refused, or of an input whose read failed.
     ensures read { (place : ℕ) → result ≡ Err (RunFault.Read place)
-        → IsFirstRefused (of_each (W.holds world.now) of.now.files.items)
-        (of_each (W.is_absent world.now) of.now.files.items) place
+        → IsFirstRefused (of_each (W.holds world.now) files.now)
+        (of_each (W.is_absent world.now) files.now) place
         ⊎ (IsTrueAt (map W.Input.has_failed inputs.new.items) place
         ⊎ IsEndless (map W.Input.good_reads inputs.new.items)
-        (of_inputs (W.holds world.now) (W.standard world.now) of.now.files.items) place) }
+        (of_inputs (W.holds world.now) (W.standard world.now) files.now) place) }
     ensures failed { O.has_failed out.new ≡ is_failed_write result }
     ensures untouched { IfErr result (λ fault. fault ≢ RunFault.Write → out.new ≡ out.old) }
 {
     inputs.clear();
-    *inputs = open_inputs(alloc, world, &of.files)?;
-    encode_opened(alloc, of.hex, inputs, out)
+    *inputs = open_inputs(alloc, world, files)?;
+    encode_opened(alloc, hex, inputs, out)
 }
 
 /// Writes the segments that the texts of opened inputs encode.

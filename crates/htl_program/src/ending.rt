@@ -2,11 +2,12 @@
 
 ghost use Rattle.std.specs.Prelude.{◌≡◌};
 ghost use Rattle.htl_main.specs.Origins.{by_fault};
-ghost use Rattle.htl_program.specs.Statuses.{dialogue_status, end_status, stop_status};
+ghost use Rattle.htl_program.specs.Statuses.{conversion_status, dialogue_status, end_status};
+ghost use Rattle.htl_program.specs.Statuses.{stop_status};
 
 use htl_ask::AskFault;
 use htl_dialogue::DialogueFault;
-use htl_main::{Completed, Refused};
+use htl_main::{Completed, Refused, RunFault};
 
 /// The status after a question: 0, or 1 where its answer finds something and the status is to say so,
 /// or that of its fault.
@@ -22,6 +23,16 @@ pub(crate) fn status_of_answer(exit_code: bool, ended: Result<Completed, Refused
             }
         }
         Err(refused) => refused.fault.status(),
+    }
+}
+
+/// The status after a conversion: 0, or that of its fault.
+pub(crate) fn status_of_conversion<T: Drop>(ended: Result<T, RunFault>) -> u8
+    ensures { result ≡ conversion_status ended }
+{
+    match ended {
+        Ok(_) => 0,
+        Err(fault) => fault.status(),
     }
 }
 

@@ -3,13 +3,13 @@
 use crate::subject::Subject;
 use htl_command::{Command, ParseFault};
 use htl_dialogue::DialogueFault;
-use htl_main::{Coverage, Refused};
+use htl_main::{Coverage, CutInputs, Refused};
 
 /// Who reads what is said beside the output. How it is worded is the matter of who says it.
 pub trait Person {
     ghost use Rattle.std.specs.Prelude.{◌≡◌, Bool, List, Option};
-    ghost use Rattle.htl_program.specs.Sayings.{Hears, Saying, absence, begun, fault, gaps, meaning};
-    ghost use Rattle.htl_program.specs.Sayings.{over, refusal, stop, stop_meaning, unwritten};
+    ghost use Rattle.htl_program.specs.Sayings.{Hears, Saying, absence, begun, cut, fault, gaps};
+    ghost use Rattle.htl_program.specs.Sayings.{meaning, over, refusal, stop, stop_meaning, unwritten};
 
     // What the person was told, where that is known.
     ghost heard: { Self → Option (List Saying) };
@@ -59,6 +59,10 @@ pub trait Person {
     /// Segments are missing, whose events the answer may lack.
     fn finds_gaps(&mut self, coverage: Coverage)
         ensures { Hears (heard self.old) (heard self.new) (gaps coverage) };
+
+    /// Some inputs end within a segment, which counts for nothing.
+    fn finds_cut(&mut self, inputs: CutInputs)
+        ensures { Hears (heard self.old) (heard self.new) (cut inputs) };
 
     /// The replies of a dialogue stopped.
     fn stops(&mut self, stopped: DialogueFault)

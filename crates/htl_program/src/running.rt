@@ -1,7 +1,8 @@
 //! The run of a question over opened inputs.
 
-ghost use Rattle.std.specs.Prelude.{◌≡◌, ◌≢◌, ℕ, All, Bool, IfNone, IfSome, List, Some, false};
+ghost use Rattle.std.specs.Prelude.{◌≡◌, ◌≢◌, ℕ, All, IfNone, IfSome, List, Some, false};
 ghost use Rattle.std.specs.Option.{option_copied};
+ghost use Rattle.htl_command.specs.declared.question.InputForm.{InputForm};
 ghost use Rattle.htl_main.specs.Origins.{IsBetween};
 ghost use Rattle.htl_main.specs.Picked.{asks_about};
 ghost use Rattle.htl_program.specs.Runs.{IsRun};
@@ -45,7 +46,7 @@ pub(crate) fn pick_opened<Rt: Threads + Sync, R: Parted, O: Sink>(
     requires fresh { All (λ input. R.has_failed input ≡ false) inputs.old.items }
     requires inside { All (λ input. R.has_ended input ≡ false) inputs.old.items }
     requires out { O.has_failed out.old ≡ false }
-    requires about { asks_about job.now.hex job.now.question ≡ Some interest }
+    requires about { asks_about job.now.form.hex job.now.question ≡ Some interest }
     ensures ended { IfSome result (λ ended. IsRun job.now (option_copied symbols.entry) R.has_failed
         R.has_ended R.good_reads R.remaining O.contents O.has_failed inputs.old.items
         inputs.new.items out.old out.new ended) }
@@ -63,8 +64,8 @@ pub(crate) fn pick_opened<Rt: Threads + Sync, R: Parted, O: Sink>(
 
 /// The end of a run by the fault, which is about no two segments. A fault of all segments is no end.
 fn about_no_two(fault: RunFault) -> Option<Refused>
-    ensures some { (hex : Bool) → (texts : List (List ℕ)) → IfSome result (λ refused.
-        (refused.fault ≡ fault) × IsBetween hex texts fault refused.between) }
+    ensures some { (form : InputForm) → (texts : List (List ℕ)) → IfSome result (λ refused.
+        (refused.fault ≡ fault) × IsBetween form texts fault refused.between) }
     ensures none { IfNone result (fault ≢ RunFault.Write) }
 {
     match fault {

@@ -1,9 +1,10 @@
 //! What a person is told of how a run ended.
 
 ghost use Rattle.std.specs.Prelude.{◌≡◌};
-ghost use Rattle.htl_program.specs.Programs.{SaysAnswer, SaysDialogue, SaysFault};
+ghost use Rattle.htl_program.specs.Programs.{SaysAnswer, SaysConversion, SaysDialogue, SaysDump};
+ghost use Rattle.htl_program.specs.Programs.{SaysFault};
 ghost use Rattle.htl_program.specs.Sayings.{HearsAll, absent_subject, alone as alone_of, fault_said};
-ghost use Rattle.htl_program.specs.Sayings.{notes_said, stop_said};
+ghost use Rattle.htl_program.specs.Sayings.{cut_said, notes_said, stop_said};
 
 use crate::output::Output;
 use crate::person::Person;
@@ -11,7 +12,7 @@ use crate::subject::Subject;
 use htl_ask::AskFault;
 use htl_command::{Command, Job, Question, Run};
 use htl_dialogue::DialogueFault;
-use htl_main::{Between, Completed, Refused, RunFault};
+use htl_main::{Between, Completed, CutInputs, Refused, RunFault};
 
 /// Says how the run of a question ended.
 pub(crate) fn say_answer<O: Output, P: Person>(
@@ -32,7 +33,7 @@ pub(crate) fn say_answer<O: Output, P: Person>(
 }
 
 /// Says what is to be known of an answer, where words are wanted: that what was asked about has no
-/// event, and that segments are missing which may have some that count.
+/// event, that segments are missing which may have some that count, and which inputs were cut.
 fn note<P: Person>(job: &Job, in_words: bool, completed: Completed, person: &mut P)
     ensures { HearsAll (P.heard person.old) (P.heard person.new)
         (notes_said in_words job.now completed) }
@@ -45,6 +46,48 @@ fn note<P: Person>(job: &Job, in_words: bool, completed: Completed, person: &mut
     }
     if completed.coverage.is_touched(job.until) {
         person.finds_gaps(completed.coverage);
+    }
+    note_cut(completed.cut, person);
+}
+
+/// Says which inputs end within a segment, where some do.
+fn note_cut<P: Person>(cut: Option<CutInputs>, person: &mut P)
+    ensures { HearsAll (P.heard person.old) (P.heard person.new) (cut_said cut) }
+{
+    if let Some(inputs) = cut {
+        person.finds_cut(inputs);
+    }
+}
+
+/// Says how the printing of segments ended: where words are wanted, which inputs end within one.
+pub(crate) fn say_dump<O: Output, P: Person>(
+    command: &Command,
+    in_words: bool,
+    ended: Result<Option<CutInputs>, RunFault>,
+    out: &O,
+    person: &mut P,
+)
+    ensures { SaysDump in_words (P.heard person.old) (P.heard person.new) command.now ended }
+{
+    match ended {
+        Ok(cut) if in_words => note_cut(cut, person),
+        Ok(_) => {}
+        Err(fault) => report(command, in_words, alone(fault), out, person),
+    }
+}
+
+/// Says how the making of segments ended, where it has no good end.
+pub(crate) fn say_encoding<O: Output, P: Person>(
+    command: &Command,
+    in_words: bool,
+    ended: Result<(), RunFault>,
+    out: &O,
+    person: &mut P,
+)
+    ensures { SaysConversion in_words (P.heard person.old) (P.heard person.new) command.now ended }
+{
+    if let Err(fault) = ended {
+        report(command, in_words, alone(fault), out, person);
     }
 }
 

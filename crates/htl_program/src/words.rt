@@ -123,7 +123,8 @@ pub fn advice(code: Code) -> &'static str
         | Code::S14
         | Code::S15
         | Code::S16 => DAMAGED,
-        Code::S10 | Code::H2 => "was it copied whole?",
+        Code::S10 => "was it copied whole? With --partial its whole segments count",
+        Code::H2 => "was it copied whole?",
         Code::S17 | Code::H3 | Code::C6 | Code::Y7 => FREE_MEMORY,
         Code::H1 => "is it a trace in bytes, without --hex?",
         Code::C1 => "are these the files of a trace?",

@@ -1,25 +1,25 @@
 -- Bytes that are refused: what is reported of them, whichever follow, and how far a source is read.
 use Rattle.std.proofs.Common.{◌≡◌, ◌+◌, ◌<◌, ◌≤◌, ℕ, Bool, false, List, [], ◌∷◌, ◌++◌, length, All, refl, sym, ap, ◌∙◌, append_assoc}
 use Rattle.std.proofs.Common.{arith, inl, inr, subst, Option, Some, None, IfSome, append-nil}
-use Rattle.std.proofs.KnownBytes.{Consumes-trans, Consumes-whole}
+use Rattle.std.proofs.KnownBytes.{Consumes-trans}
 use Rattle.std.proofs.lemmas.List.{length-append}
-use Rattle.std.specs.Io.KnownBytes.{Consumes, IsAtEnd}
+use Rattle.std.specs.Io.KnownBytes.{Consumes}
 use Rattle.htl_segment.specs.Content.{Content, Fits}
 use Rattle.std.proofs.lemmas.List.Elements.{All-head, All-nil}
 use Rattle.htl_segment.proofs.SegmentLaws.{segment_again}
 use Rattle.htl_segment.specs.Faults.{first_fault}
 use Rattle.htl_segment.specs.Encoding.{encoding}
-use Rattle.htl_segment.specs.Bundles.{bundle, BundleFault, SegmentAt, Splits, IsRefused, IsRest}
+use Rattle.htl_segment.specs.Bundles.{bundle, SegmentAt, Splits, IsRefused, IsRest}
 use Rattle.htl_segment.specs.Pieces.{is_memory}
 use Rattle.htl_segment.specs.declared.fault.Fault.{Fault}
 use Rattle.htl_segment.specs.declared.fault.Fault.TheVariants as faults
 use Rattle.htl_segment.proofs.BundleLaws.{first_fault-no_memory}
 use Rattle.htl_segment.proofs.PiecesLaws.{fault_more, refused_after, segment_more, splits_next}
 use Rattle.htl_reading.specs.declared.fault.SourceFault.{SourceFault}
-use Rattle.htl_reading.specs.declared.fault.SourceFault.TheVariants.{Segment, Read, NoMemory}
+use Rattle.htl_reading.specs.declared.fault.SourceFault.TheVariants.{Segment}
 use Rattle.htl_reading.specs.Keepers.{taken}
-use Rattle.htl_reading.specs.Blocks.{of_segment}
-use Rattle.htl_reading.specs.Sources.{IsReadToFault, IsRefusal, IsReported}
+use Rattle.htl_reading.specs.Blocks.{IsRefusedAt, of_segment}
+use Rattle.htl_reading.specs.Sources.{IsReadToFault, IsReported}
 
 -- ---- bytes that were taken in
 
@@ -59,59 +59,26 @@ pub segment_fault : (offset : ℕ) (fault : Fault) → is_memory fault ≡ false
 segment_fault offset faults.NoMemory other = absurd cc
 segment_fault offset fault other = refl
 
--- the bytes begin with a segment, so memory is asked for
-pub memory_refused : (segments : List Content) (bytes : List ℕ) → All Fits segments → 0 < length segments
-    → IsRefusal (taken segments bytes) NoMemory
-memory_refused segments bytes fits some = (0, first_begins (taken segments bytes) bytes segments (taken_splits segments bytes fits) some)
-
-refusal_of : (bytes : List ℕ) (offset : ℕ) (fault : Fault) → IsRefused bytes offset fault → IsRefusal bytes (of_segment offset fault)
-refusal_of bytes offset fault refused =
-    elim refused [
-      | inl found ↦ rw (segment_fault offset fault (first_fault-no_memory found.0.rest fault found.0.fault_is)) found
-      | inr asked ↦ rw (asked.0) (offset, asked.1)
-    ]
-
-pub block_refused : (segments : List Content) (bytes : List ℕ) (offset inside : ℕ) (fault : Fault) → All Fits segments
-    → offset ≡ length (bundle segments) → IsRefused bytes inside fault
-    → IsRefusal (taken segments bytes) (of_segment (offset + inside) fault)
-block_refused segments bytes offset inside fault fits offset_is refused =
-    rw offset_is (refusal_of (taken segments bytes) (length (bundle segments) + inside) fault
-    (refused_after (bundle segments) bytes segments inside fault (whole_before segments fits) refused))
-
 -- ---- what is reported
 
-pub fault_reported : (left : Option (List ℕ)) (ended : Bool) (bytes : List ℕ) (offset : ℕ) (fault : Fault)
-    → BundleFault bytes offset fault → IsReported left ended bytes (of_segment offset fault)
-fault_reported left ended bytes offset fault found =
-    rw (segment_fault offset fault (first_fault-no_memory found.rest fault found.fault_is)) found
+more_reported : (read left : List ℕ) (ended : Bool) (offset : ℕ) (fault : Fault) → IsRefused read offset fault
+    → IsReported (Some left) ended (read ++ left) (of_segment offset fault)
+more_reported read left ended offset fault refused =
+    elim refused [
+      | inl found ↦ rw (segment_fault offset fault (first_fault-no_memory found.0.rest fault found.0.fault_is))
+          (fault_more read left offset fault found.1 found.0, found.1)
+      | inr asked ↦ rw (asked.0) (inl (offset, segment_more read left offset asked.1))
+    ]
 
-more_reported : (read left : List ℕ) (ended : Bool) (fault : SourceFault) → IsRefusal read fault
-    → IsReported (Some left) ended (read ++ left) fault
-more_reported read left ended (Segment offset fault) refusal = fault_more read left offset fault refusal.1 refusal.0
-more_reported read left ended Read refusal = absurd refusal
-more_reported read left ended NoMemory refusal = inl (refusal.0, segment_more read left refusal.0 refusal.1)
-
-pub refusal_reported : (first last : Option (List ℕ)) (ended : Bool) (read : List ℕ) (fault : SourceFault) → Consumes first last read
-    → IsRefusal read fault → IfSome first (λ all. IsReported last ended all fault)
-refusal_reported None last ended read fault given refusal = tt
-refusal_reported (Some xs) None ended read fault given refusal = absurd given
-refusal_reported (Some xs) (Some ys) ended read fault given refusal = rw given (more_reported read ys ended fault refusal)
-
--- a source ends after whole segments
-pub ended_whole : (first last : Option (List ℕ)) (segments : List Content) (rest : List ℕ) → All Fits segments
-    → Consumes first last (taken segments rest) → IsAtEnd last → rest ≡ []
-    → IfSome first (λ bytes. Splits bytes segments [])
-ended_whole first last segments rest fits given end empty =
-    Consumes-whole first last (taken segments rest) (λ bytes. Splits bytes segments []) given end
-    (rw empty record { parts = refl; fits = fits })
-
--- or inside one
-pub ended_inside : (first last : Option (List ℕ)) (ended : Bool) (bytes : List ℕ) (offset : ℕ) (fault : Fault)
-    → Consumes first last bytes → IsAtEnd last → BundleFault bytes offset fault
-    → IfSome first (λ all. IsReported last ended all (of_segment offset fault))
-ended_inside first last ended bytes offset fault given end found =
-    Consumes-whole first last bytes (λ all. IsReported last ended all (of_segment offset fault)) given end
-    (fault_reported last ended bytes offset fault found)
+-- what is refused behind segments is so whichever bytes follow it
+pub refusal_reported : (first last : Option (List ℕ)) (ended : Bool) (segments : List Content) (held : List ℕ) (offset : ℕ)
+    (reported : SourceFault) → All Fits segments → offset ≡ length (bundle segments) → Consumes first last (taken segments held)
+    → IsRefusedAt offset held reported → IfSome first (λ all. IsReported last ended all reported)
+refusal_reported None last ended segments held offset reported fits offset_is given refused = tt
+refusal_reported (Some xs) None ended segments held offset reported fits offset_is given refused = absurd given
+refusal_reported (Some xs) (Some ys) ended segments held offset reported fits offset_is given refused =
+    rw (given, refused.3, offset_is) (more_reported (taken segments held) ys ended (length (bundle segments) + refused.0) refused.1
+    (refused_after (bundle segments) held segments refused.0 refused.1 (whole_before segments fits) refused.2))
 
 -- as many bytes as reads
 pub given_many : (first last : Option (List ℕ)) (read : List ℕ) (most : ℕ) → Consumes first last read → most ≤ length read

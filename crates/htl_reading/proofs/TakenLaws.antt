@@ -1,7 +1,7 @@
 -- What reads come to: the bytes held in a block, and the segments that keepers took.
 use Rattle.std.proofs.Common.{◌≡◌, ◌+◌, ◌-◌, ◌<◌, ◌≤◌, ℕ, Bool, false, List, [], ◌∷◌, ◌++◌, length, drop, take, All, refl, sym, ap, ◌∙◌}
 use Rattle.std.proofs.Common.{append-nil, append_assoc, arith, inl, inr, subst, Option, Some, None, IfSome, Result, Ok, Err, true}
-use Rattle.std.specs.Prelude.{is_err, IfErr, IfOk, OnErr}
+use Rattle.std.specs.Prelude.{is_err, OnErr}
 use Rattle.std.proofs.KnownBytes.{Consumes-kept, Consumes-nil, Consumes-trans, Consumes-whole}
 use Rattle.std.proofs.lemmas.List.{drop-append-le, drop-drop, drop-take, length-append, length-drop, length-take-le, nil_from_length}
 use Rattle.std.proofs.lemmas.List.Elements.{All-nil}
@@ -9,14 +9,15 @@ use Rattle.std.proofs.lemmas.Slice.{between_is}
 use Rattle.std.proofs.Math.Seq.{take-append-add}
 use Rattle.std.specs.Io.KnownBytes.{Consumes, IsAtEnd, Keeps, ReadConsumes}
 use Rattle.htl_segment.specs.Content.{Content, Fits}
-use Rattle.htl_segment.specs.Bundles.{bundle, IsRest, RestAt, Splits, cut_off}
-use Rattle.htl_segment.proofs.BundleLaws.{first_fault-rest}
+use Rattle.htl_segment.specs.Bundles.{bundle, IsRest, RestAt, SegmentAt, Splits}
+use Rattle.htl_segment.specs.declared.fault.Fault.TheVariants as faults
 use Rattle.htl_reading.specs.declared.fault.SourceFault.{SourceFault}
 use Rattle.htl_reading.specs.declared.fault.SourceFault.TheVariants.{NoMemory}
-use Rattle.htl_reading.specs.Keepers.{IsTakenOff, IsTakenTo, TookAll, taken}
-use Rattle.htl_reading.specs.Blocks.{IsReadBehind, IsRefusedAt, of_segment}
-use Rattle.htl_reading.specs.Sources.{IsReadToFault, IsReported}
-use Rattle.htl_reading.proofs.FaultLaws.{ended_inside, given_many, memory_refused, read_more, read_without_fault, refusal_reported, taken_next}
+use Rattle.htl_reading.specs.Keepers.{IsTakenOff, IsTakenTo, TookToEnd, taken}
+use Rattle.htl_reading.specs.Blocks.{IsReadBehind, IsRefusedAt}
+use Rattle.htl_reading.specs.Sources.{IsLeft, IsReadToFault, IsReported}
+use Rattle.htl_reading.specs.declared.outcome.Bundle.{Bundle}
+use Rattle.htl_reading.proofs.FaultLaws.{first_begins, given_many, read_more, read_without_fault, refusal_reported, taken_next}
 use Rattle.htl_reading.proofs.FaultLaws.{taken_splits}
 
 -- ---- the bytes between two places of a block
@@ -45,8 +46,16 @@ held_more old new piece start end stop ordered inside grown =
 pub take_past : (xs ys : List ℕ) (n all : ℕ) → all ≡ length xs + n → take all (xs ++ ys) ≡ xs ++ take n ys
 take_past xs ys n all is = rw is (take-append-add xs ys n)
 
--- ---- memory
+-- ---- what is refused
 
+-- where nothing was taken before it
+pub first_refused : (given left : Option (List ℕ)) (piece : List ℕ) (ended : Bool) (fault : SourceFault) → Consumes given left piece
+    → IsRefusedAt 0 piece fault
+    → IfSome given (λ bytes. IsReported left ended bytes fault)
+first_refused given left piece ended fault read refused =
+    refusal_reported given left ended [] piece 0 fault (All-nil Fits) refl read refused
+
+-- memory, while the end isn't found
 asked : (given left : Option (List ℕ)) (ended : Bool) (segments : List Content) (rest : List ℕ) → All Fits segments → IsRest rest
     → Consumes given left (taken segments rest) → 0 < length (taken segments rest) → ended ≡ false
     → IfSome given (λ bytes. IsReported left ended bytes NoMemory)
@@ -62,7 +71,9 @@ asked (Some xs) left ended [] rest fits is_rest read some not_ended =
     } in
     inr (not_ended, rest, read, 0, here)
 asked (Some xs) left ended (t ∷ ts) rest fits is_rest read some not_ended =
-    refusal_reported (Some xs) left ended (taken (t ∷ ts) rest) NoMemory read (memory_refused (t ∷ ts) rest fits (omega arith))
+    let first : SegmentAt (taken (t ∷ ts) rest) 0 =
+    first_begins (taken (t ∷ ts) rest) rest (t ∷ ts) (taken_splits (t ∷ ts) rest fits) (omega arith) in
+    first_refused (Some xs) left (taken (t ∷ ts) rest) ended NoMemory read (0, faults.NoMemory, inr (refl, first), refl)
 
 after_rest : (segments : List Content) (rest piece held : List ℕ) → held ≡ rest ++ piece
     → taken segments rest ++ piece ≡ taken segments held
@@ -144,29 +155,12 @@ module _ {S K : Type 0} {gathers : S → K → List Content → Type 0} {old new
 
   -- ---- the end of a source
 
-  -- after whole segments
-  pub taken_all : {E : Type 0} (result : Result K E) → IsAtEnd left → IfOk result (λ got. (got ≡ new) × (rest ≡ []))
-      → IfOk result (λ got. IfSome given (TookAll gathers old got))
-  taken_all (Ok got) end none =
-      Consumes-whole given left (taken at.segments rest) (TookAll gathers old got) at.read end
-      (at.segments, rw (none.1) (taken_splits at.segments [] at.fits), rw (none.0) at.took)
-  taken_all (Err e) end none = tt
-
-  -- or inside one
-  pub taken_inside : {S : Type 0} (ended : Bool) (result : Result S SourceFault) → IsAtEnd left
-      → IfErr result (λ fault. (0 < length rest) × (fault ≡ of_segment offset (cut_off rest)))
-      → IfErr result (λ fault. IfSome given (λ bytes. IsReported left ended bytes fault))
-  taken_inside ended (Ok done) end inside = tt
-  taken_inside ended (Err fault) end inside =
-      rw (inside.1) (ended_inside given left ended (taken at.segments rest) offset (cut_off rest) at.read end
-      record {
-        before = at.segments;
-        rest = rest;
-        splits = taken_splits at.segments rest at.fits;
-        offset_is = at.offset_is;
-        some = inside.0;
-        fault_is = first_fault-rest rest at.is_rest;
-      })
+  pub taken_to_end : (got : Bundle K) → IsAtEnd left → got.segments ≡ new
+      → ((segments : List Content) → offset ≡ length (bundle segments) → IsRest rest → IsLeft segments rest got.early_end)
+      → IfSome given (TookToEnd gathers old got)
+  taken_to_end got end kept is_left =
+      Consumes-whole given left (taken at.segments rest) (TookToEnd gathers old got) at.read end
+      (at.segments, rest, taken_splits at.segments rest at.fits, is_left at.segments at.offset_is at.is_rest, rw kept at.took)
 
   -- ---- what is reported
 
@@ -176,8 +170,7 @@ module _ {S K : Type 0} {gathers : S → K → List Content → Type 0} {old new
       → IsRefusedAt offset held fault
       → IfSome given (λ bytes. IsReported last ended bytes fault)
   taken_refused {last = last} {held = held} ended fault behind refused =
-      refusal_reported given last ended (taken at.segments held) fault
-      (read_behind behind) (refused at.segments at.fits at.offset_is)
+      refusal_reported given last ended at.segments held offset fault at.fits at.offset_is (read_behind behind) refused
 
   -- memory is asked for where a segment begins, or to hold what was read last
   pub taken_memory : (ended : Bool) → 0 < reads → ended ≡ false → IfSome given (λ bytes. IsReported left ended bytes NoMemory)
@@ -231,13 +224,6 @@ taken_first {gathers = gathers} {old = old} {given = given} piece len read some 
       count_is = refl;
       end = λ none. absurd (omega (arith, some, none));
     } some off inside)
-
--- or they were refused
-pub first_refused : (given left : Option (List ℕ)) (piece : List ℕ) (ended : Bool) (fault : SourceFault) → Consumes given left piece
-    → IsRefusedAt 0 piece fault
-    → IfSome given (λ bytes. IsReported left ended bytes fault)
-first_refused given left piece ended fault read refused =
-    refusal_reported given left ended piece fault read (refused [] (All-nil Fits) refl)
 
 -- nothing was read
 pub nothing_read : (most : ℕ) (given : Option (List ℕ)) → IsReadToFault most given given

@@ -1,12 +1,11 @@
 -- For the clauses of private functions: a block of bytes that are read and taken, and how their faults are reported.
-use Rattle.std.specs.Prelude.{◌≡◌, ◌+◌, ◌≤◌, ℕ, List, ◌++◌, length, drop, All, Option}
+use Rattle.std.specs.Prelude.{◌≡◌, ◌+◌, ◌≤◌, ℕ, List, ◌++◌, length, drop, Option}
 use Rattle.std.specs.Io.KnownBytes.{Consumes, IsAtEnd}
 use Rattle.htl_segment.specs.declared.fault.Fault.{Fault}
 use Rattle.htl_segment.specs.declared.fault.Fault.TheVariants as faults
-use Rattle.htl_segment.specs.Content.{Content, Fits}
-use Rattle.htl_segment.specs.Bundles.{bundle}
-use Rattle.htl_reading.specs.Keepers.{IsTakenOff, taken}
-use Rattle.htl_reading.specs.Sources.{IsRefusal}
+use Rattle.htl_segment.specs.Content.{Content}
+use Rattle.htl_segment.specs.Bundles.{IsRefused}
+use Rattle.htl_reading.specs.Keepers.{IsTakenOff}
 use Rattle.htl_reading.specs.declared.fault.SourceFault.{SourceFault}
 use Rattle.htl_reading.specs.declared.fault.SourceFault.TheVariants.{Segment, NoMemory}
 
@@ -43,7 +42,7 @@ pub record IsTakenIn {S K : Type 0} (gathers : S → K → List Content → Type
   pub later_is : later ≡ offset + len
   pub off : IsTakenOff gathers old new held len
 
--- why the bytes at an offset are refused, whichever segments stand before them
+-- what is reported of the bytes at an offset, which are refused
 abbrev pub IsRefusedAt : ℕ → List ℕ → SourceFault → Type 0
-IsRefusedAt offset bytes fault =
-    (before : List Content) → All Fits before → offset ≡ length (bundle before) → IsRefusal (taken before bytes) fault
+IsRefusedAt offset bytes reported =
+    (inside : ℕ) × (fault : Fault) × IsRefused bytes inside fault × (reported ≡ of_segment (offset + inside) fault)

@@ -1,10 +1,24 @@
--- Why the reading of one source ends, and how far it is read (this project's own). What a source gives is known where it reports its bytes.
-use Rattle.std.specs.Prelude.{◌≡◌, ◌≤◌, ◌⊎◌, ⊤, ℕ, Bool, true, false, List, ◌++◌, length, Option, Some, IfSome, Result, Err}
+-- How the reading of one source ends, and how far it is read (this project's own). What a source gives is known where it reports its bytes.
+use Rattle.std.specs.Prelude.{◌≡◌, ◌<◌, ◌≤◌, ◌⊎◌, ⊤, ℕ, Bool, true, false, List, [], ◌++◌, length, Option, Some, None, IfSome, Result, Err}
 use Rattle.std.specs.Io.KnownBytes.{Consumes}
 use Rattle.htl_segment.specs.Content.{Content}
-use Rattle.htl_segment.specs.Bundles.{BundleFault, IsRest, RestAt, SegmentAt, Splits, is_early_end}
+use Rattle.htl_segment.specs.Bundles.{BundleFault, IsRest, RestAt, SegmentAt, Splits, bundle, is_early_end}
+use Rattle.htl_segment.specs.Faults.{first_fault}
 use Rattle.htl_reading.specs.declared.fault.SourceFault.{SourceFault}
 use Rattle.htl_reading.specs.declared.fault.SourceFault.TheVariants.{Segment, Read, NoMemory}
+use Rattle.htl_reading.specs.declared.outcome.EarlyEnd.{EarlyEnd}
+
+-- Behind these segments bytes are left that end within one more: its offset, and their first fault, which more bytes may mend.
+pub record EndsWithin (segments : List Content) (rest : List ℕ) (end : EarlyEnd) : Type 0 where
+  pub some : 0 < length rest
+  pub offset_is : end.offset ≡ length (bundle segments)
+  pub fault_is : first_fault rest ≡ Some end.fault
+  pub early : is_early_end end.fault ≡ true
+
+-- what is left behind these segments: nothing, or bytes that end within one more
+abbrev pub IsLeft : List Content → List ℕ → Option EarlyEnd → Type 0
+IsLeft segments rest None = rest ≡ []
+IsLeft segments rest (Some end) = EndsWithin segments rest end
 
 -- Memory is asked for where a segment begins; and while the end isn't found, to keep what was read last, of which more may make one.
 abbrev pub AsksMemory : Option (List ℕ) → Bool → List ℕ → Type 0
@@ -12,9 +26,10 @@ AsksMemory left ended bytes =
     ((offset : ℕ) × SegmentAt bytes offset)
     ⊎ ((ended ≡ false) × (read : List ℕ) × Consumes (Some bytes) left read × (offset : ℕ) × RestAt read offset)
 
--- what is reported of a source that gave some of these bytes, has others left, and whose end was found or not
+-- What is reported of a source that gave some of these bytes, has others left, and whose end was found or not. It is
+-- never that the bytes end within a segment.
 abbrev pub IsReported : Option (List ℕ) → Bool → List ℕ → SourceFault → Type 0
-IsReported left ended bytes (Segment offset fault) = BundleFault bytes offset fault
+IsReported left ended bytes (Segment offset fault) = BundleFault bytes offset fault × (is_early_end fault ≡ false)
 IsReported left ended bytes Read = ⊤
 IsReported left ended bytes NoMemory = AsksMemory left ended bytes
 
@@ -22,12 +37,6 @@ IsReported left ended bytes NoMemory = AsksMemory left ended bytes
 abbrev pub FailsOnly : {S : Type 0} → Bool → ℕ → Option (List ℕ) → ℕ → Result S SourceFault → Type 0
 FailsOnly failed reads known most result =
     result ≡ Err Read → (failed ≡ true) ⊎ ((most ≤ reads) × IfSome known (λ bytes. most ≤ length bytes))
-
--- why these bytes are refused, whichever may follow them
-abbrev pub IsRefusal : List ℕ → SourceFault → Type 0
-IsRefusal bytes (Segment offset fault) = BundleFault bytes offset fault × (is_early_end fault ≡ false)
-IsRefusal bytes Read = ⊥
-IsRefusal bytes NoMemory = (offset : ℕ) × SegmentAt bytes offset
 
 -- What was read of a source: segments and the beginning of one more, and after these so many bytes at most. So it is read
 -- no further once a fault was read.

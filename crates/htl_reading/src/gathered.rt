@@ -2,16 +2,18 @@
 
 ghost use Rattle.std.specs.Prelude.{◌≡◌, ◌≢◌, ◌+◌, ◌*◌, ◌<◌, ◌≤◌, ◌^◌, ℕ, List, [], Option, Err};
 ghost use Rattle.std.specs.Prelude.{IfOk, IfErr, IfSome, OnOk, false, true, length};
-ghost use Rattle.htl_segment.specs.Bundles.{cut_off};
-ghost use Rattle.htl_reading.specs.Blocks.{IsRefusedAt, IsTakenIn, of_segment};
-ghost use Rattle.htl_reading.specs.Keepers.{IsTakenOff, IsTakenTo, TookAll};
-ghost use Rattle.htl_reading.specs.Sources.{FailsOnly, IsReadToFault, IsReported};
+ghost use Rattle.htl_segment.specs.Bundles.{IsRest, bundle};
+ghost use Rattle.htl_segment.specs.Content.{Content};
+ghost use Rattle.htl_reading.specs.Blocks.{IsRefusedAt, IsTakenIn};
+ghost use Rattle.htl_reading.specs.Keepers.{IsTakenOff, IsTakenTo, TookToEnd};
+ghost use Rattle.htl_reading.specs.Sources.{FailsOnly, IsLeft, IsReadToFault, IsReported};
 ghost use Rattle.htl_reading.specs.declared.fault.SourceFault.TheVariants.{Read};
 
 use crate::block::Block;
 use crate::fault::SourceFault;
+use crate::outcome::{Bundle, early_end};
 use htl_device::{MAX_READ_LEN, Source};
-use htl_segment::{Keeper, cut_off, split};
+use htl_segment::{Keeper, split};
 use std::alloc::Global;
 
 /// What was gathered from a source: the keeper with the segments that it took, and the bytes after
@@ -39,16 +41,17 @@ impl<K: Keeper + Drop> Gathered<K> {
         Ok(())
     }
 
-    /// Ends the gathering where a source has ended, and gives the keeper, which has all segments.
-    fn finish(self) -> Result<K, SourceFault>
-        ensures ok { IfOk result (λ keeper. (keeper ≡ self.keeper) × (self.block.held ≡ [])) }
-        ensures err { IfErr result (λ fault. (0 < length self.block.held)
-            × (fault ≡ of_segment self.offset (cut_off self.block.held))) }
+    /// Ends the gathering where a source has ended.
+    fn finish(self) -> Bundle<K>
+        ensures kept { result.segments ≡ self.keeper }
+        ensures end { (segments : List Content) → self.offset ≡ length (bundle segments)
+            → IsRest self.block.held → IsLeft segments self.block.held result.early_end }
     {
-        if self.block.held().is_empty() {
-            return Ok(self.keeper);
+        let early_end = early_end(self.offset, self.block.held());
+        Bundle {
+            segments: self.keeper,
+            early_end,
         }
-        Err(SourceFault::of_segment(self.offset, cut_off(self.block.held())))
     }
 
     /// Reads a source on to its end, after one read that gave bytes. At most `most` reads give bytes.
@@ -57,7 +60,7 @@ impl<K: Keeper + Drop> Gathered<K> {
         alloc: Global,
         most: u64,
         source: &mut R,
-    ) -> Result<K, SourceFault>
+    ) -> Result<Bundle<K>, SourceFault>
         requires fresh { R.has_failed source.old ≡ false }
         requires inside { R.has_ended source.old ≡ false }
         requires some { 0 < most }
@@ -67,7 +70,7 @@ impl<K: Keeper + Drop> Gathered<K> {
         requires counted { 1 ≤ R.good_reads source.old }
         ensures ok { (start : K) (given : Option (List ℕ)) → IsTakenTo K.gathers
             start self.keeper given (R.remaining source.old) self.block.held self.offset 1
-            → IfOk result (λ keeper. IfSome given (TookAll K.gathers start keeper)) }
+            → IfOk result (λ bundle. IfSome given (TookToEnd K.gathers start bundle)) }
         ensures err { (start : K) (given : Option (List ℕ)) → IsTakenTo K.gathers
             start self.keeper given (R.remaining source.old) self.block.held self.offset 1
             → IfErr result (λ fault. IfSome given (λ bytes.
@@ -91,7 +94,7 @@ impl<K: Keeper + Drop> Gathered<K> {
                 return Err(SourceFault::Read);
             };
             if count == 0 {
-                return self.finish();
+                return Ok(self.finish());
             }
             self.take(alloc)?;
         }

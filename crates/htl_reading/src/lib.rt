@@ -7,21 +7,27 @@
 //! worker then reads the source as if nothing had been read of it, and so each fault is what it
 //! reports.
 //!
-//! Files, in reading order: `fault.rt` (why a reading ends), `reading.rt` (a source to its end),
-//! `block.rt` (the bytes that a read puts behind those that are held), `gathered.rt` (reading on by one
-//! worker), `parts.rt` (several workers), `starts.rt` (where their parts begin).
+//! A source that ends within a segment gives the whole segments before it, and says where that is. The
+//! crates above decide whether they refuse such an end.
 //!
-//! `specs/Sources` says what is reported and how far a source is read. In `proofs/`, `TakenLaws` shows
-//! which segments reads give, `FaultLaws` which faults are reported, and `PartLaws` that the parts of
-//! several workers give the segments of all bytes.
+//! Files, in reading order: `fault.rt` (why a reading ends before its source does), `outcome.rt` (what
+//! comes of one that doesn't), `reading.rt` (a source to its end), `block.rt` (the bytes that a read
+//! puts behind those that are held), `gathered.rt` (reading on by one worker), `parts.rt` (several
+//! workers), `starts.rt` (where their parts begin).
+//!
+//! `specs/Sources` says what is left at the end, what is reported and how far a source is read. In
+//! `proofs/`, `TakenLaws` shows which segments reads give, `FaultLaws` which faults are reported, and
+//! `PartLaws` that the parts of several workers give the segments of all bytes.
 #![tactic(auto)]
 
 mod block;
 mod fault;
 mod gathered;
+mod outcome;
 mod parts;
 mod reading;
 mod starts;
 
 pub use fault::SourceFault;
+pub use outcome::{Bundle, EarlyEnd, early_end};
 pub use reading::{gather_bundle, read_bundle};

@@ -30,7 +30,11 @@ impl<R: Read + Drop, K: Keeper + Drop> Part<R, K> {
             (TookAll K.gathers self.keeper new)) }
     {
         let mut source = Reading::new(self.bytes);
-        read_source(alloc, MAX_READS, &mut source, self.keeper).ok()
+        let bundle = read_source(alloc, MAX_READS, &mut source, self.keeper).ok()?;
+        if bundle.early_end.is_some() {
+            return None;
+        }
+        Some(bundle.segments)
     }
 }
 

@@ -1,16 +1,17 @@
 //! A source, read to its end.
 
-ghost use Rattle.std.specs.Prelude.{◌≡◌, ◌*◌, ◌+◌, ◌<◌, ◌≤◌, ◌^◌, ◌++◌, List, []};
+ghost use Rattle.std.specs.Prelude.{◌≡◌, ◌*◌, ◌+◌, ◌<◌, ◌≤◌, ◌^◌, ◌++◌, ℕ, List};
 ghost use Rattle.std.specs.Prelude.{Err, IfOk, IfErr, IfSome, OnOk, false, true};
 ghost use Rattle.htl_segment.specs.Content.{Content};
 ghost use Rattle.htl_segment.specs.Bundles.{Splits};
-ghost use Rattle.htl_reading.specs.Keepers.{TookAll};
-ghost use Rattle.htl_reading.specs.Sources.{FailsOnly, IsReadToFault, IsReported};
+ghost use Rattle.htl_reading.specs.Keepers.{TookToEnd};
+ghost use Rattle.htl_reading.specs.Sources.{FailsOnly, IsLeft, IsReadToFault, IsReported};
 ghost use Rattle.htl_reading.specs.declared.fault.SourceFault.TheVariants.{Read};
 
 use crate::block::Block;
 use crate::fault::SourceFault;
 use crate::gathered::{Gathered, take_front};
+use crate::outcome::Bundle;
 use crate::parts::{append_all, gather_parts};
 use htl_device::{MAX_READ_LEN, MAX_READS, MIN_READ_LEN, Parted, Source};
 use htl_segment::{Keeper, Segment, Segments};
@@ -19,23 +20,24 @@ use std::thread::Threads;
 
 /// Gathers the segments of a source. One worker reads it to its end, in reads of 65,536 bytes, but for
 /// the first, of 4,096, and takes the segments of each read before the next. A source without bytes
-/// needs no memory.
+/// needs no memory. One that ends within a segment gives the whole segments before it.
 ///
 /// Several workers read parts of it, where it has some, and end it. Where that isn't all, one worker
 /// reads it as if there were no others: the segments are the same for every number of workers, and so
-/// is what is reported.
+/// are an early end and what is reported.
 pub fn gather_bundle<T: Threads + Sync, R: Parted, K: Keeper + Drop + Send>(
     rt: &T,
     alloc: Global,
     workers: u32,
     source: &mut R,
     mut keeper: K,
-) -> Result<K, SourceFault>
+) -> Result<Bundle<K>, SourceFault>
     requires fresh { R.has_failed source.old ≡ false }
     requires inside { R.has_ended source.old ≡ false }
-    ensures ok { IfOk result (λ new. IfSome (R.remaining source.old) (λ bytes.
-        (more : List Content) × Splits bytes more [] × ((kind : K) (segments : List Content)
-        → K.gathers kind keeper segments → K.gathers kind new (segments ++ more)))) }
+    ensures ok { IfOk result (λ bundle. IfSome (R.remaining source.old) (λ bytes.
+        (more : List Content) × (rest : List ℕ) × Splits bytes more rest
+        × IsLeft more rest bundle.early_end × ((kind : K) (segments : List Content)
+        → K.gathers kind keeper segments → K.gathers kind bundle.segments (segments ++ more)))) }
     ensures err { IfErr result (λ fault. IfSome (R.remaining source.old) (λ bytes.
         IsReported (R.remaining source.new) (R.has_ended source.new) bytes fault)) }
     ensures ended { OnOk result (R.has_ended source.new ≡ true) }
@@ -53,7 +55,10 @@ pub fn gather_bundle<T: Threads + Sync, R: Parted, K: Keeper + Drop + Send>(
             return Err(SourceFault::NoMemory);
         };
         source.finish();
-        return Ok(keeper);
+        return Ok(Bundle {
+            segments: keeper,
+            early_end: None,
+        });
     }
     read_source(alloc, MAX_READS, source, keeper)
 }
@@ -64,11 +69,12 @@ pub fn read_bundle<T: Threads + Sync, R: Parted>(
     alloc: Global,
     workers: u32,
     source: &mut R,
-) -> Result<Vec<Segment>, SourceFault>
+) -> Result<Bundle<Vec<Segment>>, SourceFault>
     requires fresh { R.has_failed source.old ≡ false }
     requires inside { R.has_ended source.old ≡ false }
-    ensures ok { IfOk result (λ segments. IfSome (R.remaining source.old)
-        (λ bytes. Splits bytes segments.items [])) }
+    ensures ok { IfOk result (λ bundle. IfSome (R.remaining source.old) (λ bytes.
+        (rest : List ℕ) × Splits bytes bundle.segments.items rest
+        × IsLeft bundle.segments.items rest bundle.early_end)) }
     ensures err { IfErr result (λ fault. IfSome (R.remaining source.old) (λ bytes.
         IsReported (R.remaining source.new) (R.has_ended source.new) bytes fault)) }
     ensures ended { OnOk result (R.has_ended source.new ≡ true) }
@@ -80,8 +86,14 @@ pub fn read_bundle<T: Threads + Sync, R: Parted>(
     ensures bounded { R.good_reads source.new ≤ R.good_reads source.old + MAX_READS }
     ensures to_fault { IsReadToFault MAX_READ_LEN (R.remaining source.old) (R.remaining source.new) }
 {
-    let gathered = gather_bundle(rt, alloc, workers, source, Segments::new(alloc))?;
-    Ok(gathered.list)
+    let Bundle {
+        segments,
+        early_end,
+    } = gather_bundle(rt, alloc, workers, source, Segments::new(alloc))?;
+    Ok(Bundle {
+        segments: segments.list,
+        early_end,
+    })
 }
 
 /// Reads a source to its end by one worker. At most `most` reads give bytes.
@@ -92,13 +104,13 @@ pub(crate) fn read_source<R: Source, K: Keeper + Drop>(
     most: u64,
     source: &mut R,
     mut keeper: K,
-) -> Result<K, SourceFault>
+) -> Result<Bundle<K>, SourceFault>
     requires fresh { R.has_failed source.old ≡ false }
     requires inside { R.has_ended source.old ≡ false }
     requires some { 0 < most }
     requires few { most * MAX_READ_LEN < 2 ^ 64 }
-    ensures ok { IfOk result (λ new. IfSome (R.remaining source.old)
-        (TookAll K.gathers keeper new)) }
+    ensures ok { IfOk result (λ bundle. IfSome (R.remaining source.old)
+        (TookToEnd K.gathers keeper bundle)) }
     ensures err { IfErr result (λ fault. IfSome (R.remaining source.old) (λ bytes.
         IsReported (R.remaining source.new) (R.has_ended source.new) bytes fault)) }
     ensures ended { OnOk result (R.has_ended source.new ≡ true) }
@@ -115,7 +127,10 @@ pub(crate) fn read_source<R: Source, K: Keeper + Drop>(
         return Err(SourceFault::Read);
     };
     if count == 0 {
-        return Ok(keeper);
+        return Ok(Bundle {
+            segments: keeper,
+            early_end: None,
+        });
     }
     let piece = &buffer[..count];
     let len = take_front(alloc, &mut keeper, 0, piece)?;

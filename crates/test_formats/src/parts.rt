@@ -5,7 +5,7 @@ ghost use Rattle.std.specs.Prelude.{◌≡◌, false};
 use crate::rows::assert_row;
 use htl_device::{Failed, Parted, Reading, Source};
 use htl_event::Interest;
-use htl_reading::{SourceFault, gather_bundle, read_bundle};
+use htl_reading::{Bundle, EarlyEnd, SourceFault, gather_bundle, read_bundle};
 use htl_samples::{RandomTrace, SMALL};
 use htl_segment::{Fault, Picks, Segment, decode_bundle};
 use std::alloc::Global;
@@ -114,16 +114,43 @@ impl<'a> Parted for Bytes<'a> {
     }
 }
 
+/// What comes of bytes: a number that tells their segments apart, and where they end within one more; or
+/// their fault.
+pub type Told = Result<(u64, Option<EarlyEnd>), SourceFault>;
+
+/// What comes of bytes in memory.
+pub fn told_of_bytes(alloc: Global, bytes: &[u8]) -> Told {
+    match decode_bundle(alloc, bytes) {
+        Ok(segments) => Ok((told(&segments), None)),
+        Err((offset, fault @ (Fault::Short | Fault::Cut))) => {
+            let (whole, _) = bytes.split_at(offset as usize);
+            let segments = decode_bundle(alloc, whole).map_err(|(
+                offset,
+                fault,
+            )| SourceFault::Segment { offset, fault })?;
+            Ok((told(&segments), Some(EarlyEnd { offset, fault })))
+        }
+        Err((offset, fault)) => Err(SourceFault::Segment { offset, fault }),
+    }
+}
+
+/// What was read of a source.
+pub fn told_of_read(read: Result<Bundle<Vec<Segment>>, SourceFault>) -> Told {
+    let Bundle {
+        segments,
+        early_end,
+    } = read?;
+    Ok((told(&segments), early_end))
+}
+
 /// Workers read parts of bytes without a fault, and one reads all of others: what comes of them is
 /// the same.
 fn by_all(rt: &(impl Abort + Threads + Sync), alloc: Global, bytes: &[u8], has_fault: bool) {
-    let alone = decode_bundle(alloc, bytes)
-        .map(|segments| told(&segments))
-        .map_err(|(offset, fault)| SourceFault::Segment { offset, fault });
+    let alone = told_of_bytes(alloc, bytes);
     for workers in [1, 2, 3, 8] {
         let mut source = Bytes::new(bytes);
         let read = read_bundle(rt, alloc, workers, &mut source);
-        assert_row(rt, workers, read.map(|segments| told(&segments)), alone);
+        assert_row(rt, workers, told_of_read(read), alone);
         assert_row(rt, workers, source.is_finished, workers > 1 && !has_fault);
     }
 }
@@ -156,12 +183,13 @@ fn picked(
     bytes: &[u8],
 ) -> Result<(u64, u64, bool), SourceFault> {
     let picks = Picks::new(alloc, Interest::Process(1));
+    let Bundle { segments, .. } = gather_bundle(rt, alloc, workers, &mut Bytes::new(bytes), picks)?;
     let Picks {
         outlines,
         events,
         seen,
         ..
-    } = gather_bundle(rt, alloc, workers, &mut Bytes::new(bytes), picks)?;
+    } = segments;
     let mut of_outlines: u64 = 1;
     for outline in &outlines {
         of_outlines = of_outlines.wrapping_mul(31).wrapping_add(outline.last);

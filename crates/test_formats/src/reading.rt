@@ -1,10 +1,9 @@
 //! Sources that give their bytes once, beside bytes that lie in memory.
 
-use crate::parts::{bundle, told};
+use crate::parts::{Told, bundle, told_of_bytes, told_of_read};
 use crate::rows::assert_row;
 use htl_device::Reading;
 use htl_reading::{SourceFault, read_bundle};
-use htl_segment::{Fault, Segment, decode_bundle};
 use std::alloc::Global;
 use std::io;
 use std::io::Read;
@@ -37,7 +36,7 @@ impl Read for Pieces<'_> {
 
 /// What the reads come to: what their bytes do, where these have a fault that more bytes wouldn't
 /// mend; else a failed read, where one comes before the end. The first read asks for 4,096 bytes.
-fn expected(alloc: Global, source: Pieces) -> Result<u64, SourceFault> {
+fn expected(alloc: Global, source: Pieces) -> Told {
     let len = source.bytes.len();
     let first = source.piece.min(4_096).min(len);
     let later = (len - first).div_ceil(source.piece.max(1));
@@ -48,17 +47,10 @@ fn expected(alloc: Global, source: Pieces) -> Result<u64, SourceFault> {
         .saturating_add(first)
         .min(len);
     let (read, _) = source.bytes.split_at(given);
-    match decode_bundle(alloc, read) {
+    match told_of_bytes(alloc, read) {
         Ok(_) if fails => Err(SourceFault::Read),
-        Err((_, Fault::Short | Fault::Cut)) if fails => Err(SourceFault::Read),
-        Ok(segments) => Ok(told(&segments)),
-        Err((offset, fault)) => Err(SourceFault::Segment { offset, fault }),
+        told => told,
     }
-}
-
-/// The same number where there are segments, or the fault.
-fn told_or_fault(read: Result<Vec<Segment>, SourceFault>) -> Result<u64, SourceFault> {
-    Ok(told(&read?))
 }
 
 /// Reads for one worker and for several, of which one reads such a source.
@@ -66,7 +58,7 @@ fn by_all(rt: &(impl Abort + Threads + Sync), alloc: Global, source: Pieces) {
     let expected = expected(alloc, source);
     for workers in [1, 8] {
         let read = read_bundle(rt, alloc, workers, &mut Reading::new(source));
-        assert_row(rt, workers, told_or_fault(read), expected);
+        assert_row(rt, workers, told_of_read(read), expected);
     }
 }
 

@@ -21,6 +21,7 @@ pub const COMPLETED: Completed = Completed {
         gaps: 0,
         complete_to: 7,
     },
+    cut: None,
     has_subject: true,
     has_finding: true,
 };

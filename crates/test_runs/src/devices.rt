@@ -114,10 +114,9 @@ fn bundle(rt: &impl Abort, alloc: Global, row: &Printed) -> Vec<u8> {
 
 /// A job over digits.
 fn over_digits() -> Job {
-    Job {
-        hex: true,
-        ..over_bytes(OUTSTANDING)
-    }
+    let mut job = over_bytes(OUTSTANDING);
+    job.form.hex = true;
+    job
 }
 
 #[test]

@@ -3,7 +3,7 @@
 use crate::commands::bytes_of;
 use crate::comparison::assert_row;
 use crate::rows::{PRINTED, Printed, REFUSED, Refused, STORED, STORED_COMPLETED, STORED_TEXT};
-use htl_command::{Format, Job, Question, Since};
+use htl_command::{Format, InputForm, Job, Question, Since};
 use htl_main::{Between, Completed, Origin, Refused as Refusal, RunFault, Writing, run};
 use htl_samples::TRACE;
 use std::alloc::Global;
@@ -25,7 +25,10 @@ pub const LEAKING: Question = Question::Leaks {
 pub fn over_bytes(question: Question) -> Job {
     Job {
         question,
-        hex: false,
+        form: InputForm {
+            hex: false,
+            partial: false,
+        },
         workers: 1,
         until: None,
         top: None,
@@ -125,11 +128,9 @@ fn printed_of_digits(
     inputs: &[&str],
     symbols: Option<&str>,
 ) -> (Vec<u8>, Result<Completed, Refusal>) {
-    let job = Job {
-        hex: true,
-        workers,
-        ..over_bytes(OUTSTANDING)
-    };
+    let mut job = over_bytes(OUTSTANDING);
+    job.form.hex = true;
+    job.workers = workers;
     let inputs = texts(rt, alloc, inputs);
     printed(rt, alloc, &job, &inputs, symbols)
 }

@@ -176,7 +176,10 @@ fn files_are_dumped_in_their_order(rt: HostRuntime) {
 fn a_code_is_explained(rt: HostRuntime) {
     let line = Line {
         words: &["explain", "S10"],
-        printed: "S10: the file ends before its last segment does\nwas it copied whole?\n",
+        printed: "\
+S10: the file ends before its last segment does
+was it copied whole? With --partial its whole segments count
+",
         ..LINE
     };
     is_obeyed(&rt, rt.alloc(), &line);

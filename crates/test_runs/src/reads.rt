@@ -82,10 +82,8 @@ fn fail_reads_of(
     hex: bool,
     (first, second): (&[u8], &[u8]),
 ) -> usize {
-    let job = Job {
-        hex,
-        ..over_bytes(command.question)
-    };
+    let mut job = over_bytes(command.question);
+    job.form.hex = hex;
     let mut failed: usize = 0;
     for piece in [1, 7, 65_536] {
         let sources = Sources {

@@ -26,6 +26,7 @@ pub const STORED_COMPLETED: Completed = Completed {
         gaps: 0,
         complete_to: 3,
     },
+    cut: None,
     has_subject: true,
     has_finding: true,
 };

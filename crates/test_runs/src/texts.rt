@@ -5,7 +5,8 @@ use crate::comparison::assert_row;
 use crate::devices::Narrow;
 use crate::pieces::Pieces;
 use crate::printed::has_line;
-use htl_main::{Reading, RunFault, Writing, dump_from, encode_from};
+use htl_command::InputForm;
+use htl_main::{CutInputs, Reading, RunFault, Writing, dump_from, encode_from};
 use htl_segment::Fault;
 use std::alloc::Global;
 use std::process::Abort;
@@ -34,12 +35,19 @@ DEREF object=0x0000000000001000 tag=Dflt seq=7 process=4 thread=12
 
 const PIECES: [usize; 3] = [1, 7, 65_536];
 
+const BYTES: InputForm = InputForm {
+    hex: false,
+    partial: false,
+};
+
+const DIGITS: InputForm = InputForm { hex: true, ..BYTES };
+
 /// Two sources that give so many bytes a read, and a sink that takes as many.
 #[derive(Clone, Copy)]
 struct Devices<'a> {
     inputs: [&'a [u8]; 2],
-    /// Whether segments, which are read or written, are digits in hexadecimal.
-    hex: bool,
+    /// How the segments are held that are read or written.
+    form: InputForm,
     piece: usize,
     /// After how many reads one of each source fails.
     reads: [usize; 2],
@@ -51,7 +59,7 @@ impl<'a> Devices<'a> {
     fn new(first: &'a [u8], second: &'a [u8], piece: usize) -> Devices<'a> {
         Devices {
             inputs: [first, second],
-            hex: false,
+            form: BYTES,
             piece,
             reads: [10_000; 2],
             most: usize::MAX,
@@ -76,12 +84,12 @@ impl<'a> Devices<'a> {
     }
 
     /// What a run that dumps writes, and how it ends.
-    fn dump(self, alloc: Global) -> (Vec<u8>, Result<(), RunFault>) {
+    fn dump(self, alloc: Global) -> (Vec<u8>, Result<Option<CutInputs>, RunFault>) {
         let mut sources = [Reading::new(self.first()), Reading::new(self.second())];
         let mut narrow = self.sink(alloc);
         let ended = dump_from(
             alloc,
-            self.hex,
+            self.form,
             &mut sources,
             &mut Writing::new(&mut narrow),
         );
@@ -94,7 +102,7 @@ impl<'a> Devices<'a> {
         let mut narrow = self.sink(alloc);
         let ended = encode_from(
             alloc,
-            self.hex,
+            self.form.hex,
             &mut sources,
             &mut Writing::new(&mut narrow),
         );
@@ -134,11 +142,11 @@ fn dumps(
     alloc: Global,
     devices: Devices,
     count: usize,
-    wanted: Result<(), RunFault>,
+    wanted: Result<Option<CutInputs>, RunFault>,
 ) {
     let (written, ended) = devices.dump(alloc);
     let texts = texts(rt, alloc, count);
-    let row = (devices.hex, devices.piece, devices.reads);
+    let row = (devices.form, devices.piece, devices.reads);
     assert_row(
         rt,
         row,
@@ -153,7 +161,7 @@ fn bytes_are_dumped(rt: HostRuntime) {
     let second = bytes_of(&rt, rt.alloc(), INPUTS[1]);
     for piece in PIECES {
         let devices = Devices::new(&first, &second, piece);
-        dumps(&rt, rt.alloc(), devices, 2, Ok(()));
+        dumps(&rt, rt.alloc(), devices, 2, Ok(None));
     }
 }
 
@@ -163,17 +171,17 @@ fn digits_are_dumped(rt: HostRuntime) {
     let second = line_of(&rt, rt.alloc(), &bytes_of(&rt, rt.alloc(), INPUTS[1]));
     for piece in PIECES {
         let devices = Devices {
-            hex: true,
+            form: DIGITS,
             ..Devices::new(&first, &second, piece)
         };
-        dumps(&rt, rt.alloc(), devices, 2, Ok(()));
+        dumps(&rt, rt.alloc(), devices, 2, Ok(None));
     }
 }
 
 /// The sources of the two texts.
 fn of_texts(hex: bool, piece: usize) -> Devices<'static> {
     Devices {
-        hex,
+        form: InputForm { hex, ..BYTES },
         ..Devices::new(TEXTS[0].as_bytes(), TEXTS[1].as_bytes(), piece)
     }
 }
@@ -265,6 +273,26 @@ fn a_dump_has_the_segments_before_a_cut(rt: HostRuntime) {
     }
 }
 
+#[test]
+fn a_partial_input_is_dumped_up_to_a_cut(rt: HostRuntime) {
+    let first = bytes_of(&rt, rt.alloc(), INPUTS[0]);
+    let (part, _) = first.split_at(70.min(first.len()));
+    let cut = CutInputs {
+        first: 1,
+        others: 0,
+    };
+    for piece in PIECES {
+        let devices = Devices {
+            form: InputForm {
+                partial: true,
+                ..BYTES
+            },
+            ..Devices::new(&first, part, piece)
+        };
+        dumps(&rt, rt.alloc(), devices, 1, Ok(Some(cut)));
+    }
+}
+
 /// A failed write of up to five bytes ended the run, and these went out before.
 fn is_stopped(
     rt: &impl Abort,
@@ -291,7 +319,7 @@ fn a_failed_write_ends_a_dump(rt: HostRuntime) {
             ..Devices::new(&both, &both, 5)
         };
         let (written, ended) = devices.dump(rt.alloc());
-        is_stopped(&rt, most, ended, &written, &text);
+        is_stopped(&rt, most, ended.map(|_| ()), &written, &text);
     }
 }
 

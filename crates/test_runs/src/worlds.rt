@@ -7,7 +7,7 @@ ghost use Rattle.std.specs.Str.{bytes_eq};
 use htl_ask::Audience;
 use htl_command::{Command, ParseFault, Question};
 use htl_dialogue::{DialogueFault, Host};
-use htl_main::{Coverage, Reading, Refused, RunFault};
+use htl_main::{Coverage, CutInputs, Reading, Refused, RunFault};
 use htl_program::{OpenFault, Person, Speaker, Subject, World};
 use std::alloc::Global;
 
@@ -87,6 +87,7 @@ pub enum Said {
     Meaning(RunFault),
     Absence(Subject),
     Gaps(Coverage),
+    Cut(CutInputs),
     Stop(DialogueFault),
     StopMeaning(DialogueFault),
 }
@@ -158,6 +159,10 @@ impl Person for Witness {
         self.hears(Said::Gaps(coverage));
     }
 
+    fn finds_cut(&mut self, inputs: CutInputs) {
+        self.hears(Said::Cut(inputs));
+    }
+
     fn stops(&mut self, stopped: DialogueFault) {
         self.hears(Said::Stop(stopped));
     }
@@ -190,7 +195,7 @@ impl Host for Silent {
 }
 
 impl Audience for Silent {
-    fn begins(&mut self, _coverage: Coverage) {}
+    fn begins(&mut self, _coverage: Coverage, _cut: Option<CutInputs>) {}
 }
 
 impl Speaker for Silent {

@@ -3,14 +3,15 @@
 ghost use Rattle.std.specs.Prelude.{◌≡◌};
 ghost use Rattle.hleak.specs.Subjects.{IsTaskOf, asked_about, input_name, symbols_name};
 
-use htl_command::{Command, Conversion, Dialogue, Run};
+use htl_command::{Command, Dialogue, Run};
 use htl_program::Subject;
 
 /// What the program was doing.
 #[derive(Clone, Copy)]
 pub enum Task<'a> {
     Question(&'a Run),
-    Convert(&'a Conversion),
+    /// Segments are printed, or made, of these files.
+    Convert(&'a [String]),
     Ask(&'a Dialogue),
 }
 
@@ -21,7 +22,9 @@ impl<'a> Task<'a> {
     {
         match command {
             Command::Question(run) => Some(Task::Question(run)),
-            Command::Dump(of) | Command::Encode(of) => Some(Task::Convert(of)),
+            Command::Dump { files, .. } | Command::Encode { files, .. } => {
+                Some(Task::Convert(files))
+            }
             Command::Ask(of) => Some(Task::Ask(of)),
             Command::Explain(_) => None,
         }
@@ -31,9 +34,9 @@ impl<'a> Task<'a> {
     pub fn input(self, place: u64) -> &'a str
         ensures { result.now ≡ input_name self.entry place }
     {
-        let files = match self {
+        let files: &[String] = match self {
             Task::Question(run) => &run.files,
-            Task::Convert(of) => &of.files,
+            Task::Convert(files) => files,
             Task::Ask(of) => &of.files,
         };
         match files.get(place as usize) {

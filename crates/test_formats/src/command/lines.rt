@@ -2,7 +2,7 @@
 use super::{fault_of, text_of, words};
 use crate::rows::assert_row;
 use htl_command::{
-    Code, Command, CommandLine, Conversion, Dialogue, Format, Job, Moment, ParseFault, Parts,
+    Code, Command, CommandLine, Dialogue, Format, InputForm, Job, Moment, ParseFault, Parts,
     PrintedFault, Question, Run, Setting, Since, parse, parse_question,
 };
 use htl_segment::{Fault, HexFault};
@@ -11,6 +11,27 @@ use htl_text::{Field, FormFault};
 use std::alloc::Global;
 use std::fmt;
 use std::process::Abort;
+
+/// Inputs of bytes, of digits, and those that may end within a segment.
+const BYTES: InputForm = InputForm {
+    hex: false,
+    partial: false,
+};
+
+const DIGITS: InputForm = InputForm {
+    hex: true,
+    partial: false,
+};
+
+const PARTIAL: InputForm = InputForm {
+    hex: false,
+    partial: true,
+};
+
+const PARTIAL_DIGITS: InputForm = InputForm {
+    hex: true,
+    partial: true,
+};
 
 /// Lines and their questions.
 const QUESTIONS: &[(&str, Question)] = &[
@@ -209,36 +230,37 @@ const QUESTIONS: &[(&str, Question)] = &[
 ];
 
 /// Lines with the options that every question has.
-const OPTIONS: &[(&str, bool, u32, &[&str], Option<&str>)] = &[
-    ("summary|--workers|4|a.hls", false, 4, &["a.hls"], None),
-    ("bad|--process|4", false, 1, &[], None),
-    ("bad|--process|4|--hex", true, 1, &[], None),
-    ("bad|--process|4|--workers|1", false, 1, &[], None),
-    ("bad|--process|4|--workers|8", false, 8, &[], None),
+const OPTIONS: &[(&str, InputForm, u32, &[&str], Option<&str>)] = &[
+    ("summary|--workers|4|a.hls", BYTES, 4, &["a.hls"], None),
+    ("bad|--process|4", BYTES, 1, &[], None),
+    ("bad|--process|4|--hex", DIGITS, 1, &[], None),
+    ("bad|--process|4|--partial", PARTIAL, 1, &[], None),
+    ("bad|--process|4|--workers|1", BYTES, 1, &[], None),
+    ("bad|--process|4|--workers|8", BYTES, 8, &[], None),
     (
         "bad|--process|4|a.hls|b.hls|a.hls",
-        false,
+        BYTES,
         1,
         &["a.hls", "b.hls", "a.hls"],
         None,
     ),
     (
         "bad|--process|4|--symbols|names.csv|-",
-        false,
+        BYTES,
         1,
         &["-"],
         Some("names.csv"),
     ),
     (
         "bad|a.hls|--hex|b.hls|--workers|2|--process|4|--symbols|",
-        true,
+        DIGITS,
         2,
         &["a.hls", "b.hls"],
         Some(""),
     ),
     (
         "bad|--process|4|--|--hex|--|-x",
-        false,
+        BYTES,
         1,
         &["--hex", "--", "-x"],
         None,
@@ -346,10 +368,15 @@ const FIELDS: &[Field] = &[
     Field::Frame,
 ];
 
-/// Lines that convert files: whether segments are digits, and the files.
-const CONVERTED: &[(&str, bool, &[&str])] = &[
-    ("dump", false, &[]),
-    ("dump|--hex|a.hls|b.hls", true, &["a.hls", "b.hls"]),
+/// Lines that want the text of segments: how the files hold them, and the files.
+const DUMPED: &[(&str, InputForm, &[&str])] = &[
+    ("dump", BYTES, &[]),
+    ("dump|--hex|a.hls|b.hls", DIGITS, &["a.hls", "b.hls"]),
+    ("dump|a.hls|--partial|--hex", PARTIAL_DIGITS, &["a.hls"]),
+];
+
+/// Lines that want the segments of a text: whether as digits, and the files.
+const ENCODED: &[(&str, bool, &[&str])] = &[
     ("encode|a.txt", false, &["a.txt"]),
     ("encode|a.txt|--hex|--|-b.txt", true, &["a.txt", "-b.txt"]),
 ];
@@ -359,7 +386,7 @@ const DIALOGUES: &[(&str, Setting, &[&str], Option<&str>)] = &[
     (
         "ask|a.hls",
         Setting {
-            hex: false,
+            form: BYTES,
             workers: 1,
             complete: false,
         },
@@ -369,7 +396,7 @@ const DIALOGUES: &[(&str, Setting, &[&str], Option<&str>)] = &[
     (
         "ask|--hex|a.hls|--workers=8|--complete|b.hls",
         Setting {
-            hex: true,
+            form: DIGITS,
             workers: 8,
             complete: true,
         },
@@ -377,9 +404,9 @@ const DIALOGUES: &[(&str, Setting, &[&str], Option<&str>)] = &[
         None,
     ),
     (
-        "ask|--symbols|names.csv|--|--hex",
+        "ask|--symbols|names.csv|--partial|--|--hex",
         Setting {
-            hex: false,
+            form: PARTIAL,
             workers: 1,
             complete: false,
         },
@@ -423,6 +450,7 @@ const ASKED: &[(&str, Question, Option<u32>, Format)] = &[
 const NO_QUESTIONS: &str = "\
 summary|a.hls => a question with its own options
 summary|--hex => a question with its own options
+summary|--partial => a question with its own options
 summary|--complete => a question with its own options
 summary|--exit-code => a question with its own options
 summary|--workers|2 => a question with its own options
@@ -529,9 +557,11 @@ const REFUSED_OPTIONS: &str = "\
 explain => <CODE>
 explain|S1|S2 => 'S2'
 explain|S1|--hex => '--hex'
+explain|S1|--partial => '--partial'
 dump|--workers|2 => '--workers'
 encode|--symbols|names.csv => '--symbols'
 encode|--hex|--hex => '--hex'
+encode|--partial => '--partial'
 ask => <FILES>
 ask|--hex => <FILES>
 ask|a.hls|--json => '--json'
@@ -635,7 +665,7 @@ fn lines_ask_questions(rt: HostRuntime) {
 fn plain_job(question: Question) -> Job {
     Job {
         question,
-        hex: false,
+        form: BYTES,
         workers: 1,
         until: None,
         top: None,
@@ -647,11 +677,11 @@ fn plain_job(question: Question) -> Job {
 
 #[test]
 fn lines_have_options(rt: HostRuntime) {
-    for (line, hex, workers, files, symbols) in OPTIONS {
+    for (line, form, workers, files, symbols) in OPTIONS {
         let run = run(&rt, rt.alloc(), line);
         has_files(&rt, line, &run.files, files);
-        let found = (run.job.hex, run.job.workers, run.symbols.as_deref());
-        assert_row(&rt, *line, found, (*hex, *workers, *symbols));
+        let found = (run.job.form, run.job.workers, run.symbols.as_deref());
+        assert_row(&rt, *line, found, (*form, *workers, *symbols));
     }
 }
 
@@ -745,27 +775,33 @@ fn explains<F: fmt::Display>(rt: &impl Abort, alloc: Global, fault: &F, code: Co
     assert_row(rt, line.as_str(), command, wanted);
 }
 
-/// Whether a line converts files, which way, and how.
-fn conversion(command: &Command) -> Option<(bool, &Conversion)> {
-    match command {
-        Command::Dump(of) => Some((true, of)),
-        Command::Encode(of) => Some((false, of)),
-        _ => None,
+/// How the files hold segments whose text a line wants, and which they are.
+fn dumped(rt: &impl Abort, alloc: Global, line: &str) -> (InputForm, Vec<String>) {
+    match command(rt, alloc, line) {
+        Command::Dump { form, files } => (form, files),
+        _ => panic!(rt; "no dump: {line}"),
+    }
+}
+
+/// Whether the segments that a line wants are digits, and the files with their text.
+fn encoded(rt: &impl Abort, alloc: Global, line: &str) -> (bool, Vec<String>) {
+    match command(rt, alloc, line) {
+        Command::Encode { hex, files } => (hex, files),
+        _ => panic!(rt; "no segments: {line}"),
     }
 }
 
 #[test]
 fn lines_convert_files(rt: HostRuntime) {
-    for (line, hex, files) in CONVERTED {
-        let command = command(&rt, rt.alloc(), line);
-        let (dumps, of) = conversion(&command).expect(&rt, line);
-        has_files(&rt, line, &of.files, files);
-        assert_row(
-            &rt,
-            *line,
-            (dumps, of.hex),
-            (line.starts_with("dump"), *hex),
-        );
+    for (line, form, files) in DUMPED {
+        let (found, names) = dumped(&rt, rt.alloc(), line);
+        has_files(&rt, line, &names, files);
+        assert_row(&rt, *line, found, *form);
+    }
+    for (line, hex, files) in ENCODED {
+        let (found, names) = encoded(&rt, rt.alloc(), line);
+        has_files(&rt, line, &names, files);
+        assert_row(&rt, *line, found, *hex);
     }
 }
 

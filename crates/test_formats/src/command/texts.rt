@@ -41,6 +41,7 @@ Options of every question, from summary to growth:
       --json            One JSON object a line, for other programs
       --complete        Refuse segments of which one is missing (C8)
       --hex             The files hold hexadecimal digits, not bytes
+      --partial         A file may end within a segment, which is left out
       --notes           Notes on standard error also where it is no terminal
   [FILES]...            Trace segments; standard input where no file is given
 
@@ -82,6 +83,7 @@ Options:
       --json            One JSON object a line, for other programs
       --complete        Refuse segments of which one is missing (C8)
       --hex             The files hold hexadecimal digits, not bytes
+      --partial         A file may end within a segment, which is left out
       --notes           Notes on standard error also where it is no terminal
   -h, --help            Print help
 
@@ -109,6 +111,7 @@ Options:
       --json            One JSON object a line, for other programs
       --complete        Refuse segments of which one is missing (C8)
       --hex             The files hold hexadecimal digits, not bytes
+      --partial         A file may end within a segment, which is left out
       --notes           Notes on standard error also where it is no terminal
   -h, --help            Print help
 
@@ -139,6 +142,7 @@ Options:
       --json            One JSON object a line, for other programs
       --complete        Refuse segments of which one is missing (C8)
       --hex             The files hold hexadecimal digits, not bytes
+      --partial         A file may end within a segment, which is left out
       --notes           Notes on standard error also where it is no terminal
   -h, --help            Print help
 
@@ -166,6 +170,7 @@ Options:
       --json            One JSON object a line, for other programs
       --complete        Refuse segments of which one is missing (C8)
       --hex             The files hold hexadecimal digits, not bytes
+      --partial         A file may end within a segment, which is left out
       --notes           Notes on standard error also where it is no terminal
   -h, --help            Print help
 
@@ -193,6 +198,7 @@ Options:
       --json            One JSON object a line, for other programs
       --complete        Refuse segments of which one is missing (C8)
       --hex             The files hold hexadecimal digits, not bytes
+      --partial         A file may end within a segment, which is left out
       --notes           Notes on standard error also where it is no terminal
   -h, --help            Print help
 
@@ -226,6 +232,7 @@ Options:
       --json            One JSON object a line, for other programs
       --complete        Refuse segments of which one is missing (C8)
       --hex             The files hold hexadecimal digits, not bytes
+      --partial         A file may end within a segment, which is left out
       --notes           Notes on standard error also where it is no terminal
   -h, --help            Print help
 
@@ -255,6 +262,7 @@ Options:
       --json            One JSON object a line, for other programs
       --complete        Refuse segments of which one is missing (C8)
       --hex             The files hold hexadecimal digits, not bytes
+      --partial         A file may end within a segment, which is left out
       --notes           Notes on standard error also where it is no terminal
   -h, --help            Print help
 
@@ -283,6 +291,7 @@ Options:
       --json            One JSON object a line, for other programs
       --complete        Refuse segments of which one is missing (C8)
       --hex             The files hold hexadecimal digits, not bytes
+      --partial         A file may end within a segment, which is left out
       --notes           Notes on standard error also where it is no terminal
   -h, --help            Print help
 
@@ -309,6 +318,7 @@ Options:
       --json            One JSON object a line, for other programs
       --complete        Refuse segments of which one is missing (C8)
       --hex             The files hold hexadecimal digits, not bytes
+      --partial         A file may end within a segment, which is left out
       --notes           Notes on standard error also where it is no terminal
   -h, --help            Print help
 
@@ -329,6 +339,7 @@ Options:
       --workers <N>     How many threads decode segments: 1 to 8 [default: 1]
       --complete        Refuse segments of which one is missing (C8)
       --hex             The files hold hexadecimal digits, not bytes
+      --partial         A file may end within a segment, which is left out
       --notes           Notes on standard error also where it is no terminal
   -h, --help            Print help
 
@@ -367,9 +378,10 @@ Arguments:
   [FILES]...  Trace segments; standard input where no file is given
 
 Options:
-      --hex    The files hold hexadecimal digits, not bytes
-      --notes  Notes on standard error also where it is no terminal
-  -h, --help   Print help
+      --hex      The files hold hexadecimal digits, not bytes
+      --partial  A file may end within a segment, which is left out
+      --notes    Notes on standard error also where it is no terminal
+  -h, --help     Print help
 
 Example:
   hleak dump cpu0.hls > cpu0.txt
@@ -509,8 +521,8 @@ For more information, try '--help'.
 const DIALOGUE_NOTES: &str = "\
 error: a line is a question with its own options
 
-  tip: files, --symbols, --workers, --complete, --hex and --notes stand after
-  'hleak ask'
+  tip: files, --symbols, --workers, --complete, --hex, --partial and --notes
+  stand after 'hleak ask'
 
 For more information, try 'hleak ask --help'.
 ";

@@ -2,22 +2,22 @@
 use Rattle.htl_main.proofs.casing.between.Goals as goal
 
 pub returns-in-Some-Some : goal.returns-in-Some-Some
-returns-in-Some-Some c = λ hex inputs are.
+returns-in-Some-Some c = λ form inputs are.
     let broken = c.in-Some.ensures in
     record {
       one = broken.one;
       other = broken.other;
       broken = broken.broken;
-      of_one = c.in-Some-Some.ensures.some hex inputs broken.one are broken.at_first;
-      of_other = c.in-Some-Some.ensures'.some hex inputs broken.other are broken.at_second;
+      of_one = c.in-Some-Some.ensures.some form inputs broken.one are broken.at_first;
+      of_other = c.in-Some-Some.ensures'.some form inputs broken.other are broken.at_second;
     }
 
 pub returns-in_default-2 : goal.returns-in_default-2
-returns-in_default-2 c = λ hex inputs are.
+returns-in_default-2 c = λ form inputs are.
     let broken = c.in-Some.ensures in
-    absurd (c.in_default-2.ensures'.none hex inputs broken.other are broken.at_second)
+    absurd (c.in_default-2.ensures'.none form inputs broken.other are broken.at_second)
 
 pub returns-in_default-2-2 : goal.returns-in_default-2-2
-returns-in_default-2-2 c = λ hex inputs are.
+returns-in_default-2-2 c = λ form inputs are.
     let broken = c.in-Some.ensures in
-    absurd (rw (c.in_default-2.is-0) at c.origin.ensures.none hex inputs broken.one are broken.at_first)
+    absurd (rw (c.in_default-2.is-0) at c.origin.ensures.none form inputs broken.one are broken.at_first)

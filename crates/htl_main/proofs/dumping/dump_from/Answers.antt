@@ -3,7 +3,9 @@ use Rattle.std.proofs.Common.{◌<◌, [], length, get_or, arith, refl}
 use Rattle.std.proofs.KnownBytes.{Appends-nil}
 use Rattle.std.proofs.lemmas.Option.{slice_get-get_or}
 use Rattle.std.proofs.lemmas.Result.{err_from_is_err_and}
-use Rattle.htl_main.specs.Dumps.{DumpsInput, InputStops}
+use Rattle.htl_main.specs.Dumping.{DumpsInput}
+use Rattle.htl_main.specs.Dumps.{InputStops}
+use Rattle.htl_main.proofs.CutLaws.{cut_next, fits_next, none_cut, none_fits}
 use Rattle.htl_main.proofs.DumpLaws.{dumps_next, written_after}
 use Rattle.htl_main.proofs.ReadingLaws.{all_read, none_before, one_before, read_to, unread_later}
 use Rattle.htl_main.proofs.SourceLaws.{at_known, knows_now, value_there}
@@ -11,34 +13,45 @@ use Rattle.htl_main.proofs.dumping.dump_from.Goals as goal
 
 pub loop-place-init : goal.loop-place-init
 loop-place-init g c = record {
-  before = none_before c.args.hex g.R.Source.has_failed g.R.Source.has_ended g.R.Source.good_reads g.R.Source.remaining c.args.inputs.now
+  before = none_before c.args.form.hex g.R.Source.has_failed g.R.Source.has_ended g.R.Source.good_reads g.R.Source.remaining c.args.inputs.now
       c.requires.inputs;
   sound = c.requires.out;
   dumped = λ texts all. ([], refl, Appends-nil (g.W.Sink.contents c.args.out.now));
+  cut = λ texts all. none_cut c.args.form.hex texts;
+  few = none_fits 0;
 }
 
 pub loop-place-preserved : goal.loop-place-preserved
 loop-place-preserved g c =
     let inv = c.loop-place.invariant in
-    let is = c.in_ok-dump_input.ensures in
+    let is = c.in_ok-is_cut.ensures in
+    let is_cut = c.in_ok-is_cut.is_cut in
     let place = c.loop-place.place in
     let within : place < length c.loop-place.inputs = omega arith in
     let source = get_or c.loop-place.inputs place c.index-inputs-place.result in
     let here = slice_get-get_or c.loop-place.inputs place c.index-inputs-place.result within in
     record {
-      before = one_before c.args.hex g.R.Source.has_failed g.R.Source.has_ended g.R.Source.good_reads g.R.Source.remaining
+      before = one_before c.args.form.hex g.R.Source.has_failed g.R.Source.has_ended g.R.Source.good_reads g.R.Source.remaining
           c.args.inputs.now c.loop-place.inputs place source c.dump_input.new.source inv.before within here _ is.reading;
       sound = is.failed;
       dumped = λ texts all.
           let knows = knows_now g.R.Source.remaining c.args.inputs.now c.loop-place.inputs texts place source
           (inv.before.left place (omega arith)) here all in
-          dumps_next c.args.hex texts place knows.input _ (g.W.Sink.contents c.loop-place.out) (g.W.Sink.contents c.dump_input.new.out)
-          knows.here (inv.dumped texts all) (at_known texts place (g.R.Source.remaining source) (λ bytes. DumpsInput c.args.hex bytes
-          (g.W.Sink.contents c.loop-place.out) (g.W.Sink.contents c.dump_input.new.out)) knows is.ok);
+          dumps_next c.args.form texts place knows.input is_cut _ (g.W.Sink.contents c.loop-place.out)
+          (g.W.Sink.contents c.dump_input.new.out) knows.here (inv.dumped texts all) (at_known texts place (g.R.Source.remaining source)
+          (λ bytes. DumpsInput c.args.form bytes is_cut (g.W.Sink.contents c.loop-place.out) (g.W.Sink.contents c.dump_input.new.out))
+          knows is.ok);
+      cut = λ texts all.
+          let knows = knows_now g.R.Source.remaining c.args.inputs.now c.loop-place.inputs texts place source
+          (inv.before.left place (omega arith)) here all in
+          let one = at_known texts place (g.R.Source.remaining source) (λ bytes. DumpsInput c.args.form bytes is_cut
+          (g.W.Sink.contents c.loop-place.out) (g.W.Sink.contents c.dump_input.new.out)) knows is.ok in
+          rw (c.with_input-cut.ensures) (cut_next c.args.form.hex texts place knows.input is_cut c.loop-place.cut knows.here (inv.cut texts all) one.1.cut);
+      few = rw (c.with_input-cut.ensures) (fits_next is_cut place c.loop-place.cut inv.few);
     }
 
-pub returns-in_err-dump_input-clause-stops : goal.returns-in_err-dump_input-clause-stops
-returns-in_err-dump_input-clause-stops g c =
+pub returns-in_err-is_cut-clause-stops : goal.returns-in_err-is_cut-clause-stops
+returns-in_err-is_cut-clause-stops g c =
     let p = err_from_is_err_and c.from_residual.result c.from_residual.ensures.1 in
     let inv = c.loop-place.invariant in
     let place = c.loop-place.place in
@@ -49,9 +62,9 @@ returns-in_err-dump_input-clause-stops g c =
     λ texts all.
     let knows = knows_now g.R.Source.remaining c.args.inputs.now c.loop-place.inputs texts place source
     (inv.before.left place (omega arith)) here all in
-    let stops = at_known texts place (g.R.Source.remaining source) (λ bytes. InputStops c.args.hex (g.R.Source.remaining new)
+    let stops = at_known texts place (g.R.Source.remaining source) (λ bytes. InputStops c.args.form (g.R.Source.remaining new)
     (g.R.Source.has_ended new) place bytes (g.W.Sink.contents c.loop-place.out) (g.W.Sink.contents c.dump_input.new.out)
-    c.in_err-dump_input.field-0.0) knows c.in_err-dump_input.ensures.stops in
+    c.in_err-is_cut.field-0.0) knows c.in_err-is_cut.ensures.stops in
     let so_far = inv.dumped texts all in
     rw (p.1, p.2) record {
       place = place;
@@ -66,22 +79,22 @@ returns-in_err-dump_input-clause-stops g c =
       reported = stops.reported;
       segments = stops.segments;
       are = stops.are;
-      written = written_after _ _ _ so_far.0 stops.segments c.in_err-dump_input.field-0.0 so_far.2 stops.written;
+      written = written_after _ _ _ so_far.0 stops.segments c.in_err-is_cut.field-0.0 so_far.2 stops.written;
       unread = unread_later g.R.Source.remaining c.args.inputs.now c.loop-place.inputs texts place new inv.before.left all;
     }
 
-pub returns-in_err-dump_input-clause-reading : goal.returns-in_err-dump_input-clause-reading
-returns-in_err-dump_input-clause-reading g c =
+pub returns-in_err-is_cut-clause-reading : goal.returns-in_err-is_cut-clause-reading
+returns-in_err-is_cut-clause-reading g c =
     let p = err_from_is_err_and c.from_residual.result c.from_residual.ensures.1 in
     let place = c.loop-place.place in
     let within : place < length c.loop-place.inputs = omega arith in
     let source = get_or c.loop-place.inputs place c.index-inputs-place.result in
     let here = slice_get-get_or c.loop-place.inputs place c.index-inputs-place.result within in
-    rw (p.1, p.2) (read_to c.args.hex g.R.Source.has_failed g.R.Source.has_ended g.R.Source.good_reads g.R.Source.remaining
+    rw (p.1, p.2) (read_to c.args.form.hex g.R.Source.has_failed g.R.Source.has_ended g.R.Source.good_reads g.R.Source.remaining
     c.args.inputs.now c.loop-place.inputs place source c.dump_input.new.source c.loop-place.invariant.before within here
-    c.in_err-dump_input.field-0.0 c.in_err-dump_input.ensures.reading)
+    c.in_err-is_cut.field-0.0 c.in_err-is_cut.ensures.reading)
 
 pub returns-clause-reading : goal.returns-clause-reading
 returns-clause-reading g c =
-    all_read c.args.hex g.R.Source.has_failed g.R.Source.has_ended g.R.Source.good_reads g.R.Source.remaining c.args.inputs.now
+    all_read c.args.form.hex g.R.Source.has_failed g.R.Source.has_ended g.R.Source.good_reads g.R.Source.remaining c.args.inputs.now
     c.loop-place.inputs c.loop-place.place _ c.loop-place.invariant.before (omega arith)

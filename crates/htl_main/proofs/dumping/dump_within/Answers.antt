@@ -8,14 +8,14 @@ use Rattle.std.proofs.lemmas.Result.{err_from_is_err_and}
 use Rattle.htl_device.specs.declared.source.TheConstants.{MAX_READ_LEN, MIN_READ_LEN}
 use Rattle.htl_segment.specs.Bundles.{IsRest}
 use Rattle.htl_main.specs.Dumping.{FrontDumped}
-use Rattle.htl_main.proofs.DumpLaws.{finished_cut, finished_whole, front_named, front_no_read, kept_last, rest_inside, so_far_failed}
+use Rattle.htl_main.proofs.DumpLaws.{finished, finished_cut, front_named, front_no_read, kept_last, rest_inside, so_far_failed}
 use Rattle.htl_main.proofs.DumpLaws.{so_far_memory, so_far_next, so_far_once_more, so_far_read, so_far_stops, so_far_unread}
 use Rattle.htl_main.proofs.dumping.dump_within.Goals as goal
 
 pub returns-in_default-clause-stops : goal.returns-in_default-clause-stops
 returns-in_default-clause-stops g c =
     let failed : is_err c.read.result ≡ true = grind (arith, common_steps) in
-    so_far_unread _ _ _ _ _ _ _ _ (so_far_failed (g.R.Source.remaining c.args.source.now) (g.R.Source.remaining c.loop-read.source)
+    so_far_unread c.args.form _ _ _ _ _ _ _ _ c.requires.bytes (so_far_failed (g.R.Source.remaining c.args.source.now) (g.R.Source.remaining c.loop-read.source)
     (g.R.Source.remaining c.read.new.self) c.loop-read.start c.loop-read.held.items c.read.new.buffer _ _ c.read.result failed
     c.read.ensures.bytes c.loop-read.invariant.so_far)
 
@@ -40,7 +40,8 @@ returns-then-count-eq0-clause-ok g c =
     let none : Consumes (g.R.Source.remaining c.loop-read.source) last [] =
     subst (λ (n : ℕ). Consumes (g.R.Source.remaining c.loop-read.source) last (take n c.read.new.buffer)) zero c.in-Ok.ensures.bytes.0 in
     let end : IsAtEnd last = c.in-Ok.ensures.bytes.1 zero (omega arith) in
-    finished_whole _ _ _ _ _ _ _ c.finish.result c.loop-read.invariant.so_far none end (rw (← c.deref.ensures.value) (c.finish.ensures.ok))
+    finished c.args.form _ _ _ _ _ _ _ c.finish.result c.requires.bytes c.loop-read.invariant.so_far none end
+    (rw (← c.deref.ensures.value) (c.finish.ensures.ok))
 
 pub returns-then-count-eq0-clause-stops : goal.returns-then-count-eq0-clause-stops
 returns-then-count-eq0-clause-stops g c =
@@ -49,7 +50,8 @@ returns-then-count-eq0-clause-stops g c =
     let none : Consumes (g.R.Source.remaining c.loop-read.source) last [] =
     subst (λ (n : ℕ). Consumes (g.R.Source.remaining c.loop-read.source) last (take n c.read.new.buffer)) zero c.in-Ok.ensures.bytes.0 in
     let end : IsAtEnd last = c.in-Ok.ensures.bytes.1 zero (omega arith) in
-    finished_cut _ _ _ _ _ _ _ _ _ c.finish.result c.loop-read.invariant.so_far none end (rw (← c.deref.ensures.value) (c.finish.ensures.stops))
+    finished_cut c.args.form _ _ _ _ _ _ _ _ _ c.finish.result c.requires.bytes c.loop-read.invariant.so_far none end
+    (rw (← c.deref.ensures.value) (c.finish.ensures.stops))
 
 pub returns-then-count-eq0-clause-to_fault : goal.returns-then-count-eq0-clause-to_fault
 returns-then-count-eq0-clause-to_fault g c =
@@ -61,7 +63,7 @@ returns-in_err-extend_from_slice-clause-stops g c =
     let p = err_from_is_err_and c.from_residual.result c.from_residual.ensures.1 in
     let some : 0 < length (take c.in-Ok.count c.read.new.buffer) = grind (arith, common_steps) in
     let inside : g.R.Source.has_ended c.read.new.self ≡ false = grind (arith, common_steps) in
-    rw (p.1, p.2) (so_far_memory _ _ _ _ _ _ _ _ _ _ c.loop-read.invariant.so_far c.in-Ok.ensures.bytes.0 inside some)
+    rw (p.1, p.2) (so_far_memory c.args.form _ _ _ _ _ _ _ _ _ _ c.requires.bytes c.loop-read.invariant.so_far c.in-Ok.ensures.bytes.0 inside some)
 
 pub returns-in_err-extend_from_slice-clause-to_fault : goal.returns-in_err-extend_from_slice-clause-to_fault
 returns-in_err-extend_from_slice-clause-to_fault g c =
@@ -73,8 +75,8 @@ returns-in_err-left-clause-stops g c =
     let p = err_from_is_err_and c.from_residual-in_err-left.result c.from_residual-in_err-left.ensures.1 in
     let all : c.extend_from_slice.new.self.items ≡ c.loop-read.held.items ++ take c.in-Ok.count c.read.new.buffer =
     grind (arith, common_steps) in
-    rw (p.1, p.2) (so_far_stops _ _ _ _ _ _ c.loop-read.held.items (take c.in-Ok.count c.read.new.buffer) _ _ _ _
-    c.loop-read.invariant.so_far c.in-Ok.ensures.bytes.0
+    rw (p.1, p.2) (so_far_stops c.args.form _ _ _ _ _ _ c.loop-read.held.items (take c.in-Ok.count c.read.new.buffer) _ _ _ _
+    c.requires.bytes c.loop-read.invariant.so_far c.in-Ok.ensures.bytes.0
     (rw (← all, ← c.deref-in-loop-read.ensures.value) (c.in_err-left.ensures.dumped)))
 
 pub returns-in_err-left-clause-read : goal.returns-in_err-left-clause-read
@@ -104,7 +106,7 @@ returns-in_err-left-clause-to_fault g c =
     so_far_once_more _ _ _ _ _ _ _ _ c.loop-read.invariant.so_far c.in-Ok.ensures.bytes.0 few
 
 pub returns-clause-stops : goal.returns-clause-stops
-returns-clause-stops g c = so_far_unread _ _ _ _ _ _ _ _ c.loop-read.invariant.so_far
+returns-clause-stops g c = so_far_unread c.args.form _ _ _ _ _ _ _ _ c.requires.bytes c.loop-read.invariant.so_far
 
 pub returns-clause-to_fault : goal.returns-clause-to_fault
 returns-clause-to_fault g c = so_far_read _ _ _ _ _ _ _ c.loop-read.invariant.so_far

@@ -1,7 +1,6 @@
--- Bytes that more may make a segment of have a fault.
-use Rattle.htl_segment.proofs.BundleLaws.{first_fault-rest}
+-- What is left of an input ends within a segment, or is nothing.
 use Rattle.htl_main.proofs.dumping.finish.Goals as goal
 
-pub returns-in-Ok-clause-ok : goal.returns-in-Ok-clause-ok
-returns-in-Ok-clause-ok c =
-    let some = first_fault-rest c.args.rest.now c.requires in absurd (cc (some, c.in-Ok.ensures.fault))
+pub returns-clause-ok : goal.returns-clause-ok
+returns-clause-ok c = λ segments at.
+    c.check_end.ensures.end segments c.args.rest.now (c.early_end.ensures segments at c.requires)

@@ -11,13 +11,13 @@ use Rattle.htl_main.proofs.loading.load.Goals as goal
 pub returns-in_err-check_workers-clause-reading : goal.returns-in_err-check_workers-clause-reading
 returns-in_err-check_workers-clause-reading g c =
     let p = err_from_is_err_and c.from_residual.result c.from_residual.ensures.1 in
-    rw (p.1, p.2.0, c.in_err-check_workers.ensures.err.0) (unread c.args.setting.hex
+    rw (p.1, p.2.0, c.in_err-check_workers.ensures.err.0) (unread c.args.setting.form.hex
     g.R.Source.has_failed g.R.Source.has_ended g.R.Source.good_reads g.R.Source.remaining c.args.inputs.now c.requires.fresh)
 
 pub returns-in_err-decoded-clause-reading : goal.returns-in_err-decoded-clause-reading
 returns-in_err-decoded-clause-reading g c =
     let p = err_from_is_err_and c.from_residual-in_err-decoded.result c.from_residual-in_err-decoded.ensures.1 in
-    rw (p.1, p.2.0) (ends_too c.args.setting.hex
+    rw (p.1, p.2.0) (ends_too c.args.setting.form.hex
     g.R.Source.has_failed g.R.Source.has_ended g.R.Source.good_reads g.R.Source.remaining c.args.inputs.now c.read_all.new.sources c.in_err-decoded.field-0.0
     c.in_err-decoded.ensures.reading)
 
@@ -25,7 +25,7 @@ pub returns-in_err-case-clause-reading : goal.returns-in_err-case-clause-reading
 returns-in_err-case-clause-reading g c =
     let p = err_from_is_err_and c.from_residual-in_err-case.result c.from_residual-in_err-case.ensures.1 in
     let symbols = option_copied c.args.symbols in
-    rw (p.1, p.2) (reads_then c.args.setting.hex
+    rw (p.1, p.2) (reads_then c.args.setting.form.hex
     g.R.Source.has_failed g.R.Source.has_ended g.R.Source.good_reads g.R.Source.remaining c.args.inputs.now c.read_all.new.sources c.in_ok-decoded.decoded
     c.in_ok-decoded.decoded.segments.items symbols some_job c.in_err-case.field-0.0.fault c.in_ok-decoded.ensures.reading
     (c.in_err-case.ensures.err symbols some_job))
@@ -51,7 +51,7 @@ returns-in_err-loaded-clause-reading g c =
     let p = err_from_is_err_and c.from_residual-in_err-loaded.result c.from_residual-in_err-loaded.ensures.1 in
     let segments = c.in_ok-decoded.decoded.segments.items in
     let job = in_setting c.args.setting (record some_job { until = c.args.until }) in
-    rw (p.1, p.2.0) (reads_then c.args.setting.hex
+    rw (p.1, p.2.0) (reads_then c.args.setting.form.hex
     g.R.Source.has_failed g.R.Source.has_ended g.R.Source.good_reads g.R.Source.remaining c.args.inputs.now c.read_all.new.sources c.in_ok-decoded.decoded
     segments (option_copied c.args.symbols) job c.in_err-loaded.field-0.0 c.in_ok-decoded.ensures.reading
     (c.in_err-loaded.ensures.err segments job c.in_ok-case.ensures.ok refl refl))
@@ -78,12 +78,12 @@ returns-in_err-loaded-clause-between g c =
     let p = err_from_is_err_and c.from_residual-in_err-loaded.result c.from_residual-in_err-loaded.ensures.1 in
     let segments = c.in_ok-decoded.decoded.segments.items in
     let job = in_setting c.args.setting (record some_job { until = c.args.until }) in
-    λ texts all. rw (p.1, p.2.0, p.2.1) (none_after c.args.setting.hex texts segments c.in_ok-case.case (option_copied c.args.symbols)
+    λ texts all. rw (p.1, p.2.0, p.2.1) (none_after c.args.setting.form texts segments c.in_ok-case.case (option_copied c.args.symbols)
     job c.in_err-loaded.field-0.0 c.in_ok-case.ensures.ok (c.in_err-loaded.ensures.err segments job c.in_ok-case.ensures.ok refl refl))
 
 pub returns-clause-reading : goal.returns-clause-reading
 returns-clause-reading g c =
-    read_then c.args.setting.hex g.R.Source.has_failed g.R.Source.has_ended g.R.Source.good_reads g.R.Source.remaining c.args.inputs.now
+    read_then c.args.setting.form.hex g.R.Source.has_failed g.R.Source.has_ended g.R.Source.good_reads g.R.Source.remaining c.args.inputs.now
     c.read_all.new.sources c.in_ok-decoded.decoded (well c.in_ok-loaded.loaded) c.in_ok-decoded.ensures.reading (λ at told. cc told) tt
 
 pub returns-clause-ok : goal.returns-clause-ok

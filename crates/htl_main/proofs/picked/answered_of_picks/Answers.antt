@@ -1,5 +1,5 @@
 -- The lines, the coverage, the subject and the finding of answered_of_picks are those of one answer over the case.
-use Rattle.std.proofs.Common.{◌∙◌, inr, rules}
+use Rattle.std.proofs.Common.{◌∙◌, inr, rules, refl}
 use Rattle.std.proofs.lemmas.Result.{err_from_is_err_and}
 use Rattle.std.specs.Option.{option_copied}
 use Rattle.htl_main.proofs.Missing.{memory_cause, missing_cause}
@@ -86,6 +86,7 @@ returns-clause-reports c = λ segments is.
     let found = c.has_event_about-has_subject.result in
     record {
       coverage = (T, is.case_of, c.coverage-coverage.ensures T missed);
+      cut_are = refl;
       subject = (
         T,
         is.case_of,

@@ -4,6 +4,7 @@ use Rattle.std.proofs.lemmas.Option.{slice_get-get_or}
 use Rattle.std.proofs.lemmas.Result.{err_from_is_err_and}
 use Rattle.htl_main.specs.Picking.{ArePicksMore}
 use Rattle.htl_main.specs.Sources.{IsReportedOfSource}
+use Rattle.htl_main.proofs.CutLaws.{cut_next, fits_next, none_cut, none_fits}
 use Rattle.htl_main.proofs.PickLaws.{none_picked, one_picked}
 use Rattle.htl_main.proofs.ReadingLaws.{all_read, none_before, one_before, read_to}
 use Rattle.htl_main.proofs.SourceLaws.{at_known, knows_now, reported_at}
@@ -13,13 +14,16 @@ pub loop-place-init : goal.loop-place-init
 loop-place-init g c = record {
   before = none_before false g.R.Source.has_failed g.R.Source.has_ended g.R.Source.good_reads g.R.Source.remaining
       c.args.sources.now c.requires.fresh;
-  picked = λ texts all. none_picked c.args.interest texts c.new-picks.result c.new-picks.ensures;
+  picked = λ texts all. none_picked c.args.form c.args.interest texts c.new-picks.result c.new-picks.ensures;
+  cut = λ texts all. none_cut c.args.form.hex texts;
+  few = none_fits 0;
 }
 
 pub loop-place-preserved : goal.loop-place-preserved
 loop-place-preserved g c =
     let inv = c.loop-place.invariant in
-    let is = c.in_ok-picks.ensures in
+    let is = c.in_ok-more.ensures in
+    let more = c.in_ok-more.more in
     let place = c.loop-place.place in
     let within : place < length c.loop-place.sources = omega arith in
     let source = get_or c.loop-place.sources place c.index-sources-place.result in
@@ -30,12 +34,20 @@ loop-place-preserved g c =
       picked = λ texts all.
           let knows = knows_now g.R.Source.remaining c.args.sources.now c.loop-place.sources texts place source
           (inv.before.left place (omega arith)) here all in
-          one_picked c.args.interest texts place knows.input c.loop-place.picks c.in_ok-picks.picks knows.here (inv.picked texts all)
-          (at_known texts place (g.R.Source.remaining source) (ArePicksMore c.loop-place.picks c.in_ok-picks.picks) knows is.ok);
+          one_picked c.args.form c.args.interest texts place knows.input c.loop-place.picks more.segments more.is_cut knows.here
+          (inv.picked texts all) (at_known texts place (g.R.Source.remaining source)
+          (λ bytes. ArePicksMore c.args.form c.loop-place.picks more.segments bytes more.is_cut) knows is.ok);
+      cut = λ texts all.
+          let knows = knows_now g.R.Source.remaining c.args.sources.now c.loop-place.sources texts place source
+          (inv.before.left place (omega arith)) here all in
+          rw (c.with_input-cut.ensures) (cut_next c.args.form.hex texts place knows.input more.is_cut c.loop-place.cut knows.here (inv.cut texts all)
+          (at_known texts place (g.R.Source.remaining source)
+          (λ bytes. ArePicksMore c.args.form c.loop-place.picks more.segments bytes more.is_cut) knows is.ok).are.cut);
+      few = rw (c.with_input-cut.ensures) (fits_next more.is_cut place c.loop-place.cut inv.few);
     }
 
-pub returns-in_err-picks-clause-err : goal.returns-in_err-picks-clause-err
-returns-in_err-picks-clause-err g c =
+pub returns-in_err-more-clause-err : goal.returns-in_err-more-clause-err
+returns-in_err-more-clause-err g c =
     let p = err_from_is_err_and c.from_residual.result c.from_residual.ensures.1 in
     let inv = c.loop-place.invariant in
     let place = c.loop-place.place in
@@ -53,13 +65,13 @@ returns-in_err-picks-clause-err g c =
       here = knows.here;
       segments = so_far.segments;
       before = so_far.decoded;
-      reported = reported_at g.R.Source.has_ended g.R.Source.remaining c.loop-place.sources place new within false knows.input _
+      reported = reported_at g.R.Source.has_ended g.R.Source.remaining c.loop-place.sources place new within c.args.form knows.input _
           (at_known texts place (g.R.Source.remaining source) (λ bytes. IsReportedOfSource _ (g.R.Source.remaining new)
-          (g.R.Source.has_ended new) place bytes c.in_err-picks.field-0.0) knows c.in_err-picks.ensures.err);
+          (g.R.Source.has_ended new) place bytes c.in_err-more.field-0.0) knows c.in_err-more.ensures.err);
     }
 
-pub returns-in_err-picks-clause-reading : goal.returns-in_err-picks-clause-reading
-returns-in_err-picks-clause-reading g c =
+pub returns-in_err-more-clause-reading : goal.returns-in_err-more-clause-reading
+returns-in_err-more-clause-reading g c =
     let p = err_from_is_err_and c.from_residual.result c.from_residual.ensures.1 in
     let place = c.loop-place.place in
     let within : place < length c.loop-place.sources = omega arith in
@@ -67,7 +79,7 @@ returns-in_err-picks-clause-reading g c =
     let here = slice_get-get_or c.loop-place.sources place c.index-sources-place.result within in
     rw (p.1, p.2) (read_to false g.R.Source.has_failed g.R.Source.has_ended g.R.Source.good_reads g.R.Source.remaining
     c.args.sources.now c.loop-place.sources place source c.pick_source.new.source c.loop-place.invariant.before within here
-    c.in_err-picks.field-0.0 c.in_err-picks.ensures.reading)
+    c.in_err-more.field-0.0 c.in_err-more.ensures.reading)
 
 pub returns-clause-reading : goal.returns-clause-reading
 returns-clause-reading g c =

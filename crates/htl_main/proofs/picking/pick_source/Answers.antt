@@ -1,16 +1,23 @@
 -- What pick_source reports of the source's bytes, and how it reads them, as a source of the run.
-use Rattle.htl_main.proofs.OneSource.{decoded_ill, decoded_well, never_write, reported_bytes_of}
-use Rattle.htl_main.proofs.PickLaws.{known_more, never_case}
+use Rattle.htl_main.proofs.OneSource.{accepted_read, decoded_ill, never_write, reported_bytes_of}
+use Rattle.htl_main.proofs.PickLaws.{accepted_more, never_case, refused_more}
 use Rattle.htl_main.proofs.picking.pick_source.Goals as goal
 
 pub returns-in-Ok-clause-ok : goal.returns-in-Ok-clause-ok
-returns-in-Ok-clause-ok g c = known_more (g.R.Source.remaining c.args.source.now) c.args.picks _ c.in-Ok.ensures.ok
+returns-in-Ok-clause-ok g c =
+    accepted_more c.args.form (g.R.Source.remaining c.args.source.now) c.args.picks c.in-Ok.bundle c.accept.result c.requires.bytes
+    c.in-Ok.ensures.ok c.accept.ensures.segments c.accept.ensures.end
+
+pub returns-in-Ok-clause-err : goal.returns-in-Ok-clause-err
+returns-in-Ok-clause-err g c =
+    refused_more c.args.form (g.R.Source.remaining c.args.source.now) _ _ c.args.place c.args.picks c.in-Ok.bundle c.accept.result c.requires.bytes
+    c.in-Ok.ensures.ok c.accept.ensures.refused
 
 pub returns-in-Ok-clause-reading : goal.returns-in-Ok-clause-reading
 returns-in-Ok-clause-reading g c =
     let is = c.in-Ok.ensures in
-    decoded_well g.R.Source.has_failed g.R.Source.has_ended g.R.Source.good_reads g.R.Source.remaining c.args.place
-    c.args.source.now c.gather_bundle.new.source c.in-Ok.picks c.in-Ok.picks (record {
+    accepted_read g.R.Source.has_failed g.R.Source.has_ended g.R.Source.good_reads g.R.Source.remaining c.args.place
+    c.args.source.now c.gather_bundle.new.source c.in-Ok.bundle c.accept.result c.accept.ensures.segment (record {
       ended = is.ended;
       reported = is.reported;
       read = is.read;
@@ -34,7 +41,8 @@ returns-in-Err-clause-reading g c =
 
 pub returns-in-Err-clause-err : goal.returns-in-Err-clause-err
 returns-in-Err-clause-err g c =
-    rw (c.of_source.ensures) (reported_bytes_of (g.R.Source.remaining c.args.source.now) _ _ c.args.place c.in-Err.fault c.in-Err.ensures.err)
+    rw (c.of_source.ensures) (reported_bytes_of c.args.form (g.R.Source.remaining c.args.source.now) _ _ c.args.place c.in-Err.fault
+    c.requires.bytes c.in-Err.ensures.err)
 
 pub returns-in-Err-clause-no_write : goal.returns-in-Err-clause-no_write
 returns-in-Err-clause-no_write g c = rw (c.of_source.ensures) (never_write c.args.place c.in-Err.fault)

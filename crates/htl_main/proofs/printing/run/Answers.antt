@@ -43,7 +43,7 @@ pub returns-in_err-loaded-clause-between : goal.returns-in_err-loaded-clause-bet
 returns-in_err-loaded-clause-between g c =
     let p = err_from_is_err_and c.from_residual-in_err-loaded.result c.from_residual-in_err-loaded.ensures.1 in
     let segments = c.in_ok-decoded.decoded.segments.items in
-    rw (p.1, p.2.0, p.2.1) (none_after c.args.job.now.hex (map (λ (input : Vec ℕ Global). input.items) c.args.inputs.now) segments
+    rw (p.1, p.2.0, p.2.1) (none_after c.args.job.now.form (map (λ (input : Vec ℕ Global). input.items) c.args.inputs.now) segments
     c.in_ok-case.case (option_copied c.args.symbols) c.args.job.now c.in_err-loaded.field-0.0 c.in_ok-case.ensures.ok
     (c.in_err-loaded.ensures.err segments c.args.job.now c.in_ok-case.ensures.ok refl refl))
 

@@ -2,43 +2,57 @@
 use Rattle.std.proofs.Common.{◌<◌, length, get_or, arith, inl}
 use Rattle.std.proofs.lemmas.Option.{slice_get-get_or}
 use Rattle.std.proofs.lemmas.Result.{err_from_is_err_and}
-use Rattle.htl_main.specs.Inputs.{Decodes}
+use Rattle.htl_main.specs.Ends.{IsInput}
 use Rattle.htl_main.specs.Sources.{IsReportedOfSource}
 use Rattle.htl_main.specs.declared.fault.RunFault.TheVariants.{Memory}
+use Rattle.htl_main.proofs.CutLaws.{cut_next, fits_next, none_cut, none_fits}
 use Rattle.htl_main.proofs.InputLaws.{asked_for, decode_next}
 use Rattle.htl_main.proofs.ReadingLaws.{all_read, none_before, one_before, read_to, refused_after}
-use Rattle.htl_main.proofs.SourceLaws.{at_known, knows_now, reported_at}
+use Rattle.htl_main.proofs.SourceLaws.{at_known, false_now, knows_now, reported_at}
 use Rattle.htl_main.proofs.sources.read_all.Goals as goal
 
 pub loop-place-init : goal.loop-place-init
 loop-place-init g c = record {
-  before = none_before c.args.hex g.R.Source.has_failed g.R.Source.has_ended g.R.Source.good_reads g.R.Source.remaining
+  before = none_before c.args.form.hex g.R.Source.has_failed g.R.Source.has_ended g.R.Source.good_reads g.R.Source.remaining
       c.args.sources.now c.requires.fresh;
   decoded = λ inputs all. c.new-decoded.ensures.segments;
-  parts = λ inputs all. c.new-decoded.ensures.parts c.args.hex inputs;
+  parts = λ inputs all. c.new-decoded.ensures.parts c.args.form inputs;
+  cut = λ inputs all. rw (c.new-decoded.ensures.cut) (none_cut c.args.form.hex inputs);
+  few = rw (c.new-decoded.ensures.cut) (none_fits 0);
 }
 
 pub loop-place-preserved : goal.loop-place-preserved
 loop-place-preserved g c =
     let inv = c.loop-place.invariant in
+    let more = c.in_ok-more.more in
     let place = c.loop-place.place in
     let within : place < length c.loop-place.sources = omega arith in
     let source = get_or c.loop-place.sources place c.index-sources-place.result in
     let here = slice_get-get_or c.loop-place.sources place c.index-sources-place.result within in
     record {
-      before = one_before c.args.hex g.R.Source.has_failed g.R.Source.has_ended g.R.Source.good_reads g.R.Source.remaining
+      before = one_before c.args.form.hex g.R.Source.has_failed g.R.Source.has_ended g.R.Source.good_reads g.R.Source.remaining
           c.args.sources.now c.loop-place.sources place source c.read_input.new.source inv.before within here _ c.in_ok-more.ensures.reading;
       decoded = λ texts all.
           let knows = knows_now g.R.Source.remaining c.args.sources.now c.loop-place.sources texts place source
           (inv.before.left place (omega arith)) here all in
-          rw (c.in_ok-add.ensures.segments) (decode_next c.args.hex texts place knows.input c.loop-place.decoded.segments.items
-          c.in_ok-more.more.items knows.here (inv.decoded texts all) (at_known texts place (g.R.Source.remaining source)
-          (λ bytes. Decodes c.args.hex bytes c.in_ok-more.more.items) knows c.in_ok-more.ensures.ok));
+          let is = at_known texts place (g.R.Source.remaining source) (λ bytes. IsInput c.args.form bytes more.segments.items more.is_cut)
+          knows c.in_ok-more.ensures.ok in
+          rw (c.in_ok-add.ensures.segments) (decode_next c.args.form texts place knows.input c.loop-place.decoded.segments.items
+          more.segments.items knows.here (inv.decoded texts all) is.decoded);
       parts = λ texts all.
           let knows = knows_now g.R.Source.remaining c.args.sources.now c.loop-place.sources texts place source
           (inv.before.left place (omega arith)) here all in
-          c.in_ok-add.ensures.parts c.args.hex texts knows.input knows.here (at_known texts place (g.R.Source.remaining source)
-          (λ bytes. Decodes c.args.hex bytes c.in_ok-more.more.items) knows c.in_ok-more.ensures.ok) (inv.parts texts all);
+          let is = at_known texts place (g.R.Source.remaining source) (λ bytes. IsInput c.args.form bytes more.segments.items more.is_cut)
+          knows c.in_ok-more.ensures.ok in
+          c.in_ok-add.ensures.parts c.args.form texts knows.input knows.here is.decoded (inv.parts texts all);
+      cut = λ texts all.
+          let knows = knows_now g.R.Source.remaining c.args.sources.now c.loop-place.sources texts place source
+          (inv.before.left place (omega arith)) here all in
+          let is = at_known texts place (g.R.Source.remaining source) (λ bytes. IsInput c.args.form bytes more.segments.items more.is_cut)
+          knows c.in_ok-more.ensures.ok in
+          rw (c.in_ok-add.ensures.cut) (cut_next c.args.form.hex texts place knows.input more.is_cut c.loop-place.decoded.cut knows.here
+          (inv.cut texts all) is.cut);
+      few = rw (c.in_ok-add.ensures.cut) (fits_next more.is_cut place c.loop-place.decoded.cut inv.few);
     }
 
 pub returns-in_err-more-clause-err : goal.returns-in_err-more-clause-err
@@ -59,8 +73,8 @@ returns-in_err-more-clause-err g c =
       here = knows.here;
       segments = c.loop-place.decoded.segments.items;
       before = inv.decoded texts all;
-      reported = reported_at g.R.Source.has_ended g.R.Source.remaining c.loop-place.sources place new within c.args.hex knows.input _
-          (at_known texts place (g.R.Source.remaining source) (λ bytes. IsReportedOfSource c.args.hex (g.R.Source.remaining new)
+      reported = reported_at g.R.Source.has_ended g.R.Source.remaining c.loop-place.sources place new within c.args.form knows.input _
+          (at_known texts place (g.R.Source.remaining source) (λ bytes. IsReportedOfSource c.args.form (g.R.Source.remaining new)
           (g.R.Source.has_ended new) place bytes c.in_err-more.field-0.0) knows c.in_err-more.ensures.err);
     }
 
@@ -68,12 +82,12 @@ pub returns-in_err-add-clause-err : goal.returns-in_err-add-clause-err
 returns-in_err-add-clause-err g c =
     let p = err_from_is_err_and c.from_residual-in_err-add.result c.from_residual-in_err-add.ensures.1 in
     let inv = c.loop-place.invariant in
-    let more = c.in_ok-more.more.items in
+    let more = c.in_ok-more.more in
     let place = c.loop-place.place in
     let within : place < length c.loop-place.sources = omega arith in
     let source = get_or c.loop-place.sources place c.index-sources-place.result in
     let here = slice_get-get_or c.loop-place.sources place c.index-sources-place.result within in
-    let some : 0 < length more = c.in_err-add.ensures.full in
+    let some : 0 < length more.segments.items = c.in_err-add.ensures.full in
     λ texts all.
     let knows = knows_now g.R.Source.remaining c.args.sources.now c.loop-place.sources texts place source
     (inv.before.left place (omega arith)) here all in
@@ -83,9 +97,9 @@ returns-in_err-add-clause-err g c =
       here = knows.here;
       segments = c.loop-place.decoded.segments.items;
       before = inv.decoded texts all;
-      reported = reported_at g.R.Source.has_ended g.R.Source.remaining c.loop-place.sources place c.read_input.new.source within c.args.hex
-          knows.input Memory (inl (asked_for c.args.hex knows.input more (at_known texts place (g.R.Source.remaining source)
-          (λ bytes. Decodes c.args.hex bytes more) knows c.in_ok-more.ensures.ok) some));
+      reported = reported_at g.R.Source.has_ended g.R.Source.remaining c.loop-place.sources place c.read_input.new.source within c.args.form
+          knows.input Memory (inl (asked_for c.args.form knows.input more.segments.items (at_known texts place (g.R.Source.remaining source)
+          (λ bytes. IsInput c.args.form bytes more.segments.items more.is_cut) knows c.in_ok-more.ensures.ok).decoded some));
     }
 
 pub returns-in_err-more-clause-reading : goal.returns-in_err-more-clause-reading
@@ -95,7 +109,7 @@ returns-in_err-more-clause-reading g c =
     let within : place < length c.loop-place.sources = omega arith in
     let source = get_or c.loop-place.sources place c.index-sources-place.result in
     let here = slice_get-get_or c.loop-place.sources place c.index-sources-place.result within in
-    rw (p.1, p.2) (read_to c.args.hex g.R.Source.has_failed g.R.Source.has_ended g.R.Source.good_reads g.R.Source.remaining
+    rw (p.1, p.2) (read_to c.args.form.hex g.R.Source.has_failed g.R.Source.has_ended g.R.Source.good_reads g.R.Source.remaining
     c.args.sources.now c.loop-place.sources place source c.read_input.new.source c.loop-place.invariant.before within here
     c.in_err-more.field-0.0 c.in_err-more.ensures.reading)
 
@@ -106,11 +120,18 @@ returns-in_err-add-clause-reading g c =
     let within : place < length c.loop-place.sources = omega arith in
     let source = get_or c.loop-place.sources place c.index-sources-place.result in
     let here = slice_get-get_or c.loop-place.sources place c.index-sources-place.result within in
-    rw (p.1, p.2) (refused_after c.args.hex g.R.Source.has_failed g.R.Source.has_ended g.R.Source.good_reads g.R.Source.remaining
+    rw (p.1, p.2) (refused_after c.args.form.hex g.R.Source.has_failed g.R.Source.has_ended g.R.Source.good_reads g.R.Source.remaining
     c.args.sources.now c.loop-place.sources place source c.read_input.new.source c.loop-place.invariant.before within here _
     c.in_ok-more.ensures.reading)
 
 pub returns-clause-reading : goal.returns-clause-reading
 returns-clause-reading g c =
-    all_read c.args.hex g.R.Source.has_failed g.R.Source.has_ended g.R.Source.good_reads g.R.Source.remaining c.args.sources.now
+    all_read c.args.form.hex g.R.Source.has_failed g.R.Source.has_ended g.R.Source.good_reads g.R.Source.remaining c.args.sources.now
     c.loop-place.sources c.loop-place.place _ c.loop-place.invariant.before (omega arith)
+
+pub read_input-requires-clause-inside : goal.read_input-requires-clause-inside
+read_input-requires-clause-inside g c κs within =
+    let place = c.loop-place.place in
+    let source = get_or c.loop-place.sources place c.index-sources-place.result in
+    false_now g.R.Source.has_ended c.args.sources.now c.loop-place.sources place source (c.loop-place.invariant.before.left place (omega arith))
+    (slice_get-get_or c.loop-place.sources place c.index-sources-place.result (omega arith)) c.requires.inside

@@ -1,16 +1,40 @@
 -- What read_input reports of a source of bytes, and how it reads it, as a source of the run.
-use Rattle.htl_main.proofs.OneSource.{decoded_ill, reported_bytes_of}
+use Rattle.htl_main.proofs.EndLaws.{accepted_source, refused_source}
+use Rattle.htl_main.proofs.OneSource.{accepted_read, decoded_ill, reported_bytes_of}
 use Rattle.htl_main.proofs.sources.read_input.Goals as goal
+
+pub returns-in-Ok-read_bundle-clause-ok : goal.returns-in-Ok-read_bundle-clause-ok
+returns-in-Ok-read_bundle-clause-ok g c =
+    accepted_source c.args.form (g.R.Source.remaining c.args.source.now) c.in-Ok-read_bundle.bundle c.accept.result c.if-form.false
+    c.in-Ok-read_bundle.ensures.ok c.accept.ensures.segments c.accept.ensures.end
+
+pub returns-in-Ok-read_bundle-clause-err : goal.returns-in-Ok-read_bundle-clause-err
+returns-in-Ok-read_bundle-clause-err g c =
+    refused_source c.args.form (g.R.Source.remaining c.args.source.now) _ _ c.args.place c.in-Ok-read_bundle.bundle c.accept.result
+    c.if-form.false c.in-Ok-read_bundle.ensures.ok c.accept.ensures.refused
+
+pub returns-in-Ok-read_bundle-clause-reading : goal.returns-in-Ok-read_bundle-clause-reading
+returns-in-Ok-read_bundle-clause-reading g c =
+    let is = c.in-Ok-read_bundle.ensures in
+    rw (c.if-form.false) (accepted_read g.R.Source.has_failed g.R.Source.has_ended g.R.Source.good_reads g.R.Source.remaining c.args.place
+    c.args.source.now c.read_bundle.new.source c.in-Ok-read_bundle.bundle c.accept.result c.accept.ensures.segment (record {
+      ended = is.ended;
+      reported = is.reported;
+      read = is.read;
+      no_fault = is.no_fault;
+      bounded = is.bounded;
+      to_fault = is.to_fault;
+    }))
 
 pub returns-in-Err-read_bundle-clause-err : goal.returns-in-Err-read_bundle-clause-err
 returns-in-Err-read_bundle-clause-err g c =
-    rw (c.if-hex.false, c.of_source.ensures) (reported_bytes_of (g.R.Source.remaining c.args.source.now) _ _ c.args.place
-    c.in-Err-read_bundle.fault c.in-Err-read_bundle.ensures.err)
+    rw (c.of_source.ensures) (reported_bytes_of c.args.form (g.R.Source.remaining c.args.source.now) _ _ c.args.place
+    c.in-Err-read_bundle.fault c.if-form.false c.in-Err-read_bundle.ensures.err)
 
 pub returns-in-Err-read_bundle-clause-reading : goal.returns-in-Err-read_bundle-clause-reading
 returns-in-Err-read_bundle-clause-reading g c =
     let is = c.in-Err-read_bundle.ensures in
-    rw (c.if-hex.false, c.of_source.ensures) (decoded_ill g.R.Source.has_failed g.R.Source.has_ended
+    rw (c.if-form.false, c.of_source.ensures) (decoded_ill g.R.Source.has_failed g.R.Source.has_ended
     g.R.Source.good_reads g.R.Source.remaining c.args.place c.args.source.now c.read_bundle.new.source c.in-Err-read_bundle.fault (record {
       ended = is.ended;
       reported = is.reported;

@@ -27,7 +27,7 @@ returns-in_err-loaded-clause-failed g c =
 pub returns-in_err-loaded-clause-reading : goal.returns-in_err-loaded-clause-reading
 returns-in_err-loaded-clause-reading g c =
     let p = err_from_is_err_and c.from_residual.result c.from_residual.ensures.1 in
-    rw (p.1, p.2) (ends_too c.args.job.now.hex
+    rw (p.1, p.2) (ends_too c.args.job.now.form.hex
     g.R.Source.has_failed g.R.Source.has_ended g.R.Source.good_reads g.R.Source.remaining c.args.inputs.now c.load.new.inputs c.in_err-loaded.field-0.0.fault
     c.in_err-loaded.ensures.reading)
 
@@ -65,7 +65,7 @@ returns-in_err-completed-clause-reading g c =
     let p = err_from_is_err_and c.from_residual-in_err-completed.result c.from_residual-in_err-completed.ensures.1 in
     let loaded = c.in_ok-loaded.loaded in
     let fault = c.in_err-completed.field-0.0 in
-    rw (p.1, p.2.0) (read_then c.args.job.now.hex
+    rw (p.1, p.2.0) (read_then c.args.job.now.form.hex
     g.R.Source.has_failed g.R.Source.has_ended g.R.Source.good_reads g.R.Source.remaining c.args.inputs.now c.load.new.inputs loaded
     (ill fault) c.in_ok-loaded.ensures.reading
     (λ at told. over_no_read loaded.case c.args.job.now fault at c.in_err-completed.ensures.err (cc told))
@@ -105,7 +105,7 @@ returns-clause-finding g c =
 
 pub returns-clause-reading : goal.returns-clause-reading
 returns-clause-reading g c =
-    read_then c.args.job.now.hex g.R.Source.has_failed g.R.Source.has_ended g.R.Source.good_reads g.R.Source.remaining
+    read_then c.args.job.now.form.hex g.R.Source.has_failed g.R.Source.has_ended g.R.Source.good_reads g.R.Source.remaining
     c.args.inputs.now c.load.new.inputs c.in_ok-loaded.loaded (well c.in_ok-completed.completed) c.in_ok-loaded.ensures.reading
     (λ at told. cc told) tt
 

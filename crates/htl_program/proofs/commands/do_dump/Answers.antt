@@ -14,8 +14,8 @@ returns g c = record {
   reading = c.dump-ended.ensures.reading;
   read = c.dump-ended.ensures.read;
   failed = c.dump-ended.ensures.failed;
-  status_is = c.end_conversion.ensures.status;
+  status_is = c.status_of_conversion.ensures;
   after_run = g.P.Person.heard c.ends.new.self;
   hears_run = run_told _ _ _ c.args.command.now c.begins.ensures c.ends.ensures;
-  said = c.end_conversion.ensures.said;
+  said = c.say_dump.ensures;
 }

@@ -12,8 +12,8 @@ returns g c = record {
   read = c.encode-ended.ensures.read;
   failed = c.encode-ended.ensures.failed;
   untouched = search rules;
-  status_is = c.end_conversion.ensures.status;
+  status_is = c.status_of_conversion.ensures;
   after_run = g.P.Person.heard c.ends.new.self;
   hears_run = run_told _ _ _ c.args.command.now c.begins.ensures c.ends.ensures;
-  said = c.end_conversion.ensures.said;
+  said = c.say_encoding.ensures;
 }

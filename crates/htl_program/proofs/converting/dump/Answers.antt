@@ -7,23 +7,23 @@ use Rattle.htl_program.proofs.converting.dump.Goals as goal
 pub returns-in_err-inputs-clause-ends : goal.returns-in_err-inputs-clause-ends
 returns-in_err-inputs-clause-ends g c =
     let is : c.from_residual.result ≡ Err c.in_err-inputs.field-0.0 = search rules in
-    rw (← c.deref.ensures.value) (λ texts all. rw is (inr (
-      only_memory (g.W.World.holds c.args.world.now) (g.W.World.standard c.args.world.now) c.deref.result.now texts
-          (of_each (g.W.World.is_absent c.args.world.now) c.deref.result.now) c.in_err-inputs.field-0.0 all c.in_err-inputs.ensures.refused,
+    λ texts all. rw is (inr (
+      only_memory (g.W.World.holds c.args.world.now) (g.W.World.standard c.args.world.now) c.args.files.now texts
+          (of_each (g.W.World.is_absent c.args.world.now) c.args.files.now) c.in_err-inputs.field-0.0 all c.in_err-inputs.ensures.refused,
       refl,
-    )))
+    ))
 
 pub returns-in_err-inputs-clause-absent : goal.returns-in_err-inputs-clause-absent
 returns-in_err-inputs-clause-absent g c =
     let is : c.from_residual.result ≡ Err c.in_err-inputs.field-0.0 = search rules in
-    rw (← c.deref.ensures.value) (λ place absent. (
-      first_or_memory c.from_residual.result (of_each (g.W.World.holds c.args.world.now) c.deref.result.now)
-          (of_each (g.W.World.is_absent c.args.world.now) c.deref.result.now) c.in_err-inputs.field-0.0 place is
+    λ place absent. (
+      first_or_memory c.from_residual.result (of_each (g.W.World.holds c.args.world.now) c.args.files.now)
+          (of_each (g.W.World.is_absent c.args.world.now) c.args.files.now) c.in_err-inputs.field-0.0 place is
           c.in_err-inputs.ensures.refused absent,
       refl,
-    ))
+    )
 
 pub returns-clause-absent : goal.returns-clause-absent
 returns-clause-absent g c =
-    rw (← c.deref.ensures.value) (λ place absent. absurd (none_absent (of_each (g.W.World.holds c.args.world.now) c.deref.result.now)
-    (of_each (g.W.World.is_absent c.args.world.now) c.deref.result.now) place c.in_ok-inputs.ensures.there absent))
+    λ place absent. absurd (none_absent (of_each (g.W.World.holds c.args.world.now) c.args.files.now)
+    (of_each (g.W.World.is_absent c.args.world.now) c.args.files.now) place c.in_ok-inputs.ensures.there absent)

@@ -5,8 +5,8 @@ use Rattle.std.proofs.lemmas.Grind.{common_steps}
 use Rattle.std.proofs.lemmas.Result.{err_from_is_err_and}
 use Rattle.std.specs.Prelude.{is_err}
 use Rattle.htl_device.specs.declared.source.TheConstants.{MAX_READ_LEN}
-use Rattle.htl_reading.proofs.TakenLaws.{taken_all, taken_and_more, taken_ended, taken_inside, taken_kept, taken_many, taken_memory}
-use Rattle.htl_reading.proofs.TakenLaws.{taken_more, taken_refused, taken_to_fault}
+use Rattle.htl_reading.proofs.TakenLaws.{taken_and_more, taken_ended, taken_kept, taken_many, taken_memory, taken_more}
+use Rattle.htl_reading.proofs.TakenLaws.{taken_refused, taken_to_end, taken_to_fault}
 use Rattle.htl_reading.proofs.gathered.Gathered.read_on.Goals as goal
 
 pub returns-in_err-make_room-clause-err : goal.returns-in_err-make_room-clause-err
@@ -35,15 +35,8 @@ pub returns-then-count-eq0-clause-ok : goal.returns-then-count-eq0-clause-ok
 returns-then-count-eq0-clause-ok g c =
     let zero : c.in-Ok.count ≡ 0 = grind (arith, common_steps) in
     let behind = rw (c.make_room.ensures.held, zero) at c.in-Ok.ensures.ok in
-    λ start given at. taken_all (taken_ended (c.loop-reads.invariant.taken start given at) behind) c.finish.result (behind.end refl)
-    c.finish.ensures.ok
-
-pub returns-then-count-eq0-clause-err : goal.returns-then-count-eq0-clause-err
-returns-then-count-eq0-clause-err g c =
-    let zero : c.in-Ok.count ≡ 0 = grind (arith, common_steps) in
-    let behind = rw (c.make_room.ensures.held, zero) at c.in-Ok.ensures.ok in
-    λ start given at. taken_inside (taken_ended (c.loop-reads.invariant.taken start given at) behind) _ c.finish.result (behind.end refl)
-    c.finish.ensures.err
+    λ start given at. taken_to_end (taken_ended (c.loop-reads.invariant.taken start given at) behind) c.finish.result (behind.end refl)
+    c.finish.ensures.kept c.finish.ensures.end
 
 pub returns-then-count-eq0-clause-to_fault : goal.returns-then-count-eq0-clause-to_fault
 returns-then-count-eq0-clause-to_fault g c =

@@ -1,5 +1,5 @@
 -- What is answered over what was loaded is what a run prints, and what a run reports beside it holds of the inputs.
-use Rattle.std.proofs.Common.{◌≡◌, ◌≢◌, ℕ, Bool, true, false, List, Option, None, Some, Result, Err, inr, refl}
+use Rattle.std.proofs.Common.{◌≡◌, ◌≢◌, ℕ, Bool, true, List, Option, None, inr, refl}
 use Rattle.std.specs.Prelude.{Ok}
 use Rattle.htl_segment.specs.Content.{Content}
 use Rattle.htl_segment.specs.Traces.{Trace}

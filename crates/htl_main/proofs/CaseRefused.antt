@@ -1,5 +1,5 @@
 -- A fault of all segments as one of the run, and that no other fault is about two segments.
-use Rattle.std.proofs.Common.{◌≡◌, ℕ, Bool, List, Option, refl, inl, inr}
+use Rattle.std.proofs.Common.{◌≡◌, ℕ, List, Option, refl, inl, inr}
 use Rattle.std.specs.Prelude.{Err}
 use Rattle.htl_command.specs.declared.question.InputForm.{InputForm}
 use Rattle.htl_segment.specs.Content.{Content}

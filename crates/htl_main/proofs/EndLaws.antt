@@ -1,18 +1,16 @@
 -- An input whose last bytes end within a segment: what it comes to where it may, and its fault where it may not.
-use Rattle.std.proofs.Common.{◌≡◌, ◌<◌, ℕ, Bool, true, false, List, [], length, Option, Some, None, refl, arith, inl}
+use Rattle.std.proofs.Common.{◌≡◌, ℕ, Bool, true, false, List, [], length, Option, Some, None, refl, arith, inl}
 use Rattle.std.proofs.Common.{IfErr, IfOk, IfSome, Result, Ok, Err, Vec, Global}
 use Rattle.std.specs.Prelude.{nat_lt}
 use Rattle.htl_command.specs.declared.question.InputForm.{InputForm}
 use Rattle.htl_segment.specs.Bundles.{bundle, cut_off, is_early_end, IsRest, Splits}
 use Rattle.htl_segment.specs.Content.{Content}
-use Rattle.htl_segment.specs.declared.fault.Fault.{Fault}
-use Rattle.htl_segment.proofs.BundleLaws.{early_end, first_fault-rest}
+use Rattle.htl_segment.proofs.BundleLaws.{early_end}
 use Rattle.htl_reading.specs.Sources.{IsLeft}
 use Rattle.htl_reading.specs.declared.outcome.Bundle.{Bundle}
 use Rattle.htl_reading.specs.declared.outcome.EarlyEnd.{EarlyEnd}
-use Rattle.htl_main.specs.CutInputs.{IsCut}
 use Rattle.htl_main.specs.Ends.{IsEnd, IsEndRefused, IsInput}
-use Rattle.htl_main.specs.Inputs.{Decodes, HasBytes, IsReported, MayBeLeft}
+use Rattle.htl_main.specs.Inputs.{HasBytes, IsReported, MayBeLeft}
 use Rattle.htl_main.specs.Sources.{IsReportedOfSource}
 use Rattle.htl_main.specs.declared.cut_inputs.Accepted.{Accepted}
 use Rattle.htl_main.specs.declared.fault.RunFault.{RunFault}

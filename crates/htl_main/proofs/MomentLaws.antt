@@ -1,5 +1,5 @@
 -- A job names one moment, and what a case misses says whether a gap is below it.
-use Rattle.std.proofs.Common.{◌≡◌, ◌<◌, ◌≤◌, ℕ, true, false, Option, Some, None, inl, inr, ap, sym, ◌∙◌, arith}
+use Rattle.std.proofs.Common.{◌≡◌, ℕ, true, false, Option, Some, None, inl, inr, ap, sym, ◌∙◌, arith}
 use Rattle.std.proofs.lemmas.Bool.{ltb-true, ltb-false}
 use Rattle.htl_segment.specs.Traces.{Trace}
 use Rattle.htl_command.specs.declared.question.Moment.{Moment}

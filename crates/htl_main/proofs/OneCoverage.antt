@@ -1,5 +1,5 @@
 -- Inputs have one coverage, and a summary reports the same.
-use Rattle.std.proofs.Common.{◌≡◌, ℕ, Bool, List, Option, length, ap, sym, ◌∙◌, subst}
+use Rattle.std.proofs.Common.{◌≡◌, ℕ, List, Option, length, ap, sym, ◌∙◌, subst}
 use Rattle.htl_command.specs.declared.question.InputForm.{InputForm}
 use Rattle.htl_segment.specs.Content.{Content}
 use Rattle.htl_segment.specs.Traces.{Trace, HasKey}

@@ -1,7 +1,7 @@
 -- One source of bytes: what is reported of it, as a fault of the run.
-use Rattle.std.proofs.Common.{◌≡◌, ◌≢◌, ◌⊎◌, ◌<◌, ◌≤◌, ◌+◌, ℕ, Bool, true, false, List, length, refl, sym, ap, inl, inr}
+use Rattle.std.proofs.Common.{◌≡◌, ◌≢◌, ◌⊎◌, ◌<◌, ◌≤◌, ◌+◌, ℕ, Bool, true, false, List, length, refl, ap, inl, inr}
 use Rattle.std.proofs.Common.{Option, Some, None, IfSome, Result, Ok, Err}
-use Rattle.std.specs.Prelude.{slice_get, IfErr, OnOk}
+use Rattle.std.specs.Prelude.{IfErr, OnOk}
 use Rattle.htl_command.specs.declared.question.InputForm.{InputForm}
 use Rattle.htl_device.specs.declared.whole.ReadFault.{ReadFault}
 use Rattle.htl_device.specs.declared.whole.ReadFault.TheVariants as reads

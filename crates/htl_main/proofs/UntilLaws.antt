@@ -8,7 +8,7 @@ use Rattle.std.proofs.lemmas.List.Folds.{list_any-append}
 use Rattle.std.proofs.lemmas.List.Sums.{count_by-le-length, length-filter}
 use Rattle.htl_event.specs.Events.{Event}
 use Rattle.htl_event.specs.Handles.{HaveOwnSequences}
-use Rattle.htl_event.specs.Moments.{counted_events, events_until}
+use Rattle.htl_event.specs.Moments.{counted_events}
 use Rattle.htl_event.proofs.Members.{at_member, each_member, filter-pass, filter-skip, Contains-from_filter}
 use Rattle.htl_segment.specs.Content.{Content}
 use Rattle.htl_segment.specs.Traces.{Trace, IsTrace, all_events}

@@ -1,5 +1,5 @@
 -- For the clauses of private functions: which input each of the decoded segments is of.
-use Rattle.std.specs.Prelude.{◌≡◌, ℕ, ◌≤◌, nat_lt, Bool, List, All, length, slice_get, Option, Some}
+use Rattle.std.specs.Prelude.{◌≡◌, ℕ, ◌≤◌, nat_lt, List, All, length, slice_get, Option, Some}
 use Rattle.std.specs.List.{find}
 use Rattle.htl_command.specs.declared.question.InputForm.{InputForm}
 use Rattle.htl_segment.specs.Content.{Content}

@@ -1,13 +1,12 @@
 //! The run that dumps the segments of sources as text.
 
 ghost use Rattle.std.specs.Prelude.{◌≡◌, ◌⊎◌, ◌+◌, ◌*◌, ◌-◌, ◌<◌, ◌≤◌, ◌^◌};
-ghost use Rattle.std.specs.Prelude.{ℕ, Bool, List, Option, [], All, Some, Err, false, true, drop};
+ghost use Rattle.std.specs.Prelude.{ℕ, Bool, List, Option, All, Some, Err, false, true, drop};
 ghost use Rattle.std.specs.Prelude.{length, map, IfErr, IfOk, IfSome, MatchResult, OnOk};
 ghost use Rattle.std.specs.Io.KnownBytes.{Appends};
 ghost use Rattle.htl_device.specs.Devices.{AppendsPrefix};
 ghost use Rattle.htl_segment.specs.Bundles.{bundle, is_early_end, IsRest};
 ghost use Rattle.htl_segment.specs.Content.{Content};
-ghost use Rattle.htl_segment.specs.Faults.{first_fault};
 ghost use Rattle.htl_segment.specs.declared.fault.Fault.{Fault};
 ghost use Rattle.htl_text.specs.Texts.{segment_text};
 ghost use Rattle.htl_reading.specs.Sources.{IsReadToFault};

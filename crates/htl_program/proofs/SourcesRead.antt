@@ -1,5 +1,5 @@
 -- How sources were read doesn't depend on what a run that ended well answers, or on what a run that ended by a fault would have.
-use Rattle.std.proofs.Common.{◌≡◌, Bool, List, ℕ, ap, false, inl, inr, refl, true}
+use Rattle.std.proofs.Common.{◌≡◌, Bool, List, ℕ, ap, false, refl, true}
 use Rattle.std.proofs.lemmas.Option.{none-some}
 use Rattle.std.specs.Prelude.{Option, Some, Ok, Err}
 use Rattle.htl_event.specs.declared.interest.Interest.{Interest}

@@ -23,19 +23,18 @@ use Rattle.htl_dialogue.specs.declared.dialogue.DialogueFault.{DialogueFault}
 use Rattle.htl_dialogue.specs.declared.dialogue.DialogueFault.TheVariants as dialogues
 use Rattle.htl_main.specs.Dumps.{is_failed_write}
 use Rattle.htl_main.specs.Origins.{IsBetween, by_fault}
-use Rattle.htl_main.specs.Sources.{IsEndless, IsTrueAt}
 use Rattle.htl_main.specs.declared.completed.Completed.{Completed}
 use Rattle.htl_main.specs.declared.cut_inputs.CutInputs.{CutInputs}
 use Rattle.htl_main.specs.declared.fault.RunFault.{RunFault}
 use Rattle.htl_main.specs.declared.fault.RunFault.TheVariants as faults
 use Rattle.htl_main.specs.declared.refused.Refused.{Refused}
 use Rattle.htl_program.specs.Endings.{Ends, EndsDump, EndsEncoding, IsUnopened, IsUntabled, RunsOut}
-use Rattle.htl_program.specs.Readings.{AreInputs}
+use Rattle.htl_program.specs.Readings.{AreInputs, ReportsRead}
 use Rattle.htl_program.specs.Sayings.{Hears, HearsAll, HearsRun, Saying, alone, cut_noted, fault, fault_said, no_memory, notes_said}
 use Rattle.htl_program.specs.Sayings.{stop_said, text, unwritten}
 use Rattle.htl_program.specs.Statuses.{conversion_status, dialogue_status, end_status}
 use Rattle.htl_program.specs.Words.{explained}
-use Rattle.htl_program.specs.Worlds.{IsFirstAbsent, IsFirstRefused, IsTable, IsTableAbsent, of_each, of_inputs}
+use Rattle.htl_program.specs.Worlds.{IsFirstAbsent, IsTable, IsTableAbsent, of_each, of_inputs}
 use Rattle.htl_program.specs.declared.inputs.Inputs.{Inputs}
 
 -- what is known of a world
@@ -91,12 +90,9 @@ abbrev pub IsAbsentAt : {A : Type 0} → Known → List (String A) → ℕ → T
 IsAbsentAt world names place = IsFirstAbsent (of_each world.holds names) (of_each world.is_absent names) place
 
 -- a failed read is reported only of a name that was refused, or of an input whose read failed or that has no end
-abbrev pub ReportsRead : {A R S : Type 0} → Known → Opened R → List (String A) → Result S RunFault → Type 0
-ReportsRead world inputs names result =
-    (place : ℕ) → result ≡ Err (faults.Read place)
-    → IsFirstRefused (of_each world.holds names) (of_each world.is_absent names) place
-    ⊎ (IsTrueAt (map inputs.has_failed inputs.files) place
-    ⊎ IsEndless (map inputs.good_reads inputs.files) (of_inputs world.holds world.standard names) place)
+abbrev pub ReportsOpened : {A R S : Type 0} → Known → Opened R → List (String A) → Result S RunFault → Type 0
+ReportsOpened world inputs names result =
+    ReportsRead world.holds world.is_absent world.standard inputs.has_failed inputs.good_reads names inputs.files result
 
 -- the question was run so over its files and its table of symbols
 pub record IsAnswered {R : Type 0} (world : Known) (inputs : Opened R) (old new : Told) (run : Run) (ended : Result Completed Refused)
@@ -109,7 +105,7 @@ pub record IsAnswered {R : Type 0} (world : Known) (inputs : Opened R) (old new 
       → IsUntabled (by_fault ended)
   pub reading : AreInputs run.job.form.hex inputs.has_failed inputs.has_ended inputs.good_reads inputs.remaining
       (of_inputs world.holds world.standard run.files.items) inputs.files (by_fault ended)
-  pub read : ReportsRead world inputs run.files.items (by_fault ended)
+  pub read : ReportsOpened world inputs run.files.items (by_fault ended)
   pub untouched : IfErr (by_fault ended) (λ reported. reported ≢ faults.Write → new.out ≡ old.out)
   pub failed : by_fault ended ≡ Err faults.Write → new.is_full ≡ true
   pub fine : OnOk ended (new.is_full ≡ false)
@@ -151,7 +147,7 @@ pub record DoesDump {R A : Type 0} (in_words : Bool) (world : Known) (inputs : O
   pub absent : (place : ℕ) → IsAbsentAt world files place → IsUnopened place ended × (new.out ≡ old.out)
   pub reading : AreInputs form.hex inputs.has_failed inputs.has_ended inputs.good_reads inputs.remaining
       (of_inputs world.holds world.standard files) inputs.files ended
-  pub read : ReportsRead world inputs files ended
+  pub read : ReportsOpened world inputs files ended
   pub failed : new.is_full ≡ is_failed_write ended
   pub status_is : status ≡ conversion_status ended
   pub after_run : Option (List Saying)
@@ -166,7 +162,7 @@ pub record DoesEncode {R A : Type 0} (in_words : Bool) (world : Known) (inputs :
   pub absent : (place : ℕ) → IsAbsentAt world files place → IsUnopened place ended
   pub reading : AreInputs true inputs.has_failed inputs.has_ended inputs.good_reads inputs.remaining
       (of_inputs world.holds world.standard files) inputs.files ended
-  pub read : ReportsRead world inputs files ended
+  pub read : ReportsOpened world inputs files ended
   pub failed : new.is_full ≡ is_failed_write ended
   pub untouched : IfErr ended (λ reported. reported ≢ faults.Write → new.out ≡ old.out)
   pub status_is : status ≡ conversion_status ended
@@ -279,7 +275,7 @@ pub record DoesConverse {S R : Type 0} (in_words : Bool) (speaker : Spoken S) (w
       → IsUntabled (by_fault (before_dialogue ended))
   pub reading : AreInputs of.setting.form.hex inputs.has_failed inputs.has_ended inputs.good_reads inputs.remaining
       (of_inputs world.holds world.standard of.files.items) inputs.files (by_fault (before_dialogue ended))
-  pub read : ReportsRead world inputs of.files.items (by_fault (before_dialogue ended))
+  pub read : ReportsOpened world inputs of.files.items (by_fault (before_dialogue ended))
   -- Before the files are read no line is, and nothing is written or told.
   pub untouched : IfErr (before_dialogue ended) (λ refused.
       IsUnread inputs questions world.standard × (new.out ≡ old.out) × (listening ≡ speaker.before))

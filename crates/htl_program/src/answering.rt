@@ -4,10 +4,9 @@ ghost use Rattle.std.specs.Prelude.{◌≡◌, ◌≢◌, ◌⊎◌, ℕ, All, I
 ghost use Rattle.std.specs.Prelude.{Err, false, length, map, option_copied, true};
 ghost use Rattle.htl_main.specs.Origins.{by_fault};
 ghost use Rattle.htl_main.specs.Picked.{asks_about};
-ghost use Rattle.htl_main.specs.Sources.{IsEndless, IsTrueAt};
 ghost use Rattle.htl_program.specs.Endings.{Ends, IsUnopened, IsUntabled, RunsOut};
-ghost use Rattle.htl_program.specs.Readings.{AreInputs};
-ghost use Rattle.htl_program.specs.Worlds.{IsFirstAbsent, IsFirstRefused, IsTable, IsTableAbsent};
+ghost use Rattle.htl_program.specs.Readings.{AreInputs, ReportsRead};
+ghost use Rattle.htl_program.specs.Worlds.{IsFirstAbsent, IsTable, IsTableAbsent};
 ghost use Rattle.htl_program.specs.Worlds.{of_each, of_inputs};
 
 use crate::opening::{as_bytes, open_inputs, read_table};
@@ -57,12 +56,9 @@ pub fn answer<Rt: Threads + Sync, W: World, O: Sink>(
         (of_inputs (W.holds world.now) (W.standard world.now) run.now.files.items)
         inputs.new.items (by_fault result) }
     // A failed read is reported of a name that was refused, or of an input whose read failed.
-    ensures read { (place : ℕ) → by_fault result ≡ Err (RunFault.Read place)
-        → IsFirstRefused (of_each (W.holds world.now) run.now.files.items)
-        (of_each (W.is_absent world.now) run.now.files.items) place
-        ⊎ (IsTrueAt (map W.Input.has_failed inputs.new.items) place
-        ⊎ IsEndless (map W.Input.good_reads inputs.new.items)
-        (of_inputs (W.holds world.now) (W.standard world.now) run.now.files.items) place) }
+    ensures read { ReportsRead (W.holds world.now) (W.is_absent world.now)
+        (W.standard world.now) W.Input.has_failed W.Input.good_reads run.now.files.items
+        inputs.new.items (by_fault result) }
     ensures untouched { IfErr (by_fault result) (λ fault. fault ≢ RunFault.Write → out.new ≡ out.old) }
     ensures failed { by_fault result ≡ Err RunFault.Write → O.has_failed out.new ≡ true }
     ensures fine { OnOk result (O.has_failed out.new ≡ false) }
@@ -97,12 +93,9 @@ fn run_inputs<Rt: Threads + Sync, W: World, O: Sink>(
         W.Input.has_ended W.Input.good_reads W.Input.remaining
         (of_inputs (W.holds world.now) (W.standard world.now) run.now.files.items)
         inputs.new.items (by_fault result) }
-    ensures read { (place : ℕ) → by_fault result ≡ Err (RunFault.Read place)
-        → IsFirstRefused (of_each (W.holds world.now) run.now.files.items)
-        (of_each (W.is_absent world.now) run.now.files.items) place
-        ⊎ (IsTrueAt (map W.Input.has_failed inputs.new.items) place
-        ⊎ IsEndless (map W.Input.good_reads inputs.new.items)
-        (of_inputs (W.holds world.now) (W.standard world.now) run.now.files.items) place) }
+    ensures read { ReportsRead (W.holds world.now) (W.is_absent world.now)
+        (W.standard world.now) W.Input.has_failed W.Input.good_reads run.now.files.items
+        inputs.new.items (by_fault result) }
     ensures untouched { IfErr (by_fault result) (λ fault. fault ≢ RunFault.Write → out.new ≡ out.old) }
     ensures failed { by_fault result ≡ Err RunFault.Write → O.has_failed out.new ≡ true }
     ensures fine { OnOk result (O.has_failed out.new ≡ false) }

@@ -1,6 +1,6 @@
 //! A dialogue in a world: the files are read once, and each line of standard input gets its reply.
 
-ghost use Rattle.std.specs.Prelude.{◌≡◌, ◌⊎◌, ℕ, All, Bool, Err, IfErr, IfOk, List, OnOk, Option, Some};
+ghost use Rattle.std.specs.Prelude.{◌≡◌, ◌⊎◌, ℕ, All, Err, IfErr, IfOk, List, OnOk, Option, Some};
 ghost use Rattle.std.specs.Prelude.{IfSome, ◌≤◌, false, length, map, option_copied, option_map};
 ghost use Rattle.std.specs.Prelude.{true};
 ghost use Rattle.htl_command.specs.declared.question.InputForm.{InputForm};
@@ -12,9 +12,8 @@ ghost use Rattle.htl_dialogue.specs.declared.dialogue.DialogueFault.{DialogueFau
 ghost use Rattle.htl_dialogue.specs.declared.dialogue.DialogueFault.TheVariants as dialogues;
 ghost use Rattle.htl_main.specs.Origins.{IsBetween, by_fault};
 ghost use Rattle.htl_main.specs.Readings.{AreRead};
-ghost use Rattle.htl_main.specs.Sources.{IsEndless, IsTrueAt};
 ghost use Rattle.htl_program.specs.Endings.{IsUnopened, IsUntabled};
-ghost use Rattle.htl_program.specs.Readings.{AreInputs};
+ghost use Rattle.htl_program.specs.Readings.{AreInputs, ReportsRead};
 ghost use Rattle.htl_program.specs.Worlds.{IsFirstAbsent, IsFirstRefused, IsTable, IsTableAbsent};
 ghost use Rattle.htl_program.specs.Worlds.{of_each, of_inputs};
 
@@ -100,12 +99,9 @@ pub fn converse<Rt: Threads + Sync, W: World, Q: Source, O: Sink, H: Audience>(
         (of_inputs (W.holds world.now) (W.standard world.now) of.now.files.items)
         inputs.new.items (by_fault (before_dialogue result)) }
     // A failed read is reported of a name that was refused, or of an input whose read failed.
-    ensures read { (place : ℕ) → by_fault (before_dialogue result) ≡ Err (RunFault.Read place)
-        → IsFirstRefused (of_each (W.holds world.now) of.now.files.items)
-        (of_each (W.is_absent world.now) of.now.files.items) place
-        ⊎ (IsTrueAt (map W.Input.has_failed inputs.new.items) place
-        ⊎ IsEndless (map W.Input.good_reads inputs.new.items)
-        (of_inputs (W.holds world.now) (W.standard world.now) of.now.files.items) place) }
+    ensures read { ReportsRead (W.holds world.now) (W.is_absent world.now)
+        (W.standard world.now) W.Input.has_failed W.Input.good_reads of.now.files.items
+        inputs.new.items (by_fault (before_dialogue result)) }
     ensures untouched { IfErr (before_dialogue result)
         (λ _. (questions.new ≡ questions.old) × (out.new ≡ out.old)
         × (audience.new ≡ audience.old)) }

@@ -1,13 +1,12 @@
 //! The runs that print the segments of files as text and make segments of texts, in a world.
 
-ghost use Rattle.std.specs.Prelude.{◌≡◌, ◌≢◌, ◌⊎◌, ℕ, All, IfErr, List, Some, Err, false, map};
+ghost use Rattle.std.specs.Prelude.{◌≡◌, ◌≢◌, ℕ, All, IfErr, List, Some, false, map};
 ghost use Rattle.std.specs.Prelude.{true};
 ghost use Rattle.htl_main.specs.Dumps.{is_failed_write};
 ghost use Rattle.htl_main.specs.Readings.{AreRead};
-ghost use Rattle.htl_main.specs.Sources.{IsEndless, IsTrueAt};
 ghost use Rattle.htl_program.specs.Endings.{EndsDump, EndsEncoding, IsUnopened};
-ghost use Rattle.htl_program.specs.Readings.{AreInputs};
-ghost use Rattle.htl_program.specs.Worlds.{IsFirstAbsent, IsFirstRefused, of_each, of_inputs};
+ghost use Rattle.htl_program.specs.Readings.{AreInputs, ReportsRead};
+ghost use Rattle.htl_program.specs.Worlds.{IsFirstAbsent, of_each, of_inputs};
 
 use crate::opening::open_inputs;
 use crate::world::World;
@@ -43,12 +42,9 @@ pub fn dump<W: World, O: Sink>(
         (of_inputs (W.holds world.now) (W.standard world.now) files.now)
         inputs.new.items result }
     // A failed read is reported of a name that was refused, or of an input whose read failed.
-    ensures read { (place : ℕ) → result ≡ Err (RunFault.Read place)
-        → IsFirstRefused (of_each (W.holds world.now) files.now)
-        (of_each (W.is_absent world.now) files.now) place
-        ⊎ (IsTrueAt (map W.Input.has_failed inputs.new.items) place
-        ⊎ IsEndless (map W.Input.good_reads inputs.new.items)
-        (of_inputs (W.holds world.now) (W.standard world.now) files.now) place) }
+    ensures read { ReportsRead (W.holds world.now) (W.is_absent world.now)
+        (W.standard world.now) W.Input.has_failed W.Input.good_reads files.now
+        inputs.new.items result }
     ensures failed { O.has_failed out.new ≡ is_failed_write result }
 {
     inputs.clear();
@@ -102,12 +98,9 @@ pub fn encode<W: World, O: Sink>(
         (of_inputs (W.holds world.now) (W.standard world.now) files.now)
         inputs.new.items result }
     // A failed read is reported of a name that was refused, or of an input whose read failed.
-    ensures read { (place : ℕ) → result ≡ Err (RunFault.Read place)
-        → IsFirstRefused (of_each (W.holds world.now) files.now)
-        (of_each (W.is_absent world.now) files.now) place
-        ⊎ (IsTrueAt (map W.Input.has_failed inputs.new.items) place
-        ⊎ IsEndless (map W.Input.good_reads inputs.new.items)
-        (of_inputs (W.holds world.now) (W.standard world.now) files.now) place) }
+    ensures read { ReportsRead (W.holds world.now) (W.is_absent world.now)
+        (W.standard world.now) W.Input.has_failed W.Input.good_reads files.now
+        inputs.new.items result }
     ensures failed { O.has_failed out.new ≡ is_failed_write result }
     ensures untouched { IfErr result (λ fault. fault ≢ RunFault.Write → out.new ≡ out.old) }
 {

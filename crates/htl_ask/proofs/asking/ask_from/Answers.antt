@@ -1,5 +1,5 @@
 -- Each line's text is that of a run over what was loaded, and the sources are read as by a run.
-use Rattle.std.proofs.Common.{◌≡◌, List, false}
+use Rattle.std.proofs.Common.{false}
 use Rattle.std.proofs.lemmas.Result.{err_from_is_err_and}
 use Rattle.std.specs.Option.{option_copied}
 use Rattle.htl_main.specs.Coverages.{IsCoverage}

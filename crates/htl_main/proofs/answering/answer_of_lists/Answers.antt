@@ -1,7 +1,6 @@
 -- The lists are one part, which stands for all their events.
 use Rattle.std.proofs.Common.{flat_map}
 use Rattle.std.proofs.lemmas.Result.{IfOk-weaker}
-use Rattle.htl_main.specs.Answers.{IsAnswerOver}
 use Rattle.htl_main.proofs.UnfoldedLaws.{are_events_of, few_of}
 use Rattle.htl_main.proofs.answering.answer_of_lists.Goals as goal
 

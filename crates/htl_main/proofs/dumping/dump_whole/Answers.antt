@@ -1,5 +1,4 @@
 -- The dump of the front ends, or all bytes but those that end within a segment are dumped.
-use Rattle.std.proofs.Common.{◌≡◌, ◌∙◌}
 use Rattle.std.proofs.lemmas.Result.{err_from_is_err_and}
 use Rattle.htl_main.proofs.DumpLaws.{dumped_whole, rest_at, refused_whole, whole_of_front}
 use Rattle.htl_main.proofs.dumping.dump_whole.Goals as goal

@@ -1,5 +1,5 @@
 -- One input more, and what is reported of the first that is refused.
-use Rattle.std.proofs.Common.{◌<◌, ℕ, arith, length, map, refl, Vec, Global}
+use Rattle.std.proofs.Common.{◌<◌, ℕ, length, map, refl, Vec, Global}
 use Rattle.std.proofs.lemmas.Option.{slice_get_read}
 use Rattle.std.proofs.lemmas.Result.{err_from_is_err_and}
 use Rattle.htl_main.specs.Ends.{IsInput}

@@ -1,5 +1,5 @@
 -- The bytes are the segments that were split off and those that are left.
-use Rattle.std.proofs.Common.{◌≡◌, ◌∙◌, [], refl}
+use Rattle.std.proofs.Common.{[]}
 use Rattle.htl_main.proofs.DumpLaws.{rest_at}
 use Rattle.htl_main.proofs.EndLaws.{accepted_input, refused_input}
 use Rattle.htl_main.proofs.InputLaws.{refused_bytes}

@@ -1,7 +1,4 @@
 -- The lines that print_answer writes are those of the answer, and why not all of them were written.
-use Rattle.std.proofs.Common.{◌≡◌, true, false, refl, rules, sym, ◌∙◌, subst}
-use Rattle.std.proofs.lemmas.Result.{err_from_is_err_and}
-use Rattle.htl_main.specs.Subjects.{HasSubject}
 use Rattle.htl_main.proofs.printing.print_answer.Goals as goal
 
 pub returns-clause-ok : goal.returns-clause-ok

@@ -115,7 +115,7 @@ part_size_few id count p q k is =
     let long = length-Rises q.front MAX_FRONT q.loose is.proper.rises in
     let same = ap length is.numbers in
     let len = length-numbers k.held in
-    let old = is.bounded in
+    let old = is.bounded.counts in
     omega (arith, few, long, same, len, old)
 
 sizes_few : (ks : List Part) → ((i : ℕ) → i < length ks → size_of (contents_of (part_at ks i)) ≤ 17592186040320)

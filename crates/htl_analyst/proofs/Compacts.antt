@@ -1,5 +1,5 @@
 -- The runs of all processors folded, one after another.
-use Rattle.std.proofs.Common.{◌≡◌, ℕ, ◌+◌, ◌<◌, ◌≤◌, List, ◌++◌, length, take, drop, slice_set, append-nil, refl, sym, ap, ◌∙◌}
+use Rattle.std.proofs.Common.{◌≡◌, ℕ, ◌+◌, ◌*◌, ◌<◌, ◌≤◌, List, ◌++◌, length, take, drop, slice_set, append-nil, refl, sym, ap, ◌∙◌}
 use Rattle.std.proofs.Common.{subst, arith, inl, inr}
 use Rattle.std.specs.Prelude.{Contains, ◌↔◌}
 use Rattle.std.proofs.lemmas.Bool.{cases_eq, cases_lt}
@@ -19,7 +19,7 @@ use Rattle.htl_analyst.specs.Right.{IsFolded, IsState, IsRight, IsStanding}
 use Rattle.htl_analyst.specs.StepParts.{run_length, run_of, IsCompactedAt}
 use Rattle.htl_analyst.proofs.Counted.{number-compacted}
 use Rattle.htl_analyst.proofs.Folds.{IsState-compacted, IsRight-compacted, place-compacted, place-compacted_other, held-compacted}
-use Rattle.htl_analyst.proofs.Folds.{HasTaken-compacted}
+use Rattle.htl_analyst.proofs.Folds.{HasTaken-compacted, IsWithin-above}
 
 -- an empty run leaves the state as it is
 pub nothing_to_fold : (a : State) (p : ℕ) → IsState a → p < a.processors → run_length a p ≡ 0 → IsCompactedAt a a p
@@ -42,7 +42,7 @@ nothing_to_fold a p is lt none =
       joins = λ events zero old.
           let empty : events ++ run_of a p ≡ events = ap (λ (n : ℕ). events ++ all_events (take n k.held)) none ∙ append-nil events in
           subst (IsFolded k.folded) (sym empty) old;
-      bounded = omega arith;
+      bounded = λ most old. IsWithin-above most (most + 4096 * run_length a p) k.folded old (omega arith);
     }
 
 -- the runs of the first processors are folded

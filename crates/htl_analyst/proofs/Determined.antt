@@ -22,6 +22,7 @@ use Rattle.htl_analyst.proofs.Held.{held_same}
 folded_same : (es : List Event) → HaveOwnSequences es → (f g : Folded) → IsFolded f es → IsFolded g es → IsSameFolded f g
 folded_same es own f g x y = record {
   last_sequence = IsGreatestSequence-unique (Contains es) f.last_sequence g.last_sequence x.last y.last;
+  events = x.number ∙ sym y.number;
   tree = λ slot stack. x.fold.tree slot stack ∙ sym (y.fold.tree slot stack);
   latest =
       λ process base. LatestIs-unique (Contains es) (one_event es own) process base (event_at f.latest process base)

@@ -8,7 +8,6 @@ use Rattle.htl_event.specs.Events.{Event}
 use Rattle.htl_event.proofs.Members.{at_member, AllByRecursion-weaker}
 use Rattle.htl_segment.specs.Content.{Content}
 use Rattle.htl_segment.specs.Traces.{Trace, HasKey, all_events}
-use Rattle.htl_tree.specs.Trees.{total_count}
 use Rattle.htl_taken.specs.NumberSets.{Has}
 use Rattle.htl_taken.specs.Numbers.{Numbers, numbers_at, reach_of, settled}
 use Rattle.htl_taken.specs.Rising.{reach_from}
@@ -18,7 +17,7 @@ use Rattle.htl_taken.proofs.Rising.{length-Rises}
 use Rattle.htl_taken.proofs.Numbers.{IsProper-settled, Has-settled, settled-drop}
 use Rattle.htl_analyst.specs.States.{Folded, Part, part, part_at, held_at, folded_at, State}
 use Rattle.htl_analyst.specs.Keys.{HasTaken}
-use Rattle.htl_analyst.specs.Right.{IsOwned, IsFolded, run_events, IsPart, IsState, IsRightAt, IsRight}
+use Rattle.htl_analyst.specs.Right.{IsOwned, IsFolded, IsWithin, run_events, IsPart, IsState, IsRightAt, IsRight}
 use Rattle.htl_analyst.specs.StepParts.{run_length, run_of, settled_with, IsCompactedAt}
 use Rattle.htl_analyst.proofs.Lists.{all-drop, all-take, map-drop, length-take-le}
 use Rattle.htl_analyst.proofs.Held.{number}
@@ -74,15 +73,21 @@ run_read_few a p run hs k is er eh =
     ap (λ (n : ℕ). length (all_events (take n hs))) er ∙ ap (λ (cs : List Content). length (all_events (take (run_length a p) cs))) eh in
     omega (arith, few, same)
 
+-- what is within a bound is within each above it
+pub IsWithin-above : (n m : ℕ) (f : Folded) → IsWithin n f → n ≤ m → IsWithin m f
+IsWithin-above n m f is le =
+    let counts = is.counts in
+    let events = is.events in
+    record { counts = omega (arith, counts, le); events = omega (arith, events, le) }
+
 -- no count outgrows 64 bits
 pub totals_fit : (id count p : ℕ) (q : Numbers) (k : Part) → IsPart id count p q k
-    → total_count k.folded.tree + 4096 * (reach_of q - q.front) < 2 ^ 64
+    → 4096 * q.front + 4096 * (reach_of q - q.front) < 2 ^ 64
 totals_fit id count p q k is =
-    let old = is.bounded in
     let reach = reach_from-le q.front q.loose in
     let high = length-Rises q.front MAX_FRONT q.loose is.proper.rises in
     let r = run_reaches q in
-    omega (arith, old, reach, high, r)
+    omega (arith, reach, high, r)
 
 module _ (a : State) (p : ℕ) (is : IsState a) (lt : p < a.processors) (folded : Folded) where
   abbrev q : Numbers
@@ -100,7 +105,7 @@ module _ (a : State) (p : ℕ) (is : IsState a) (lt : p < a.processors) (folded 
   run : IsRunFrom p q.front (take k hs) × (length (take k hs) ≡ k)
   run = run_is a.trace_id a.processors p q (part_at a.parts p) was
 
-  settled_part : total_count folded.tree ≤ 4096 * reach_of q → IsPart a.trace_id a.processors p (settled q) (part (drop k hs) folded)
+  settled_part : IsWithin (4096 * reach_of q) folded → IsPart a.trace_id a.processors p (settled q) (part (drop k hs) folded)
   settled_part bounded = record {
     proper = IsProper-settled q was.proper;
     numbers = map-drop number k hs ∙ ap (drop k) was.numbers ∙ settled-drop q was.proper;
@@ -108,7 +113,7 @@ module _ (a : State) (p : ℕ) (is : IsState a) (lt : p < a.processors) (folded 
     bounded = bounded;
   }
 
-  pub IsState-settled : total_count folded.tree ≤ 4096 * reach_of q → IsState (settled_with a p folded)
+  pub IsState-settled : IsWithin (4096 * reach_of q) folded → IsState (settled_with a p folded)
   IsState-settled bounded = IsState-updated a p (settled q) (part (drop k hs) folded) is lt (settled_part bounded)
 
   module _ (T : Trace) (right : IsRight a T) where
@@ -137,7 +142,7 @@ module _ (a : State) (p : ℕ) (is : IsState a) (lt : p < a.processors) (folded 
     none_below : q.front ≡ 0 → run_events T p q.front ≡ []
     none_below e = ap (λ (f : ℕ). run_events T p f) e ∙ run_events-0 p T.segments
 
-    pub IsRight-settled : total_count folded.tree ≤ 4096 * reach_of q
+    pub IsRight-settled : IsWithin (4096 * reach_of q) folded
         → ((events : List Event) → (q.front ≡ 0 → events ≡ []) → IsFolded (folded_at a.parts p) events
         → IsFolded folded (events ++ run_of a p))
         → IsRight (settled_with a p folded) T
@@ -150,13 +155,19 @@ module _ (a : State) (p : ℕ) (is : IsState a) (lt : p < a.processors) (folded 
 
 -- ---- the fold as a step
 
+-- no more is folded than all below the reach
+pub within_reach : (a : State) (p : ℕ) → IsState a → p < a.processors → (d : Folded)
+    → ((most : ℕ) → IsWithin most (folded_at a.parts p) → IsWithin (most + 4096 * run_length a p) d)
+    → IsWithin (4096 * reach_of (numbers_at a.taken p)) d
+within_reach a p is lt d more =
+    let q : Numbers = numbers_at a.taken p in
+    let r = run_reaches q in
+    IsWithin-above (4096 * q.front + 4096 * run_length a p) (4096 * reach_of q) d (more (4096 * q.front) (is.each p lt).bounded)
+    (omega (arith, r))
+
 module _ (a b : State) (p : ℕ) (is : IsState a) (lt : p < a.processors) (f : IsCompactedAt a b p) where
-  bounded : total_count (f.folded).tree ≤ 4096 * reach_of (numbers_at a.taken p)
-  bounded =
-      let old = (is.each p lt).bounded in
-      let new = f.bounded in
-      let r = run_reaches (numbers_at a.taken p) in
-      omega (arith, old, new, r)
+  bounded : IsWithin (4096 * reach_of (numbers_at a.taken p)) f.folded
+  bounded = within_reach a p is lt f.folded f.bounded
 
   pub IsState-compacted : IsState b
   IsState-compacted = subst IsState (sym f.is) (IsState-settled a p is lt f.folded bounded)

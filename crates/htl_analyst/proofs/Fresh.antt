@@ -38,10 +38,16 @@ IsFolded-nothing = record {
     tables = tables_none;
   };
   last = record { bound = λ x h. absurd (Contains-nil x h); reached = inl refl };
+  number = refl;
 }
 
 IsPart-no_part : (id count p : ℕ) → IsPart id count p no_numbers no_part
-IsPart-no_part id count p = record { proper = record { rises = omega arith }; numbers = refl; owned = tt; bounded = omega arith }
+IsPart-no_part id count p = record {
+  proper = record { rises = omega arith };
+  numbers = refl;
+  owned = tt;
+  bounded = record { counts = omega arith; events = omega arith };
+}
 
 pub IsState-new : (id n : ℕ) → 0 < n → n ≤ 256 → IsState (new_state id n)
 IsState-new id n some few = record {

@@ -16,3 +16,4 @@ pub mod MergeLaws
 pub mod KeyEvents
 pub mod Falling
 pub mod Answered
+pub mod EventNumbers

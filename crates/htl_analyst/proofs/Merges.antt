@@ -7,11 +7,10 @@ use Rattle.std.proofs.lemmas.List.{get_or_past}
 use Rattle.htl_event.proofs.Members.{at_member, AllByRecursion-weaker, Contains-nil}
 use Rattle.htl_segment.specs.Content.{Content}
 use Rattle.htl_segment.specs.Traces.{Trace, HasKey}
-use Rattle.htl_tree.specs.Trees.{total_count}
 use Rattle.htl_taken.specs.Numbers.{Numbers, numbers_at, front_at, IsUnion}
 use Rattle.htl_taken.proofs.Numbers.{Has-union}
 use Rattle.htl_analyst.specs.States.{Folded, Part, part, part_at, no_part, held_at, folded_at, State, state}
-use Rattle.htl_analyst.specs.Right.{IsOwned, IsFolded, run_events, IsPart, IsState, IsRightAt, IsRight}
+use Rattle.htl_analyst.specs.Right.{IsOwned, IsFolded, IsWithin, run_events, IsPart, IsState, IsRightAt, IsRight}
 use Rattle.htl_analyst.specs.Refusals.{AreOfOne, HoldTwo, MergeRefused}
 use Rattle.htl_analyst.specs.declared.fault.MergeFault.{MergeFault}
 use Rattle.htl_analyst.specs.declared.fault.MergeFault.TheVariants.{OtherTrace, OtherProcessors, Conflict, NoMemory}
@@ -51,7 +50,7 @@ module _ (q r u : Numbers) (k l m : Part) (un : IsUnion q r u) (is : IsMergedPar
     proper = un.proper;
     numbers = is.numbers;
     owned = held_both (IsOwned id count p) own.owned theirs.owned;
-    bounded = folded_both (λ (n : ℕ) (d : Folded). total_count d.tree ≤ 4096 * n) own.bounded theirs.bounded;
+    bounded = folded_both (λ (n : ℕ) (d : Folded). IsWithin (4096 * n) d) own.bounded theirs.bounded;
   }
 
   IsRightAt-merged : (T : Trace) (p : ℕ) → IsRightAt T p q k → IsRightAt T p r l → IsRightAt T p u m

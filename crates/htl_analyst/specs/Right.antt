@@ -22,12 +22,17 @@ pub record IsOwned (id count p : ℕ) (s : Content) : Type 0 where
   pub processors : s.processors ≡ count
   pub processor : s.processor ≡ p
 
+-- no count of what was folded is above the bound: neither those of all stacks together, nor that of the events
+pub record IsWithin (most : ℕ) (f : Folded) : Type 0 where
+  pub counts : total_count f.tree ≤ most
+  pub events : f.events ≤ most
+
 -- A segment is held for each loose number, in order, and no other. A segment has 4,096 events at most.
 pub record IsPart (id count p : ℕ) (q : Numbers) (k : Part) : Type 0 where
   pub proper : IsProper q
   pub numbers : map (λ s. s.number) k.held ≡ q.loose
   pub owned : AllByRecursion (IsOwned id count p) k.held
-  pub bounded : total_count k.folded.tree ≤ 4096 * q.front
+  pub bounded : IsWithin (4096 * q.front) k.folded
 
 pub record IsState (a : State) : Type 0 where
   pub some : 0 < a.processors
@@ -45,10 +50,11 @@ pub record IsCollection (T : Trace) : Type 0 where
   pub fit : AllByRecursion Fits T.segments
   pub same : AllByRecursion (λ s. (s.trace_id ≡ T.id) × (s.processors ≡ T.processors)) T.segments
 
--- what was folded is what an answer takes for a fold of the events, with their greatest sequence
+-- what was folded is what an answer takes for a fold of the events, with their greatest sequence and their number
 pub record IsFolded (f : Folded) (events : List Event) : Type 0 where
   pub fold : IsFoldOf (contents_of (part [] f)) events
   pub last : IsGreatestSequence (Contains events) f.last_sequence
+  pub number : f.events ≡ length events
 
 -- the events of a processor's segments below a front
 abbrev pub run_events : Trace → ℕ → ℕ → List Event

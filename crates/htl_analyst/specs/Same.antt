@@ -7,6 +7,7 @@ use Rattle.htl_analyst.specs.States.{Folded, Part, State, part_at}
 
 pub record IsSameFolded (f g : Folded) : Type 0 where
   pub last_sequence : f.last_sequence ≡ g.last_sequence
+  pub events : f.events ≡ g.events
   pub tree : IsSameTally f.tree g.tree
   pub latest : (process base : ℕ) → event_at f.latest process base ≡ event_at g.latest process base
   pub marks : (process : ℕ) → sequence_at f.marks process ≡ sequence_at g.marks process

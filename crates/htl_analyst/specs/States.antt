@@ -6,20 +6,21 @@ use Rattle.htl_tree.specs.Trees.{Tree}
 use Rattle.htl_taken.specs.Numbers.{Numbers}
 
 -- What is left of the segments of one processor that were folded: counts by stack, the latest event of
--- each handle, snapshot marks and last exits of each process, and the greatest sequence.
+-- each handle, snapshot marks and last exits of each process, the greatest sequence, and how many events there were.
 pub record Folded : Type 0 where
   pub tree : Tree
   pub latest : List Event
   pub marks : List (ℕ × ℕ)
   pub exits : List (ℕ × ℕ)
   pub last_sequence : ℕ
+  pub events : ℕ
 
-abbrev pub folded : Tree → List Event → List (ℕ × ℕ) → List (ℕ × ℕ) → ℕ → Folded
-folded tree latest marks exits last_sequence =
-    record { tree = tree; latest = latest; marks = marks; exits = exits; last_sequence = last_sequence }
+abbrev pub folded : Tree → List Event → List (ℕ × ℕ) → List (ℕ × ℕ) → ℕ → ℕ → Folded
+folded tree latest marks exits last_sequence events =
+    record { tree = tree; latest = latest; marks = marks; exits = exits; last_sequence = last_sequence; events = events }
 
 abbrev pub no_folded : Folded
-no_folded = folded [] [] [] [] 0
+no_folded = folded [] [] [] [] 0 0
 
 -- what is kept of one processor: the segments of its loose numbers, and what was folded below its front
 pub record Part : Type 0 where

@@ -1,13 +1,12 @@
 -- Parts of a merge and of a compaction.
-use Rattle.std.specs.Prelude.{◌≡◌, ℕ, ◌+◌, ◌-◌, ◌*◌, ◌<◌, ◌≤◌, ◌⊎◌, List, [], ◌++◌, map, Contains, drop, take, length}
+use Rattle.std.specs.Prelude.{◌≡◌, ℕ, ◌+◌, ◌-◌, ◌*◌, ◌<◌, ◌⊎◌, List, [], ◌++◌, map, Contains, drop, take, length}
 use Rattle.std.specs.List.{AllByRecursion}
 use Rattle.htl_event.specs.Events.{Event}
 use Rattle.htl_segment.specs.Content.{Content}
 use Rattle.htl_segment.specs.Traces.{all_events}
-use Rattle.htl_tree.specs.Trees.{total_count}
 use Rattle.htl_taken.specs.Numbers.{Numbers, numbers_at, front_at, reach_of, settled}
 use Rattle.htl_analyst.specs.States.{Folded, Part, part, part_at, held_at, folded_at, State}
-use Rattle.htl_analyst.specs.Right.{IsFolded}
+use Rattle.htl_analyst.specs.Right.{IsFolded, IsWithin}
 use Rattle.htl_analyst.specs.Steps.{updated}
 
 -- ---- of a merge
@@ -48,4 +47,4 @@ pub record IsCompactedAt (a b : State) (p : ℕ) : Type 0 where
   pub is : b ≡ settled_with a p folded
   pub joins : (events : List Event) → (front_at a.taken p ≡ 0 → events ≡ []) → IsFolded (folded_at a.parts p) events
       → IsFolded folded (events ++ run_of a p)
-  pub bounded : total_count folded.tree ≤ total_count (folded_at a.parts p).tree + 4096 * run_length a p
+  pub bounded : (most : ℕ) → IsWithin most (folded_at a.parts p) → IsWithin (most + 4096 * run_length a p) folded

@@ -1,5 +1,5 @@
 -- What answers are about: the events of the segments that were taken.
-use Rattle.std.specs.Prelude.{List}
+use Rattle.std.specs.Prelude.{ℕ, ◌+◌, List, length}
 use Rattle.htl_event.specs.Events.{Event}
 use Rattle.htl_segment.specs.Traces.{Trace, all_events, events_of}
 use Rattle.htl_answers.specs.Parts.{Contents}
@@ -19,3 +19,7 @@ contents_of k = record {
   exits = k.folded.exits;
   held = all_events k.held;
 }
+
+-- how many events were folded of a processor, and are held of it
+abbrev pub events_kept : Part → ℕ
+events_kept k = k.folded.events + length (all_events k.held)

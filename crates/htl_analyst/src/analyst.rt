@@ -32,11 +32,14 @@ impl<A: Allocator> Model for Analyst<A> {
 }
 
 impl<A: Allocator> Analyst<A> {
-    ghost use Rattle.std.specs.Prelude.{◌≡◌, ◌↔◌, ◌<◌, ℕ, length, sum_by, IsTrue, IfSome, IfNone};
+    ghost use Rattle.std.specs.Prelude.{◌≡◌, ◌↔◌, ◌<◌, ◌^◌, ℕ, length, map, sum_by, IsTrue};
+    ghost use Rattle.std.specs.Prelude.{IfSome, IfNone};
     ghost use Rattle.std.specs.Prelude.{Contains};
     ghost use Rattle.htl_taken.specs.Numbers.{numbers_at, front_at};
     ghost use Rattle.htl_analyst.specs.States.{part_at, held_at};
+    ghost use Rattle.htl_answers.specs.Parts.{AreEventsOf, size_of_all};
     ghost use Rattle.htl_analyst.specs.Keys.{keys, number_taken};
+    ghost use Rattle.htl_analyst.specs.TakenEvents.{taken_events, contents_of, events_kept};
     ghost use Rattle.htl_analyst.specs.Right.{IsPart, IsState, IsRight};
     ghost use Rattle.htl_analyst.specs.Same.{IsSame, IsSamePart};
     ghost use Rattle.htl_segment.specs.Traces.{Trace};
@@ -90,6 +93,29 @@ impl<A: Allocator> Analyst<A> {
         ensures { result ≡ number_taken self.now }
     {
         self.taken.len()
+    }
+
+    /// The number of events of the taken segments, whether these were folded or are held.
+    pub fn events(&self) -> u64
+        ensures kept { result ≡ sum_by events_kept self.now.parts }
+        ensures taken { (T : Trace) → IsRight self.now T
+            → result ≡ length (taken_events T self.now) }
+    {
+        let mut events = 0;
+        for processor in 0..self.processors {
+            events += self.part(processor).events();
+        }
+        events
+    }
+
+    /// What is kept of each processor: the parts over which `htl_answers` answers.
+    pub fn parts(&self) -> &[Part<A>]
+        ensures value { result.now ≡ self.now.parts }
+        ensures events { (T : Trace) → IsRight self.now T
+            → AreEventsOf (map contents_of result.now) (taken_events T self.now) }
+        ensures few { size_of_all (map contents_of result.now) < 2 ^ 64 }
+    {
+        &self.parts
     }
 
     /// Whether both have the same fronts, held segments, counts and tables.

@@ -13,11 +13,10 @@ impl<A: Allocator + Clone> Analyst<A> {
     ghost use Rattle.htl_event.specs.Events.{Event};
     ghost use Rattle.htl_segment.specs.Content.{Content};
     ghost use Rattle.htl_segment.specs.Traces.{Trace};
-    ghost use Rattle.htl_tree.specs.Trees.{total_count};
     ghost use Rattle.htl_taken.specs.Numbers.{front_at};
     ghost use Rattle.htl_analyst.specs.States.{held_at, folded_at};
     ghost use Rattle.htl_analyst.specs.Keys.{HasTaken, number_taken};
-    ghost use Rattle.htl_analyst.specs.Right.{IsFolded, IsRight, IsStanding};
+    ghost use Rattle.htl_analyst.specs.Right.{IsFolded, IsWithin, IsRight, IsStanding};
     ghost use Rattle.htl_analyst.specs.Moments.{NeverFalls};
     ghost use Rattle.htl_analyst.specs.StepParts.{IsCompactedAt, run_length, run_of, settled_with};
 
@@ -69,9 +68,9 @@ impl<A: Allocator + Clone> Analyst<A> {
             → (front_at self.now.taken processor ≡ 0 → events ≡ [])
             → IsFolded (folded_at self.now.parts processor) events
             → IsFolded folded (events ++ run_of self.now processor)) }
-        ensures bounded { IfOk result (λ folded. total_count folded.tree
-            ≤ total_count (folded_at self.now.parts processor).tree
-            + 4096 * run_length self.now processor) }
+        ensures bounded { IfOk result (λ folded. (most : ℕ)
+            → IsWithin most (folded_at self.now.parts processor)
+            → IsWithin (most + 4096 * run_length self.now processor) folded) }
     {
         let part = self.part(processor);
         let alloc = self.parts.allocator().clone()?;
@@ -87,9 +86,8 @@ impl<A: Allocator + Clone> Analyst<A> {
     fn settle(&mut self, processor: u16, run: usize, folded: Folded<A>)
         requires here { processor < self.old.processors }
         requires run { run ≡ run_length self.old processor }
-        requires bounded { total_count folded.tree
-            ≤ total_count (folded_at self.old.parts processor).tree
-            + 4096 * run_length self.old processor }
+        requires bounded { (most : ℕ) → IsWithin most (folded_at self.old.parts processor)
+            → IsWithin (most + 4096 * run_length self.old processor) folded }
         ensures { self.new ≡ settled_with self.old processor folded }
     {
         self.taken.settle(processor);

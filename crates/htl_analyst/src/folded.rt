@@ -1,6 +1,6 @@
 //! The fold of one processor's segments: what is left of their events.
 
-use htl_event::NoMemory;
+use htl_event::{NoMemory, number_of_events};
 use htl_segment::{Segment, greatest_sequence};
 use htl_tables::{Exits, Latest, Marks};
 use htl_tree::StackTree;
@@ -8,7 +8,7 @@ use std::alloc::Allocator;
 use std::marker::Model;
 
 /// Counts by stack, the latest event of each handle, the mark and the last exit of each process,
-/// and the greatest sequence.
+/// the greatest sequence, and the number of events.
 #[derive(Drop)]
 pub(crate) struct Folded<A: Allocator> {
     tree: StackTree<A>,
@@ -16,6 +16,7 @@ pub(crate) struct Folded<A: Allocator> {
     marks: Marks<A>,
     exits: Exits<A>,
     last_sequence: u64,
+    events: u64,
 }
 
 impl<A: Allocator> Model for Folded<A> {
@@ -23,12 +24,11 @@ impl<A: Allocator> Model for Folded<A> {
 
     ghost Value = { Folded };
 
-    ghost view = { λ f. folded f.tree f.latest f.marks f.exits f.last_sequence };
+    ghost view = { λ f. folded f.tree f.latest f.marks f.exits f.last_sequence f.events };
 }
 
 impl<A: Allocator> Folded<A> {
     ghost use Rattle.std.specs.Prelude.{◌≡◌, ◌↔◌, IsTrue};
-    ghost use Rattle.htl_tree.specs.Trees.{total_count};
     ghost use Rattle.htl_analyst.specs.Same.{IsSameFolded};
 
     /// The counts of the folded events, by stack.
@@ -66,11 +66,21 @@ impl<A: Allocator> Folded<A> {
         self.last_sequence
     }
 
+    /// The number of folded events.
+    pub fn events(&self) -> u64
+        ensures { result ≡ self.now.events }
+    {
+        self.events
+    }
+
     /// Whether both have the same counts, tables and sequence.
     pub fn same(&self, other: &Folded<A>) -> bool
         ensures { IsTrue result ↔ IsSameFolded self.now other.now }
     {
         if self.last_sequence != other.last_sequence {
+            return false;
+        }
+        if self.events != other.events {
             return false;
         }
         if !self.tree.same(&other.tree) {
@@ -87,12 +97,12 @@ impl<A: Allocator> Folded<A> {
 }
 
 impl<A: Allocator + Clone> Folded<A> {
-    ghost use Rattle.std.specs.Prelude.{◌≡◌, ◌++◌, ◌≤◌, ◌<◌, ◌+◌, ◌*◌, ◌^◌, List, length, IfOk};
+    ghost use Rattle.std.specs.Prelude.{◌≡◌, ◌++◌, ◌≤◌, ◌<◌, ◌+◌, ◌*◌, ◌^◌, ℕ, List, length, IfOk};
     ghost use Rattle.htl_event.specs.Events.{Event};
     ghost use Rattle.htl_segment.specs.Traces.{all_events};
     ghost use Rattle.htl_tree.specs.Trees.{total_count};
     ghost use Rattle.htl_analyst.specs.States.{no_folded};
-    ghost use Rattle.htl_analyst.specs.Right.{IsFolded};
+    ghost use Rattle.htl_analyst.specs.Right.{IsFolded, IsWithin};
 
     /// A fold of no events.
     pub fn new(alloc: A) -> Result<Folded<A>, NoMemory>
@@ -104,6 +114,7 @@ impl<A: Allocator + Clone> Folded<A> {
             marks: Marks::new(alloc.clone()?),
             exits: Exits::new(alloc),
             last_sequence: 0,
+            events: 0,
         })
     }
 
@@ -111,7 +122,7 @@ impl<A: Allocator + Clone> Folded<A> {
     pub fn of(alloc: A, segments: &[Segment]) -> Result<Folded<A>, NoMemory>
         requires { length (all_events segments.now) < 2 ^ 64 }
         ensures folded { IfOk result (λ f. IsFolded f (all_events segments.now)) }
-        ensures bounded { IfOk result (λ f. total_count f.tree ≤ length (all_events segments.now)) }
+        ensures bounded { IfOk result (IsWithin (length (all_events segments.now))) }
     {
         Ok(Folded {
             tree: StackTree::of(alloc.clone()?, segments)?,
@@ -119,17 +130,19 @@ impl<A: Allocator + Clone> Folded<A> {
             marks: Marks::of(alloc.clone()?, segments)?,
             exits: Exits::of(alloc, segments)?,
             last_sequence: greatest_sequence(segments),
+            events: events_in(segments),
         })
     }
 
     /// The fold of the events of both.
     pub fn joined(&self, other: &Folded<A>) -> Result<Folded<A>, NoMemory>
-        requires { total_count self.now.tree + total_count other.now.tree < 2 ^ 64 }
+        requires counts { total_count self.now.tree + total_count other.now.tree < 2 ^ 64 }
+        requires events { self.now.events + other.now.events < 2 ^ 64 }
         ensures folded { IfOk result (λ f. (events more : List Event)
             → IsFolded self.now events → IsFolded other.now more
             → IsFolded f (events ++ more)) }
-        ensures bounded { IfOk result (λ f.
-            total_count f.tree ≡ total_count self.now.tree + total_count other.now.tree) }
+        ensures bounded { IfOk result (λ f. (most more : ℕ)
+            → IsWithin most self.now → IsWithin more other.now → IsWithin (most + more) f) }
     {
         Ok(Folded {
             tree: self.tree.plus(&other.tree)?,
@@ -137,6 +150,7 @@ impl<A: Allocator + Clone> Folded<A> {
             marks: self.marks.join(&other.marks)?,
             exits: self.exits.join(&other.exits)?,
             last_sequence: self.last_sequence.max(other.last_sequence),
+            events: self.events + other.events,
         })
     }
 
@@ -150,6 +164,21 @@ impl<A: Allocator + Clone> Folded<A> {
             marks: self.marks.copy()?,
             exits: self.exits.copy()?,
             last_sequence: self.last_sequence,
+            events: self.events,
         })
+    }
+}
+
+ghost use Rattle.std.specs.Prelude.{◌≡◌, ◌<◌, ◌^◌, length};
+ghost use Rattle.htl_segment.specs.Traces.{all_events};
+
+/// The number of the segments' events.
+pub(crate) fn events_in(segments: &[Segment]) -> u64
+    requires { length (all_events segments.now) < 2 ^ 64 }
+    ensures { result ≡ length (all_events segments.now) }
+{
+    match number_of_events(segments) {
+        Some(events) => events as u64,
+        None => unreachable!(),
     }
 }

@@ -18,8 +18,8 @@
 //! why they are refused), `Moments` (up to which moment nothing is missing), `Same` and `Laws`. In
 //! `proofs/`, `Takes`, `Merges`, `Folds` and `Compacts` show that each step keeps a state right,
 //! `Counted` how many segments are taken after it, `Determined` and `MergeLaws` the laws,
-//! `KeyEvents` and `Answered` that the events of the taken keys are those of the parts, and
-//! `Falling` what is complete.
+//! `KeyEvents` and `Answered` that the events of the taken keys are those of the parts,
+//! `EventNumbers` that their number is, and `Falling` what is complete.
 #![tactic(auto)]
 
 mod analyst;
@@ -35,6 +35,7 @@ mod taking;
 
 pub use analyst::Analyst;
 pub use fault::{AnalystFault, MergeFault, TakeFault, Took};
+pub use part::Part;
 
 /// The most processors that a trace has.
 pub const MAX_PROCESSORS: u16 = 256;

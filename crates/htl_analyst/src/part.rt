@@ -1,5 +1,5 @@
 //! Parts: what an analyst keeps of one processor.
-use crate::folded::Folded;
+use crate::folded::{Folded, events_in};
 use htl_event::NoMemory;
 use htl_segment::Segment;
 use std::alloc::Allocator;
@@ -7,10 +7,11 @@ use std::marker::Model;
 use std::mem;
 
 /// The segments that wait for others with lower numbers, and the fold of all segments below the front.
+/// `htl_answers` answers questions over several parts.
 #[derive(Drop)]
-pub(crate) struct Part<A: Allocator> {
-    pub held: Vec<Segment, A>,
-    pub folded: Folded<A>,
+pub struct Part<A: Allocator> {
+    pub(crate) held: Vec<Segment, A>,
+    pub(crate) folded: Folded<A>,
 }
 
 impl<A: Allocator> Model for Part<A> {
@@ -22,26 +23,35 @@ impl<A: Allocator> Model for Part<A> {
 }
 
 impl<A: Allocator> Part<A> {
-    ghost use Rattle.std.specs.Prelude.{◌≡◌, ◌↔◌, IsTrue};
+    ghost use Rattle.std.specs.Prelude.{◌≡◌, ◌↔◌, ◌<◌, ◌^◌, IsTrue};
     ghost use Rattle.htl_analyst.specs.States.{part};
+    ghost use Rattle.htl_analyst.specs.TakenEvents.{events_kept};
     ghost use Rattle.htl_analyst.specs.Same.{IsSamePart};
 
     /// The held segments, in rising order of their numbers.
-    pub fn held(&self) -> &[Segment]
+    pub(crate) fn held(&self) -> &[Segment]
         ensures { result.now ≡ self.now.held }
     {
         self.held.as_slice()
     }
 
     /// The fold of the segments below the front.
-    pub fn folded(&self) -> &Folded<A>
+    pub(crate) fn folded(&self) -> &Folded<A>
         ensures { result.now ≡ self.now.folded }
     {
         &self.folded
     }
 
+    /// The number of events that were folded, and of those that are held.
+    pub(crate) fn events(&self) -> u64
+        requires { events_kept self.now < 2 ^ 64 }
+        ensures { result ≡ events_kept self.now }
+    {
+        self.folded.events() + events_in(&self.held)
+    }
+
     /// Exchanges the folds of two parts. Each keeps its held segments.
-    pub fn swap_folded(&mut self, other: &mut Part<A>)
+    pub(crate) fn swap_folded(&mut self, other: &mut Part<A>)
         ensures own { self.new ≡ part self.old.held other.old.folded }
         ensures others { other.new ≡ part other.old.held self.old.folded }
     {
@@ -49,7 +59,7 @@ impl<A: Allocator> Part<A> {
     }
 
     /// Whether both hold the same segments and have folded the same.
-    pub fn same(&self, other: &Part<A>) -> bool
+    pub(crate) fn same(&self, other: &Part<A>) -> bool
         ensures { IsTrue result ↔ IsSamePart self.now other.now }
     {
         if !are_same(self.held(), other.held()) {
@@ -64,7 +74,7 @@ impl<A: Allocator + Clone> Part<A> {
     ghost use Rattle.htl_analyst.specs.States.{no_part};
 
     /// An empty part.
-    pub fn new(alloc: A) -> Result<Part<A>, NoMemory>
+    pub(crate) fn new(alloc: A) -> Result<Part<A>, NoMemory>
         ensures { IfOk result (λ part. part ≡ no_part) }
     {
         Ok(Part {
@@ -74,7 +84,7 @@ impl<A: Allocator + Clone> Part<A> {
     }
 
     /// An equal part, under clones of the allocator. The held segments are shared.
-    pub fn copy(&self) -> Result<Part<A>, NoMemory>
+    pub(crate) fn copy(&self) -> Result<Part<A>, NoMemory>
         ensures { IfOk result (λ copy. copy ≡ self.now) }
     {
         Ok(Part {

@@ -1,6 +1,6 @@
 -- A question has one answer over a set of keys of a trace.
 use Rattle.std.proofs.Common.{◌≡◌, ℕ, Bool, true, List, Option, None, Vec, Global, refl, sym, subst, ◌∙◌}
-use Rattle.std.specs.Prelude.{Contains, count_by}
+use Rattle.std.specs.Prelude.{Contains, count_by, length}
 use Rattle.std.proofs.Math.Path.{fun_ext}
 use Rattle.std.proofs.lemmas.List.Sorted.{IsPermutation-refl}
 use Rattle.htl_event.specs.Events.{Event}
@@ -63,6 +63,11 @@ module _ (T : Trace) (trace : IsTrace T) (S : ℕ → ℕ → Bool) where
       → (y : AnalystAnswer) → IsAnswer T S asked.Taken y → IsSameAnswer (answered.Taken a) y
   same_taken a is (answered.Taken b) other = is ∙ sym other
   same_taken a is y other = absurd other
+
+  same_events : (a : ℕ) → a ≡ length events
+      → (y : AnalystAnswer) → IsAnswer T S asked.Events y → IsSameAnswer (answered.Events a) y
+  same_events a is (answered.Events b) other = is ∙ sym other
+  same_events a is y other = absurd other
 
   same_gaps : (a : Vec Gap Global) → IsGaps (λ p n. S p n ≡ true) T.processors a.items
       → (y : AnalystAnswer) → IsAnswer T S asked.Gaps y → IsSameAnswer (answered.Gaps a) y
@@ -135,6 +140,7 @@ module _ (T : Trace) (trace : IsTrace T) (S : ℕ → ℕ → Bool) where
   pub one_answer : (q : AnalystQuestion) (x y : AnalystAnswer) → IsAnswer T S q x → IsAnswer T S q y → IsSameAnswer x y
   one_answer (asked.Has processor number) (answered.Has a) y is other = same_has processor number a is y other
   one_answer asked.Taken (answered.Taken a) y is other = same_taken a is y other
+  one_answer asked.Events (answered.Events a) y is other = same_events a is y other
   one_answer asked.Gaps (answered.Gaps a) y is other = same_gaps a is y other
   one_answer (asked.Latest process handle) (answered.Latest a) y is other = same_latest process handle a is y other
   one_answer (asked.Mark process) (answered.Mark a) y is other = same_mark process a is y other

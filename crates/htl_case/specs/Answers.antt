@@ -1,5 +1,5 @@
 -- The answers to an analyst's questions, by the definitions: over the segments of a trace whose keys are in a set.
-use Rattle.std.specs.Prelude.{◌≡◌, ℕ, Bool, true, List, Contains, count_by}
+use Rattle.std.specs.Prelude.{◌≡◌, ℕ, Bool, true, List, length, Contains, count_by}
 use Rattle.htl_event.specs.Events.{Event}
 use Rattle.htl_event.specs.Slots.{base_of}
 use Rattle.htl_event.specs.Handles.{LatestIs, IsMark, IsOutstanding, IsDiff}
@@ -14,6 +14,7 @@ use Rattle.htl_case.specs.declared.question.AnalystAnswer.TheVariants as answere
 
 -- The definition's value over a list of events. What answers another question is no answer.
 abbrev pub IsAnswerOver : List Event → AnalystQuestion → AnalystAnswer → Type 0
+IsAnswerOver events asked.Events (answered.Events number) = number ≡ length events
 IsAnswerOver events (asked.Latest process handle) (answered.Latest event) = LatestIs (Contains events) process (base_of handle) event
 IsAnswerOver events (asked.Mark process) (answered.Mark sequence) = IsMark (Contains events) process sequence
 IsAnswerOver events (asked.Outstanding process) (answered.Outstanding rows) = IsOutstanding (Contains events) process rows.items
@@ -40,6 +41,7 @@ IsAnswer T S question answer = IsAnswerOver (events_of S T.segments) question an
 abbrev pub IsSameAnswer : AnalystAnswer → AnalystAnswer → Type 0
 IsSameAnswer (answered.Has a) (answered.Has b) = a ≡ b
 IsSameAnswer (answered.Taken a) (answered.Taken b) = a ≡ b
+IsSameAnswer (answered.Events a) (answered.Events b) = a ≡ b
 IsSameAnswer (answered.Gaps a) (answered.Gaps b) = a.items ≡ b.items
 IsSameAnswer (answered.Latest a) (answered.Latest b) = a ≡ b
 IsSameAnswer (answered.Mark a) (answered.Mark b) = a ≡ b

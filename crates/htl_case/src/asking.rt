@@ -65,6 +65,7 @@ pub fn ask<A: Allocator + Clone>(
             AnalystAnswer::Has(analyst.has(*processor, *number))
         }
         AnalystQuestion::Taken => AnalystAnswer::Taken(analyst.taken()),
+        AnalystQuestion::Events => AnalystAnswer::Events(analyst.events()),
         AnalystQuestion::Gaps => AnalystAnswer::Gaps(analyst.gaps(alloc)?),
         AnalystQuestion::Latest { process, handle } => {
             AnalystAnswer::Latest(copied(analyst.latest(*process, *handle))?)

@@ -11,6 +11,8 @@ pub enum AnalystQuestion {
     Has { processor: u16, number: u32 },
     /// The number of segments that the analyst has taken.
     Taken,
+    /// The number of events of the segments that the analyst has taken.
+    Events,
     /// The segments that are missing.
     Gaps,
     /// The latest open or close of a handle of a process.
@@ -45,6 +47,7 @@ pub enum AnalystQuestion {
 pub enum AnalystAnswer {
     Has(bool),
     Taken(u64),
+    Events(u64),
     Gaps(Vec<Gap>),
     Latest(Option<SharedEvent>),
     Mark(u64),

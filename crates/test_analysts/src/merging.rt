@@ -150,6 +150,34 @@ fn repeats_count_once(rt: HostRuntime) {
     }
 }
 
+/// Segments with three, no, two and one events.
+const UNEVEN: [&str; 4] = [
+    "0/0: O 1 0x44, C 2 0x44, O 3 0x48",
+    "0/1:",
+    "0/2: R 4 0x1000 Lky8, D 5 0x1000 Lky8",
+    "0/3: S 6",
+];
+
+/// It has folded the first and the second, and holds the last.
+fn all_but_two_events(rt: &impl Abort, alloc: Global) -> Analyst<Global> {
+    let analyst = compacted(rt, alloc, TRACE, &[UNEVEN[3], UNEVEN[1], UNEVEN[0]]);
+    assert_is(rt, (analyst.held(), analyst.events()), (1, 4));
+    analyst
+}
+
+#[test]
+fn events_count_once(rt: HostRuntime) {
+    let mut analyst = taken(&rt, rt.alloc(), TRACE, &[UNEVEN[2], UNEVEN[0]]);
+    is_repeated(&rt, rt.alloc(), &mut analyst, UNEVEN[2]);
+    assert_is(&rt, analyst.events(), 5);
+    compact(&rt, &mut analyst);
+    assert_is(&rt, (analyst.held(), analyst.events()), (1, 5));
+    merge(&rt, &mut analyst, &all_but_two_events(&rt, rt.alloc()));
+    assert_is(&rt, (analyst.held(), analyst.events()), (2, 6));
+    compact(&rt, &mut analyst);
+    assert_is(&rt, (analyst.held(), analyst.events()), (0, 6));
+}
+
 #[test]
 fn an_analyst_merged_with_its_own_copy(rt: HostRuntime) {
     let mut analyst = compacted(&rt, rt.alloc(), TRACE, &[OPEN]);

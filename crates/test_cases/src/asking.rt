@@ -57,7 +57,8 @@ fn case(rt: &impl Abort, alloc: Global) -> Case {
 fn size(answer: &AnalystAnswer) -> u64 {
     match answer {
         AnalystAnswer::Has(is) => u64::from(*is),
-        AnalystAnswer::Taken(number) | AnalystAnswer::Mark(number) => *number,
+        AnalystAnswer::Taken(number) | AnalystAnswer::Events(number) => *number,
+        AnalystAnswer::Mark(number) => *number,
         AnalystAnswer::Latest(event) => u64::from(event.is_some()),
         AnalystAnswer::Gaps(rows) => rows.len() as u64,
         AnalystAnswer::Outstanding(rows) | AnalystAnswer::Diff(rows) => rows.len() as u64,
@@ -87,7 +88,7 @@ fn answered(
 }
 
 /// Questions, with what the answers of analysts 0 and 1 come to.
-fn questions() -> [(Ask, [u64; 2]); 13] {
+fn questions() -> [(Ask, [u64; 2]); 14] {
     [
         (
             Ask::Has {
@@ -97,6 +98,7 @@ fn questions() -> [(Ask, [u64; 2]); 13] {
             [1, 0],
         ),
         (Ask::Taken, [2, 3]),
+        (Ask::Events, [6, 7]),
         (Ask::Gaps, [1, 1]),
         (
             Ask::Latest {

@@ -6,7 +6,8 @@ use Rattle.htl_analyst.specs.Keys.{HasTaken, keys}
 use Rattle.htl_analyst.proofs.KeyEvents.{keys_taken, taken_keys}
 use Rattle.htl_case.proofs.Sizes.{size_is}
 use Rattle.htl_case.proofs.asking.ask.Goals as goal
-use Rattle.htl_case.proofs.asking.ask.Goals.{in-Has, in-Taken, in-Gaps+in_ok-gaps-in-Gaps, in-Latest+in_ok-copied-in-Latest, in-Mark}
+use Rattle.htl_case.proofs.asking.ask.Goals.{in-Has, in-Taken, in-Events, in-Gaps+in_ok-gaps-in-Gaps}
+use Rattle.htl_case.proofs.asking.ask.Goals.{in-Latest+in_ok-copied-in-Latest, in-Mark}
 use Rattle.htl_case.proofs.asking.ask.Goals.{in-Outstanding+in_ok-outstanding-in-Outstanding, in-Diff+in_ok-diff-in-Diff}
 use Rattle.htl_case.proofs.asking.ask.Goals.{in-Leaks+in_ok-leaks-in-Leaks, in-Bad+in_ok-bad-in-Bad, in-Tags+in_ok-tags-in-Tags}
 use Rattle.htl_case.proofs.asking.ask.Goals.{in-Stacks+in_ok-stacks-in-Stacks, in-Tally+in_ok-count_of-in-Tally, in-Under}
@@ -18,6 +19,7 @@ returns g c T stated right =
     elim c.match-question.branch [
       | in-Has w ↦ rw (w.in-Has.is, w.result-is) w.has.ensures
       | in-Taken w ↦ rw (w.in-Taken.is, w.result-is) (w.taken.ensures ∙ size_is T a right)
+      | in-Events w ↦ rw (w.in-Events.is, w.result-is) (w.events.ensures.taken T right)
       | in-Gaps+in_ok-gaps-in-Gaps w ↦
           let gaps = w.in_ok-gaps-in-Gaps.field-0.items in
           let listed = subst (λ (n : ℕ). IsGaps (HasTaken a) n gaps) (sym right.processors) w.in_ok-gaps-in-Gaps.ensures in

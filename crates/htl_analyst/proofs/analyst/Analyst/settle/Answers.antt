@@ -1,11 +1,10 @@
 -- A front moved to its reach makes the settled state.
-use Rattle.std.proofs.Common.{◌≡◌, ◌≤◌, ◌<◌, ◌*◌, length, ap, sym, ◌∙◌, subst, arith}
-use Rattle.htl_tree.specs.Trees.{total_count}
-use Rattle.htl_taken.specs.Numbers.{numbers_at, reach_of}
+use Rattle.std.proofs.Common.{◌≡◌, ◌<◌, length, ap, sym, ◌∙◌, subst, arith}
+use Rattle.htl_taken.specs.Numbers.{numbers_at}
 use Rattle.htl_analyst.specs.States.{State, state, Part, part, part_at}
 use Rattle.htl_analyst.specs.Right.{IsState}
 use Rattle.htl_analyst.proofs.Holds.{part_read, settle_made}
-use Rattle.htl_analyst.proofs.Folds.{run_within, run_reaches, IsState-settled}
+use Rattle.htl_analyst.proofs.Folds.{run_within, within_reach, IsState-settled}
 use Rattle.htl_analyst.proofs.analyst.Analyst.settle.Goals as goal
 
 pub drop_front-requires : goal.drop_front-requires
@@ -39,7 +38,5 @@ invariant_of-self g c =
     c.part.inside.folded c.args.folded c.settle.new.self
     c.self.view_is c.from.ensures parts c.index_mut-part.ensures.value c.part.view_is c.requires.run c.settle.ensures.value
     c.drop_front.ensures in
-    let old = (is.each p c.requires.here).bounded in
-    let r = run_reaches (numbers_at now.taken p) in
-    let bounded : total_count c.args.folded.tree ≤ 4096 * reach_of (numbers_at now.taken p) = omega (arith, c.requires.bounded, old, r) in
-    subst IsState (sym made) (IsState-settled now p is c.requires.here c.args.folded bounded)
+    subst IsState (sym made)
+    (IsState-settled now p is c.requires.here c.args.folded (within_reach now p is c.requires.here c.args.folded c.requires.bounded))

@@ -1,5 +1,5 @@
 -- Tables and trees joined are folded of the events of both.
-use Rattle.std.proofs.Common.{sym, subst}
+use Rattle.std.proofs.Common.{length-append, sym, subst, arith}
 use Rattle.htl_answers.proofs.JoinedTables.{tables_joined}
 use Rattle.htl_analyst.specs.States.{Folded, folded}
 use Rattle.htl_analyst.specs.Right.{IsFolded}
@@ -11,9 +11,9 @@ pub returns-clause-folded : goal.returns-clause-folded
 returns-clause-folded g c = λ events more one two.
     let i = c.self.inside in
     let o = c.other.inside in
-    let d : IsFolded (folded i.tree i.latest i.marks i.exits i.last_sequence) events =
+    let d : IsFolded (folded i.tree i.latest i.marks i.exits i.last_sequence i.events) events =
     subst (λ (x : Folded). IsFolded x events) (sym c.self.view_is) one in
-    let e : IsFolded (folded o.tree o.latest o.marks o.exits o.last_sequence) more =
+    let e : IsFolded (folded o.tree o.latest o.marks o.exits o.last_sequence o.events) more =
     subst (λ (x : Folded). IsFolded x more) (sym c.other.view_is) two in
     record {
       fold = record {
@@ -24,4 +24,5 @@ returns-clause-folded g c = λ events more one two.
             d.fold.tables e.fold.tables;
       };
       last = greatest_joined events more c.max.result i.last_sequence o.last_sequence c.max.ensures d.last e.last;
+      number = (let both = length-append events more in let x = d.number in let y = e.number in omega (arith, both, x, y));
     }

@@ -12,4 +12,5 @@ returns-clause-folded g c = record {
     };
   };
   last = c.greatest_sequence.ensures;
+  number = c.events_in.ensures;
 }

@@ -25,6 +25,7 @@ pub returns : goal.returns
 returns g c = rw (← c.self.view_is, ← c.other.view_is) (
   (λ t. record {
     last_sequence = c.if-self-other.false;
+    events = c.if-self-other-2.false;
     tree = c.same.ensures.tally.0 c.if-not-same.false;
     latest = c.same-2.ensures.events.0 c.if-not-same-2.false;
     marks = c.same-3.ensures.sequences.0 c.if-not-same-3.false;

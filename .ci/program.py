@@ -1,7 +1,10 @@
-"""Bundles of segments from lines, and the built program asked about them: what the scripts beside this file share."""
+"""Bundles of segments from lines, and the built program asked about them, once or in a dialogue: what the scripts beside this file
+share."""
 
+import contextlib
 import os
 import pty
+import select
 import struct
 import subprocess
 import sys
@@ -126,3 +129,31 @@ class Asking:
         self.asked += 1
         if not holds:
             sys.exit(f"{self.script}: {name}: got {status} and {text[:200]!r}, {lines[:200]!r}")
+
+
+class Talk:
+    """The program, with which a script converses through pipes."""
+
+    def __init__(self, words, limit="true", **streams):
+        pipes = {"stdin": subprocess.PIPE, "stdout": subprocess.PIPE, "stderr": subprocess.PIPE, **streams}
+        command = ["sh", "-c", limit + ' && exec "$0" "$@"', PROGRAM, "ask", *words]
+        self.program = subprocess.Popen(command, bufsize=0, **pipes)
+
+    def reply(self, line):
+        """The reply to a line, up to its empty line. A program that gives none is killed, and then it's what there was."""
+        with contextlib.suppress(BrokenPipeError):
+            self.program.stdin.write(f"{line}\n".encode())
+        reply = b""
+        while reply != b"\n" and not reply.endswith(b"\n\n"):
+            if not select.select([self.program.stdout], [], [], 60)[0]:
+                self.program.kill()
+            part = self.program.stdout.read(65536)
+            if not part:
+                break
+            reply += part
+        return reply
+
+    def end(self, text=b""):
+        """What was printed of this text after what was read so far, with the status and the lines of standard error."""
+        printed, lines = self.program.communicate(text, timeout=60)
+        return self.program.returncode, printed or b"", lines.decode()

@@ -14,15 +14,21 @@ question_advice Summary workers =
     else codes "free some, raise its limit, ask for fewer workers, or about one process or object"
 question_advice other workers = free_memory
 
+-- A dialogue keeps more than a run of one question does.
+abbrev pub alone_advice : List ℕ
+alone_advice = codes "free some, raise its limit, or ask each question alone, which takes less"
+
 abbrev pub memory_advice : Task → List ℕ
 memory_advice (tasks.Question run) = question_advice run.now.job.question run.now.job.workers
 memory_advice (tasks.Convert of) = free_memory
-memory_advice (tasks.Ask of) = codes "free some, raise its limit, or ask each question alone, which takes less"
+memory_advice (tasks.Ask of) = alone_advice
+memory_advice (tasks.Read of) = alone_advice
 
--- A conversion has one.
+-- where a run can do with fewer
 abbrev pub workers_of : Task → ℕ
 workers_of (tasks.Question run) = run.now.job.workers
 workers_of (tasks.Convert of) = 1
+workers_of (tasks.Read of) = 1
 workers_of (tasks.Ask of) = of.now.setting.workers
 
 abbrev pub thread_advice : Task → List ℕ

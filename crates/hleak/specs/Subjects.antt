@@ -9,7 +9,7 @@ use Rattle.htl_main.specs.declared.fault.RunFault.TheVariants.{SymbolsRead, Writ
 use Rattle.htl_program.specs.AskedAbout.{subject_of_question}
 use Rattle.htl_program.specs.declared.subject.Subject.{Subject}
 use Rattle.hleak.specs.declared.explaining.task.Task.{Task}
-use Rattle.hleak.specs.declared.explaining.task.Task.TheVariants.{Question, Convert, Ask}
+use Rattle.hleak.specs.declared.explaining.task.Task.TheVariants.{Question, Convert, Ask, Read as Reads}
 
 -- what is done for a command, where that has inputs
 abbrev pub IsTaskOf : Command → Option Task → Type 0
@@ -20,23 +20,27 @@ IsTaskOf (wish.Ask dialogue) (Some (Ask of)) = of.now ≡ dialogue
 IsTaskOf (wish.Explain code) None = ⊤
 IsTaskOf command other = ⊥
 
--- the input at a place: the file of that place, or standard input where no file is named
+-- the input at a place: the file of that place, or standard input where no file is named. Where files are read within a dialogue, what was
+-- read before is one more.
 abbrev pub input_name : Task → ℕ → List ℕ
 input_name (Question run) place = option_map_or string_bytes (slice_get run.now.files.items place) (codes "standard input")
 input_name (Convert of) place = option_map_or string_bytes (slice_get of.now place) (codes "standard input")
 input_name (Ask of) place = option_map_or string_bytes (slice_get of.now.files.items place) (codes "standard input")
+input_name (Reads of) place = option_map_or string_bytes (slice_get of.now place) (codes "what was read before")
 
 -- the file with the symbols
 abbrev pub symbols_name : Task → List ℕ
 symbols_name (Question run) = option_map_or string_bytes run.now.symbols (codes "the table of symbols")
 symbols_name (Ask of) = option_map_or string_bytes of.now.symbols (codes "the table of symbols")
 symbols_name (Convert of) = codes "the table of symbols"
+symbols_name (Reads of) = codes "the table of symbols"
 
 -- what a question is about
 abbrev pub asked_about : Task → Option Subject
 asked_about (Question run) = subject_of_question run.now.job.question
 asked_about (Convert of) = None
 asked_about (Ask of) = None
+asked_about (Reads of) = None
 
 -- the line of the event that a fault of a text is about
 abbrev pub event_line_of : RunFault → Option ℕ

@@ -4,11 +4,11 @@ ghost use Rattle.std.specs.Prelude.{◌≡◌, ◌||◌, false, not};
 ghost use Rattle.hleak.specs.Wrongs.{is_refusal};
 
 use crate::absence::Absence;
+use crate::explaining::{Explanation, Task};
 use crate::note::Note;
 use crate::shown::Shown;
-use htl_ask::Audience;
 use htl_dialogue::Host;
-use htl_main::{Coverage, CutInputs, ParseFault, Question};
+use htl_main::{Added, Coverage, CutInputs, ParseFault, Question, Refused};
 use htl_program::Speaker;
 use std::io::IsTerminal;
 
@@ -42,6 +42,26 @@ impl Listener {
     fn note(&self, note: Option<Note>) {
         if let Some(note) = note {
             let _ = eprintln!(self.rt; "{note}");
+        }
+    }
+
+    /// Says which inputs end within a segment, where notes are wanted and some do.
+    fn note_cut(&self, inputs: Option<CutInputs>) {
+        if self.wants_notes {
+            self.note(Note::on_cut(inputs));
+        }
+    }
+
+    /// Says why files are refused, and what that means where notes are wanted.
+    fn report(&self, files: &[String], refused: Refused) {
+        let _ = eprintln!(self.rt; "{refused}");
+        if self.wants_notes {
+            let explanation = Explanation {
+                task: Task::Read(files),
+                fault: refused.fault,
+                between: refused.between,
+            };
+            let _ = eprintln!(self.rt; "{explanation}");
         }
     }
 
@@ -88,6 +108,13 @@ impl Host for Listener {
         }
     }
 
+    fn reads(&mut self, files: &[String], ended: Result<Added, Refused>) {
+        match ended {
+            Ok(added) => self.note_cut(added.cut),
+            Err(refused) => self.report(files, refused),
+        }
+    }
+
     fn notes_absence(&self) -> bool {
         self.wants_notes
     }
@@ -95,15 +122,6 @@ impl Host for Listener {
     fn lacks(&mut self, question: Question) {
         if let Some(absence) = Absence::on(question) {
             let _ = eprintln!(self.rt; "{absence}");
-        }
-    }
-}
-
-impl Audience for Listener {
-    fn begins(&mut self, coverage: Coverage, cut: Option<CutInputs>) {
-        if self.wants_notes {
-            self.note(Note::on_gaps(coverage));
-            self.note(Note::on_cut(cut));
         }
     }
 }
@@ -116,6 +134,13 @@ impl Speaker for Listener {
 
     fn takes_notes(&mut self, are_asked_for: bool) {
         self.wants_notes |= are_asked_for;
+    }
+
+    fn begins(&mut self, coverage: Coverage, cut: Option<CutInputs>) {
+        if self.wants_notes {
+            self.note(Note::on_gaps(coverage));
+        }
+        self.note_cut(cut);
     }
 
     fn counts_wrong(&self) -> bool {

@@ -67,6 +67,13 @@ For more information, try 'hleak encode --help'.";
         of_line(alloc, "a line has at most 65536 bytes")
     }
 
+    /// The fault of a line that is to read files and names none, or has an option.
+    pub fn no_files(alloc: Global) -> ParseFault
+        ensures { IsUsageWith ⊤ result }
+    {
+        of_line(alloc, "'read' takes files, and no option")
+    }
+
     /// The exit status of the program: 0 for help, 2 for arguments that are no command line, 6 for
     /// memory.
     pub fn status(&self) -> u8

@@ -3,5 +3,7 @@ pub mod Feeds
 pub mod Takings
 pub mod NextLines
 pub mod Noting
+pub mod Exchanging
 pub mod Conversing
 pub mod Stopping
+pub mod Simulated

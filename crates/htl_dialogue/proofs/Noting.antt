@@ -1,12 +1,10 @@
--- Notes on one line more.
-use Rattle.std.proofs.Common.{◌≡◌, ◌∙◌, ℕ, Bool, List, [], ◌∷◌, ◌++◌, refl, sym, ap, append_assoc}
-use Rattle.std.proofs.lemmas.List.{append-nil}
+-- Notes after other notes, and which of them is the fault of the first files that are refused.
+use Rattle.std.proofs.Common.{◌≡◌, ◌∙◌, Bool, true, false, List, [], ◌∷◌, ◌++◌, None, Some, Ok, Err, refl, sym, ap}
+use Rattle.std.specs.Option.{option_or}
+use Rattle.std.specs.Prelude.{Option}
 use Rattle.htl_command.specs.declared.question.Job.{Job}
-use Rattle.htl_dialogue.specs.Notes.{AreNotes, IsAbsence, IsRefusal, Note, after_notes, awaits}
-use Rattle.htl_dialogue.specs.Replying.{KeepsFault, refusal_of}
-use Rattle.htl_dialogue.specs.Sayings.{saying, saying_of}
-use Rattle.htl_dialogue.specs.declared.saying.Said.{Said}
-use Rattle.htl_dialogue.specs.declared.saying.Said.TheVariants as said
+use Rattle.htl_dialogue.specs.Notes.{IsAbsence, IsAbsenceOf, Note, after_notes, awaits, begins, first_fault, lacks, reads, refuses}
+use Rattle.htl_dialogue.specs.Sayings.{Saying, asks, nothing, quits, reads as says_reads, wrong}
 
 -- notes after others
 pub notes_after : {Host : Type 0} (told : Host → Note → Host) (host : Host) (first more : List Note)
@@ -27,31 +25,38 @@ pub line_more : {Host : Type 0} (told : Host → Note → Host) (host now mid en
 line_more told host now mid end notes own heard waited then =
     then ∙ ap (λ h. after_notes told h own) (waited ∙ ap (λ h. told h awaits) heard) ∙ sym (notes_after told host notes (awaits ∷ own))
 
--- what the host is told before the reply is why the line is wrong
-refusal_is : (line : List ℕ) (of : Said) → KeepsFault line of → IsRefusal line (saying of) (refusal_of of)
-refusal_is line said.Nothing keeps = refl
-refusal_is line said.Quits keeps = refl
-refusal_is line (said.Asks job) keeps = refl
-refusal_is line (said.Wrong fault) keeps = (fault, keeps.0, keeps.1, refl)
+-- the first fault of notes put together is that of the first of them which has one
+pub first_fault-append : (xs ys : List Note) → first_fault (xs ++ ys) ≡ option_or (first_fault xs) (first_fault ys)
+first_fault-append [] ys = refl
+first_fault-append (begins gaps to cut ∷ xs) ys = first_fault-append xs ys
+first_fault-append (awaits ∷ xs) ys = first_fault-append xs ys
+first_fault-append (refuses fault ∷ xs) ys = first_fault-append xs ys
+first_fault-append (reads files (Ok added) ∷ xs) ys = first_fault-append xs ys
+first_fault-append (reads files (Err refused) ∷ xs) ys = refl
+first_fault-append (lacks question ∷ xs) ys = first_fault-append xs ys
 
-pub is_refusal : (line : List ℕ) (of : Said) → KeepsFault line of → saying of ≡ saying_of line → IsRefusal line (saying_of line) (refusal_of of)
-is_refusal line of keeps same = rw (← same) (refusal_is line of keeps)
+-- what follows a reply is no fault of files
+absence_has_no_fault_of : (HasSubject : Job → Bool → Type 0) (wanted : Bool) (job : Job) (notes : List Note)
+    → IsAbsenceOf HasSubject wanted job notes → first_fault notes ≡ None
+absence_has_no_fault_of HasSubject false job notes is = ap first_fault is
+absence_has_no_fault_of HasSubject true job notes (true, has, is) = ap first_fault is
+absence_has_no_fault_of HasSubject true job notes (false, has, is) = ap first_fault is
 
--- the notes on one line more
-pub notes_more : (HasSubject : Job → Bool → Type 0) (wanted : Bool) (lines : List (List ℕ)) (line : List ℕ)
-    (notes refusal absence : List Note) → AreNotes HasSubject wanted lines notes → IsRefusal line (saying_of line) refusal
-    → IsAbsence HasSubject wanted (saying_of line) absence
-    → AreNotes HasSubject wanted (lines ++ line ∷ []) (notes ++ awaits ∷ (refusal ++ absence))
-notes_more HasSubject wanted [] line notes refusal absence are refused absent =
-    (refusal, absence, [], refused, absent, refl, rw (are, append-nil absence) refl)
-notes_more HasSubject wanted (first ∷ more) line notes refusal absence are refused absent =
-    let own = awaits ∷ (refusal ++ absence) in (
-      are.0,
-      are.1,
-      are.2 ++ own,
-      are.3,
-      are.4,
-      notes_more HasSubject wanted more line are.2 refusal absence are.5 refused absent,
-      ap (λ l. l ++ own) are.6 ∙ ap (λ l. awaits ∷ l) (append_assoc are.0 (are.1 ++ are.2) own
-          ∙ ap (λ l. are.0 ++ l) (append_assoc are.1 are.2 own)),
-    )
+absence_has_no_fault : (HasSubject : Job → Bool → Type 0) (wanted : Bool) (said : Saying) (notes : List Note)
+    → IsAbsence HasSubject wanted said notes → first_fault notes ≡ None
+absence_has_no_fault HasSubject wanted (asks job) notes is = absence_has_no_fault_of HasSubject wanted job notes is
+absence_has_no_fault HasSubject wanted (says_reads files) notes is = ap first_fault is
+absence_has_no_fault HasSubject wanted nothing notes is = ap first_fault is
+absence_has_no_fault HasSubject wanted quits notes is = ap first_fault is
+absence_has_no_fault HasSubject wanted wrong notes is = ap first_fault is
+
+none_after : {X : Type 0} (o : Option X) → option_or o None ≡ o
+none_after None = refl
+none_after (Some x) = refl
+
+-- the fault of a line is that before its reply
+pub line_fault : (HasSubject : Job → Bool → Type 0) (wanted : Bool) (said : Saying) (early late : List Note)
+    → IsAbsence HasSubject wanted said late → first_fault (awaits ∷ (early ++ late)) ≡ first_fault early
+line_fault HasSubject wanted said early late absent =
+    first_fault-append early late ∙ ap (λ o. option_or (first_fault early) o) (absence_has_no_fault HasSubject wanted said late absent)
+    ∙ none_after (first_fault early)

@@ -1,28 +1,66 @@
 -- What a dialogue writes, and what its host is told (this project's own): the reply to one line after the other, up to the one that
--- ends it.
+-- ends it. Who answers may change: files that a line names are read, and the lines after it are answered from these too.
 use Rattle.std.specs.Prelude.{◌≡◌, ◌⊎◌, ℕ, Bool, true, false, List, [], ◌∷◌, ◌++◌, Option, Some, if◌then◌else◌, take}
+use Rattle.std.specs.Prelude.{Result, Ok, Err}
 use Rattle.std.specs.List.{list_any}
 use Rattle.std.specs.Io.KnownBytes.{Appends, Consumes}
+use Rattle.htl_command.specs.declared.fault.ParseFault.{ParseFault}
 use Rattle.htl_command.specs.declared.question.Job.{Job}
 use Rattle.htl_dialogue.specs.Lines.{lines_of}
-use Rattle.htl_dialogue.specs.Notes.{AreNotes, IsRefusal, Note, after_notes, awaits}
-use Rattle.htl_dialogue.specs.Sayings.{Saying, nothing, quits, asks, wrong, saying_of}
+use Rattle.htl_dialogue.specs.Notes.{IsAbsence, IsFaultOf, Note, after_notes, awaits, first_fault, refuses, reads as notes_reading}
+use Rattle.htl_dialogue.specs.Sayings.{Saying, nothing, quits, asks, reads, wrong, saying_of}
+use Rattle.htl_dialogue.specs.declared.dialogue.Conversed.{Conversed}
 use Rattle.htl_dialogue.specs.declared.dialogue.DialogueFault.{DialogueFault}
 use Rattle.htl_dialogue.specs.declared.dialogue.DialogueFault.TheVariants.{Questions, Write, NoMemory}
+use Rattle.htl_main.specs.Adding.{added_text}
+use Rattle.htl_main.specs.declared.adding.Added.{Added}
+use Rattle.htl_main.specs.declared.refused.Refused.{Refused}
 
--- The reply to a line, where the texts of jobs are known: a question's text and a line feed, the line feed alone where the line
--- is wrong, and nothing where it says nothing.
-abbrev pub IsReply : (Job → List ℕ → Type 0) → Saying → List ℕ → Type 0
-IsReply HasText (asks job) reply = (text : List ℕ) × HasText job text × (reply ≡ text ++ 10 ∷ [])
-IsReply HasText wrong reply = reply ≡ 10 ∷ []
-IsReply HasText nothing reply = reply ≡ []
-IsReply HasText quits reply = reply ≡ []
+-- Who answers, by what holds in each of its states: which texts answer a job, whether what a job's question names has an event, and to
+-- which state it leads that files of these names are read, and how that ends.
+pub record Answers (S : Type 0) : Type 1 where
+  pub has_text : S → Job → List ℕ → Type 0
+  pub has_subject : S → Job → Bool → Type 0
+  pub reads : S → List (List ℕ) → S → Result Added Refused → Type 0
 
--- the replies to lines, one after the other
-abbrev pub AreReplies : (Job → List ℕ → Type 0) → List (List ℕ) → List ℕ → Type 0
-AreReplies HasText [] replies = replies ≡ []
-AreReplies HasText (line ∷ more) replies =
-    (first later : List ℕ) × IsReply HasText (saying_of line) first × AreReplies HasText more later × (replies ≡ first ++ later)
+abbrev pub answers_by : {S : Type 0} → (S → Job → List ℕ → Type 0) → (S → Job → Bool → Type 0)
+    → (S → List (List ℕ) → S → Result Added Refused → Type 0) → Answers S
+answers_by has_text has_subject reads_files = record { has_text = has_text; has_subject = has_subject; reads = reads_files }
+
+-- the reply to files that were to be read: what they brought, or the line feed alone
+abbrev pub reading_reply : Result Added Refused → List ℕ
+reading_reply (Ok added) = added_text added ++ 10 ∷ (10 ∷ [])
+reading_reply (Err refused) = 10 ∷ []
+
+-- What becomes of what a line says, up to its reply: the state that it leads to, the reply, and the notes before it. A question gets the
+-- text of its answer and a line feed, a wrong line the line feed alone, and a line that says nothing gets nothing. Why a line is wrong is
+-- given first.
+abbrev pub IsReplied : {S : Type 0} → Answers S → (ParseFault → Type 0) → S → Saying → S → List ℕ → List Note → Type 0
+IsReplied answers IsWhy before (asks job) after reply notes =
+    (after ≡ before) × ((text : List ℕ) × answers.has_text before job text × (reply ≡ text ++ 10 ∷ [])) × (notes ≡ [])
+IsReplied answers IsWhy before (reads files) after reply notes =
+    (ended : Result Added Refused) × answers.reads before files after ended × (reply ≡ reading_reply ended)
+    × (notes ≡ notes_reading files ended ∷ [])
+IsReplied answers IsWhy before wrong after reply notes =
+    (after ≡ before) × (reply ≡ 10 ∷ []) × ((fault : ParseFault) × IsWhy fault × (notes ≡ refuses fault ∷ []))
+IsReplied answers IsWhy before nothing after reply notes = (after ≡ before) × (reply ≡ []) × (notes ≡ [])
+IsReplied answers IsWhy before quits after reply notes = (after ≡ before) × (reply ≡ []) × (notes ≡ [])
+
+-- A line is awaited and got its reply, with these notes before it and after it.
+pub record IsExchange {S : Type 0} (answers : Answers S) (wanted : Bool) (before : S) (line : List ℕ) (after : S) (reply : List ℕ)
+    (notes : List Note) : Type 0 where
+  pub early : List Note
+  pub late : List Note
+  pub replied : IsReplied answers (IsFaultOf line) before (saying_of line) after reply early
+  pub absence : IsAbsence (answers.has_subject before) wanted (saying_of line) late
+  pub all : notes ≡ awaits ∷ (early ++ late)
+
+-- Lines got their replies, one after the other.
+abbrev pub AreExchanges : {S : Type 0} → Answers S → Bool → S → List (List ℕ) → S → List ℕ → List Note → Type 0
+AreExchanges answers wanted before [] after replies notes = (after ≡ before) × (replies ≡ []) × (notes ≡ [])
+AreExchanges {S = S} answers wanted before (line ∷ more) after replies notes =
+    (between : S) × (reply later : List ℕ) × (own rest : List Note) × IsExchange answers wanted before line between reply own
+    × AreExchanges answers wanted between more after later rest × (replies ≡ reply ++ later) × (notes ≡ own ++ rest)
 
 abbrev pub is_end : Saying → Bool
 is_end quits = true
@@ -49,26 +87,29 @@ last_wait text = if list_any (λ line. is_end (saying_of line)) (lines_of text) 
 abbrev pub Gets : {Host : Type 0} → Option (List ℕ) → Option (List ℕ) → (Host → Note → Host) → Host → Host → List ℕ → List Note → Type 0
 Gets old new told host after replies notes = Appends old new replies × (after ≡ after_notes told host notes)
 
--- Converses: all lines of the text got their replies and the host its notes on them, and a line was wrong or not.
-pub record Converses (HasText : Job → List ℕ → Type 0) (HasSubject : Job → Bool → Type 0) (wanted : Bool) (text : List ℕ)
-    (Got : List ℕ → List Note → Type 0) (has_wrong : Bool) : Type 0 where
+-- Converses: all lines of the text got their replies and the host its notes on them. What is said of it is whether a line was wrong, and
+-- the fault of the first files that are refused.
+pub record Converses {S : Type 0} (answers : Answers S) (wanted : Bool) (before : S) (text : List ℕ)
+    (Got : List ℕ → List Note → Type 0) (conversed : Conversed) : Type 0 where
+  pub after : S
   pub replies : List ℕ
-  pub are : AreReplies HasText (asked_lines text) replies
   pub notes : List Note
-  pub noted : AreNotes HasSubject wanted (asked_lines text) notes
+  pub exchanged : AreExchanges answers wanted before (asked_lines text) after replies notes
   pub got : Got replies (notes ++ last_wait text)
-  pub any : has_wrong ≡ list_any (λ line. is_wrong (saying_of line)) (asked_lines text)
+  pub any : conversed.has_wrong ≡ list_any (λ line. is_wrong (saying_of line)) (asked_lines text)
+  pub first : conversed.first_fault ≡ first_fault notes
 
 -- What was written and told where a fault ends the replies. Where a reply could not be written, some first part of it was, after the
--- refusal of its line if that is wrong. Before another fault one line more was awaited; or none, if no read failed.
-abbrev pub GotAt : (Job → List ℕ → Type 0) → Bool → (List ℕ → List Note → Type 0) → DialogueFault → List (List ℕ) → List ℕ → List Note
-    → Type 0
-GotAt HasText failed Got Write [] replies notes = ⊥
-GotAt HasText failed Got Write (line ∷ more) replies notes =
-    (reply : List ℕ) × (count : ℕ) × (refusal : List Note) × IsReply HasText (saying_of line) reply
-    × IsRefusal line (saying_of line) refusal × Got (replies ++ take count reply) (notes ++ awaits ∷ refusal)
-GotAt HasText failed Got Questions later replies notes = Got replies (notes ++ awaits ∷ []) ⊎ ((failed ≡ false) × Got replies notes)
-GotAt HasText failed Got NoMemory later replies notes = Got replies (notes ++ awaits ∷ []) ⊎ ((failed ≡ false) × Got replies notes)
+-- notes before it. Before another fault one line more was awaited; or none, if no read failed.
+abbrev pub GotAt : {S : Type 0} → Answers S → S → Bool → (List ℕ → List Note → Type 0) → DialogueFault → List (List ℕ) → List ℕ
+    → List Note → Type 0
+GotAt answers state failed Got Write [] replies notes = ⊥
+GotAt {S = S} answers state failed Got Write (line ∷ more) replies notes =
+    (after : S) × (reply : List ℕ) × (count : ℕ) × (early : List Note)
+    × IsReplied answers (IsFaultOf line) state (saying_of line) after reply early
+    × Got (replies ++ take count reply) (notes ++ awaits ∷ early)
+GotAt answers state failed Got Questions later replies notes = Got replies (notes ++ awaits ∷ []) ⊎ ((failed ≡ false) × Got replies notes)
+GotAt answers state failed Got NoMemory later replies notes = Got replies (notes ++ awaits ∷ []) ⊎ ((failed ≡ false) × Got replies notes)
 
 -- These are the lines that were read to their line feeds, of a text of which this is left.
 abbrev pub AreRead : List ℕ → Option (List ℕ) → List (List ℕ) → Type 0
@@ -76,14 +117,14 @@ AreRead text left lines = (read begun : List ℕ) × Consumes (Some text) left r
 
 -- A fault ends the dialogue: the lines before it got their replies. Where a read failed, these are all lines that were read, so that no
 -- line waits for its reply while the next is read, and nothing is read after a line that ends the dialogue.
-pub record StopsAt (HasText : Job → List ℕ → Type 0) (HasSubject : Job → Bool → Type 0) (wanted : Bool) (text : List ℕ)
-    (left : Option (List ℕ)) (failed : Bool) (Got : List ℕ → List Note → Type 0) (fault : DialogueFault) : Type 0 where
-  pub before : List (List ℕ)
+pub record StopsAt {S : Type 0} (answers : Answers S) (wanted : Bool) (before : S) (text : List ℕ) (left : Option (List ℕ))
+    (failed : Bool) (Got : List ℕ → List Note → Type 0) (fault : DialogueFault) : Type 0 where
+  pub earlier : List (List ℕ)
   pub later : List (List ℕ)
-  pub cut : asked_lines text ≡ before ++ later
+  pub cut : asked_lines text ≡ earlier ++ later
+  pub state : S
   pub replies : List ℕ
-  pub are : AreReplies HasText before replies
   pub notes : List Note
-  pub noted : AreNotes HasSubject wanted before notes
-  pub got : GotAt HasText failed Got fault later replies notes
-  pub in_time : failed ≡ true → AreRead text left before
+  pub exchanged : AreExchanges answers wanted before earlier state replies notes
+  pub got : GotAt answers state failed Got fault later replies notes
+  pub in_time : failed ≡ true → AreRead text left earlier

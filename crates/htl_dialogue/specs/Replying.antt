@@ -1,5 +1,5 @@
 -- For the clauses of private functions: the reply to one line, and the notes on it.
-use Rattle.std.specs.Prelude.{◌≡◌, ◌≢◌, ⊤, ℕ, Bool, true, false, List, [], ◌∷◌, ◌++◌, Option}
+use Rattle.std.specs.Prelude.{◌≡◌, ◌≢◌, ⊤, ℕ, Bool, true, false, List, ◌++◌, Option, None, Some, Result, Ok, Err}
 use Rattle.std.specs.Io.KnownBytes.{Appends}
 use Rattle.htl_device.specs.Devices.{AppendsPrefix}
 use Rattle.htl_device.specs.declared.whole.ReadFault.{ReadFault}
@@ -7,12 +7,16 @@ use Rattle.htl_device.specs.declared.whole.ReadFault.TheVariants as reads
 use Rattle.htl_command.specs.declared.fault.ParseFault.{ParseFault}
 use Rattle.htl_command.specs.declared.fault.ParseFault.TheVariants.{Memory}
 use Rattle.htl_command.specs.declared.question.Job.{Job}
-use Rattle.htl_dialogue.specs.Dialogues.{IsReply}
-use Rattle.htl_dialogue.specs.Notes.{IsAbsence, IsAbsenceOf, IsFaultOf, Note, after_notes, refuses}
-use Rattle.htl_dialogue.specs.Sayings.{Saying, saying}
+use Rattle.htl_dialogue.specs.Dialogues.{Answers, IsReplied, is_wrong}
+use Rattle.htl_dialogue.specs.Notes.{IsAbsence, IsAbsenceOf, IsFaultOf, Note, after_notes, first_fault}
+use Rattle.htl_dialogue.specs.Sayings.{saying}
+use Rattle.htl_dialogue.specs.declared.dialogue.Conversed.{Conversed}
 use Rattle.htl_dialogue.specs.declared.dialogue.DialogueFault.{DialogueFault}
 use Rattle.htl_dialogue.specs.declared.dialogue.DialogueFault.TheVariants.{Questions, Write, NoMemory}
 use Rattle.htl_dialogue.specs.declared.saying.Said.{Said}
+use Rattle.htl_main.specs.declared.adding.Added.{Added}
+use Rattle.htl_main.specs.declared.fault.RunFault.{RunFault}
+use Rattle.htl_main.specs.declared.refused.Refused.{Refused}
 use Rattle.htl_dialogue.specs.declared.saying.Said.TheVariants as said
 
 -- of a read of the lines
@@ -20,27 +24,44 @@ abbrev pub of_read : ReadFault → DialogueFault
 of_read reads.Failed = Questions
 of_read reads.NoMemory = NoMemory
 
--- what is said of a wrong line has such a fault, which is no want of memory
+-- why files are refused, where they are
+abbrev pub fault_of : Result Added Refused → Option RunFault
+fault_of (Ok added) = None
+fault_of (Err refused) = Some refused.fault
+
+-- what is said of a wrong line has such a fault
 abbrev pub HasFault : (ParseFault → Type 0) → Said → Type 0
-HasFault IsSuch (said.Wrong fault) = (fault ≢ Memory) × IsSuch fault
+HasFault IsSuch (said.Wrong fault) = IsSuch fault
 HasFault IsSuch said.Nothing = ⊤
 HasFault IsSuch said.Quits = ⊤
 HasFault IsSuch (said.Asks job) = ⊤
+HasFault IsSuch (said.Reads files) = ⊤
+
+-- the same of a fault that is no want of memory
+abbrev pub HasReason : (ParseFault → Type 0) → Said → Type 0
+HasReason IsSuch = HasFault (λ fault. (fault ≢ Memory) × IsSuch fault)
 
 -- the fault of this line
 abbrev pub KeepsFault : List ℕ → Said → Type 0
 KeepsFault line = HasFault (IsFaultOf line)
 
--- the note before the reply
-abbrev pub refusal_of : Said → List Note
-refusal_of (said.Wrong fault) = refuses fault ∷ []
-refusal_of other = []
+-- this fault is the one that is said of a wrong line
+abbrev pub IsSaidFault : Said → ParseFault → Type 0
+IsSaidFault of fault = HasFault (λ kept. fault ≡ kept) of
 
--- the known bytes of a sink got the reply
-pub record Replies (HasText : Job → List ℕ → Type 0) (said : Saying) (old new : Option (List ℕ)) : Type 0 where
+-- What was said got its reply: the known bytes of a sink got it, and the host the notes before it and after it. It is told whether a line
+-- was wrong, and the fault of files that were to be read.
+pub record Replies {S Host : Type 0} (answers : Answers S) (wanted : Bool) (of : Said) (before after : S) (old new : Option (List ℕ))
+    (told : Host → Note → Host) (host heard : Host) (conversed : Conversed) : Type 0 where
   pub reply : List ℕ
-  pub is : IsReply HasText said reply
+  pub early : List Note
+  pub late : List Note
+  pub replied : IsReplied answers (IsSaidFault of) before (saying of) after reply early
+  pub absence : IsAbsence (answers.has_subject before) wanted (saying of) late
   pub written : Appends old new reply
+  pub all : heard ≡ after_notes told host (early ++ late)
+  pub wrong : conversed.has_wrong ≡ is_wrong (saying of)
+  pub first : conversed.first_fault ≡ first_fault early
 
 -- a host heard whether what a question names has an event, where it wants to know
 pub record Lacks {Host : Type 0} (HasSubject : Job → Bool → Type 0) (wanted : Bool) (told : Host → Note → Host) (host : Host)
@@ -49,21 +70,20 @@ pub record Lacks {Host : Type 0} (HasSubject : Job → Bool → Type 0) (wanted 
   pub is : IsAbsenceOf HasSubject wanted job absence
   pub heard : after ≡ after_notes told host absence
 
--- a host got the notes on a line
-pub record Hears {Host : Type 0} (HasSubject : Job → Bool → Type 0) (wanted : Bool) (told : Host → Note → Host) (host : Host)
-    (said : Said) (after : Host) : Type 0 where
-  pub absence : List Note
-  pub is : IsAbsence HasSubject wanted (saying said) absence
-  pub heard : after ≡ after_notes told host (refusal_of said ++ absence)
+-- a write failed after some first part of the reply, and after the notes before it
+pub record Breaks {S Host : Type 0} (answers : Answers S) (of : Said) (before : S) (old new : Option (List ℕ)) (told : Host → Note → Host)
+    (host heard : Host) : Type 0 where
+  pub after : S
+  pub reply : List ℕ
+  pub early : List Note
+  pub replied : IsReplied answers (IsSaidFault of) before (saying of) after reply early
+  pub written : AppendsPrefix old new reply
+  pub all : heard ≡ after_notes told host early
 
--- why it could not be written: memory was refused, or a write failed after some first part of it
-abbrev pub IsRefusedReply : (Job → List ℕ → Type 0) → Saying → Option (List ℕ) → Option (List ℕ) → Bool → DialogueFault → Type 0
-IsRefusedReply HasText said old new failed NoMemory = (new ≡ old) × (failed ≡ false)
-IsRefusedReply HasText said old new failed Write =
-    (failed ≡ true) × (reply : List ℕ) × IsReply HasText said reply × AppendsPrefix old new reply
-IsRefusedReply HasText said old new failed Questions = ⊥
-
--- the notes where it could not be written
-abbrev pub refused_notes : Said → DialogueFault → List Note
-refused_notes said Write = refusal_of said
-refused_notes said other = []
+-- why it got none: memory was refused, or a write failed
+abbrev pub IsRefusedReply : {S Host : Type 0} → Answers S → Said → S → Option (List ℕ) → Option (List ℕ) → Bool → (Host → Note → Host)
+    → Host → Host → DialogueFault → Type 0
+IsRefusedReply answers of before old new failed told host heard NoMemory = (new ≡ old) × (failed ≡ false) × (heard ≡ host)
+IsRefusedReply answers of before old new failed told host heard Write =
+    (failed ≡ true) × Breaks answers of before old new told host heard
+IsRefusedReply answers of before old new failed told host heard Questions = ⊥

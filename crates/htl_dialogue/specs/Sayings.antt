@@ -1,6 +1,6 @@
--- What a line says (this project's own): a question, or that the dialogue ends, or nothing; or it is wrong.
-use Rattle.std.specs.Prelude.{ℕ, ◌&&◌, ◌||◌, Bool, false, not, List, [], ◌∷◌, codes, if◌then◌else◌, length, nat_le}
-use Rattle.std.specs.List.{list_all}
+-- What a line says (this project's own): a question, or that files are read, or that the dialogue ends, or nothing; or it is wrong.
+use Rattle.std.specs.Prelude.{ℕ, ◌&&◌, ◌||◌, ◌==◌, Bool, false, not, List, [], ◌∷◌, codes, if◌then◌else◌, length, map, nat_le, string_bytes}
+use Rattle.std.specs.List.{list_all, list_any}
 use Rattle.std.specs.Option.{option_map_or}
 use Rattle.std.specs.Str.{bytes_eq, is_utf8}
 use Rattle.htl_command.specs.Requests.{asked_in}
@@ -14,6 +14,7 @@ pub data Saying : Type 0 where
   nothing : Saying
   quits : Saying
   asks : Job → Saying
+  reads : List (List ℕ) → Saying
   wrong : Saying
 
 -- `quit`, or a word that debuggers and shells have for it
@@ -33,11 +34,32 @@ is_help_sign arguments = false
 abbrev pub meant : List (List ℕ) → List (List ℕ)
 meant arguments = if is_help_sign arguments then codes "help" ∷ [] else arguments
 
+-- the first word is `read`
+abbrev pub is_read : List (List ℕ) → Bool
+is_read [] = false
+is_read (first ∷ more) = bytes_eq first (codes "read")
+
+-- it begins as an option does
+abbrev pub is_option : List ℕ → Bool
+is_option [] = false
+is_option (b ∷ more) = b == 45
+
+-- what a line says that reads: after the word stand the names of files, at least one, and no option
+abbrev pub reading : List (List ℕ) → Saying
+reading [] = wrong
+reading (word ∷ []) = wrong
+reading (word ∷ (file ∷ more)) = if list_any is_option (file ∷ more) then wrong else reads (file ∷ more)
+
+-- what a question says
+abbrev pub asking : List (List ℕ) → Saying
+asking arguments = option_map_or (λ job. asks job) (asked_in (meant arguments)) wrong
+
 -- what arguments say
 abbrev pub saying_by : List (List ℕ) → Saying
 saying_by [] = nothing
 saying_by (first ∷ more) =
-    if is_quit (first ∷ more) then quits else option_map_or (λ job. asks job) (asked_in (meant (first ∷ more))) wrong
+    if is_quit (first ∷ more) then quits
+    else (if is_read (first ∷ more) then reading (first ∷ more) else asking (first ∷ more))
 
 -- a line can be read: it isn't too long, each quote is ended, and each argument is a text
 abbrev pub is_readable : List ℕ → Bool
@@ -52,4 +74,5 @@ abbrev pub saying : Said → Saying
 saying said.Nothing = nothing
 saying said.Quits = quits
 saying (said.Asks job) = asks job
+saying (said.Reads files) = reads (map string_bytes files.items)
 saying (said.Wrong fault) = wrong

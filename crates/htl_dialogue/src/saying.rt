@@ -1,13 +1,15 @@
 //! What a line says.
 
-ghost use Rattle.std.specs.Prelude.{◌≡◌, ◌≢◌, ℕ, List, IfErr, IfOk, Some, map, string_bytes};
-ghost use Rattle.htl_command.specs.Refusals.{RefusesQuestion};
+ghost use Rattle.std.specs.Prelude.{◌≡◌, ◌<◌, ⊤, ℕ, List, IfErr, IfOk, Some, length, map, string_bytes};
+ghost use Rattle.std.specs.List.{list_any};
+ghost use Rattle.htl_command.specs.Refusals.{IsUsageWith, RefusesQuestion};
 ghost use Rattle.htl_command.specs.Requests.{asked_in};
-ghost use Rattle.htl_command.specs.declared.fault.ParseFault.TheVariants as faults;
 ghost use Rattle.htl_dialogue.specs.Reading.{IsLine};
-ghost use Rattle.htl_dialogue.specs.Replying.{HasFault, KeepsFault};
-ghost use Rattle.htl_dialogue.specs.Sayings.{is_farewell, is_help_sign, is_quit, meant, saying};
-ghost use Rattle.htl_dialogue.specs.Sayings.{saying_by, saying_of, wrong as says_wrong};
+ghost use Rattle.htl_dialogue.specs.Notes.{IsFaultBy};
+ghost use Rattle.htl_dialogue.specs.Replying.{HasReason, KeepsFault};
+ghost use Rattle.htl_dialogue.specs.Sayings.{asking, is_farewell, is_help_sign, is_option, is_quit};
+ghost use Rattle.htl_dialogue.specs.Sayings.{is_read, meant, reading, saying, saying_by, saying_of};
+ghost use Rattle.htl_dialogue.specs.Sayings.{wrong as says_wrong};
 
 use crate::line::Line;
 use crate::splitting::{ArgumentFault, arguments};
@@ -24,7 +26,9 @@ pub enum Said {
     Quits,
     /// A question.
     Asks(Job),
-    /// Neither, and why.
+    /// Files of these names are to be read.
+    Reads(Vec<String>),
+    /// None of these, and why.
     Wrong(ParseFault),
 }
 
@@ -40,7 +44,7 @@ pub fn read_line(alloc: Global, line: &Line) -> Result<Said, NoMemory>
         return wrong(ParseFault::long_line(alloc));
     };
     match arguments(alloc, bytes) {
-        Ok(arguments) => said_by(alloc, &arguments),
+        Ok(arguments) => said_by(alloc, arguments),
         Err(ArgumentFault::OpenQuote) => wrong(ParseFault::open_quote(alloc)),
         Err(ArgumentFault::NotUtf8) => wrong(ParseFault::no_text(alloc)),
         Err(ArgumentFault::NoMemory) => Err(NoMemory),
@@ -48,20 +52,73 @@ pub fn read_line(alloc: Global, line: &Line) -> Result<Said, NoMemory>
 }
 
 /// What arguments say.
-fn said_by(alloc: Global, arguments: &[String]) -> Result<Said, NoMemory>
-    ensures said { IfOk result (λ said. saying said ≡ saying_by (map string_bytes arguments.now)) }
-    ensures fault { IfOk result (HasFault (RefusesQuestion (meant (map string_bytes arguments.now)))) }
+fn said_by(alloc: Global, arguments: Vec<String>) -> Result<Said, NoMemory>
+    ensures said { IfOk result (λ said.
+        saying said ≡ saying_by (map string_bytes arguments.items)) }
+    ensures fault { IfOk result (HasReason (IsFaultBy (map string_bytes arguments.items))) }
 {
     if arguments.is_empty() {
         return Ok(Said::Nothing);
     }
-    if is_quit(arguments) {
+    if is_quit(&arguments) {
         return Ok(Said::Quits);
     }
+    if is_read(&arguments) {
+        return files_of(alloc, arguments);
+    }
+    said_by_question(alloc, &arguments)
+}
+
+/// What a question says.
+fn said_by_question(alloc: Global, arguments: &[String]) -> Result<Said, NoMemory>
+    requires some { 0 < length arguments.now }
+    ensures said { IfOk result (λ said. saying said ≡ asking (map string_bytes arguments.now)) }
+    ensures fault { IfOk result
+        (HasReason (RefusesQuestion (meant (map string_bytes arguments.now)))) }
+{
     match asked(alloc, arguments) {
         Ok(job) => Ok(Said::Asks(job)),
         Err(fault) => wrong(fault),
     }
+}
+
+/// Whether the first argument is the word `read`.
+fn is_read(arguments: &[String]) -> bool
+    ensures { result ≡ is_read (map string_bytes arguments.now) }
+{
+    match arguments.first() {
+        Some(word) => word.as_str() == "read",
+        None => false,
+    }
+}
+
+/// What a line says that reads: the files after the word, of which there is one at least, and no
+/// option.
+fn files_of(alloc: Global, mut arguments: Vec<String>) -> Result<Said, NoMemory>
+    requires some { 0 < length arguments.items }
+    ensures said { IfOk result (λ said.
+        saying said ≡ reading (map string_bytes arguments.items)) }
+    ensures fault { IfOk result (HasReason (IsUsageWith ⊤)) }
+{
+    let _word = arguments.remove(0);
+    if arguments.is_empty() || has_option(&arguments) {
+        return wrong(ParseFault::no_files(alloc));
+    }
+    Ok(Said::Reads(arguments))
+}
+
+/// Whether one of the arguments begins as an option does.
+fn has_option(arguments: &[String]) -> bool
+    ensures { result ≡ list_any is_option (map string_bytes arguments.now) }
+{
+    arguments.iter().any(|argument| is_option(argument))
+}
+
+/// Whether an argument begins as an option does.
+fn is_option(argument: &str) -> bool
+    ensures { result ≡ is_option argument.now }
+{
+    argument.starts_with('-')
 }
 
 /// Whether the arguments are a word alone that ends the dialogue.
@@ -107,7 +164,7 @@ fn is_help_sign(arguments: &[String]) -> bool
 /// What is wrong with a line, unless memory was refused.
 fn wrong(fault: ParseFault) -> Result<Said, NoMemory>
     ensures said { IfOk result (λ said. saying said ≡ says_wrong) }
-    ensures fault { IfOk result (HasFault (λ kept. kept ≡ fault)) }
+    ensures fault { IfOk result (HasReason (λ kept. kept ≡ fault)) }
 {
     match fault {
         ParseFault::Memory => Err(NoMemory),

@@ -22,6 +22,7 @@ pub mod PairLaws
 pub mod CaseRefused
 pub mod AfterDecoding
 pub mod AfterLoading
+pub mod AddingLaws
 pub mod PickedAnswers
 pub mod PickLaws
 pub mod AfterPicking

@@ -15,6 +15,7 @@ pub mod Dumps
 pub mod Encodings
 pub mod Origins
 pub mod Loading
+pub mod Adding
 pub mod Picked
 pub mod Statuses
 -- What only private contracts cite.

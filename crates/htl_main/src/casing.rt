@@ -54,7 +54,7 @@ pub(crate) fn case_of(alloc: Global, decoded: Decoded) -> Result<Case, Refused>
 }
 
 /// The same segments, in the same memory.
-fn copies(alloc: Global, segments: &[Segment]) -> Result<Vec<Segment>, NoMemory>
+pub(crate) fn copies(alloc: Global, segments: &[Segment]) -> Result<Vec<Segment>, NoMemory>
     ensures { IfOk result (λ copies. copies.items ≡ segments.now) }
 {
     let mut copies = Vec::with_capacity(alloc, segments.len())?;

@@ -62,7 +62,7 @@ impl Decoded {
     }
 
     /// Adds the segments of one more input.
-    fn add_segments(&mut self, input: u64, mut more: Vec<Segment>) -> Result<(), NoMemory>
+    pub fn add_segments(&mut self, input: u64, mut more: Vec<Segment>) -> Result<(), NoMemory>
         ensures segments { OnOk result
             (self.new.segments.items ≡ self.old.segments.items ++ more.items) }
         ensures parts { OnOk result ((form : InputForm) (inputs : List (List ℕ)) (text : List ℕ)

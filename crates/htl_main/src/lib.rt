@@ -11,17 +11,17 @@
 //!
 //! Files, in reading order: `streaming.rt` (the run over sources), `loading.rt` (what is loaded before
 //! a question is answered), `printing.rt` (the run over bytes in memory, and the steps of all runs),
-//! `sources.rt` and `inputs.rt` (the segments of sources and of inputs in memory), `decoded.rt`
-//! (which input each segment is of), `casing.rt` and `pairing.rt` (the case of all segments, or the
-//! two that a fault is about), `origin.rt` (where these two came from), `coverage.rt` (what a case
-//! misses of its trace), `cut_inputs.rt` (which inputs end within a segment), `answering.rt` (the
-//! answer over a case), `unfolded.rt` (segments as they are, over which a run answers),
-//! `summarizing.rt` (the summary of a case), `completed.rt` (what a run reports beside its answer),
-//! `picked_run.rt`, `picking.rt` and `picked.rt` (the run that keeps
-//! only what its question asks about), `dumping.rt` and `encoding.rt` (the runs of `dump` and
-//! `encode`), `fault.rt` (the faults, their lines and statuses), `refused.rt` (a fault and the two
-//! segments it is about), `laws.rt` (a run has one outcome, inputs have one coverage, and runs and
-//! analysts give the same answers).
+//! `adding.rt` (more sources, added to what was loaded), `sources.rt` and `inputs.rt` (the segments of
+//! sources and of inputs in memory), `decoded.rt` (which input each segment is of), `casing.rt` and
+//! `pairing.rt` (the case of all segments, or the two that a fault is about), `origin.rt` (where these
+//! two came from), `coverage.rt` (what a case misses of its trace), `cut_inputs.rt` (which inputs end
+//! within a segment), `answering.rt` (the answer over a case), `unfolded.rt` (segments as they are,
+//! over which a run answers), `summarizing.rt` (the summary of a case), `completed.rt` (what a run
+//! reports beside its answer), `picked_run.rt`, `picking.rt` and `picked.rt` (the run that keeps only
+//! what its question asks about), `dumping.rt` and `encoding.rt` (the runs of `dump` and `encode`),
+//! `fault.rt` (the faults, their lines and statuses), `refused.rt` (a fault and the two segments it is
+//! about), `laws.rt` (a run has one outcome, inputs have one coverage, and runs and analysts give the
+//! same answers).
 //!
 //! `specs/` is read in this order: `Inputs` (which segments the inputs encode, and which input is
 //! refused first), `CutInputs` (which of them end within a segment), `Summaries` (what a summary says
@@ -30,10 +30,12 @@
 //! order of a run), `Origins` (which two segments a fault is about), `Causes` and `Sources` (how a run
 //! ends for out of memory or by a failing device), `Readings` (how any run reads its sources, in one
 //! record), `Dumps` and `Encodings` (what the runs of `dump` and `encode` write, and why they end),
-//! `Loading` (what is loaded before a question is answered), `Picked` (what a run that keeps only what
-//! its question asks about reports, and when only whole segments tell).
+//! `Loading` (what is loaded before a question is answered), `Adding` (what more sources add to it),
+//! `Picked` (what a run that keeps only what its question asks about reports, and when only whole
+//! segments tell).
 #![tactic(auto)]
 
+mod adding;
 mod answering;
 mod casing;
 mod completed;
@@ -58,6 +60,7 @@ mod streaming;
 mod summarizing;
 mod unfolded;
 
+pub use adding::{Added, add};
 pub use completed::{Completed, has_subject};
 pub use coverage::Coverage;
 pub use cut_inputs::CutInputs;

@@ -58,6 +58,13 @@ only_memory of standard names texts absences fault all (inl memory) = memory
 only_memory of standard names texts absences fault all (inr (place, is, first)) =
     absurd (none_refused of standard names texts place all first.here)
 
+-- the same of names whose bytes are all known
+pub held_memory : (holds : List (Option (List ℕ))) (absences : List Bool) (texts : List (List ℕ)) (fault : RunFault)
+    → holds ≡ map (λ x. Some x) texts → IsUnopenedFor holds absences fault → fault ≡ Memory
+held_memory holds absences texts fault all (inl memory) = memory
+held_memory holds absences texts fault all (inr (place, is, first)) =
+    absurd (known texts place (sym (ap (λ l. slice_get l place) all) ∙ first.here))
+
 pub first_or_memory : {S : Type 0} (ended : Result S RunFault) (holds : List (Option (List ℕ))) (absences : List Bool) (fault : RunFault) (place : ℕ)
     → ended ≡ Err fault → IsUnopenedFor holds absences fault → IsFirstAbsent holds absences place
     → (ended ≡ Err (Read place)) ⊎ (ended ≡ Err Memory)

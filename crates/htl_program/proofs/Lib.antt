@@ -7,3 +7,5 @@ pub mod Lent
 pub mod RanOut
 mod SourcesRead
 mod RunEnds
+pub mod LoadLaws
+pub mod Begun

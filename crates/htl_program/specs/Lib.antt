@@ -1,7 +1,9 @@
 -- What public contracts cite.
 pub mod Worlds
 pub mod Endings
+pub mod Opened
 pub mod Readings
+pub mod Asking
 pub mod Statuses
 pub mod AskedAbout
 pub mod Parts
@@ -10,3 +12,4 @@ pub mod Words
 pub mod Programs
 -- What only private contracts cite.
 pub mod Runs
+pub mod Loads

@@ -2,9 +2,6 @@
 use Rattle.std.specs.Prelude.{◌≡◌, ◌≢◌, ◌≤◌, ◌⊎◌, ◌&&◌, ◌||◌, ⊤, not, ℕ, Bool, true, false, List, map, length, Option, Some}
 use Rattle.std.specs.Prelude.{IfErr, IfOk, IfSome, OnOk, Result, Ok, Err, String, string_bytes}
 use Rattle.std.specs.Io.KnownBytes.{Appends}
-use Rattle.htl_ask.specs.Asking.{BeginsAndGets, IsRunsCause, IsRunsSubject, IsRunsText, Opening, Opens, before_dialogue}
-use Rattle.htl_ask.specs.declared.fault.AskFault.{AskFault}
-use Rattle.htl_ask.specs.declared.fault.AskFault.TheVariants as asks
 use Rattle.htl_command.specs.Refusals.{IsUsageWith, RefusesArguments}
 use Rattle.htl_command.specs.Requests.{IsAskedFor, notes_in, requested}
 use Rattle.htl_command.specs.declared.command.Run.{Run}
@@ -19,6 +16,7 @@ use Rattle.htl_device.specs.Devices.{AppendsPrefix}
 use Rattle.htl_device.specs.declared.whole.TheConstants.{MAX_READS}
 use Rattle.htl_dialogue.specs.Dialogues.{Converses, StopsAt}
 use Rattle.htl_dialogue.specs.Notes.{Note}
+use Rattle.htl_dialogue.specs.declared.dialogue.Conversed.{Conversed}
 use Rattle.htl_dialogue.specs.declared.dialogue.DialogueFault.{DialogueFault}
 use Rattle.htl_dialogue.specs.declared.dialogue.DialogueFault.TheVariants as dialogues
 use Rattle.htl_main.specs.Dumps.{is_failed_write}
@@ -28,49 +26,17 @@ use Rattle.htl_main.specs.declared.cut_inputs.CutInputs.{CutInputs}
 use Rattle.htl_main.specs.declared.fault.RunFault.{RunFault}
 use Rattle.htl_main.specs.declared.fault.RunFault.TheVariants as faults
 use Rattle.htl_main.specs.declared.refused.Refused.{Refused}
+use Rattle.htl_program.specs.Asking.{BeginsAndGets, IsRunsCause, Opening, Opens, answers_over, before_dialogue}
 use Rattle.htl_program.specs.Endings.{Ends, EndsDump, EndsEncoding, IsUnopened, IsUntabled, RunsOut}
+use Rattle.htl_program.specs.Opened.{Known, Opened, ends, lefts, ways_of}
 use Rattle.htl_program.specs.Readings.{AreInputs, ReportsRead}
 use Rattle.htl_program.specs.Sayings.{Hears, HearsAll, HearsRun, Saying, alone, cut_noted, fault, fault_said, no_memory, notes_said}
 use Rattle.htl_program.specs.Sayings.{stop_said, text, unwritten}
 use Rattle.htl_program.specs.Statuses.{conversion_status, dialogue_status, end_status}
 use Rattle.htl_program.specs.Words.{explained}
 use Rattle.htl_program.specs.Worlds.{IsFirstAbsent, IsTable, IsTableAbsent, of_each, of_inputs}
-use Rattle.htl_program.specs.declared.inputs.Inputs.{Inputs}
-
--- what is known of a world
-pub record Known : Type 0 where
-  pub holds : List ℕ → Option (List ℕ)
-  pub is_absent : List ℕ → Bool
-  pub standard : Option (List ℕ)
-
-abbrev pub known : {W : Type 0} → (W → List ℕ → Option (List ℕ)) → (W → List ℕ → Bool) → (W → Option (List ℕ)) → W → Known
-known holds is_absent standard world = record { holds = holds world; is_absent = is_absent world; standard = standard world }
-
--- what became of the inputs that were opened: which bytes each has left, whether its end was found, whether a read of it failed, and how
--- many reads of it gave bytes
-pub record Opened (R : Type 0) : Type 0 where
-  pub remaining : R → Option (List ℕ)
-  pub has_ended : R → Bool
-  pub has_failed : R → Bool
-  pub good_reads : R → ℕ
-  pub files : List R
-  pub questions : Option R
-
-abbrev pub opened : {R : Type 0} → (R → Option (List ℕ)) → (R → Bool) → (R → Bool) → (R → ℕ) → Inputs R → Opened R
-opened remaining has_ended has_failed good_reads inputs = record {
-  remaining = remaining;
-  has_ended = has_ended;
-  has_failed = has_failed;
-  good_reads = good_reads;
-  files = inputs.files.items;
-  questions = inputs.questions;
-}
-
-abbrev pub lefts : {R : Type 0} → Opened R → List (Option (List ℕ))
-lefts inputs = map inputs.remaining inputs.files
-
-abbrev pub ends : {R : Type 0} → Opened R → List Bool
-ends inputs = map inputs.has_ended inputs.files
+use Rattle.htl_program.specs.declared.ask_fault.AskFault.{AskFault}
+use Rattle.htl_program.specs.declared.ask_fault.AskFault.TheVariants as asks
 
 -- what was written and said: which bytes the output holds, whether a write to it failed, and what a person heard
 pub record Told : Type 0 where
@@ -244,19 +210,19 @@ pub record IsUnread {R : Type 0} (inputs : Opened R) (questions : R) (bytes : Op
 -- The lines of standard input get their replies. The speaker is given as they were when the last reply had come.
 pub record DoesConverse {S R : Type 0} (in_words : Bool) (speaker : Spoken S) (world : Known) (inputs : Opened R) (old new : Told)
     (command : Command) (of : Dialogue) (status : ℕ) : Type 0 where
-  pub ended : Result Bool AskFault
+  pub ended : Result Conversed AskFault
   pub listening : S
   pub questions : R
   pub asked : inputs.questions ≡ Some questions
   pub replies : (texts : List (List ℕ)) → (table : Option (List ℕ)) → (lines : List ℕ) → HaveTexts world of.files.items texts
       → IsTable world.holds of.symbols table → world.standard ≡ Some lines
-      → IfOk ended (λ has_wrong. (opening : Opening) × Opens of.setting.form texts opening
-      × Converses (IsRunsText of.setting texts table) (IsRunsSubject of.setting texts) speaker.wants_absence lines
-      (HasGot speaker listening old new opening) has_wrong)
+      → IfOk ended (λ conversed. (opening : Opening) × Opens of.setting.form texts opening
+      × Converses (answers_over world (ways_of inputs) of.setting table) speaker.wants_absence (Some texts) lines
+      (HasGot speaker listening old new opening) conversed)
   pub stops : (texts : List (List ℕ)) → (table : Option (List ℕ)) → (lines : List ℕ) → (stopped : DialogueFault)
       → HaveTexts world of.files.items texts → IsTable world.holds of.symbols table → world.standard ≡ Some lines
       → ended ≡ Err (asks.Dialogue stopped) → (opening : Opening) × Opens of.setting.form texts opening
-      × StopsAt (IsRunsText of.setting texts table) (IsRunsSubject of.setting texts) speaker.wants_absence lines
+      × StopsAt (answers_over world (ways_of inputs) of.setting table) speaker.wants_absence (Some texts) lines
       (inputs.remaining questions) (inputs.has_failed questions) (HasGot speaker listening old new opening) stopped
   -- What failed is reported, and nothing else is reported as failed.
   pub lines : inputs.has_failed questions ≡ true → ended ≡ Err (asks.Dialogue dialogues.Questions)

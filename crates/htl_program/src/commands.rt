@@ -2,8 +2,9 @@
 
 ghost use Rattle.std.specs.Prelude.{◌≡◌, ◌&&◌, ◌||◌, false, map, not, string_bytes};
 ghost use Rattle.htl_program.specs.Programs.{Does, DoesAnswer, DoesConverse, DoesDump, DoesEncode};
+ghost use Rattle.htl_program.specs.Opened.{known, opened};
 ghost use Rattle.htl_program.specs.Programs.{Encodes, Explains, IsPrinted, Obeys, Refuses};
-ghost use Rattle.htl_program.specs.Programs.{known, opened, spoken, told, with_notes};
+ghost use Rattle.htl_program.specs.Programs.{spoken, told, with_notes};
 ghost use Rattle.htl_program.specs.Words.{explained};
 
 use crate::answering::answer;

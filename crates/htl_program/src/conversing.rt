@@ -4,25 +4,30 @@ ghost use Rattle.std.specs.Prelude.{◌≡◌, ◌⊎◌, ℕ, All, Err, IfErr, 
 ghost use Rattle.std.specs.Prelude.{IfSome, ◌≤◌, false, length, map, option_copied, option_map};
 ghost use Rattle.std.specs.Prelude.{true};
 ghost use Rattle.htl_command.specs.declared.question.InputForm.{InputForm};
-ghost use Rattle.htl_ask.specs.Asking.{BeginsAndGets, IsRunsCause, IsRunsSubject, IsRunsText};
-ghost use Rattle.htl_ask.specs.Asking.{Opening, Opens, before_dialogue};
 ghost use Rattle.htl_dialogue.specs.Dialogues.{Converses, StopsAt};
 ghost use Rattle.htl_device.specs.declared.whole.TheConstants.{MAX_READS};
 ghost use Rattle.htl_dialogue.specs.declared.dialogue.DialogueFault.{DialogueFault};
 ghost use Rattle.htl_dialogue.specs.declared.dialogue.DialogueFault.TheVariants as dialogues;
 ghost use Rattle.htl_main.specs.Origins.{IsBetween, by_fault};
 ghost use Rattle.htl_main.specs.Readings.{AreRead};
+ghost use Rattle.htl_program.specs.Asking.{BeginsAndGets, IsRunsCause, Opening, Opens};
+ghost use Rattle.htl_program.specs.Asking.{answers_over, before_dialogue};
 ghost use Rattle.htl_program.specs.Endings.{IsUnopened, IsUntabled};
+ghost use Rattle.htl_program.specs.Opened.{known, ways};
 ghost use Rattle.htl_program.specs.Readings.{AreInputs, ReportsRead};
 ghost use Rattle.htl_program.specs.Worlds.{IsFirstAbsent, IsFirstRefused, IsTable, IsTableAbsent};
 ghost use Rattle.htl_program.specs.Worlds.{of_each, of_inputs};
 
+use crate::ask_fault::AskFault;
+use crate::dialogue::converse_lines;
+use crate::files::Files;
 use crate::opening::{as_bytes, open_inputs, read_table};
+use crate::speaker::Speaker;
 use crate::world::World;
-use htl_ask::{AskFault, Audience, ask_from};
 use htl_command::{Dialogue, Setting};
-use htl_device::{Parted, Sink, Source};
-use htl_main::{Between, Refused, RunFault};
+use htl_device::{Sink, Source};
+use htl_dialogue::Conversed;
+use htl_main::{Between, Refused, RunFault, load};
 use std::alloc::Global;
 use std::thread::Threads;
 
@@ -31,7 +36,7 @@ use std::thread::Threads;
 /// question is read before.
 ///
 /// `inputs` has then what was opened, as far as it was read.
-pub fn converse<Rt: Threads + Sync, W: World, Q: Source, O: Sink, H: Audience>(
+pub fn converse<Rt: Threads + Sync, W: World, Q: Source, O: Sink, H: Speaker>(
     rt: &Rt,
     alloc: Global,
     world: &W,
@@ -39,8 +44,8 @@ pub fn converse<Rt: Threads + Sync, W: World, Q: Source, O: Sink, H: Audience>(
     inputs: &mut Vec<W::Input>,
     questions: &mut Q,
     out: &mut O,
-    audience: &mut H,
-) -> Result<bool, AskFault>
+    speaker: &mut H,
+) -> Result<Conversed, AskFault>
     requires questions { Q.has_failed questions.old ≡ false }
     requires open { Q.has_ended questions.old ≡ false }
     requires out { O.has_failed out.old ≡ false }
@@ -48,21 +53,23 @@ pub fn converse<Rt: Threads + Sync, W: World, Q: Source, O: Sink, H: Audience>(
     ensures replies { (texts : List (List ℕ)) → (table : Option (List ℕ)) → (lines : List ℕ)
         → of_inputs (W.holds world.now) (W.standard world.now) of.now.files.items ≡ map Some texts
         → IsTable (W.holds world.now) of.now.symbols table → Q.remaining questions.old ≡ Some lines
-        → IfOk result (λ has_wrong. (opening : Opening) × Opens of.now.setting.form texts opening
-        × Converses (IsRunsText of.now.setting texts table)
-        (IsRunsSubject of.now.setting texts) (H.wants_absence audience.old) lines
-        (BeginsAndGets (O.contents out.old) (O.contents out.new) H.told audience.old audience.new
-        opening) has_wrong) }
+        → IfOk result (λ conversed. (opening : Opening) × Opens of.now.setting.form texts opening
+        × Converses (answers_over (known W.holds W.is_absent W.standard world.now)
+        (ways W.Input.remaining W.Input.has_ended W.Input.has_failed W.Input.good_reads)
+        of.now.setting table) (H.wants_absence speaker.old) (Some texts) lines
+        (BeginsAndGets (O.contents out.old) (O.contents out.new) H.told speaker.old speaker.new
+        opening) conversed) }
     ensures stops { (texts : List (List ℕ)) → (table : Option (List ℕ)) → (lines : List ℕ)
         → (stopped : DialogueFault)
         → of_inputs (W.holds world.now) (W.standard world.now) of.now.files.items ≡ map Some texts
         → IsTable (W.holds world.now) of.now.symbols table → Q.remaining questions.old ≡ Some lines
         → result ≡ Err (AskFault.Dialogue stopped)
         → (opening : Opening) × Opens of.now.setting.form texts opening
-        × StopsAt (IsRunsText of.now.setting texts table)
-        (IsRunsSubject of.now.setting texts) (H.wants_absence audience.old) lines
+        × StopsAt (answers_over (known W.holds W.is_absent W.standard world.now)
+        (ways W.Input.remaining W.Input.has_ended W.Input.has_failed W.Input.good_reads)
+        of.now.setting table) (H.wants_absence speaker.old) (Some texts) lines
         (Q.remaining questions.new) (Q.has_failed questions.new)
-        (BeginsAndGets (O.contents out.old) (O.contents out.new) H.told audience.old audience.new
+        (BeginsAndGets (O.contents out.old) (O.contents out.new) H.told speaker.old speaker.new
         opening) stopped }
     // What failed is reported, and nothing else is reported as failed.
     ensures lines { Q.has_failed questions.new ≡ true
@@ -104,18 +111,19 @@ pub fn converse<Rt: Threads + Sync, W: World, Q: Source, O: Sink, H: Audience>(
         inputs.new.items (by_fault (before_dialogue result)) }
     ensures untouched { IfErr (before_dialogue result)
         (λ _. (questions.new ≡ questions.old) × (out.new ≡ out.old)
-        × (audience.new ≡ audience.old)) }
+        × (speaker.new ≡ speaker.old)) }
 {
     match open_all(alloc, world, of, inputs) {
         Ok(table) => ask_opened(
             rt,
             alloc,
+            world,
             of.setting,
             inputs,
             as_bytes(&table),
             questions,
             out,
-            audience,
+            speaker,
         ),
         Err(fault) => Err(AskFault::Run(Refused {
             fault,
@@ -159,36 +167,41 @@ fn open_all<W: World>(
 }
 
 /// Replies to the lines over opened inputs.
-fn ask_opened<Rt: Threads + Sync, R: Parted, Q: Source, O: Sink, H: Audience>(
+fn ask_opened<Rt: Threads + Sync, W: World, Q: Source, O: Sink, H: Speaker>(
     rt: &Rt,
     alloc: Global,
+    world: &W,
     setting: Setting,
-    inputs: &mut Vec<R>,
+    inputs: &mut Vec<W::Input>,
     symbols: Option<&[u8]>,
     questions: &mut Q,
     out: &mut O,
-    audience: &mut H,
-) -> Result<bool, AskFault>
-    requires fresh { All (λ input. R.has_failed input ≡ false) inputs.old.items }
-    requires inside { All (λ input. R.has_ended input ≡ false) inputs.old.items }
+    speaker: &mut H,
+) -> Result<Conversed, AskFault>
+    requires fresh { All (λ input. W.Input.has_failed input ≡ false) inputs.old.items }
+    requires inside { All (λ input. W.Input.has_ended input ≡ false) inputs.old.items }
     requires questions { Q.has_failed questions.old ≡ false }
     requires open { Q.has_ended questions.old ≡ false }
     requires out { O.has_failed out.old ≡ false }
     ensures replies { (texts : List (List ℕ)) → (lines : List ℕ)
-        → map R.remaining inputs.old.items ≡ map Some texts → Q.remaining questions.old ≡ Some lines
-        → IfOk result (λ has_wrong. (opening : Opening) × Opens setting.form texts opening
-        × Converses (IsRunsText setting texts (option_copied symbols.entry))
-        (IsRunsSubject setting texts) (H.wants_absence audience.old) lines
-        (BeginsAndGets (O.contents out.old) (O.contents out.new) H.told audience.old audience.new
-        opening) has_wrong) }
+        → map W.Input.remaining inputs.old.items ≡ map Some texts
+        → Q.remaining questions.old ≡ Some lines
+        → IfOk result (λ conversed. (opening : Opening) × Opens setting.form texts opening
+        × Converses (answers_over (known W.holds W.is_absent W.standard world.now)
+        (ways W.Input.remaining W.Input.has_ended W.Input.has_failed W.Input.good_reads)
+        setting (option_copied symbols.entry)) (H.wants_absence speaker.old) (Some texts) lines
+        (BeginsAndGets (O.contents out.old) (O.contents out.new) H.told speaker.old speaker.new
+        opening) conversed) }
     ensures stops { (texts : List (List ℕ)) → (lines : List ℕ) → (stopped : DialogueFault)
-        → map R.remaining inputs.old.items ≡ map Some texts → Q.remaining questions.old ≡ Some lines
+        → map W.Input.remaining inputs.old.items ≡ map Some texts
+        → Q.remaining questions.old ≡ Some lines
         → result ≡ Err (AskFault.Dialogue stopped)
         → (opening : Opening) × Opens setting.form texts opening
-        × StopsAt (IsRunsText setting texts (option_copied symbols.entry))
-        (IsRunsSubject setting texts) (H.wants_absence audience.old) lines
+        × StopsAt (answers_over (known W.holds W.is_absent W.standard world.now)
+        (ways W.Input.remaining W.Input.has_ended W.Input.has_failed W.Input.good_reads)
+        setting (option_copied symbols.entry)) (H.wants_absence speaker.old) (Some texts) lines
         (Q.remaining questions.new) (Q.has_failed questions.new)
-        (BeginsAndGets (O.contents out.old) (O.contents out.new) H.told audience.old audience.new
+        (BeginsAndGets (O.contents out.old) (O.contents out.new) H.told speaker.old speaker.new
         opening) stopped }
     // What failed is reported, and nothing else is reported as failed.
     ensures lines { Q.has_failed questions.new ≡ true
@@ -200,20 +213,22 @@ fn ask_opened<Rt: Threads + Sync, R: Parted, Q: Source, O: Sink, H: Audience>(
         → result ≡ Err (AskFault.Dialogue dialogues.Write) }
     ensures failed { result ≡ Err (AskFault.Dialogue dialogues.Write)
         → O.has_failed out.new ≡ true }
-    ensures cause { (texts : List (List ℕ)) → map R.remaining inputs.old.items ≡ map Some texts
+    ensures cause { (texts : List (List ℕ)) → map W.Input.remaining inputs.old.items ≡ map Some texts
         → IfErr (by_fault (before_dialogue result)) (IsRunsCause setting texts
-        (map R.remaining inputs.new.items) (map R.has_ended inputs.new.items)
+        (map W.Input.remaining inputs.new.items) (map W.Input.has_ended inputs.new.items)
         (option_copied symbols.entry)) }
-    ensures between { (texts : List (List ℕ)) → map R.remaining inputs.old.items ≡ map Some texts
+    ensures between { (texts : List (List ℕ)) → map W.Input.remaining inputs.old.items ≡ map Some texts
         → IfErr (before_dialogue result) (λ refused.
         IsBetween setting.form texts refused.fault refused.between) }
-    ensures reading { AreRead setting.form.hex R.has_failed R.has_ended R.good_reads
-        R.remaining inputs.old.items inputs.new.items (by_fault (before_dialogue result)) }
+    ensures reading { AreRead setting.form.hex W.Input.has_failed W.Input.has_ended W.Input.good_reads
+        W.Input.remaining inputs.old.items inputs.new.items (by_fault (before_dialogue result)) }
     ensures untouched { IfErr (before_dialogue result)
         (λ _. (questions.new ≡ questions.old) × (out.new ≡ out.old)
-        × (audience.new ≡ audience.old)) }
+        × (speaker.new ≡ speaker.old)) }
 {
-    ask_from(
-        rt, alloc, setting, inputs, symbols, questions, out, audience,
-    )
+    let mut loaded = load(rt, alloc, setting, None, inputs, symbols)?;
+    speaker.begins(loaded.coverage, loaded.cut);
+    let files = Files { rt, world, setting };
+    let conversed = converse_lines(alloc, &files, &mut loaded, questions, out, speaker)?;
+    Ok(conversed)
 }

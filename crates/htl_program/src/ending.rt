@@ -2,11 +2,11 @@
 
 ghost use Rattle.std.specs.Prelude.{◌≡◌};
 ghost use Rattle.htl_main.specs.Origins.{by_fault};
-ghost use Rattle.htl_program.specs.Statuses.{conversion_status, dialogue_status, end_status};
-ghost use Rattle.htl_program.specs.Statuses.{stop_status};
+ghost use Rattle.htl_program.specs.Statuses.{conversed_status, conversion_status, dialogue_status};
+ghost use Rattle.htl_program.specs.Statuses.{end_status, stop_status};
 
-use htl_ask::AskFault;
-use htl_dialogue::DialogueFault;
+use crate::ask_fault::AskFault;
+use htl_dialogue::{Conversed, DialogueFault};
 use htl_main::{Completed, Refused, RunFault};
 
 /// The status after a question: 0, or 1 where its answer finds something and the status is to say so,
@@ -36,14 +36,28 @@ pub(crate) fn status_of_conversion<T: Drop>(ended: Result<T, RunFault>) -> u8
     }
 }
 
-/// The status after a dialogue: 0, or 2 where a line was wrong and that counts, or that of its fault.
-pub(crate) fn status_after(counts_wrong: bool, ended: Result<bool, AskFault>) -> u8
+/// The status after a dialogue, or that of its fault.
+pub(crate) fn status_after(counts_wrong: bool, ended: Result<Conversed, AskFault>) -> u8
     ensures { result ≡ dialogue_status counts_wrong ended }
 {
     match ended {
-        Ok(has_wrong) => { if has_wrong && counts_wrong { 2 } else { 0 } }
+        Ok(conversed) => status_of_conversed(counts_wrong, conversed),
         Err(AskFault::Run(refused)) => refused.fault.status(),
         Err(AskFault::Dialogue(fault)) => stop_status(fault),
+    }
+}
+
+/// The status after a dialogue that came to its end: 2 where a line was wrong and that counts, or that
+/// of the first files that were refused, or 0.
+fn status_of_conversed(counts_wrong: bool, conversed: Conversed) -> u8
+    ensures { result ≡ conversed_status counts_wrong conversed }
+{
+    if conversed.has_wrong && counts_wrong {
+        return 2;
+    }
+    match conversed.first_fault {
+        Some(fault) => fault.status(),
+        None => 0,
     }
 }
 

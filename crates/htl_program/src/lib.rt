@@ -10,16 +10,21 @@
 //! dialogue), `ending.rt` (the statuses), `world.rt` (what is opened), `inputs.rt` (what was),
 //! `opening.rt` (how: each file before any is read, and the table of symbols), `answering.rt` and
 //! `running.rt` (a question, from the names that it is asked of to its end), `converting.rt` (`dump`
-//! and `encode`), `conversing.rt` (a dialogue), `explained.rt` and `words.rt` (what a fault means),
-//! `part.rt` (the part of the inputs that it names), `subject.rt` (what a question is about).
+//! and `encode`), `conversing.rt`, `dialogue.rt` and `files.rt` (a dialogue: each line is answered as by
+//! a run over all that was read so far), `ask_fault.rt` (why it ends before its lines do),
+//! `explained.rt` and `words.rt` (what a fault means), `part.rt` (the part of the inputs that it
+//! names), `subject.rt` (what a question is about).
 #![tactic(auto)]
 
 mod answering;
+mod ask_fault;
 mod commands;
 mod conversing;
 mod converting;
+mod dialogue;
 mod ending;
 mod explained;
+mod files;
 mod inputs;
 mod opening;
 mod output;
@@ -33,6 +38,7 @@ mod words;
 mod world;
 
 pub use answering::answer;
+pub use ask_fault::AskFault;
 pub use commands::{program, refuse};
 pub use conversing::converse;
 pub use converting::{dump, encode};

@@ -37,8 +37,8 @@ pub(crate) fn open_inputs<W: World>(
     open_files(alloc, world, names)
 }
 
-/// Opens the files of the names in order.
-fn open_files<W: World>(
+/// Opens the files of the names in order. None is read, and the first that is refused is reported.
+pub(crate) fn open_files<W: World>(
     alloc: Global,
     world: &W,
     names: &[String],

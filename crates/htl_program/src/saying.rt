@@ -6,12 +6,12 @@ ghost use Rattle.htl_program.specs.Programs.{SaysFault};
 ghost use Rattle.htl_program.specs.Sayings.{HearsAll, absent_subject, alone as alone_of, fault_said};
 ghost use Rattle.htl_program.specs.Sayings.{cut_said, notes_said, stop_said};
 
+use crate::ask_fault::AskFault;
 use crate::output::Output;
 use crate::person::Person;
 use crate::subject::Subject;
-use htl_ask::AskFault;
 use htl_command::{Command, Job, Question, Run};
-use htl_dialogue::DialogueFault;
+use htl_dialogue::{Conversed, DialogueFault};
 use htl_main::{Between, Completed, CutInputs, Refused, RunFault};
 
 /// Says how the run of a question ended.
@@ -142,7 +142,7 @@ pub(crate) fn alone(fault: RunFault) -> Refused
 pub(crate) fn say_dialogue<O: Output, P: Person>(
     command: &Command,
     in_words: bool,
-    ended: Result<bool, AskFault>,
+    ended: Result<Conversed, AskFault>,
     out: &O,
     person: &mut P,
 )

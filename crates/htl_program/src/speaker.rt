@@ -1,10 +1,12 @@
 //! Who types the lines of a dialogue.
 
-use htl_ask::Audience;
+use htl_dialogue::Host;
+use htl_main::{Coverage, CutInputs};
 
 /// Who types the lines of a dialogue, and is told of it.
-pub trait Speaker: Audience {
+pub trait Speaker: Host {
     ghost use Rattle.std.specs.Prelude.{◌≡◌, ◌||◌, Bool};
+    ghost use Rattle.htl_program.specs.Asking.{opening_note};
 
     // Whether a wrong line makes the status of a wrong command line.
     ghost counts: { Self → Bool };
@@ -20,6 +22,11 @@ pub trait Speaker: Audience {
         ensures taken { self.new ≡ noted self.old are_asked_for }
         ensures wanted { Self.wants_absence self.new
             ≡ (Self.wants_absence self.old || are_asked_for) };
+
+    /// The inputs were read: so much of their trace is there, and these end within a segment.
+    fn begins(&mut self, coverage: Coverage, cut: Option<CutInputs>)
+        ensures told { self.new ≡ Self.told self.old (opening_note coverage cut) }
+        ensures same { Self.wants_absence self.new ≡ Self.wants_absence self.old };
 
     /// Whether a wrong line makes the status of a wrong command line.
     fn counts_wrong(&self) -> bool

@@ -16,6 +16,8 @@ use std::thread::Threads;
 #[derive(Clone, Copy, Debug)]
 struct Line {
     words: &'static [&'static str],
+    /// What stands on standard input.
+    input: &'static str,
     most: usize,
     status: u8,
     printed: &'static str,
@@ -24,6 +26,7 @@ struct Line {
 
 const LINE: Line = Line {
     words: &[],
+    input: "",
     most: usize::MAX,
     status: 0,
     printed: "",
@@ -63,7 +66,7 @@ fn is_obeyed(rt: &(impl Threads + Sync + Abort), alloc: Global, line: &Line) {
     let world = Memory {
         alloc,
         files: &files,
-        standard: b"",
+        standard: line.input.as_bytes(),
     };
     let mut arguments = Vec::new(alloc);
     for word in line.words {
@@ -203,6 +206,29 @@ fn a_word_that_is_no_command_is_refused(rt: HostRuntime) {
         words: &["leek", "first"],
         status: 2,
         last: Said::Refusal,
+        ..LINE
+    };
+    is_obeyed(&rt, rt.alloc(), &line);
+}
+
+#[test]
+fn files_are_read_in_a_dialogue(rt: HostRuntime) {
+    let line = Line {
+        words: &["ask", "first"],
+        input: "read second\nbad --process 4\nread absent\nread second text\nread second",
+        status: 5,
+        printed: "\
+read segments=1 new=1 complete_to=7 gaps=0
+
+bad process=4 count=1
+BAD REF handle=0x45 times=1
+  0x0000000000000030
+
+
+
+read segments=1 new=0 complete_to=7 gaps=0
+
+",
         ..LINE
     };
     is_obeyed(&rt, rt.alloc(), &line);

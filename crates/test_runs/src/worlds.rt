@@ -4,10 +4,9 @@ ghost use Rattle.std.specs.Prelude.{◌≡◌, None, Some, false, find, is_none,
 ghost use Rattle.std.specs.Prelude.{option_map};
 ghost use Rattle.std.specs.Str.{bytes_eq};
 
-use htl_ask::Audience;
 use htl_command::{Command, ParseFault, Question};
 use htl_dialogue::{DialogueFault, Host};
-use htl_main::{Coverage, CutInputs, Reading, Refused, RunFault};
+use htl_main::{Added, Coverage, CutInputs, Reading, Refused, RunFault};
 use htl_program::{OpenFault, Person, Speaker, Subject, World};
 use std::alloc::Global;
 
@@ -187,15 +186,13 @@ impl Host for Silent {
 
     fn refuses(&mut self, _fault: &ParseFault) {}
 
+    fn reads(&mut self, _files: &[String], _ended: Result<Added, Refused>) {}
+
     fn notes_absence(&self) -> bool {
         self.wants_notes
     }
 
     fn lacks(&mut self, _question: Question) {}
-}
-
-impl Audience for Silent {
-    fn begins(&mut self, _coverage: Coverage, _cut: Option<CutInputs>) {}
 }
 
 impl Speaker for Silent {
@@ -208,6 +205,8 @@ impl Speaker for Silent {
     fn takes_notes(&mut self, are_asked_for: bool) {
         self.wants_notes |= are_asked_for;
     }
+
+    fn begins(&mut self, _coverage: Coverage, _cut: Option<CutInputs>) {}
 
     fn counts_wrong(&self) -> bool {
         true

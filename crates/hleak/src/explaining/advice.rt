@@ -14,7 +14,7 @@ pub fn memory_advice(task: Task) -> &'static str
     match task {
         Task::Question(run) => question_advice(run.job.question, run.job.workers),
         Task::Convert(_) => FREE_MEMORY,
-        Task::Ask(_) => {
+        Task::Ask(_) | Task::Read(_) => {
             "free some, raise its limit, or ask each question alone, which takes less"
         }
     }
@@ -46,13 +46,13 @@ pub fn thread_advice(task: Task) -> &'static str
     }
 }
 
-/// How many workers there are.
+/// How many workers there are, where a run can do with fewer.
 fn workers_of(task: Task) -> u32
     ensures { result ≡ workers_of task.entry }
 {
     match task {
         Task::Question(run) => run.job.workers,
-        Task::Convert(_) => 1,
+        Task::Convert(_) | Task::Read(_) => 1,
         Task::Ask(of) => of.setting.workers,
     }
 }

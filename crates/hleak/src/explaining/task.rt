@@ -13,6 +13,8 @@ pub enum Task<'a> {
     /// Segments are printed, or made, of these files.
     Convert(&'a [String]),
     Ask(&'a Dialogue),
+    /// These files are read within a dialogue.
+    Read(&'a [String]),
 }
 
 impl<'a> Task<'a> {
@@ -34,14 +36,15 @@ impl<'a> Task<'a> {
     pub fn input(self, place: u64) -> &'a str
         ensures { result.now ≡ input_name self.entry place }
     {
-        let files: &[String] = match self {
-            Task::Question(run) => &run.files,
-            Task::Convert(files) => files,
-            Task::Ask(of) => &of.files,
+        let (files, other): (&[String], &str) = match self {
+            Task::Question(run) => (&run.files, "standard input"),
+            Task::Convert(files) => (files, "standard input"),
+            Task::Ask(of) => (&of.files, "standard input"),
+            Task::Read(files) => (files, "what was read before"),
         };
         match files.get(place as usize) {
             Some(name) => name.as_str(),
-            None => "standard input",
+            None => other,
         }
     }
 
@@ -72,7 +75,7 @@ impl<'a> Task<'a> {
     {
         match self {
             Task::Question(run) => Subject::of(run.job.question),
-            Task::Convert(_) | Task::Ask(_) => None,
+            Task::Convert(_) | Task::Ask(_) | Task::Read(_) => None,
         }
     }
 }

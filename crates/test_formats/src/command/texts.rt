@@ -345,8 +345,9 @@ Options:
 
 Each line of standard input is a question with its options, as
 'leaks --process 4 --top 5'. An argument with blanks stands in double quotes.
-The answer is written with an empty line after it. A line that is no question
-gets the empty line alone, and status 2 at the end. 'quit' ends.
+The answer is written with an empty line after it. 'read FILE ..' reads more
+segments, and replies how many. A line that is neither gets the empty line
+alone, and status 2 at the end. 'quit' ends.
 
 Example:
   hleak ask --symbols names.csv cpu0.hls cpu1.hls
@@ -434,8 +435,8 @@ Options of every question:
                    which no segment is missing
       --json       One JSON object a line, for other programs
 
-'COMMAND --help' lists the options of a question. An argument with blanks stands
-in double quotes. 'quit' ends.
+'COMMAND --help' lists the options of a question. 'read FILE ..' reads more
+segments. An argument with blanks stands in double quotes. 'quit' ends.
 ";
 
 /// What `leaks --help` shows in a dialogue.

@@ -6,7 +6,7 @@ use Rattle.htl_program.proofs.commands.do_converse.Goals as goal
 pub returns : goal.returns
 returns g c = record {
   ended = c.converse-ended.result;
-  listening = c.converse-ended.new.audience;
+  listening = c.converse-ended.new.speaker;
   questions = c.converse-ended.new.questions;
   asked = search rules;
   replies = λ texts table lines all has known.

@@ -1,13 +1,18 @@
 -- What ends the opening of the files ends the dialogue.
 use Rattle.std.proofs.Common.{◌∙◌, inr}
 use Rattle.htl_main.specs.Origins.{by_fault}
-use Rattle.htl_ask.specs.Asking.{before_dialogue}
+use Rattle.htl_program.specs.Asking.{before_dialogue}
 use Rattle.htl_program.proofs.Lent.{all_opened, same_end}
 use Rattle.htl_program.proofs.RunEnds.{or_memory}
 use Rattle.htl_program.proofs.conversing.converse.Goals as goal
 
 pub returns-in-Ok-clause-absent : goal.returns-in-Ok-clause-absent
 returns-in-Ok-clause-absent g c = λ place absent. all_opened place c.in-Ok.table (c.in-Ok.ensures.absent place absent)
+
+pub returns-in-Ok-clause-replies : goal.returns-in-Ok-clause-replies
+returns-in-Ok-clause-replies g c = λ texts table lines all has known.
+    rw (c.in-Ok.ensures.table table has, ← c.as_bytes.ensures)
+    (c.ask_opened.ensures.replies texts lines (c.in-Ok.ensures.bytes ∙ all) known)
 
 pub returns-in-Ok-clause-stops : goal.returns-in-Ok-clause-stops
 returns-in-Ok-clause-stops g c = λ texts table lines stopped all has known is.

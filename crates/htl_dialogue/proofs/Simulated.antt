@@ -1,0 +1,116 @@
+-- What is said of a dialogue with one who answers holds with another, whose states follow those of the first.
+use Rattle.std.proofs.Common.{ℕ, Bool, true, false, List, [], ◌∷◌, refl}
+use Rattle.std.specs.Prelude.{Option, Result}
+use Rattle.htl_command.specs.declared.fault.ParseFault.{ParseFault}
+use Rattle.htl_command.specs.declared.question.Job.{Job}
+use Rattle.htl_dialogue.specs.Dialogues.{Answers, AreExchanges, Converses, GotAt, IsReplied, StopsAt, asked_lines}
+use Rattle.htl_dialogue.specs.Notes.{IsAbsence, IsAbsenceOf, IsFaultOf, Note}
+use Rattle.htl_dialogue.specs.Sayings.{Saying, asks, nothing, quits, reads, saying_of, wrong}
+use Rattle.htl_dialogue.specs.declared.dialogue.Conversed.{Conversed}
+use Rattle.htl_dialogue.specs.declared.dialogue.DialogueFault.{DialogueFault}
+use Rattle.htl_dialogue.specs.declared.dialogue.DialogueFault.TheVariants.{Questions, Write, NoMemory}
+use Rattle.htl_main.specs.declared.adding.Added.{Added}
+use Rattle.htl_main.specs.declared.refused.Refused.{Refused}
+
+-- The other answers what the first does, and reads files where the first does, with the same end, so that it follows.
+module _ {A B : Type 0} (one : Answers A) (other : Answers B) (Follows : A → B → Type 0)
+    (text_too : (a : A) (b : B) (job : Job) (text : List ℕ) → Follows a b → one.has_text a job text → other.has_text b job text)
+    (subject_too : (a : A) (b : B) (job : Job) (found : Bool) → Follows a b → one.has_subject a job found → other.has_subject b job found)
+    (reads_too : (a : A) (b : B) (files : List (List ℕ)) (after : A) (ended : Result Added Refused) → Follows a b
+    → one.reads a files after ended → (there : B) × Follows after there × other.reads b files there ended) where
+  replied_too : (IsWhy : ParseFault → Type 0) (a : A) (b : B) (said : Saying) (after : A) (reply : List ℕ) (notes : List Note)
+      → Follows a b → IsReplied one IsWhy a said after reply notes
+      → (there : B) × Follows after there × IsReplied other IsWhy b said there reply notes
+  replied_too IsWhy a b (asks job) after reply notes follows is =
+      let answer = is.1 in
+      (b, rw (is.0) follows, (refl, (answer.0, text_too a b job answer.0 follows answer.1, answer.2), is.2))
+  replied_too IsWhy a b (reads files) after reply notes follows is =
+      let then = reads_too a b files after is.0 follows is.1 in (then.0, then.1, (is.0, then.2, is.2, is.3))
+  replied_too IsWhy a b wrong after reply notes follows is = (b, rw (is.0) follows, (refl, is.1, is.2))
+  replied_too IsWhy a b nothing after reply notes follows is = (b, rw (is.0) follows, (refl, is.1, is.2))
+  replied_too IsWhy a b quits after reply notes follows is = (b, rw (is.0) follows, (refl, is.1, is.2))
+
+  absence_of_too : (wanted : Bool) (a : A) (b : B) (job : Job) (notes : List Note) → Follows a b
+      → IsAbsenceOf (one.has_subject a) wanted job notes → IsAbsenceOf (other.has_subject b) wanted job notes
+  absence_of_too false a b job notes follows is = is
+  absence_of_too true a b job notes follows is = (is.0, subject_too a b job is.0 follows is.1, is.2)
+
+  absence_too : (wanted : Bool) (a : A) (b : B) (said : Saying) (notes : List Note) → Follows a b
+      → IsAbsence (one.has_subject a) wanted said notes → IsAbsence (other.has_subject b) wanted said notes
+  absence_too wanted a b (asks job) notes follows is = absence_of_too wanted a b job notes follows is
+  absence_too wanted a b (reads files) notes follows is = is
+  absence_too wanted a b wrong notes follows is = is
+  absence_too wanted a b nothing notes follows is = is
+  absence_too wanted a b quits notes follows is = is
+
+  exchanges_too : (wanted : Bool) (a : A) (b : B) (lines : List (List ℕ)) (after : A) (replies : List ℕ) (notes : List Note)
+      → Follows a b → AreExchanges one wanted a lines after replies notes
+      → (there : B) × Follows after there × AreExchanges other wanted b lines there replies notes
+  exchanges_too wanted a b [] after replies notes follows are = (b, rw (are.0) follows, (refl, are.1, are.2))
+  exchanges_too wanted a b (line ∷ more) after replies notes follows are =
+      let first = are.5 in
+      let here = replied_too (IsFaultOf line) a b (saying_of line) are.0 are.1 first.early follows first.replied in
+      let then = exchanges_too wanted are.0 here.0 more after are.2 are.4 here.1 are.6 in (
+        then.0,
+        then.1,
+        (
+          here.0,
+          are.1,
+          are.2,
+          are.3,
+          are.4,
+          record {
+            early = first.early;
+            late = first.late;
+            replied = here.2;
+            absence = absence_too wanted a b (saying_of line) first.late follows first.absence;
+            all = first.all;
+          },
+          then.2,
+          are.7,
+          are.8,
+        ),
+      )
+
+  -- A dialogue with the first that comes to its end is one with the other.
+  pub converses_too : (wanted : Bool) (a : A) (b : B) (text : List ℕ) (Got : List ℕ → List Note → Type 0) (conversed : Conversed)
+      → Follows a b → Converses one wanted a text Got conversed → Converses other wanted b text Got conversed
+  converses_too wanted a b text Got conversed follows is =
+      let all = exchanges_too wanted a b (asked_lines text) is.after is.replies is.notes follows is.exchanged in
+      record {
+        after = all.0;
+        replies = is.replies;
+        notes = is.notes;
+        exchanged = all.2;
+        got = is.got;
+        any = is.any;
+        first = is.first;
+      }
+
+  got_too : (a : A) (b : B) (failed : Bool) (Got : List ℕ → List Note → Type 0) (fault : DialogueFault) (later : List (List ℕ))
+      (replies : List ℕ) (notes : List Note) → Follows a b → GotAt one a failed Got fault later replies notes
+      → GotAt other b failed Got fault later replies notes
+  got_too a b failed Got Questions later replies notes follows is = is
+  got_too a b failed Got NoMemory later replies notes follows is = is
+  got_too a b failed Got Write [] replies notes follows is = absurd is
+  got_too a b failed Got Write (line ∷ more) replies notes follows is =
+      let here = replied_too (IsFaultOf line) a b (saying_of line) is.0 is.1 is.3 follows is.4 in
+      (here.0, is.1, is.2, is.3, here.2, is.5)
+
+  -- So is one that a fault ends.
+  pub stops_too : (wanted : Bool) (a : A) (b : B) (text : List ℕ) (left : Option (List ℕ)) (failed : Bool)
+      (Got : List ℕ → List Note → Type 0) (fault : DialogueFault) → Follows a b
+      → StopsAt one wanted a text left failed Got fault → StopsAt other wanted b text left failed Got fault
+  stops_too wanted a b text left failed Got fault follows is =
+      let all = exchanges_too wanted a b is.earlier is.state is.replies is.notes follows is.exchanged in
+      record {
+        earlier = is.earlier;
+        later = is.later;
+        cut = is.cut;
+        state = all.0;
+        replies = is.replies;
+        notes = is.notes;
+        exchanged = all.2;
+        got = got_too is.state all.0 failed Got fault is.later is.replies is.notes all.1 is.got;
+        in_time = is.in_time;
+      }

@@ -1,0 +1,147 @@
+//! More sources, whose segments are added to what was loaded.
+
+ghost use Rattle.std.specs.Prelude.{◌≡◌, ◌⊎◌, ◌++◌, ◌∷◌, [], ℕ, List, All, Some, None, false};
+ghost use Rattle.std.specs.Prelude.{length, map, IfErr, IfOk, OnOk};
+ghost use Rattle.htl_case.specs.Cases.{IsCase};
+ghost use Rattle.htl_command.specs.declared.question.InputForm.{InputForm};
+ghost use Rattle.htl_command.specs.declared.question.Job.{Job};
+ghost use Rattle.htl_main.specs.Adding.{IsAdded, IsAddingRefused};
+ghost use Rattle.htl_main.specs.Causes.{IsCauseAfter};
+ghost use Rattle.htl_main.specs.Coverages.{IsCoverage};
+ghost use Rattle.htl_main.specs.Inputs.{DecodeAll, Decodes};
+ghost use Rattle.htl_main.specs.Loading.{AreLoaded};
+ghost use Rattle.htl_main.specs.Origins.{IsBetween, by_fault};
+ghost use Rattle.htl_main.specs.Parts.{AreParts};
+ghost use Rattle.htl_main.specs.Printed.{WorkersFit};
+ghost use Rattle.htl_main.specs.Reads.{NeverWrite};
+ghost use Rattle.htl_main.specs.Readings.{AreRead};
+
+use crate::casing::{case_of, copies};
+use crate::coverage::Coverage;
+use crate::cut_inputs::CutInputs;
+use crate::decoded::Decoded;
+use crate::fault::RunFault;
+use crate::loading::{Loaded, with_symbols};
+use crate::printing::check_workers;
+use crate::refused::Refused;
+use crate::sources::read_all;
+use htl_case::Case;
+use htl_command::Setting;
+use htl_device::Parted;
+use std::alloc::Global;
+use std::fmt;
+use std::thread::Threads;
+
+/// What sources brought to what was loaded.
+#[derive(Clone, Copy, Debug, PartialEq, Eq)]
+pub struct Added {
+    /// How many segments they have.
+    pub segments: u64,
+    /// How many keys their segments have that were not there.
+    pub new: u64,
+    /// How much of its trace the case has now.
+    pub coverage: Coverage,
+    /// Which of them end within a segment.
+    pub cut: Option<CutInputs>,
+}
+
+/// The line of a dialogue that says what was added.
+impl fmt::Display for Added {
+    ghost use Rattle.std.specs.Prelude.{Some};
+    ghost use Rattle.htl_main.specs.Adding.{added_text};
+
+    ghost output = { λ added. Some (added_text added) };
+
+    fn fmt<W: fmt::Write>(&self, f: &mut fmt::Formatter<W>) -> fmt::Result {
+        let Added {
+            segments,
+            new,
+            coverage: Coverage { gaps, complete_to },
+            ..
+        } = *self;
+        write!(
+            f,
+            "read segments={segments} new={new} complete_to={complete_to} gaps={gaps}"
+        )
+    }
+}
+
+/// Reads all sources and adds their segments to what was loaded. Where they are refused, what was
+/// loaded stays as it is.
+///
+/// Faults are those of a run over these sources and one more input after them, which has all that was
+/// loaded before. Inputs are counted within these.
+pub fn add<Rt: Threads + Sync, R: Parted>(
+    rt: &Rt,
+    alloc: Global,
+    setting: Setting,
+    loaded: &mut Loaded,
+    inputs: &mut [R],
+) -> Result<Added, Refused>
+    requires fresh { All (λ source. R.has_failed source ≡ false) inputs.old }
+    requires inside { All (λ source. R.has_ended source ≡ false) inputs.old }
+    // What the sources' bytes come to is added, or reported.
+    ensures ok { (texts : List (List ℕ)) → map R.remaining inputs.old ≡ map Some texts
+        → IfOk result (IsAdded setting.form setting.complete loaded.old.case.segments texts
+        loaded.new.case) }
+    ensures coverage { IfOk result (λ added. (loaded.new.coverage ≡ added.coverage)
+        × IsCoverage loaded.new.case loaded.new.coverage) }
+    ensures err { (texts : List (List ℕ)) → map R.remaining inputs.old ≡ map Some texts
+        → IfErr result (IsAddingRefused setting loaded.old.case.segments texts
+        (map R.remaining inputs.new) (map R.has_ended inputs.new)) }
+    ensures workers { OnOk result (WorkersFit setting.workers) }
+    ensures same { IfErr result (λ _. loaded.new ≡ loaded.old) }
+    ensures symbols { loaded.new.symbols ≡ loaded.old.symbols }
+    ensures cut { loaded.new.cut ≡ loaded.old.cut }
+    ensures reading { AreRead setting.form.hex R.has_failed R.has_ended R.good_reads
+        R.remaining inputs.old inputs.new (by_fault result) }
+    ensures no_write { NeverWrite (by_fault result) }
+{
+    check_workers(setting.workers)?;
+    let decoded = read_all(rt, alloc, setting.form, setting.workers, inputs)?;
+    let segments = decoded.segments.len() as u64;
+    let cut = decoded.cut;
+    let place = inputs.len() as u64;
+    let whole = load_with(alloc, setting.complete, &loaded.case, decoded, place)?;
+    let Loaded { case, coverage, .. } = whole;
+    let new = (case.segments().len() - loaded.case.segments().len()) as u64;
+    loaded.case = case;
+    loaded.coverage = coverage;
+    Ok(Added {
+        segments,
+        new,
+        coverage,
+        cut,
+    })
+}
+
+/// What is loaded of decoded segments and, behind them, of copies of a case's, which count as those of
+/// one more input, the one at a place. Symbols are left out.
+fn load_with(
+    alloc: Global,
+    complete: bool,
+    before: &Case,
+    mut decoded: Decoded,
+    place: u64,
+) -> Result<Loaded, Refused>
+    ensures before { IsCase before.now }
+    ensures ok { IfOk result (λ loaded. AreLoaded (decoded.segments.items ++ before.now.segments)
+        None complete None loaded.case loaded.symbols) }
+    ensures coverage { IfOk result (λ loaded. IsCoverage loaded.case loaded.coverage) }
+    // Memory is also refused for the copies.
+    ensures err { IfErr result (λ refused. (refused.fault ≡ RunFault.Memory)
+        ⊎ ((job : Job) → job.complete ≡ complete → job.until ≡ None
+        → IsCauseAfter (decoded.segments.items ++ before.now.segments) None job refused.fault)) }
+    ensures between { IfErr result (λ refused. (form : InputForm) (inputs : List (List ℕ))
+        (earlier : List ℕ) → length inputs ≡ place → DecodeAll form inputs decoded.segments.items
+        → AreParts form inputs decoded.segments.items decoded.parts.items
+        → Decodes form earlier before.now.segments
+        → IsBetween form (inputs ++ earlier ∷ []) refused.fault refused.between) }
+{
+    let earlier = copies(alloc, before.segments())?;
+    decoded.add_segments(place, earlier)?;
+    let cut = decoded.cut;
+    let case = case_of(alloc, decoded)?;
+    let loaded = with_symbols(alloc, complete, None, case, cut, None)?;
+    Ok(loaded)
+}

@@ -1,0 +1,66 @@
+-- What is said of a dialogue by the notes after its beginning is said of it by all notes.
+use Rattle.std.proofs.Common.{◌≡◌, ◌⊎◌, ◌∙◌, ℕ, Bool, true, false, List, [], ◌∷◌, ◌++◌, Option, Result, Err, inl, inr, sym, ap, take}
+use Rattle.htl_dialogue.specs.Dialogues.{Answers, Converses, Gets, GotAt, StopsAt, last_wait}
+use Rattle.htl_dialogue.specs.Notes.{Note, awaits}
+use Rattle.htl_dialogue.specs.declared.dialogue.Conversed.{Conversed}
+use Rattle.htl_dialogue.specs.declared.dialogue.DialogueFault.{DialogueFault}
+use Rattle.htl_dialogue.specs.declared.dialogue.DialogueFault.TheVariants.{Questions, Write, NoMemory}
+use Rattle.htl_program.specs.Asking.{BeginsAndGets, Opening, opening_note}
+use Rattle.htl_program.specs.declared.ask_fault.AskFault.{AskFault}
+use Rattle.htl_program.specs.declared.ask_fault.AskFault.TheVariants.{Dialogue}
+
+module _ {S Host : Type 0} (answers : Answers S) (wanted : Bool) (before : S) (text : List ℕ) (old new : Option (List ℕ))
+    (told : Host → Note → Host) (audience host after : Host) (opening : Opening)
+    (is : host ≡ told audience (opening_note opening.coverage opening.cut)) where
+  gets : (replies : List ℕ) (notes : List Note) → Gets old new told host after replies notes
+      → BeginsAndGets old new told audience after opening replies notes
+  gets replies notes got = (got.0, rw is at got.1)
+
+  pub converses_begun : (conversed : Conversed) → Converses answers wanted before text (Gets old new told host after) conversed
+      → Converses answers wanted before text (BeginsAndGets old new told audience after opening) conversed
+  converses_begun conversed all = record {
+    after = all.after;
+    replies = all.replies;
+    notes = all.notes;
+    exchanged = all.exchanged;
+    got = gets all.replies (all.notes ++ last_wait text) all.got;
+    any = all.any;
+    first = all.first;
+  }
+
+  waited : (failed : Bool) (replies : List ℕ) (notes : List Note)
+      → Gets old new told host after replies (notes ++ awaits ∷ []) ⊎ ((failed ≡ false) × Gets old new told host after replies notes)
+      → BeginsAndGets old new told audience after opening replies (notes ++ awaits ∷ [])
+      ⊎ ((failed ≡ false) × BeginsAndGets old new told audience after opening replies notes)
+  waited failed replies notes (inl got) = inl (gets replies (notes ++ awaits ∷ []) got)
+  waited failed replies notes (inr got) = inr (got.0, gets replies notes got.1)
+
+  got_at : (state : S) (failed : Bool) (fault : DialogueFault) (later : List (List ℕ)) (replies : List ℕ) (notes : List Note)
+      → GotAt answers state failed (Gets old new told host after) fault later replies notes
+      → GotAt answers state failed (BeginsAndGets old new told audience after opening) fault later replies notes
+  got_at state failed Write [] replies notes got = got
+  got_at state failed Write (line ∷ more) replies notes got =
+      (got.0, got.1, got.2, got.3, got.4, gets (replies ++ take got.2 got.1) (notes ++ awaits ∷ got.3) got.5)
+  got_at state failed Questions later replies notes got = waited failed replies notes got
+  got_at state failed NoMemory later replies notes got = waited failed replies notes got
+
+  pub stops_begun : (left : Option (List ℕ)) (failed : Bool) (fault : DialogueFault)
+      → StopsAt answers wanted before text left failed (Gets old new told host after) fault
+      → StopsAt answers wanted before text left failed (BeginsAndGets old new told audience after opening) fault
+  stops_begun left failed fault at = record {
+    earlier = at.earlier;
+    later = at.later;
+    cut = at.cut;
+    state = at.state;
+    replies = at.replies;
+    notes = at.notes;
+    exchanged = at.exchanged;
+    got = got_at at.state failed fault at.later at.replies at.notes at.got;
+    in_time = at.in_time;
+  }
+
+-- the fault that a dialogue ended with is the one that is reported
+pub ended_by : (result : Result Conversed AskFault) (reported : AskFault) (ended fault : DialogueFault) → result ≡ Err reported
+    → reported ≡ Dialogue ended → result ≡ Err (Dialogue fault) → fault ≡ ended
+ended_by result reported ended fault is told named =
+    let both : Err (Dialogue ended) ≡ Err (Dialogue fault) = ap (λ f. Err f) (sym told) ∙ (sym is ∙ named) in cc both

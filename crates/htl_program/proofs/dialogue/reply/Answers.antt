@@ -1,0 +1,139 @@
+-- What is replied and told is what is said of the line, also where the reply could not be written.
+use Rattle.std.proofs.Common.{◌≡◌, ◌∙◌, ℕ, List, [], ◌∷◌, ◌++◌, Ok, Err, inl, inr, map, refl, string_bytes}
+use Rattle.std.specs.Prelude.{Result}
+use Rattle.std.proofs.KnownBytes.{Appends-nil}
+use Rattle.std.proofs.lemmas.Result.{err_from_is_err_and}
+use Rattle.htl_dialogue.specs.Dialogues.{reading_reply}
+use Rattle.htl_dialogue.specs.Notes.{first_fault, reads, refuses}
+use Rattle.htl_dialogue.specs.Replying.{fault_of}
+use Rattle.htl_main.specs.declared.adding.Added.{Added}
+use Rattle.htl_main.specs.declared.refused.Refused.{Refused}
+use Rattle.htl_program.proofs.dialogue.reply.Goals as goal
+
+fault_is_first : (files : List (List ℕ)) (ended : Result Added Refused) → fault_of ended ≡ first_fault (reads files ended ∷ [])
+fault_is_first files (Ok added) = refl
+fault_is_first files (Err refused) = refl
+
+pub returns-in-Nothing-clause-ok : goal.returns-in-Nothing-clause-ok
+returns-in-Nothing-clause-ok g c =
+    elim c.in-Nothing.is [
+      | inl is ↦ rw is (record {
+        reply = [];
+        early = [];
+        late = [];
+        replied = (refl, refl, refl);
+        absence = refl;
+        written = Appends-nil (g.O.Sink.contents c.args.out.now);
+        all = refl;
+        wrong = c.fine-in-Nothing.ensures.wrong;
+        first = c.fine-in-Nothing.ensures.first;
+      })
+      | inr is ↦ rw is (record {
+        reply = [];
+        early = [];
+        late = [];
+        replied = (refl, refl, refl);
+        absence = refl;
+        written = Appends-nil (g.O.Sink.contents c.args.out.now);
+        all = refl;
+        wrong = c.fine-in-Nothing.ensures.wrong;
+        first = c.fine-in-Nothing.ensures.first;
+      })
+    ]
+
+pub returns-in_ok-write-in-Wrong-clause-ok : goal.returns-in_ok-write-in-Wrong-clause-ok
+returns-in_ok-write-in-Wrong-clause-ok g c =
+    rw (c.in-Wrong.is) (record {
+      reply = 10 ∷ [];
+      early = refuses c.in-Wrong.fault ∷ [];
+      late = [];
+      replied = (refl, refl, (c.in-Wrong.fault, refl, refl));
+      absence = refl;
+      written = c.in_ok-write-in-Wrong.ensures.ok;
+      all = c.refuses.ensures.told;
+      wrong = refl;
+      first = refl;
+    })
+
+pub returns-in_err-write-in-Wrong-clause-err : goal.returns-in_err-write-in-Wrong-clause-err
+returns-in_err-write-in-Wrong-clause-err g c =
+    let p = err_from_is_err_and c.from_residual.result c.from_residual.ensures.1 in
+    let failed = c.in_err-write-in-Wrong.ensures.err in
+    rw (p.1, p.2, failed.0, c.in-Wrong.is) (
+      failed.1,
+      record {
+        after = c.args.loaded.now;
+        reply = 10 ∷ [];
+        early = refuses c.in-Wrong.fault ∷ [];
+        replied = (refl, refl, (c.in-Wrong.fault, refl, refl));
+        written = failed.2;
+        all = c.refuses.ensures.told;
+      },
+    )
+
+pub returns-in_ok-write-in-Asks-clause-ok : goal.returns-in_ok-write-in-Asks-clause-ok
+returns-in_ok-write-in-Asks-clause-ok g c =
+    let text = c.in_ok-text-in-Asks.text.items in
+    let noted = c.note_absence.ensures.told in
+    rw (c.in-Asks.is) (record {
+      reply = text ++ 10 ∷ [];
+      early = [];
+      late = noted.absence;
+      replied = (refl {a = c.args.loaded.now}, (text, c.in_ok-text-in-Asks.ensures, refl), refl);
+      absence = noted.is;
+      written = rw (c.deref.ensures.value, c.in_ok-push-in-Asks.ensures.items) at c.in_ok-write-in-Asks.ensures.ok;
+      all = noted.heard;
+      wrong = c.fine.ensures.wrong;
+      first = c.fine.ensures.first;
+    })
+
+pub returns-in_err-write-in-Asks-clause-err : goal.returns-in_err-write-in-Asks-clause-err
+returns-in_err-write-in-Asks-clause-err g c =
+    let p = err_from_is_err_and c.from_residual-in_err-write-in-Asks.result c.from_residual-in_err-write-in-Asks.ensures.1 in
+    let failed = rw (c.deref.ensures.value, c.in_ok-push-in-Asks.ensures.items) at c.in_err-write-in-Asks.ensures.err in
+    let text = c.in_ok-text-in-Asks.text.items in
+    rw (p.1, p.2, failed.0, c.in-Asks.is) (
+      failed.1,
+      record {
+        after = c.args.loaded.now;
+        reply = text ++ 10 ∷ [];
+        early = [];
+        replied = (refl {a = c.args.loaded.now}, (text, c.in_ok-text-in-Asks.ensures, refl), refl);
+        written = failed.2;
+        all = refl {a = c.args.host.now};
+      },
+    )
+
+pub returns-in_ok-write-in-Reads-clause-ok : goal.returns-in_ok-write-in-Reads-clause-ok
+returns-in_ok-write-in-Reads-clause-ok g c =
+    let ended = c.add-ended.result in
+    let files = map string_bytes c.in-Reads.names.items in
+    rw (c.in-Reads.is) (record {
+      reply = reading_reply ended;
+      early = reads files ended ∷ [];
+      late = [];
+      replied = (ended, rw (c.deref-in-Reads.ensures.value) at c.add-ended.ensures, refl, refl);
+      absence = refl;
+      written = rw (c.as_bytes.ensures.value, c.in_ok-text-in-Reads.ensures) at c.in_ok-write-in-Reads.ensures.ok;
+      all = rw (c.deref-in-Reads-2.ensures.value) at c.reads.ensures.told;
+      wrong = refl;
+      first = c.fault_of.ensures ∙ fault_is_first files ended;
+    })
+
+pub returns-in_err-write-in-Reads-clause-err : goal.returns-in_err-write-in-Reads-clause-err
+returns-in_err-write-in-Reads-clause-err g c =
+    let p = err_from_is_err_and c.from_residual-in_err-write-in-Reads.result c.from_residual-in_err-write-in-Reads.ensures.1 in
+    let failed = rw (c.as_bytes.ensures.value, c.in_ok-text-in-Reads.ensures) at c.in_err-write-in-Reads.ensures.err in
+    let ended = c.add-ended.result in
+    let files = map string_bytes c.in-Reads.names.items in
+    rw (p.1, p.2, failed.0, c.in-Reads.is) (
+      failed.1,
+      record {
+        after = c.add-ended.new.loaded;
+        reply = reading_reply ended;
+        early = reads files ended ∷ [];
+        replied = (ended, rw (c.deref-in-Reads.ensures.value) at c.add-ended.ensures, refl, refl);
+        written = failed.2;
+        all = rw (c.deref-in-Reads-2.ensures.value) at c.reads.ensures.told;
+      },
+    )

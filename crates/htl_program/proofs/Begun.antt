@@ -1,5 +1,5 @@
 -- What is said of a dialogue by the notes after its beginning is said of it by all notes.
-use Rattle.std.proofs.Common.{◌≡◌, ◌⊎◌, ◌∙◌, ℕ, Bool, true, false, List, [], ◌∷◌, ◌++◌, Option, Result, Err, inl, inr, sym, ap, take}
+use Rattle.std.proofs.Common.{◌≡◌, ◌⊎◌, ◌∙◌, ℕ, Bool, false, List, [], ◌∷◌, ◌++◌, Option, Result, Err, inl, inr, sym, ap, take}
 use Rattle.htl_dialogue.specs.Dialogues.{Answers, Converses, Gets, GotAt, StopsAt, last_wait}
 use Rattle.htl_dialogue.specs.Notes.{Note, awaits}
 use Rattle.htl_dialogue.specs.declared.dialogue.Conversed.{Conversed}

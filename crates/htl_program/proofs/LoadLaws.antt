@@ -22,7 +22,6 @@ use Rattle.htl_main.specs.Subjects.{HasSubject}
 use Rattle.htl_main.specs.declared.adding.Added.{Added}
 use Rattle.htl_main.specs.declared.coverage.Coverage.{Coverage}
 use Rattle.htl_main.specs.declared.cut_inputs.CutInputs.{CutInputs}
-use Rattle.htl_main.specs.declared.fault.RunFault.{RunFault}
 use Rattle.htl_main.specs.declared.fault.RunFault.TheVariants.{Read}
 use Rattle.htl_main.specs.declared.loading.Loaded.{Loaded}
 use Rattle.htl_main.specs.declared.origin.Between.TheVariants.{Nothing}

@@ -1,6 +1,6 @@
 -- What asking comes to (this project's own): who answers is known by the texts of all inputs that were read so far, as far as these are
 -- known. A question gets the text that a run of its own over them prints.
-use Rattle.std.specs.Prelude.{◌≡◌, ◌⊎◌, ◌++◌, ◌∷◌, [], ℕ, Bool, false, List, Option, None, Some, IfErr, IfSome, Result, Ok, Err}
+use Rattle.std.specs.Prelude.{◌≡◌, ◌⊎◌, ◌++◌, ◌∷◌, [], ℕ, Bool, false, List, Option, None, Some, IfSome, Result, Ok, Err}
 use Rattle.std.specs.Prelude.{map, option_map}
 use Rattle.htl_case.specs.Cases.{IsCaseOf}
 use Rattle.htl_command.specs.declared.question.InputForm.{InputForm}

@@ -1,5 +1,5 @@
 -- Files are added as they were read; where one could not be opened, nothing was.
-use Rattle.std.proofs.Common.{◌≡◌, ◌∙◌, All, ap, false, map, string_bytes, subst, sym}
+use Rattle.std.proofs.Common.{◌≡◌, ◌∙◌, All, false, map, string_bytes, subst}
 use Rattle.std.proofs.lemmas.Result.{err_from_is_err_and}
 use Rattle.htl_program.specs.Opened.{known, ways}
 use Rattle.htl_program.proofs.LoadLaws.{by_bytes, not_opened, opened_and_added}

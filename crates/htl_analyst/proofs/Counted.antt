@@ -1,8 +1,8 @@
 -- How many segments are taken after a step.
-use Rattle.std.proofs.Common.{◌≡◌, ℕ, ◌+◌, ◌-◌, ◌<◌, length, sym, ap, ◌∙◌, arith}
+use Rattle.std.proofs.Common.{◌≡◌, ℕ, suc, ◌+◌, ◌-◌, ◌<◌, List, [], ◌∷◌, length, sum_by, refl, sym, ap, ◌∙◌, arith}
 use Rattle.std.proofs.lemmas.List.{length-drop}
 use Rattle.std.proofs.lemmas.List.Edits.{length-insert}
-use Rattle.std.proofs.lemmas.List.Sums.{sum_by-set}
+use Rattle.std.proofs.lemmas.List.Sums.{sum_by-set, sum_by-cons}
 use Rattle.htl_segment.specs.Content.{Content}
 use Rattle.htl_taken.specs.Numbers.{Numbers, no_numbers, numbers_at, with_loose, settled, reach_of, size_of}
 use Rattle.htl_taken.specs.Rising.{gap_of}
@@ -32,7 +32,7 @@ number-with_segment a s is lt =
     omega (arith, all, one)
 
 -- as many numbers as the front moves are no longer loose
-size-settled : (id count p : ℕ) (q : Numbers) (k : Part) → IsPart id count p q k → size_of (settled q) ≡ size_of q
+pub size-settled : (id count p : ℕ) (q : Numbers) (k : Part) → IsPart id count p q k → size_of (settled q) ≡ size_of q
 size-settled id count p q k is =
     let ge = reach_from-ge q.front q.loose in
     let within = run_within id count p q k is in
@@ -50,3 +50,16 @@ number-compacted a b p is lt f =
     let one = size-settled a.trace_id a.processors p q (part_at a.parts p) (is.each p lt) in
     let now = ap (λ (x : State). number_taken x) f.is in
     omega (arith, all, one, now)
+
+-- lists of numbers that are as many at each processor are as many together
+pub sum_by-agree : (qs rs : List Numbers) → length qs ≡ length rs
+    → ((p : ℕ) → size_of (numbers_at qs p) ≡ size_of (numbers_at rs p)) → sum_by size_of qs ≡ sum_by size_of rs
+sum_by-agree [] [] len each = refl
+sum_by-agree [] (r ∷ rs) len each = absurd (omega (arith, len))
+sum_by-agree (q ∷ qs) [] len each = absurd (omega (arith, len))
+sum_by-agree (q ∷ qs) (r ∷ rs) len each =
+    let rest = sum_by-agree qs rs (omega (arith, len)) (λ p. each (suc p)) in
+    let here = each 0 in
+    let left = sum_by-cons size_of q qs in
+    let right = sum_by-cons size_of r rs in
+    omega (arith, rest, here, left, right)

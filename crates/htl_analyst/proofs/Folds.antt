@@ -64,15 +64,6 @@ run_few id count p q k is =
     let len = (run_is id count p q k is).1 in
     omega (arith, few, len)
 
--- so has the run that is read, of so many of the segments held
-pub run_read_few : (a : State) (p run : ℕ) (hs : List Content) (k : Part) → IsPart a.trace_id a.processors p (numbers_at a.taken p) k
-    → run ≡ run_length a p → hs ≡ k.held → length (all_events (take run hs)) ≤ 4096 * run_length a p
-run_read_few a p run hs k is er eh =
-    let few = run_few a.trace_id a.processors p (numbers_at a.taken p) k is in
-    let same : length (all_events (take run hs)) ≡ length (all_events (take (run_length a p) k.held)) =
-    ap (λ (n : ℕ). length (all_events (take n hs))) er ∙ ap (λ (cs : List Content). length (all_events (take (run_length a p) cs))) eh in
-    omega (arith, few, same)
-
 -- what is within a bound is within each above it
 pub IsWithin-above : (n m : ℕ) (f : Folded) → IsWithin n f → n ≤ m → IsWithin m f
 IsWithin-above n m f is le =
@@ -105,7 +96,7 @@ module _ (a : State) (p : ℕ) (is : IsState a) (lt : p < a.processors) (folded 
   run : IsRunFrom p q.front (take k hs) × (length (take k hs) ≡ k)
   run = run_is a.trace_id a.processors p q (part_at a.parts p) was
 
-  settled_part : IsWithin (4096 * reach_of q) folded → IsPart a.trace_id a.processors p (settled q) (part (drop k hs) folded)
+  pub settled_part : IsWithin (4096 * reach_of q) folded → IsPart a.trace_id a.processors p (settled q) (part (drop k hs) folded)
   settled_part bounded = record {
     proper = IsProper-settled q was.proper;
     numbers = map-drop number k hs ∙ ap (drop k) was.numbers ∙ settled-drop q was.proper;
@@ -142,16 +133,21 @@ module _ (a : State) (p : ℕ) (is : IsState a) (lt : p < a.processors) (folded 
     none_below : q.front ≡ 0 → run_events T p q.front ≡ []
     none_below e = ap (λ (f : ℕ). run_events T p f) e ∙ run_events-0 p T.segments
 
+    pub IsRightAt-settled : ((events : List Event) → (q.front ≡ 0 → events ≡ []) → IsFolded (folded_at a.parts p) events
+        → IsFolded folded (events ++ run_of a p))
+        → IsRightAt T p (settled q) (part (drop k hs) folded)
+    IsRightAt-settled joins = record {
+      complete = complete;
+      held = all-drop (Contains T.segments) k hs old.held;
+      folded = subst (IsFolded folded) (sym grown) (joins (run_events T p q.front) none_below old.folded);
+    }
+
     pub IsRight-settled : IsWithin (4096 * reach_of q) folded
         → ((events : List Event) → (q.front ≡ 0 → events ≡ []) → IsFolded (folded_at a.parts p) events
         → IsFolded folded (events ++ run_of a p))
         → IsRight (settled_with a p folded) T
     IsRight-settled bounded joins =
-        IsRight-updated a p (settled q) (part (drop k hs) folded) is lt T right (settled_part bounded) (record {
-          complete = complete;
-          held = all-drop (Contains T.segments) k hs old.held;
-          folded = subst (IsFolded folded) (sym grown) (joins (run_events T p q.front) none_below old.folded);
-        })
+        IsRight-updated a p (settled q) (part (drop k hs) folded) is lt T right (settled_part bounded) (IsRightAt-settled joins)
 
 -- ---- the fold as a step
 

@@ -1,6 +1,6 @@
 -- What the code of taking and settling makes, in the words of the steps.
 use Rattle.std.proofs.Common.{◌≡◌, ◌≤◌, ◌<◌, ℕ, Bool, true, false, if◌then◌else◌, List, length, slice_set, insert}
-use Rattle.std.proofs.Common.{drop, get_or, Result, Ok, Err, IfOk, is_err, not, sym, ap, ◌∙◌, arith}
+use Rattle.std.proofs.Common.{drop, get_or, Result, Ok, Err, IfOk, is_err, not, refl, sym, ap, ◌∙◌, arith}
 use Rattle.std.proofs.lemmas.Bool.{false≢true}
 use Rattle.std.proofs.lemmas.List.{get_or_default}
 use Rattle.htl_event.specs.declared.memory.NoMemory.{NoMemory}
@@ -57,20 +57,17 @@ hold_made a now s p i n place read held kept more folded ts ea ep ei en lt er el
     ∙ rw (ep, en) (ap (λ (b : State). with_segment b s) ea)
 
 -- the same for the code that settles
-pub settle_made : (a now : State) (p i run : ℕ) (read : Part) (held rest : List Content) (old folded : Folded) (ts : List Numbers)
-    → a ≡ now → i ≡ p → p < length a.parts → read ≡ get_or a.parts i read → part held old ≡ read → run ≡ run_length now p
-    → ts ≡ slice_set a.taken p (settled (numbers_at a.taken p)) → rest ≡ drop run held
-    → state a.trace_id a.processors ts (slice_set a.parts i (part rest folded)) ≡ settled_with now p folded
-settle_made a now p i run read held rest old folded ts ea ei lt er el ek et eh =
+pub settle_made : (a now : State) (p i run : ℕ) (read new : Part) (folded : Folded) (ts : List Numbers)
+    → a ≡ now → i ≡ p → p < length a.parts → read ≡ get_or a.parts i read → run ≡ run_length now p
+    → ts ≡ slice_set a.taken p (settled (numbers_at a.taken p)) → new ≡ part (drop run read.held) folded
+    → state a.trace_id a.processors ts (slice_set a.parts i new) ≡ settled_with now p folded
+settle_made a now p i run read new folded ts ea ei lt er ek et en =
     let er' : read ≡ get_or a.parts p read = er ∙ ap (λ (j : ℕ). get_or a.parts j read) ei in
-    let l : part held old ≡ part_at a.parts p = part_read a.parts p read (part held old) lt er' el in
-    let eheld : held ≡ held_at a.parts p = ap (λ (k : Part). k.held) l in
+    let l : read ≡ part_at a.parts p = part_read a.parts p read read lt er' refl in
     let ek' : run ≡ run_length a p = ek ∙ ap (λ (x : State). run_length x p) (sym ea) in
-    let whole : rest ≡ drop (run_length a p) (held_at a.parts p) =
-    eh ∙ ap (drop run) eheld ∙ ap (λ (j : ℕ). drop j (held_at a.parts p)) ek' in
-    ap (λ (us : List Numbers). state a.trace_id a.processors us (slice_set a.parts i (part rest folded))) et
-    ∙ ap (λ (j : ℕ). state a.trace_id a.processors (slice_set a.taken p (settled (numbers_at a.taken p)))
-    (slice_set a.parts j (part rest folded))) ei
-    ∙ ap (λ (ks : List Content). state a.trace_id a.processors (slice_set a.taken p (settled (numbers_at a.taken p)))
-    (slice_set a.parts p (part ks folded))) whole
+    let whole : new ≡ part (drop (run_length a p) (held_at a.parts p)) folded =
+    en ∙ ap (λ (k : Part). part (drop run k.held) folded) l ∙ ap (λ (j : ℕ). part (drop j (held_at a.parts p)) folded) ek' in
+    ap (λ (us : List Numbers). state a.trace_id a.processors us (slice_set a.parts i new)) et
+    ∙ ap (λ (j : ℕ). state a.trace_id a.processors (slice_set a.taken p (settled (numbers_at a.taken p))) (slice_set a.parts j new)) ei
+    ∙ ap (λ (k : Part). state a.trace_id a.processors (slice_set a.taken p (settled (numbers_at a.taken p))) (slice_set a.parts p k)) whole
     ∙ ap (λ (x : State). settled_with x p folded) ea

@@ -9,6 +9,7 @@ pub mod Runs
 pub mod Folds
 pub mod Counted
 pub mod Compacts
+pub mod Workers
 pub mod Merges
 pub mod United
 pub mod Determined

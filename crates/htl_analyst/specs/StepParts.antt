@@ -1,5 +1,6 @@
 -- Parts of a merge and of a compaction.
-use Rattle.std.specs.Prelude.{◌≡◌, ℕ, ◌+◌, ◌-◌, ◌*◌, ◌<◌, ◌⊎◌, List, [], ◌++◌, map, Contains, drop, take, length}
+use Rattle.std.specs.Prelude.{◌≡◌, ℕ, ◌+◌, ◌-◌, ◌*◌, ◌^◌, ◌<◌, ◌≤◌, ◌⊎◌, nat_lt, if◌then◌else◌, List, [], ◌++◌, map, Contains}
+use Rattle.std.specs.Prelude.{drop, take, length}
 use Rattle.std.specs.List.{AllByRecursion}
 use Rattle.htl_event.specs.Events.{Event}
 use Rattle.htl_segment.specs.Content.{Content}
@@ -48,3 +49,52 @@ pub record IsCompactedAt (a b : State) (p : ℕ) : Type 0 where
   pub joins : (events : List Event) → (front_at a.taken p ≡ 0 → events ≡ []) → IsFolded (folded_at a.parts p) events
       → IsFolded folded (events ++ run_of a p)
   pub bounded : (most : ℕ) → IsWithin most (folded_at a.parts p) → IsWithin (most + 4096 * run_length a p) folded
+
+-- ---- of a compaction by several workers
+
+-- how many loose numbers go on from the front without a gap
+abbrev pub run_at : Numbers → ℕ
+run_at q = reach_of q - q.front
+
+-- What a fold of the first held segments asks: so many are held, of 4,096 events each at most, and no count outgrows
+-- 64 bits.
+pub record CanFold (run : ℕ) (k : Part) : Type 0 where
+  pub within : run ≤ length k.held
+  pub few : length (all_events (take run k.held)) ≤ 4096 * run
+  pub most : ℕ
+  pub bounded : IsWithin most k.folded
+  pub fits : most + 4096 * run < 2 ^ 64
+
+-- the fold of what was folded and of the first held segments, of these alone where the front is 0
+pub record IsFoldedWith (front run : ℕ) (k : Part) (folded : Folded) : Type 0 where
+  pub joins : (events : List Event) → (front ≡ 0 → events ≡ []) → IsFolded k.folded events
+      → IsFolded folded (events ++ all_events (take run k.held))
+  pub bounded : (most : ℕ) → IsWithin most k.folded → IsWithin (most + 4096 * run) folded
+
+-- the part's run, which is not empty, is folded in it
+pub record IsRunFolded (q : Numbers) (k l : Part) : Type 0 where
+  pub some : 0 < run_at q
+  pub folded : Folded
+  pub is : l ≡ part (drop (run_at q) k.held) folded
+  pub with_run : IsFoldedWith q.front (run_at q) k folded
+
+-- a part that a worker had: its run is folded, or it is as it was
+abbrev pub IsWorked : Numbers → Part → Part → Type 0
+IsWorked q k l = (l ≡ k) ⊎ IsRunFolded q k l
+
+-- the front moved if the run was folded in the part, which then holds fewer segments than there are loose numbers
+abbrev pub moved : Numbers → Part → Numbers
+moved q l = if nat_lt (length l.held) (length q.loose) then settled q else q
+
+-- of one processor: the run is folded and the front moved over it, or all is as it was
+abbrev pub IsFurtherAt : Numbers → Part → Numbers → Part → Type 0
+IsFurtherAt q k r l = ((r ≡ q) × (l ≡ k)) ⊎ ((r ≡ settled q) × IsRunFolded q k l)
+
+-- the runs of some processors are folded, and their fronts moved over them
+pub record IsFurther (a b : State) : Type 0 where
+  pub trace_id : b.trace_id ≡ a.trace_id
+  pub processors : b.processors ≡ a.processors
+  pub places : length b.taken ≡ length a.taken
+  pub parts : length b.parts ≡ length a.parts
+  pub each : (p : ℕ) → p < a.processors
+      → IsFurtherAt (numbers_at a.taken p) (part_at a.parts p) (numbers_at b.taken p) (part_at b.parts p)

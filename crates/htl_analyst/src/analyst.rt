@@ -33,10 +33,8 @@ impl<A: Allocator> Model for Analyst<A> {
 
 impl<A: Allocator> Analyst<A> {
     ghost use Rattle.std.specs.Prelude.{◌≡◌, ◌↔◌, ◌<◌, ◌^◌, ℕ, length, map, sum_by, IsTrue};
-    ghost use Rattle.std.specs.Prelude.{IfSome, IfNone};
-    ghost use Rattle.std.specs.Prelude.{Contains};
     ghost use Rattle.htl_taken.specs.Numbers.{numbers_at, front_at};
-    ghost use Rattle.htl_analyst.specs.States.{part_at, held_at};
+    ghost use Rattle.htl_analyst.specs.States.{part_at, folded_at};
     ghost use Rattle.htl_answers.specs.Parts.{AreEventsOf, size_of_all};
     ghost use Rattle.htl_analyst.specs.Keys.{keys, number_taken};
     ghost use Rattle.htl_analyst.specs.TakenEvents.{taken_events, contents_of, events_kept};
@@ -44,7 +42,8 @@ impl<A: Allocator> Analyst<A> {
     ghost use Rattle.htl_analyst.specs.Same.{IsSame, IsSamePart};
     ghost use Rattle.htl_segment.specs.Traces.{Trace};
     ghost use Rattle.htl_segment.specs.Rising.{SequencesRise};
-    ghost use Rattle.htl_analyst.specs.Moments.{IsLeastKept, IsLeastLastFolded, NothingMissing};
+    ghost use Rattle.htl_analyst.specs.Moments.{IsLastFolded, IsLeastKept, IsLeastLastFolded};
+    ghost use Rattle.htl_analyst.specs.Moments.{NothingMissing};
 
     /// The number that all segments of the trace share.
     pub fn trace_id(&self) -> u64
@@ -129,6 +128,19 @@ impl<A: Allocator> Analyst<A> {
             return false;
         }
         self.parts_are_same(other)
+    }
+
+    /// The greatest sequence that was folded of the processor: 0 where there is none, or no such
+    /// processor.
+    pub fn last_folded(&self, processor: u16) -> u64
+        ensures kept { result ≡ (folded_at self.now.parts processor).last_sequence }
+        ensures last { (T : Trace) → IsRight self.now T → processor < self.now.processors
+            → IsLastFolded T self.now processor result }
+    {
+        if processor >= self.processors {
+            return 0;
+        }
+        self.part(processor).folded().last_sequence()
     }
 
     /// The moment up to which nothing of the trace is missing, where sequences rise along each

@@ -1,24 +1,28 @@
 //! Compaction: it folds the segments that follow the fronts without a gap.
-ghost use Rattle.std.specs.Prelude.{◌≡◌, ◌≤◌, length, drop};
+ghost use Rattle.std.specs.Prelude.{◌≡◌, ◌≤◌, ◌<◌, ℕ, length, drop, slice_set};
+ghost use Rattle.htl_taken.specs.Numbers.{numbers_at};
+ghost use Rattle.htl_analyst.specs.States.{part_at};
+ghost use Rattle.htl_analyst.specs.StepParts.{CanFold, IsWorked, run_at, moved};
 
 use crate::analyst::Analyst;
 use crate::folded::Folded;
+use crate::part::Part;
 use htl_event::NoMemory;
 use htl_segment::Segment;
-use std::alloc::Allocator;
+use htl_taken::Taken;
+use std::alloc::{Allocator, Global};
+use std::thread::{Threads, for_each_mut};
 
 impl<A: Allocator + Clone> Analyst<A> {
-    ghost use Rattle.std.specs.Prelude.{◌≡◌, ◌↔◌, ◌<◌, ◌≤◌, ◌+◌, ◌*◌, ◌++◌, ℕ, List, [], IfOk};
-    ghost use Rattle.std.specs.Prelude.{OnOk, OnErr, Contains};
-    ghost use Rattle.htl_event.specs.Events.{Event};
+    ghost use Rattle.std.specs.Prelude.{◌≡◌, ◌↔◌, ◌<◌, ◌≤◌, ◌+◌, ◌*◌, ℕ, OnOk, OnErr, Contains};
     ghost use Rattle.htl_segment.specs.Content.{Content};
     ghost use Rattle.htl_segment.specs.Traces.{Trace};
     ghost use Rattle.htl_taken.specs.Numbers.{front_at};
     ghost use Rattle.htl_analyst.specs.States.{held_at, folded_at};
     ghost use Rattle.htl_analyst.specs.Keys.{HasTaken, number_taken};
-    ghost use Rattle.htl_analyst.specs.Right.{IsFolded, IsWithin, IsRight, IsStanding};
+    ghost use Rattle.htl_analyst.specs.Right.{IsWithin, IsRight, IsStanding};
     ghost use Rattle.htl_analyst.specs.Moments.{NeverFalls};
-    ghost use Rattle.htl_analyst.specs.StepParts.{IsCompactedAt, run_length, run_of, settled_with};
+    ghost use Rattle.htl_analyst.specs.StepParts.{IsCompactedAt, run_length, settled_with};
 
     /// Moves every front to the least number that wasn't taken. The held segments below it are
     /// folded and dropped. After out of memory some fronts may have moved, and the keys are as
@@ -51,35 +55,14 @@ impl<A: Allocator + Clone> Analyst<A> {
         ensures ok { OnOk result (IsCompactedAt self.old self.new processor) }
         ensures err { OnErr result (self.new ≡ self.old) }
     {
-        let run = (self.taken.reach(processor) - self.taken.front(processor)) as usize;
+        let front = self.taken.front(processor);
+        let run = (self.taken.reach(processor) - front) as usize;
         if run == 0 {
             return Ok(());
         }
-        let folded = self.folded(processor, run)?;
+        let folded = self.part(processor).folded_with(front, run)?;
         self.settle(processor, run, folded);
         Ok(())
-    }
-
-    /// The fold of the processor, with the run after it folded too.
-    fn folded(&self, processor: u16, run: usize) -> Result<Folded<A>, NoMemory>
-        requires here { processor < self.now.processors }
-        requires run { run ≡ run_length self.now processor }
-        ensures joins { IfOk result (λ folded. (events : List Event)
-            → (front_at self.now.taken processor ≡ 0 → events ≡ [])
-            → IsFolded (folded_at self.now.parts processor) events
-            → IsFolded folded (events ++ run_of self.now processor)) }
-        ensures bounded { IfOk result (λ folded. (most : ℕ)
-            → IsWithin most (folded_at self.now.parts processor)
-            → IsWithin (most + 4096 * run_length self.now processor) folded) }
-    {
-        let part = self.part(processor);
-        let alloc = self.parts.allocator().clone()?;
-        let newer = Folded::of(alloc, &part.held()[..run])?;
-        if self.front(processor) == 0 {
-            return Ok(newer);
-        }
-        let both = part.folded().joined(&newer)?;
-        Ok(both)
     }
 
     /// Moves the front of one processor to its reach, and keeps the fold of all segments below it.
@@ -91,9 +74,144 @@ impl<A: Allocator + Clone> Analyst<A> {
         ensures { self.new ≡ settled_with self.old processor folded }
     {
         self.taken.settle(processor);
-        let part = &mut self.parts[usize::from(processor)];
-        part.folded = folded;
-        drop_front(&mut part.held, run);
+        self.parts[usize::from(processor)].settle(run, folded);
+    }
+}
+
+impl Analyst<Global> {
+    ghost use Rattle.std.specs.Prelude.{◌≡◌, ◌↔◌, ◌≤◌, ℕ, OnOk, Contains};
+    ghost use Rattle.htl_segment.specs.Content.{Content};
+    ghost use Rattle.htl_segment.specs.Traces.{Trace};
+    ghost use Rattle.htl_taken.specs.Numbers.{front_at};
+    ghost use Rattle.htl_analyst.specs.States.{held_at};
+    ghost use Rattle.htl_analyst.specs.Keys.{HasTaken, number_taken};
+    ghost use Rattle.htl_analyst.specs.Right.{IsState, IsRight, IsStanding};
+    ghost use Rattle.htl_analyst.specs.Moments.{NeverFalls};
+    ghost use Rattle.htl_analyst.specs.StepParts.{IsFurther};
+
+    /// The same as `compact`, by so many workers, each of which folds the runs of some processors.
+    /// Where threads are refused, or a worker finds no memory, one worker does what is left.
+    pub fn compact_by<T: Threads + Sync>(&mut self, rt: &T, workers: u32) -> Result<(), NoMemory>
+        ensures keys { (p n : ℕ) → HasTaken self.new p n ↔ HasTaken self.old p n }
+        ensures settled { OnOk result ((p : ℕ)
+            → HasTaken self.new p (front_at self.new.taken p) → ⊥) }
+        ensures trace { (self.new.trace_id ≡ self.old.trace_id)
+            × (self.new.processors ≡ self.old.processors) }
+        ensures fronts { (p : ℕ) → front_at self.old.taken p ≤ front_at self.new.taken p }
+        ensures held { (p : ℕ) (s : Content) → Contains (held_at self.new.parts p) s
+            → Contains (held_at self.old.parts p) s }
+        ensures number { number_taken self.new ≡ number_taken self.old }
+
+        // A trace that the state is right about.
+        ensures right { (T : Trace) → IsRight self.old T → IsRight self.new T }
+        ensures standing { OnOk result ((T : Trace) → IsRight self.old T → IsStanding self.new T) }
+        ensures never_falls { (T : Trace) → IsRight self.old T → NeverFalls self.old self.new }
+    {
+        self.fold_by(rt, workers);
+        self.compact()
+    }
+
+    /// Folds the runs of the processors by so many workers, as far as these find memory. One worker
+    /// alone has none to share them with, and leaves them.
+    fn fold_by<T: Threads + Sync>(&mut self, rt: &T, workers: u32)
+        ensures further { IsFurther self.old self.new }
+        ensures state { IsState self.old }
+    {
+        if workers < 2 || self.processors < 2 {
+            return;
+        }
+        fold_parts(rt, workers as usize, &self.taken, &mut self.parts);
+        move_fronts(&mut self.taken, &self.parts, self.processors);
+    }
+}
+
+/// Folds the runs of the parts by so many workers, each of which has some parts. A part for whose run
+/// there is no memory stays as it was. No front moves.
+fn fold_parts<T: Threads + Sync>(
+    rt: &T,
+    workers: usize,
+    taken: &Taken<Global>,
+    parts: &mut [Part<Global>],
+)
+    requires some { 0 < workers }
+    requires few { length parts.old ≤ 256 }
+    requires can { (p : ℕ) → p < length parts.old
+        → CanFold (run_at (numbers_at taken.now p)) (part_at parts.old p) }
+    ensures { (p : ℕ) → p < length parts.old
+        → IsWorked (numbers_at taken.now p) (part_at parts.old p) (part_at parts.new p) }
+{
+    let fold = |place: usize, part: &mut Part<Global>|
+        requires { (place < 256) × CanFold (run_at (numbers_at taken.now place)) part.old }
+        ensures { IsWorked (numbers_at taken.entry.now place) part.old part.new }
+    { fold_part(taken, place as u16, part) };
+    for_each_mut(rt, parts, workers, &fold);
+}
+
+/// Folds the run of one processor in its part, where there is memory for it.
+fn fold_part(taken: &Taken<Global>, processor: u16, part: &mut Part<Global>)
+    requires { CanFold (run_at (numbers_at taken.now processor)) part.old }
+    ensures { IsWorked (numbers_at taken.now processor) part.old part.new }
+{
+    let front = taken.front(processor);
+    let run = (taken.reach(processor) - front) as usize;
+    if run == 0 {
+        return;
+    }
+    if let Ok(folded) = part.folded_with(front, run) {
+        part.settle(run, folded);
+    }
+}
+
+/// Moves the fronts over the runs that were folded.
+fn move_fronts(taken: &mut Taken<Global>, parts: &[Part<Global>], processors: u16)
+    requires { processors ≤ length parts.now }
+    ensures len { length taken.new ≡ length taken.old }
+    ensures each { (p : ℕ) → p < processors → p < length taken.old → numbers_at taken.new p
+        ≡ moved (numbers_at taken.old p) (part_at parts.now p) }
+{
+    for processor in 0..processors {
+        move_front(taken, &parts[usize::from(processor)], processor);
+    }
+}
+
+/// Moves the front of one processor if its run was folded: then fewer segments are held than
+/// numbers are loose.
+fn move_front(taken: &mut Taken<Global>, part: &Part<Global>, processor: u16)
+    ensures { taken.new ≡ slice_set taken.old processor
+        (moved (numbers_at taken.old processor) part.now) }
+{
+    if part.held().len() < taken.loose(processor).len() {
+        taken.settle(processor);
+    }
+}
+
+impl<A: Allocator + Clone> Part<A> {
+    ghost use Rattle.std.specs.Prelude.{◌≡◌, ◌≤◌, length, drop, IfOk};
+    ghost use Rattle.htl_analyst.specs.States.{part};
+    ghost use Rattle.htl_analyst.specs.StepParts.{CanFold, IsFoldedWith};
+
+    /// The fold of the part with its first held segments folded too. Where the front is 0 nothing was
+    /// folded before.
+    fn folded_with(&self, front: u32, run: usize) -> Result<Folded<A>, NoMemory>
+        requires { CanFold run self.now }
+        ensures { IfOk result (IsFoldedWith front run self.now) }
+    {
+        let alloc = self.held.allocator().clone()?;
+        let newer = Folded::of(alloc, &self.held()[..run])?;
+        if front == 0 {
+            return Ok(newer);
+        }
+        let both = self.folded().joined(&newer)?;
+        Ok(both)
+    }
+
+    /// Keeps a fold in which the first held segments are, and drops these.
+    fn settle(&mut self, run: usize, folded: Folded<A>)
+        requires { run ≤ length self.old.held }
+        ensures { self.new ≡ part (drop run self.old.held) folded }
+    {
+        self.folded = folded;
+        drop_front(&mut self.held, run);
     }
 }
 

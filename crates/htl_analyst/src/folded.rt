@@ -97,7 +97,7 @@ impl<A: Allocator> Folded<A> {
 }
 
 impl<A: Allocator + Clone> Folded<A> {
-    ghost use Rattle.std.specs.Prelude.{◌≡◌, ◌++◌, ◌≤◌, ◌<◌, ◌+◌, ◌*◌, ◌^◌, ℕ, List, length, IfOk};
+    ghost use Rattle.std.specs.Prelude.{◌≡◌, ◌++◌, ◌<◌, ◌+◌, ◌^◌, ℕ, List, length, IfOk};
     ghost use Rattle.htl_event.specs.Events.{Event};
     ghost use Rattle.htl_segment.specs.Traces.{all_events};
     ghost use Rattle.htl_tree.specs.Trees.{total_count};

@@ -58,11 +58,12 @@ module _ {S Host : Type 0} {answers : Answers S} {wanted : Bool} {told : Host �
         taken None is = absurd is
         taken (Some later) is = so_far.is ∙ ap (λ l. so_far.read ++ l) is ∙ sym (append_assoc so_far.read begun.bytes later)
 
-    -- a line was awaited
-    pub stopped : (after : Option (List ℕ)) (mid : Host) (failed : Bool) (fault : DialogueFault) → mid ≡ told now awaits
-        → IsBeforeReply fault → (failed ≡ true → AreRead text after so_far.lines)
+    -- the lines so far are all that got their replies
+    stops_here : (after : Option (List ℕ)) (mid : Host) (failed : Bool) (fault : DialogueFault)
+        → GotAt answers state failed (Gets old new told host mid) fault (asked_lines so_far.rest) so_far.are.replies so_far.are.notes
+        → (failed ≡ true → AreRead text after so_far.lines)
         → StopsAt answers wanted initial text after failed (Gets old new told host mid) fault
-    stopped after mid failed fault waited is in_time = record {
+    stops_here after mid failed fault got in_time = record {
       earlier = so_far.lines;
       later = asked_lines so_far.rest;
       cut = cut_at;
@@ -70,9 +71,15 @@ module _ {S Host : Type 0} {answers : Answers S} {wanted : Bool} {told : Host �
       replies = so_far.are.replies;
       notes = so_far.are.notes;
       exchanged = so_far.are.exchanged;
-      got = went fault is;
+      got = got;
       in_time = in_time;
     }
+
+    -- a line was awaited
+    pub stopped : (after : Option (List ℕ)) (mid : Host) (failed : Bool) (fault : DialogueFault) → mid ≡ told now awaits
+        → IsBeforeReply fault → (failed ≡ true → AreRead text after so_far.lines)
+        → StopsAt answers wanted initial text after failed (Gets old new told host mid) fault
+    stopped after mid failed fault waited is in_time = stops_here after mid failed fault (went fault is) in_time
       where
         gets : Gets old new told host mid so_far.are.replies (so_far.are.notes ++ awaits ∷ [])
         gets = (so_far.are.written, one_more told host now mid so_far.are.notes so_far.are.heard waited)
@@ -86,17 +93,7 @@ module _ {S Host : Type 0} {answers : Answers S} {wanted : Bool} {told : Host �
     -- or none was
     pub stopped_between : (after : Option (List ℕ)) (failed : Bool) (fault : DialogueFault) → IsBeforeReply fault → failed ≡ false
         → StopsAt answers wanted initial text after failed (Gets old new told host now) fault
-    stopped_between after failed fault is fine = record {
-      earlier = so_far.lines;
-      later = asked_lines so_far.rest;
-      cut = cut_at;
-      state = state;
-      replies = so_far.are.replies;
-      notes = so_far.are.notes;
-      exchanged = so_far.are.exchanged;
-      got = went fault is;
-      in_time = λ bad. cc;
-    }
+    stopped_between after failed fault is fine = stops_here after now failed fault (went fault is) (λ bad. cc)
       where
         gets : Gets old new told host now so_far.are.replies so_far.are.notes
         gets = (so_far.are.written, so_far.are.heard)

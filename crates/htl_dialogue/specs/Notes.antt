@@ -43,7 +43,7 @@ IsFaultIn false arguments fault = IsUsageWith ⊤ fault
 abbrev pub IsFaultBy : List (List ℕ) → ParseFault → Type 0
 IsFaultBy arguments fault = IsFaultIn (not (is_read arguments)) arguments fault
 
--- why a line is wrong, for another reason than want of memory: its arguments are, or it has none
+-- why a line is wrong, which is not that memory was refused: its arguments are, or it has none
 abbrev pub IsFaultOf : List ℕ → ParseFault → Type 0
 IsFaultOf line fault =
     (fault ≢ Memory) × IsFaultIn (is_readable line && not (is_read (arguments_of line))) (arguments_of line) fault

@@ -37,7 +37,7 @@ HasFault IsSuch said.Quits = ⊤
 HasFault IsSuch (said.Asks job) = ⊤
 HasFault IsSuch (said.Reads files) = ⊤
 
--- the same of a fault that is no want of memory
+-- the same of a fault that is not that memory was refused
 abbrev pub HasReason : (ParseFault → Type 0) → Said → Type 0
 HasReason IsSuch = HasFault (λ fault. (fault ≢ Memory) × IsSuch fault)
 

@@ -1,4 +1,4 @@
--- A run that ends before its inputs were read ends for a name that was refused, or for want of memory.
+-- A run that ends before its inputs were read ends for a name that was refused, or since memory was.
 use Rattle.std.proofs.Common.{◌≡◌, subst, sym}
 use Rattle.std.specs.Prelude.{Result, Err}
 use Rattle.htl_main.specs.declared.fault.RunFault.TheVariants.{Memory}

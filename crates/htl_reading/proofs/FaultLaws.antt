@@ -34,6 +34,9 @@ taken_next first mid last segments more rest new piece fits given read next =
     let both = splits_next (taken segments rest) piece rest new segments more (taken_splits segments rest fits) next in
     (both, subst (Consumes first last) (both.parts) (Consumes-trans first mid last (taken segments rest) piece given read))
 
+pub begins_none : IsRest []
+begins_none = record { cut_off = inl (omega arith) }
+
 pub whole_before : (segments : List Content) → All Fits segments → Splits (bundle segments) segments []
 whole_before segments fits = record { parts = sym (append-nil (bundle segments)); fits = fits }
 

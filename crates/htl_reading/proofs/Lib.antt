@@ -1,3 +1,4 @@
 pub mod TakenLaws
 pub mod FaultLaws
+pub mod KeptLaws
 pub mod PartLaws

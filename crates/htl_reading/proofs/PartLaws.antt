@@ -11,8 +11,8 @@ use Rattle.htl_segment.proofs.PiecesLaws.{splits_after}
 use Rattle.htl_reading.specs.Keepers.{TookAll, taken}
 use Rattle.htl_reading.specs.Sources.{IsReadToFault, IsReported}
 use Rattle.htl_reading.specs.declared.fault.SourceFault.TheVariants.{NoMemory}
-use Rattle.htl_reading.proofs.FaultLaws.{first_begins, read_without_fault}
-use Rattle.htl_reading.proofs.TakenLaws.{begins_none, nothing_read}
+use Rattle.htl_reading.proofs.FaultLaws.{begins_none, first_begins, read_without_fault}
+use Rattle.htl_reading.proofs.TakenLaws.{nothing_read}
 use Rattle.std.proofs.lemmas.List.Elements.{All-nil}
 use Rattle.htl_reading.specs.Parts.{ArePartsOf, IsAnother, IsPartOf, TookInOrder}
 use Rattle.htl_reading.specs.declared.parts.Part.{Part}

@@ -1,6 +1,6 @@
 -- What reads come to: the bytes held in a block, and the segments that keepers took.
 use Rattle.std.proofs.Common.{◌≡◌, ◌+◌, ◌-◌, ◌<◌, ◌≤◌, ℕ, Bool, false, List, [], ◌∷◌, ◌++◌, length, drop, take, All, refl, sym, ap, ◌∙◌}
-use Rattle.std.proofs.Common.{append-nil, append_assoc, arith, inl, inr, subst, Option, Some, None, IfSome, Result, Ok, Err, true}
+use Rattle.std.proofs.Common.{append-nil, append_assoc, arith, inr, subst, Option, Some, None, IfSome, Result, Ok, Err, true}
 use Rattle.std.specs.Prelude.{is_err, OnErr}
 use Rattle.std.proofs.KnownBytes.{Consumes-kept, Consumes-nil, Consumes-trans, Consumes-whole}
 use Rattle.std.proofs.lemmas.List.{drop-append-le, drop-drop, drop-take, length-append, length-drop, length-take-le, nil_from_length}
@@ -12,13 +12,15 @@ use Rattle.htl_segment.specs.Content.{Content, Fits}
 use Rattle.htl_segment.specs.Bundles.{bundle, IsRest, RestAt, SegmentAt, Splits}
 use Rattle.htl_segment.specs.declared.fault.Fault.TheVariants as faults
 use Rattle.htl_reading.specs.declared.fault.SourceFault.{SourceFault}
-use Rattle.htl_reading.specs.declared.fault.SourceFault.TheVariants.{NoMemory}
-use Rattle.htl_reading.specs.Keepers.{IsTakenOff, IsTakenTo, TookToEnd, taken}
-use Rattle.htl_reading.specs.Blocks.{IsReadBehind, IsRefusedAt}
+use Rattle.htl_reading.specs.declared.fault.SourceFault.TheVariants.{NoMemory, Read}
+use Rattle.htl_reading.specs.Keepers.{IsTakenOff, IsTakenTo, taken}
+use Rattle.htl_reading.specs.Blocks.{IsKeptAt, IsReadBehind, IsRefusedAt}
 use Rattle.htl_reading.specs.Sources.{IsLeft, IsReadToFault, IsReported}
-use Rattle.htl_reading.specs.declared.outcome.Bundle.{Bundle}
-use Rattle.htl_reading.proofs.FaultLaws.{first_begins, given_many, read_more, read_without_fault, refusal_reported, taken_next}
-use Rattle.htl_reading.proofs.FaultLaws.{taken_splits}
+use Rattle.htl_reading.specs.Taking.{TookBefore, TookToEnd}
+use Rattle.htl_reading.specs.declared.outcome.EarlyEnd.{EarlyEnd}
+use Rattle.htl_reading.proofs.FaultLaws.{begins_none, first_begins, given_many, read_more, read_without_fault, refusal_reported}
+use Rattle.htl_reading.proofs.FaultLaws.{taken_next, taken_splits}
+use Rattle.htl_reading.proofs.KeptLaws.{kept_read, kept_refused}
 
 -- ---- the bytes between two places of a block
 
@@ -155,12 +157,12 @@ module _ {S K : Type 0} {gathers : S → K → List Content → Type 0} {old new
 
   -- ---- the end of a source
 
-  pub taken_to_end : (got : Bundle K) → IsAtEnd left → got.segments ≡ new
-      → ((segments : List Content) → offset ≡ length (bundle segments) → IsRest rest → IsLeft segments rest got.early_end)
-      → IfSome given (TookToEnd gathers old got)
-  taken_to_end got end kept is_left =
-      Consumes-whole given left (taken at.segments rest) (TookToEnd gathers old got) at.read end
-      (at.segments, rest, taken_splits at.segments rest at.fits, is_left at.segments at.offset_is at.is_rest, rw kept at.took)
+  pub taken_to_end : (early_end : Option EarlyEnd) → IsAtEnd left
+      → ((segments : List Content) → offset ≡ length (bundle segments) → IsRest rest → IsLeft segments rest early_end)
+      → IfSome given (TookToEnd gathers old new early_end)
+  taken_to_end early_end end is_left =
+      Consumes-whole given left (taken at.segments rest) (TookToEnd gathers old new early_end) at.read end
+      (at.segments, rest, taken_splits at.segments rest at.fits, is_left at.segments at.offset_is at.is_rest, at.took)
 
   -- ---- what is reported
 
@@ -176,6 +178,22 @@ module _ {S K : Type 0} {gathers : S → K → List Content → Type 0} {old new
   pub taken_memory : (ended : Bool) → 0 < reads → ended ≡ false → IfSome given (λ bytes. IsReported left ended bytes NoMemory)
   taken_memory ended some not_ended =
       asked given left ended at.segments rest at.fits at.is_rest at.read (omega (arith, some, at.each)) not_ended
+
+  -- ---- what is kept
+
+  -- where a read fails
+  pub taken_before : IfSome given (λ bytes. TookBefore gathers old new left bytes Read)
+  taken_before = kept_read gathers old new given left at.segments rest at.fits at.is_rest at.read at.took
+
+  -- where what was held, and read after it, was refused
+  pub taken_before_refused : {next : K} {last : Option (List ℕ)} {held : List ℕ} {count : ℕ} (fault : SourceFault)
+      → IsReadBehind left last rest held count
+      → IsKeptAt gathers new next offset held fault
+      → IfSome given (λ bytes. TookBefore gathers old next last bytes fault)
+  taken_before_refused {next = next} {last = last} {held = held} fault behind kept =
+      kept_refused gathers old new next given last at.segments held offset fault at.fits at.offset_is (read_behind behind) at.took kept
+
+  -- ---- how many bytes were read
 
   -- each read gave some bytes
   pub taken_many : (most : ℕ) → most ≤ reads → IfSome given (λ bytes. most ≤ length bytes)
@@ -194,9 +212,6 @@ module _ {S K : Type 0} {gathers : S → K → List Content → Type 0} {old new
       read_more most given left last at.segments rest behind.more at.fits at.is_rest at.read behind.read (omega (arith, behind.count_is, few))
 
 -- ---- the first read
-
-pub begins_none : IsRest []
-begins_none = record { cut_off = inl (omega arith) }
 
 -- no segment was taken before it
 taken_none : {S K : Type 0} {gathers : S → K → List Content → Type 0} (old : K) (given : Option (List ℕ))

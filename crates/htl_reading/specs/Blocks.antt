@@ -1,10 +1,11 @@
 -- For the clauses of private functions: a block of bytes that are read and taken, and how their faults are reported.
-use Rattle.std.specs.Prelude.{◌≡◌, ◌+◌, ◌≤◌, ℕ, List, ◌++◌, length, drop, Option}
+use Rattle.std.specs.Prelude.{◌≡◌, ◌≢◌, ◌+◌, ◌≤◌, ℕ, List, ◌++◌, length, drop, Option}
 use Rattle.std.specs.Io.KnownBytes.{Consumes, IsAtEnd}
 use Rattle.htl_segment.specs.declared.fault.Fault.{Fault}
 use Rattle.htl_segment.specs.declared.fault.Fault.TheVariants as faults
 use Rattle.htl_segment.specs.Content.{Content}
 use Rattle.htl_segment.specs.Bundles.{IsRefused}
+use Rattle.htl_segment.specs.Keepers.{TookUpTo}
 use Rattle.htl_reading.specs.Keepers.{IsTakenOff}
 use Rattle.htl_reading.specs.declared.fault.SourceFault.{SourceFault}
 use Rattle.htl_reading.specs.declared.fault.SourceFault.TheVariants.{Segment, NoMemory}
@@ -46,3 +47,9 @@ pub record IsTakenIn {S K : Type 0} (gathers : S → K → List Content → Type
 abbrev pub IsRefusedAt : ℕ → List ℕ → SourceFault → Type 0
 IsRefusedAt offset bytes reported =
     (inside : ℕ) × (fault : Fault) × IsRefused bytes inside fault × (reported ≡ of_segment (offset + inside) fault)
+
+-- what was taken of the bytes at an offset where this is reported of them: the segments before the refused one, unless memory was refused
+abbrev pub IsKeptAt : {S K : Type 0} → (S → K → List Content → Type 0) → K → K → ℕ → List ℕ → SourceFault → Type 0
+IsKeptAt gathers old new offset bytes reported =
+    (inside : ℕ) × (fault : Fault) × (fault ≢ faults.NoMemory → TookUpTo gathers old new bytes inside)
+    × (reported ≡ of_segment (offset + inside) fault)

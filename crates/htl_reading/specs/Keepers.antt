@@ -3,27 +3,15 @@ use Rattle.std.specs.Prelude.{◌≡◌, ◌≤◌, ℕ, List, ◌++◌, [], len
 use Rattle.std.specs.Io.KnownBytes.{Consumes}
 use Rattle.htl_segment.specs.Content.{Content, Fits}
 use Rattle.htl_segment.specs.Bundles.{IsRest, Splits, bundle}
-use Rattle.htl_reading.specs.Sources.{IsLeft}
-use Rattle.htl_reading.specs.declared.outcome.Bundle.{Bundle}
+use Rattle.htl_segment.specs.Keepers.{Took}
 
 -- the bytes that were taken in: those of the segments, and others after them
 abbrev pub taken : List Content → List ℕ → List ℕ
 taken segments bytes = bundle segments ++ bytes
 
--- it took these segments, after whichever it took before
-abbrev pub Took : {S K : Type 0} → (S → K → List Content → Type 0) → K → K → List Content → Type 0
-Took {S} gathers old new segments =
-    (kind : S) (before : List Content) → gathers kind old before → gathers kind new (before ++ segments)
-
 -- it took the segments that these bytes are
 abbrev pub TookAll : {S K : Type 0} → (S → K → List Content → Type 0) → K → K → List ℕ → Type 0
 TookAll gathers old new bytes = (segments : List Content) × Splits bytes segments [] × Took gathers old new segments
-
--- it took the segments that these bytes begin with, and what is left behind them is told
-abbrev pub TookToEnd : {S K : Type 0} → (S → K → List Content → Type 0) → K → Bundle K → List ℕ → Type 0
-TookToEnd gathers old new bytes =
-    (segments : List Content) × (rest : List ℕ) × Splits bytes segments rest × IsLeft segments rest new.early_end
-    × Took gathers old new.segments segments
 
 -- it took the segments that so many bytes in front are, and the others begin no whole one
 pub record IsTakenOff {S K : Type 0} (gathers : S → K → List Content → Type 0) (old new : K) (bytes : List ℕ) (len : ℕ) : Type 0 where

@@ -1,5 +1,6 @@
 -- What public contracts cite.
 pub mod Sources
+pub mod Taking
 -- What only private contracts cite.
 pub mod Keepers
 pub mod Parts

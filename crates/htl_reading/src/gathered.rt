@@ -2,65 +2,54 @@
 
 ghost use Rattle.std.specs.Prelude.{◌≡◌, ◌≢◌, ◌+◌, ◌*◌, ◌<◌, ◌≤◌, ◌^◌, ℕ, List, [], Option, Err};
 ghost use Rattle.std.specs.Prelude.{IfOk, IfErr, IfSome, OnOk, false, true, length};
-ghost use Rattle.htl_segment.specs.Bundles.{IsRest, bundle};
-ghost use Rattle.htl_segment.specs.Content.{Content};
-ghost use Rattle.htl_reading.specs.Blocks.{IsRefusedAt, IsTakenIn};
-ghost use Rattle.htl_reading.specs.Keepers.{IsTakenOff, IsTakenTo, TookToEnd};
-ghost use Rattle.htl_reading.specs.Sources.{FailsOnly, IsLeft, IsReadToFault, IsReported};
+ghost use Rattle.htl_reading.specs.Blocks.{IsKeptAt, IsRefusedAt, IsTakenIn};
+ghost use Rattle.htl_reading.specs.Keepers.{IsTakenOff, IsTakenTo};
+ghost use Rattle.htl_reading.specs.Sources.{FailsOnly, IsReadToFault, IsReported};
+ghost use Rattle.htl_reading.specs.Taking.{TookBefore, TookToEnd};
 ghost use Rattle.htl_reading.specs.declared.fault.SourceFault.TheVariants.{Read};
 
 use crate::block::Block;
 use crate::fault::SourceFault;
-use crate::outcome::{Bundle, early_end};
+use crate::outcome::{EarlyEnd, early_end};
 use htl_device::{MAX_READ_LEN, Source};
 use htl_segment::{Keeper, split};
 use std::alloc::Global;
 
-/// What was gathered from a source: the keeper with the segments that it took, and the bytes after
-/// these.
+/// What was gathered from a source: the number of bytes whose segments a keeper took, and the bytes
+/// after these.
 #[derive(Drop)]
-pub struct Gathered<K> {
-    pub keeper: K,
+pub struct Gathered {
     /// The offset of the block among all bytes.
     pub offset: u64,
     pub block: Block,
 }
 
-impl<K: Keeper + Drop> Gathered<K> {
-    /// Takes the segments at the front of the block.
-    fn take(&mut self, alloc: Global) -> Result<(), SourceFault>
+impl Gathered {
+    /// Has a keeper take the segments at the front of the block.
+    fn take<K: Keeper>(&mut self, alloc: Global, keeper: &mut K) -> Result<(), SourceFault>
         requires { self.old.offset + length self.old.block.held < 2 ^ 64 }
-        ensures ok { OnOk result (IsTakenIn K.gathers self.old.keeper self.new.keeper
+        ensures ok { OnOk result (IsTakenIn K.gathers keeper.old keeper.new
             self.old.block.held self.new.block.held self.old.offset self.new.offset) }
         ensures err { IfErr result (IsRefusedAt self.old.offset self.old.block.held) }
+        ensures kept { IfErr result
+            (IsKeptAt K.gathers keeper.old keeper.new self.old.offset self.old.block.held) }
         ensures no_read { result ≢ Err Read }
     {
-        let len = take_front(alloc, &mut self.keeper, self.offset, self.block.held())?;
+        let len = take_front(alloc, keeper, self.offset, self.block.held())?;
         self.block.consume(len);
         self.offset += len as u64;
         Ok(())
     }
 
-    /// Ends the gathering where a source has ended.
-    fn finish(self) -> Bundle<K>
-        ensures kept { result.segments ≡ self.keeper }
-        ensures end { (segments : List Content) → self.offset ≡ length (bundle segments)
-            → IsRest self.block.held → IsLeft segments self.block.held result.early_end }
-    {
-        let early_end = early_end(self.offset, self.block.held());
-        Bundle {
-            segments: self.keeper,
-            early_end,
-        }
-    }
-
-    /// Reads a source on to its end, after one read that gave bytes. At most `most` reads give bytes.
-    pub fn read_on<R: Source>(
+    /// Reads a source on to its end, after one read that gave bytes, and has a keeper take its
+    /// segments. At most `most` reads give bytes.
+    pub fn read_on<R: Source, K: Keeper>(
         mut self,
         alloc: Global,
         most: u64,
         source: &mut R,
-    ) -> Result<Bundle<K>, SourceFault>
+        keeper: &mut K,
+    ) -> Result<Option<EarlyEnd>, SourceFault>
         requires fresh { R.has_failed source.old ≡ false }
         requires inside { R.has_ended source.old ≡ false }
         requires some { 0 < most }
@@ -69,23 +58,27 @@ impl<K: Keeper + Drop> Gathered<K> {
         requires each { 1 ≤ self.offset + length self.block.held }
         requires counted { 1 ≤ R.good_reads source.old }
         ensures ok { (start : K) (given : Option (List ℕ)) → IsTakenTo K.gathers
-            start self.keeper given (R.remaining source.old) self.block.held self.offset 1
-            → IfOk result (λ bundle. IfSome given (TookToEnd K.gathers start bundle)) }
+            start keeper.old given (R.remaining source.old) self.block.held self.offset 1
+            → IfOk result (λ early_end. IfSome given (TookToEnd K.gathers start keeper.new early_end)) }
         ensures err { (start : K) (given : Option (List ℕ)) → IsTakenTo K.gathers
-            start self.keeper given (R.remaining source.old) self.block.held self.offset 1
+            start keeper.old given (R.remaining source.old) self.block.held self.offset 1
             → IfErr result (λ fault. IfSome given (λ bytes.
             IsReported (R.remaining source.new) (R.has_ended source.new) bytes fault)) }
+        ensures kept { (start : K) (given : Option (List ℕ)) → IsTakenTo K.gathers
+            start keeper.old given (R.remaining source.old) self.block.held self.offset 1
+            → IfErr result (λ fault. IfSome given (λ bytes.
+            TookBefore K.gathers start keeper.new (R.remaining source.new) bytes fault)) }
         ensures ended { OnOk result (R.has_ended source.new ≡ true) }
         ensures reported { R.has_failed source.new ≡ true → result ≡ Err Read }
         ensures read { (start : K) (given : Option (List ℕ)) → IsTakenTo K.gathers
-            start self.keeper given (R.remaining source.old) self.block.held self.offset 1
+            start keeper.old given (R.remaining source.old) self.block.held self.offset 1
             → FailsOnly (R.has_failed source.new) (R.good_reads source.new) given most result }
         ensures no_fault { (start : K) (given : Option (List ℕ)) → IsTakenTo K.gathers
-            start self.keeper given (R.remaining source.old) self.block.held self.offset 1
+            start keeper.old given (R.remaining source.old) self.block.held self.offset 1
             → result ≡ Err Read → IsReadToFault 0 given (R.remaining source.new) }
         ensures bounded { R.good_reads source.new + 1 ≤ R.good_reads source.old + most }
         ensures to_fault { (start : K) (given : Option (List ℕ)) → IsTakenTo K.gathers
-            start self.keeper given (R.remaining source.old) self.block.held self.offset 1
+            start keeper.old given (R.remaining source.old) self.block.held self.offset 1
             → IsReadToFault MAX_READ_LEN given (R.remaining source.new) }
     {
         for _reads in 1..most {
@@ -94,9 +87,9 @@ impl<K: Keeper + Drop> Gathered<K> {
                 return Err(SourceFault::Read);
             };
             if count == 0 {
-                return Ok(self.finish());
+                return Ok(early_end(self.offset, self.block.held()));
             }
-            self.take(alloc)?;
+            self.take(alloc, keeper)?;
         }
         Err(SourceFault::Read)
     }
@@ -114,6 +107,7 @@ pub fn take_front<K: Keeper>(
     ensures ok { IfOk result (IsTakenOff K.gathers keeper.old keeper.new bytes.now) }
     ensures inside { IfOk result (λ len. len ≤ length bytes.now) }
     ensures err { IfErr result (IsRefusedAt offset bytes.now) }
+    ensures kept { IfErr result (IsKeptAt K.gathers keeper.old keeper.new offset bytes.now) }
     ensures no_read { result ≢ Err Read }
 {
     match split(alloc, keeper, bytes) {

@@ -1,11 +1,11 @@
 //! The segments that a source gives, by one worker or by several.
 //!
 //! One worker reads into a block in which it checks the segments, and a keeper takes them from there.
-//! Where a source can be read from several places at once, several workers read a part of its bytes
-//! each, with a keeper of its own, and what the keepers took goes over to the first one in order. A
-//! part begins where a segment seems to. Whatever is wrong with a part, its bytes or its place, one
-//! worker then reads the source as if nothing had been read of it, and so each fault is what it
-//! reports.
+//! It is lent the keeper, which so has the segments before a fault. Where a source can be read from
+//! several places at once, several workers read a part of its bytes each, with a keeper of its own, and
+//! what the keepers took goes over to the first one in order. A part begins where a segment seems to.
+//! Whatever is wrong with a part, its bytes or its place, one worker then reads the source as if
+//! nothing had been read of it, and so each fault is what it reports.
 //!
 //! A source that ends within a segment gives the whole segments before it, and says where that is. The
 //! crates above decide whether they refuse such an end.
@@ -15,8 +15,9 @@
 //! puts behind those that are held), `gathered.rt` (reading on by one worker), `parts.rt` (several
 //! workers), `starts.rt` (where their parts begin).
 //!
-//! `specs/Sources` says what is left at the end, what is reported and how far a source is read. In
-//! `proofs/`, `TakenLaws` shows which segments reads give, `FaultLaws` which faults are reported, and
+//! `specs/Sources` says what is left at the end, what is reported and how far a source is read, and
+//! `specs/Taking` what a keeper took of it. In `proofs/`, `TakenLaws` shows which segments reads give,
+//! `FaultLaws` which faults are reported, `KeptLaws` which segments a keeper has after one, and
 //! `PartLaws` that the parts of several workers give the segments of all bytes.
 #![tactic(auto)]
 
@@ -30,4 +31,4 @@ mod starts;
 
 pub use fault::SourceFault;
 pub use outcome::{Bundle, EarlyEnd, early_end};
-pub use reading::{gather_bundle, read_bundle};
+pub use reading::{gather_bundle, read_bundle, take_source};

@@ -10,7 +10,7 @@ use crate::reading::read_source;
 use crate::starts::starts;
 use htl_device::{MAX_READS, Parted, Reading};
 use htl_event::NoMemory;
-use htl_segment::Keeper;
+use htl_segment::{JoiningKeeper, Keeper};
 use std::alloc::Global;
 use std::io::{Read, Take};
 use std::thread::{Threads, map_vec};
@@ -43,7 +43,7 @@ impl<R: Read + Drop, K: Keeper + Drop> Part<R, K> {
 ///
 /// It gives none where one worker has to read the source: where it has no parts or is short, and where
 /// a part can't be read, is no whole segments, or finds no memory.
-pub fn gather_parts<T: Threads + Sync, R: Parted, K: Keeper + Drop + Send>(
+pub fn gather_parts<T: Threads + Sync, R: Parted, K: JoiningKeeper + Drop + Send>(
     rt: &T,
     alloc: Global,
     workers: u32,
@@ -71,7 +71,7 @@ pub fn gather_parts<T: Threads + Sync, R: Parted, K: Keeper + Drop + Send>(
 }
 
 /// The parts of a source's bytes that begin at its front and at these offsets.
-fn cut<R: Parted, K: Keeper + Drop>(
+fn cut<R: Parted, K: JoiningKeeper + Drop>(
     alloc: Global,
     source: &R,
     keeper: &K,
@@ -94,7 +94,7 @@ fn cut<R: Parted, K: Keeper + Drop>(
 }
 
 /// The part of so many bytes at an offset of a source, or of all that are there.
-fn part_at<R: Parted, K: Keeper>(
+fn part_at<R: Parted, K: JoiningKeeper>(
     alloc: Global,
     source: &R,
     keeper: &K,
@@ -122,7 +122,7 @@ fn all_of<K: Drop>(alloc: Global, gathered: Vec<Option<K>>) -> Option<Vec<K>>
 }
 
 /// Has a keeper take over the segments of the parts, in order.
-pub fn append_all<K: Keeper + Drop>(keeper: &mut K, parts: Vec<K>) -> Result<(), NoMemory>
+pub fn append_all<K: JoiningKeeper + Drop>(keeper: &mut K, parts: Vec<K>) -> Result<(), NoMemory>
     ensures { (bytes : List ℕ) → TookInOrder K.gathers keeper.old parts.items bytes
         → OnOk result (TookAll K.gathers keeper.old keeper.new bytes) }
 {

@@ -4,17 +4,17 @@ ghost use Rattle.std.specs.Prelude.{◌≡◌, ◌*◌, ◌+◌, ◌<◌, ◌≤
 ghost use Rattle.std.specs.Prelude.{Err, IfOk, IfErr, IfSome, OnOk, false, true};
 ghost use Rattle.htl_segment.specs.Content.{Content};
 ghost use Rattle.htl_segment.specs.Bundles.{Splits};
-ghost use Rattle.htl_reading.specs.Keepers.{TookToEnd};
 ghost use Rattle.htl_reading.specs.Sources.{FailsOnly, IsLeft, IsReadToFault, IsReported};
+ghost use Rattle.htl_reading.specs.Taking.{TookBefore, TookToEnd};
 ghost use Rattle.htl_reading.specs.declared.fault.SourceFault.TheVariants.{Read};
 
 use crate::block::Block;
 use crate::fault::SourceFault;
 use crate::gathered::{Gathered, take_front};
-use crate::outcome::Bundle;
+use crate::outcome::{Bundle, EarlyEnd};
 use crate::parts::{append_all, gather_parts};
 use htl_device::{MAX_READ_LEN, MAX_READS, MIN_READ_LEN, Parted, Source};
-use htl_segment::{Keeper, Segment, Segments};
+use htl_segment::{JoiningKeeper, Keeper, Segment, Segments};
 use std::alloc::Global;
 use std::thread::Threads;
 
@@ -25,7 +25,7 @@ use std::thread::Threads;
 /// Several workers read parts of it, where it has some, and end it. Where that isn't all, one worker
 /// reads it as if there were no others: the segments are the same for every number of workers, and so
 /// are an early end and what is reported.
-pub fn gather_bundle<T: Threads + Sync, R: Parted, K: Keeper + Drop + Send>(
+pub fn gather_bundle<T: Threads + Sync, R: Parted, K: JoiningKeeper + Drop + Send>(
     rt: &T,
     alloc: Global,
     workers: u32,
@@ -96,9 +96,40 @@ pub fn read_bundle<T: Threads + Sync, R: Parted>(
     })
 }
 
-/// Reads a source to its end by one worker. At most `most` reads give bytes.
+/// Has a keeper take the segments of a source, which one worker reads to its end, in reads of 65,536
+/// bytes, but for the first, of 4,096. The segments of each read are taken before the next. It tells
+/// where the source ends within one more.
 ///
-/// The first read goes into a short buffer. If it gives bytes, a block is made for all other reads.
+/// After a fault the keeper has the segments before it, unless memory was refused. A source without
+/// bytes needs no memory.
+pub fn take_source<R: Source, K: Keeper>(
+    alloc: Global,
+    source: &mut R,
+    keeper: &mut K,
+) -> Result<Option<EarlyEnd>, SourceFault>
+    requires fresh { R.has_failed source.old ≡ false }
+    requires inside { R.has_ended source.old ≡ false }
+    ensures ok { IfOk result (λ early_end. IfSome (R.remaining source.old)
+        (TookToEnd K.gathers keeper.old keeper.new early_end)) }
+    ensures err { IfErr result (λ fault. IfSome (R.remaining source.old) (λ bytes.
+        IsReported (R.remaining source.new) (R.has_ended source.new) bytes fault)) }
+    ensures kept { IfErr result (λ fault. IfSome (R.remaining source.old) (λ bytes.
+        TookBefore K.gathers keeper.old keeper.new (R.remaining source.new) bytes fault)) }
+    ensures ended { OnOk result (R.has_ended source.new ≡ true) }
+    ensures reported { R.has_failed source.new ≡ true → result ≡ Err Read }
+    ensures read { FailsOnly (R.has_failed source.new) (R.good_reads source.new)
+        (R.remaining source.old) MAX_READS result }
+    // A failed read is reported only where what was read has no fault.
+    ensures no_fault { result ≡ Err Read
+        → IsReadToFault 0 (R.remaining source.old) (R.remaining source.new) }
+    ensures bounded { R.good_reads source.new ≤ R.good_reads source.old + MAX_READS }
+    ensures to_fault { IsReadToFault MAX_READ_LEN (R.remaining source.old) (R.remaining source.new) }
+{
+    take_reads(alloc, MAX_READS, source, keeper)
+}
+
+/// Reads a source to its end by one worker, with a keeper that is given back. At most `most` reads give
+/// bytes.
 pub(crate) fn read_source<R: Source, K: Keeper + Drop>(
     alloc: Global,
     most: u64,
@@ -110,9 +141,44 @@ pub(crate) fn read_source<R: Source, K: Keeper + Drop>(
     requires some { 0 < most }
     requires few { most * MAX_READ_LEN < 2 ^ 64 }
     ensures ok { IfOk result (λ bundle. IfSome (R.remaining source.old)
-        (TookToEnd K.gathers keeper bundle)) }
+        (TookToEnd K.gathers keeper bundle.segments bundle.early_end)) }
     ensures err { IfErr result (λ fault. IfSome (R.remaining source.old) (λ bytes.
         IsReported (R.remaining source.new) (R.has_ended source.new) bytes fault)) }
+    ensures ended { OnOk result (R.has_ended source.new ≡ true) }
+    ensures reported { R.has_failed source.new ≡ true → result ≡ Err Read }
+    ensures read { FailsOnly (R.has_failed source.new) (R.good_reads source.new)
+        (R.remaining source.old) most result }
+    ensures no_fault { result ≡ Err Read
+        → IsReadToFault 0 (R.remaining source.old) (R.remaining source.new) }
+    ensures bounded { R.good_reads source.new ≤ R.good_reads source.old + most }
+    ensures to_fault { IsReadToFault MAX_READ_LEN (R.remaining source.old) (R.remaining source.new) }
+{
+    let early_end = take_reads(alloc, most, source, &mut keeper)?;
+    Ok(Bundle {
+        segments: keeper,
+        early_end,
+    })
+}
+
+/// Has a keeper take the segments of a source, of which at most `most` reads give bytes.
+///
+/// The first read goes into a short buffer. If it gives bytes, a block is made for all other reads.
+fn take_reads<R: Source, K: Keeper>(
+    alloc: Global,
+    most: u64,
+    source: &mut R,
+    keeper: &mut K,
+) -> Result<Option<EarlyEnd>, SourceFault>
+    requires fresh { R.has_failed source.old ≡ false }
+    requires inside { R.has_ended source.old ≡ false }
+    requires some { 0 < most }
+    requires few { most * MAX_READ_LEN < 2 ^ 64 }
+    ensures ok { IfOk result (λ early_end. IfSome (R.remaining source.old)
+        (TookToEnd K.gathers keeper.old keeper.new early_end)) }
+    ensures err { IfErr result (λ fault. IfSome (R.remaining source.old) (λ bytes.
+        IsReported (R.remaining source.new) (R.has_ended source.new) bytes fault)) }
+    ensures kept { IfErr result (λ fault. IfSome (R.remaining source.old) (λ bytes.
+        TookBefore K.gathers keeper.old keeper.new (R.remaining source.new) bytes fault)) }
     ensures ended { OnOk result (R.has_ended source.new ≡ true) }
     ensures reported { R.has_failed source.new ≡ true → result ≡ Err Read }
     ensures read { FailsOnly (R.has_failed source.new) (R.good_reads source.new)
@@ -127,17 +193,13 @@ pub(crate) fn read_source<R: Source, K: Keeper + Drop>(
         return Err(SourceFault::Read);
     };
     if count == 0 {
-        return Ok(Bundle {
-            segments: keeper,
-            early_end: None,
-        });
+        return Ok(None);
     }
     let piece = &buffer[..count];
-    let len = take_front(alloc, &mut keeper, 0, piece)?;
+    let len = take_front(alloc, keeper, 0, piece)?;
     let gathered = Gathered {
-        keeper,
         offset: len as u64,
         block: Block::new(alloc, &piece[len..])?,
     };
-    gathered.read_on(alloc, most, source)
+    gathered.read_on(alloc, most, source, keeper)
 }

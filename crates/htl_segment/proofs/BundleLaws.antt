@@ -177,7 +177,7 @@ some_left [] fault is late = absurd (let same = some_is faults.Short fault (sym 
     ∙ is) in cc (ap is_early_end same ∙ late))
 some_left (x ∷ rest) fault is late = omega arith
 
-boundary : (b : List ℕ) (old new : List Content) (rest : List ℕ) → SplitsMore b old new rest → IsBoundary b (length b - length rest)
+unfoldable pub boundary : (b : List ℕ) (old new : List Content) (rest : List ℕ) → SplitsMore b old new rest → IsBoundary b (length b - length rest)
 boundary b old new rest so_far = record {
   before = so_far.more;
   rest = rest;

@@ -13,6 +13,7 @@ pub mod ContentsEqual
 pub mod BundleLaws
 pub mod MoreBytes
 pub mod PiecesLaws
+pub mod KeeperLaws
 pub mod Spans
 pub mod Greatest
 pub mod Batches

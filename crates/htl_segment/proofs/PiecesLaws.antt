@@ -38,7 +38,7 @@ splits_more a b rest ss new first second = rw second.pushed (splits_after a b re
 abbrev failed : ℕ × Fault → Result (Unit {0}) (ℕ × Fault)
 failed refused = Err refused
 
-offset_after : (a b rest : List ℕ) (ss ts : List Content) (offset : ℕ) → Splits a ss [] → Splits b ts rest → offset ≡ length (bundle ts)
+pub offset_after : (a b rest : List ℕ) (ss ts : List Content) (offset : ℕ) → Splits a ss [] → Splits b ts rest → offset ≡ length (bundle ts)
     → length a + offset ≡ length (bundle (ss ++ ts))
 offset_after a b rest ss ts offset first second is =
     omega (
@@ -50,7 +50,7 @@ offset_after a b rest ss ts offset first second is =
       is,
     )
 
-boundary_after : (a b : List ℕ) (ss : List Content) (offset : ℕ) → Splits a ss [] → IsBoundary b offset
+unfoldable pub boundary_after : (a b : List ℕ) (ss : List Content) (offset : ℕ) → Splits a ss [] → IsBoundary b offset
     → IsBoundary (a ++ b) (length a + offset)
 boundary_after a b ss offset first here = record {
   before = ss ++ here.before;
@@ -256,7 +256,7 @@ rest_inside held piece rest segments fed splits inside =
 front_split : (a rest : List ℕ) (ss : List Content) → Splits a ss rest → Splits (bundle ss) ss []
 front_split a rest ss split = record { parts = sym (append-nil (bundle ss)); fits = split.fits }
 
-regroup : (a rest piece : List ℕ) (ss : List Content) → Splits a ss rest → a ++ piece ≡ bundle ss ++ (rest ++ piece)
+pub regroup : (a rest piece : List ℕ) (ss : List Content) → Splits a ss rest → a ++ piece ≡ bundle ss ++ (rest ++ piece)
 regroup a rest piece ss split = ap (λ (x : List ℕ). x ++ piece) split.parts ∙ append_assoc (bundle ss) rest piece
 
 pub splits_next : (a piece rest new : List ℕ) (ss ts : List Content) → Splits a ss rest → Splits (rest ++ piece) ts new
@@ -316,7 +316,7 @@ pub record Brought (a more : List ℕ) (offset : ℕ) (fault : Fault) : Type 0 w
   pub boundary : IsBoundary (a ++ more) offset
   pub cause : BundleFault (a ++ more) offset fault ⊎ ((fault ≡ faults.NoMemory) × (SegmentAt a offset ⊎ RestAt a offset))
 
-boundary_more : (a more : List ℕ) (offset : ℕ) → IsBoundary a offset → IsBoundary (a ++ more) offset
+unfoldable pub boundary_more : (a more : List ℕ) (offset : ℕ) → IsBoundary a offset → IsBoundary (a ++ more) offset
 boundary_more a more offset here = record {
   before = here.before;
   rest = here.rest ++ more;

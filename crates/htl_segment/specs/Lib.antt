@@ -1,7 +1,7 @@
 -- What public contracts cite, in the order in which a reader wants it: the limits of the versions, what a
 -- segment says and when it fits, its bytes, what bytes say and the first rule that they break, records in
--- place, bundles, pieces, a segment from its parts, hexadecimal; then keys, traces and the laws of their events,
--- and sequences that rise.
+-- place, bundles, what keepers take of them, pieces, a segment from its parts, hexadecimal; then keys, traces
+-- and the laws of their events, and sequences that rise.
 pub mod Versions
 pub mod Content
 pub mod Numbers
@@ -10,6 +10,7 @@ pub mod Reading
 pub mod Faults
 pub mod Records
 pub mod Bundles
+pub mod Keepers
 pub mod Pieces
 pub mod Building
 pub mod Hexadecimal

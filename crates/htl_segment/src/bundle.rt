@@ -1,8 +1,9 @@
 //! Bundles: the bytes of segments one after another.
-ghost use Rattle.std.specs.Prelude.{◌≡◌, ◌⊎◌, ◌++◌, List, [], IfOk, IfErr, MatchResult};
+ghost use Rattle.std.specs.Prelude.{◌≡◌, ◌≢◌, ◌⊎◌, ◌++◌, List, [], IfOk, IfErr, MatchResult};
 ghost use Rattle.htl_segment.specs.Content.{Content};
 ghost use Rattle.htl_segment.specs.Bundles.{Splits, IsBoundary, IsRest, IsRefused};
 ghost use Rattle.htl_segment.specs.Bundles.{BundleFault, SegmentAt, cut_off};
+ghost use Rattle.htl_segment.specs.Keepers.{TookUpTo};
 
 use crate::fault::Fault;
 use crate::header::HEADER_LEN;
@@ -44,7 +45,7 @@ pub fn cut_off(rest: &[u8]) -> Fault
 
 /// Hands the keeper each whole segment at the front of `bytes`, and gives the bytes after them, which
 /// more bytes may make a segment of. A refusal reports the offset of the refused segment, and the
-/// keeper still has the segments before it.
+/// keeper has the segments before it then, unless memory was refused.
 pub fn split<'a, K: Keeper>(
     alloc: Global,
     keeper: &mut K,
@@ -55,6 +56,9 @@ pub fn split<'a, K: Keeper>(
         → K.gathers start keeper.new (segments ++ more))) }
     ensures rest { IfOk result (λ rest. IsRest rest.now) }
     ensures refused { IfErr result (λ refused. IsRefused bytes.now refused.0 refused.1) }
+    // The keeper has the segments before the refused one, unless memory was refused.
+    ensures kept { IfErr result (λ refused. refused.1 ≢ Fault.NoMemory
+        → TookUpTo K.gathers keeper.old keeper.new bytes.now refused.0) }
 {
     let mut rest = bytes;
     loop {

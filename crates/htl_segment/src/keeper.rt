@@ -18,18 +18,26 @@ pub trait Keeper {
     fn take(&mut self, alloc: Global, found: &SegmentBytes<'_>) -> Result<(), NoMemory>
         ensures { (kind : Self) (segments : List Content) → gathers kind self.old segments
             → OnOk result (gathers kind self.new (segments ++ found.now ∷ [])) };
+}
+
+/// A keeper whose work several workers can do: each has another of its kind, and one takes over what the
+/// others took.
+pub trait JoiningKeeper: Keeper {
+    ghost use Rattle.std.specs.Prelude.{◌++◌, [], List, OnOk};
+    ghost use Rattle.htl_segment.specs.Content.{Content};
 
     /// A new keeper of this kind. It took no segment yet.
     fn another(&self, alloc: Global) -> Self
-        ensures { (kind : Self) (segments : List Content) → gathers kind self.now segments
-            → gathers kind result [] };
+        ensures { (kind : Self) (segments : List Content) → Self.gathers kind self.now segments
+            → Self.gathers kind result [] };
 
     /// Takes over the segments that another keeper took, behind its own. The other one has none then.
     fn append(&mut self, other: &mut Self) -> Result<(), NoMemory>
-        ensures taken { (kind : Self) (segments more : List Content) → gathers kind self.old segments
-            → gathers kind other.old more → OnOk result (gathers kind self.new (segments ++ more)) }
-        ensures emptied { (kind : Self) (more : List Content) → gathers kind other.old more
-            → OnOk result (gathers kind other.new []) };
+        ensures taken { (kind : Self) (segments more : List Content)
+            → Self.gathers kind self.old segments → Self.gathers kind other.old more
+            → OnOk result (Self.gathers kind self.new (segments ++ more)) }
+        ensures emptied { (kind : Self) (more : List Content) → Self.gathers kind other.old more
+            → OnOk result (Self.gathers kind other.new []) };
 }
 
 /// Whole segments, in the order in which they were read.
@@ -63,7 +71,9 @@ impl Keeper for Segments {
         self.list.push(segment)?;
         Ok(())
     }
+}
 
+impl JoiningKeeper for Segments {
     fn another(&self, alloc: Global) -> Segments {
         Segments::new(alloc)
     }

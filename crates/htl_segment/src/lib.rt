@@ -54,7 +54,7 @@ pub use encoding::encode;
 pub use fault::Fault;
 pub use header::whole_len;
 pub use hexadecimal::{HexFault, from_hex};
-pub use keeper::{Keeper, Segments};
+pub use keeper::{JoiningKeeper, Keeper, Segments};
 pub use outline::Outline;
 pub use picks::Picks;
 pub use record::Record;

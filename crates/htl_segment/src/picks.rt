@@ -1,6 +1,6 @@
 //! Picks: what a question about a process or an object needs of segments.
 
-use crate::keeper::Keeper;
+use crate::keeper::{JoiningKeeper, Keeper};
 use crate::outline::Outline;
 use crate::seen::Seen;
 use crate::segment_bytes::SegmentBytes;
@@ -56,7 +56,9 @@ impl Keeper for Picks {
         self.outlines.push(found.outline(last))?;
         Ok(())
     }
+}
 
+impl JoiningKeeper for Picks {
     fn another(&self, alloc: Global) -> Picks {
         Picks::new(alloc, self.interest)
     }

@@ -105,7 +105,7 @@ impl<'a> SegmentBytes<'a> {
     }
 
     /// As `to_segment`, but equal stacks are shared by a cache.
-    pub(crate) fn to_segment_with(
+    pub fn to_segment_with(
         &self,
         alloc: Global,
         cache: &mut StackCache,

@@ -8,6 +8,7 @@ use htl_segment::Segment;
 use htl_taken::Gap;
 use htl_tree::StackTree;
 use std::alloc::Global;
+use std::thread::Threads;
 
 type Own = Analyst<Global>;
 
@@ -29,8 +30,13 @@ const FOLDED_BY_OTHER: [(u16, u32); 2] = [(1, 0), (1, 1)];
 
 const HELD_BY_OTHER: [(u16, u32); 2] = [(0, 1), (0, 2)];
 
-pub fn try_all(trials: &mut Trials<'_, HostRuntime>) {
+pub fn try_all<R: Threads + Sync>(rt: &R, trials: &mut Trials<'_, HostRuntime>) {
     try_steps(trials);
+    trials.changes(
+        "compact_by two workers",
+        unfolded,
+        |_, folding: &mut Folding| compact_by(rt, folding),
+    );
     try_answers(trials);
     try_summary(trials);
 }
@@ -171,6 +177,10 @@ fn unfolded(alloc: Global) -> Result<Folding, Refusal> {
 
 fn compact(_alloc: Global, folding: &mut Folding) -> Result<Equal<()>, Refusal> {
     Equal::of(folding.analyst.compact())
+}
+
+fn compact_by<R: Threads + Sync>(rt: &R, folding: &mut Folding) -> Result<Equal<()>, Refusal> {
+    Equal::of(folding.analyst.compact_by(rt, 2))
 }
 
 fn copy(_alloc: Global, analyst: &Own) -> Result<Own, Refusal> {

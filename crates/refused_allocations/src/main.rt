@@ -23,7 +23,7 @@ fn main(rt: HostRuntime) -> anyhow::Result<()> {
     trees::try_all(&mut trials);
     tables::try_all(&mut trials);
     sets::try_all(&mut trials);
-    analysts::try_all(&mut trials);
+    analysts::try_all(&rt, &mut trials);
     cases::try_all(&mut trials);
     desks::try_all(&rt, &mut trials);
     runs::try_all(&rt, &mut trials);

@@ -5,8 +5,9 @@ use Rattle.std.proofs.lemmas.Grind.{common_steps}
 use Rattle.std.proofs.lemmas.Result.{err_from_is_err_and}
 use Rattle.std.specs.Prelude.{is_err}
 use Rattle.htl_device.specs.declared.source.TheConstants.{MAX_READ_LEN}
-use Rattle.htl_reading.proofs.TakenLaws.{taken_and_more, taken_ended, taken_kept, taken_many, taken_memory, taken_more}
-use Rattle.htl_reading.proofs.TakenLaws.{taken_refused, taken_to_end, taken_to_fault}
+use Rattle.htl_reading.proofs.KeptLaws.{kept_nothing}
+use Rattle.htl_reading.proofs.TakenLaws.{taken_and_more, taken_before, taken_before_refused, taken_ended, taken_kept, taken_many, taken_memory}
+use Rattle.htl_reading.proofs.TakenLaws.{taken_more, taken_refused, taken_to_end, taken_to_fault}
 use Rattle.htl_reading.proofs.gathered.Gathered.read_on.Goals as goal
 
 pub returns-in_err-make_room-clause-err : goal.returns-in_err-make_room-clause-err
@@ -16,8 +17,18 @@ returns-in_err-make_room-clause-err g c =
     let some : 0 < c.loop-reads._reads = grind (arith, common_steps) in
     λ start given at. rw (p.1, p.2) (taken_memory (inv.taken start given at) _ some inv.inside)
 
+pub returns-in_err-make_room-clause-kept : goal.returns-in_err-make_room-clause-kept
+returns-in_err-make_room-clause-kept g c =
+    let p = err_from_is_err_and c.from_residual.result c.from_residual.ensures.1 in
+    λ start given at. rw (p.1, p.2) (kept_nothing given)
+
 pub returns-in_err-make_room-clause-to_fault : goal.returns-in_err-make_room-clause-to_fault
 returns-in_err-make_room-clause-to_fault g c = λ start given at. taken_to_fault (c.loop-reads.invariant.taken start given at) _
+
+pub returns-in_default-clause-kept : goal.returns-in_default-clause-kept
+returns-in_default-clause-kept g c =
+    let failed : is_err c.read.result ≡ true = grind (arith, common_steps) in
+    λ start given at. taken_before (taken_kept (c.loop-reads.invariant.taken start given at) c.read.result failed c.read.ensures.err)
 
 pub returns-in_default-clause-no_fault : goal.returns-in_default-clause-no_fault
 returns-in_default-clause-no_fault g c =
@@ -35,8 +46,8 @@ pub returns-then-count-eq0-clause-ok : goal.returns-then-count-eq0-clause-ok
 returns-then-count-eq0-clause-ok g c =
     let zero : c.in-Ok.count ≡ 0 = grind (arith, common_steps) in
     let behind = rw (c.make_room.ensures.held, zero) at c.in-Ok.ensures.ok in
-    λ start given at. taken_to_end (taken_ended (c.loop-reads.invariant.taken start given at) behind) c.finish.result (behind.end refl)
-    c.finish.ensures.kept c.finish.ensures.end
+    λ start given at. taken_to_end (taken_ended (c.loop-reads.invariant.taken start given at) behind) c.early_end.result (behind.end refl)
+    (rw c.held.ensures at c.early_end.ensures)
 
 pub returns-then-count-eq0-clause-to_fault : goal.returns-then-count-eq0-clause-to_fault
 returns-then-count-eq0-clause-to_fault g c =
@@ -48,6 +59,12 @@ returns-in_err-take-clause-err g c =
     let p = err_from_is_err_and c.from_residual-in_err-take.result c.from_residual-in_err-take.ensures.1 in
     let behind = rw (c.make_room.ensures.held) at c.in-Ok.ensures.ok in
     λ start given at. rw (p.1, p.2) (taken_refused (c.loop-reads.invariant.taken start given at) _ _ behind c.in_err-take.ensures.err)
+
+pub returns-in_err-take-clause-kept : goal.returns-in_err-take-clause-kept
+returns-in_err-take-clause-kept g c =
+    let p = err_from_is_err_and c.from_residual-in_err-take.result c.from_residual-in_err-take.ensures.1 in
+    let behind = rw (c.make_room.ensures.held) at c.in-Ok.ensures.ok in
+    λ start given at. rw (p.1, p.2) (taken_before_refused (c.loop-reads.invariant.taken start given at) _ behind c.in_err-take.ensures.kept)
 
 pub returns-in_err-take-clause-to_fault : goal.returns-in_err-take-clause-to_fault
 returns-in_err-take-clause-to_fault g c =
@@ -92,6 +109,9 @@ loop-reads-preserved g c =
       counted = grind (arith, common_steps);
       bounded = grind (arith, common_steps);
     }
+
+pub returns-clause-kept : goal.returns-clause-kept
+returns-clause-kept g c = λ start given at. taken_before (c.loop-reads.invariant.taken start given at)
 
 pub returns-clause-read : goal.returns-clause-read
 returns-clause-read g c =

@@ -7,9 +7,9 @@ use Rattle.htl_reading.proofs.gathered.Gathered.read_on.Given as goal
 abbrev pub invariant-loop-reads : goal.invariant-loop-reads
 invariant-loop-reads g l = record {
   taken : (start : _) (given : Option (List ℕ))
-      → IsTakenTo g.K.Keeper.gathers start l.fn.self.keeper given (g.R.Source.remaining l.fn.source) l.fn.self.block.held
+      → IsTakenTo g.K.Keeper.gathers start l.fn.keeper given (g.R.Source.remaining l.fn.source) l.fn.self.block.held
       l.fn.self.offset 1
-      → IsTakenTo g.K.Keeper.gathers start l.self.keeper given (g.R.Source.remaining l.source) l.self.block.held l.self.offset
+      → IsTakenTo g.K.Keeper.gathers start l.keeper given (g.R.Source.remaining l.source) l.self.block.held l.self.offset
       l._reads;
   fine : g.R.Source.has_failed l.source ≡ false;
   inside : g.R.Source.has_ended l.source ≡ false;

@@ -6,8 +6,14 @@ use Rattle.std.proofs.lemmas.Result.{err_from_is_err_and}
 use Rattle.std.specs.Prelude.{is_err}
 use Rattle.htl_device.specs.declared.source.TheConstants.{MAX_READ_LEN}
 use Rattle.htl_reading.specs.Keepers.{IsTakenTo}
+use Rattle.htl_reading.proofs.KeptLaws.{kept_first, kept_first_refused, kept_nothing}
 use Rattle.htl_reading.proofs.TakenLaws.{first_failed, first_refused, first_to_fault, taken_first, taken_memory}
-use Rattle.htl_reading.proofs.reading.read_source.Goals as goal
+use Rattle.htl_reading.proofs.reading.take_reads.Goals as goal
+
+pub returns-in_default-clause-kept : goal.returns-in_default-clause-kept
+returns-in_default-clause-kept g c =
+    let failed : is_err c.read.result ≡ true = grind (arith, common_steps) in
+    kept_first g.K.Keeper.gathers c.args.keeper.now _ _ _ c.read.result failed c.read.ensures.bytes
 
 pub returns-in_default-clause-no_fault : goal.returns-in_default-clause-no_fault
 returns-in_default-clause-no_fault g c =
@@ -29,6 +35,11 @@ returns-in_err-len-clause-err g c =
     let p = err_from_is_err_and c.from_residual.result c.from_residual.ensures.1 in
     rw (p.1, p.2) (first_refused _ _ _ _ _ c.in-Ok.ensures.bytes.0 c.in_err-len.ensures.err)
 
+pub returns-in_err-len-clause-kept : goal.returns-in_err-len-clause-kept
+returns-in_err-len-clause-kept g c =
+    let p = err_from_is_err_and c.from_residual.result c.from_residual.ensures.1 in
+    rw (p.1, p.2) (kept_first_refused g.K.Keeper.gathers c.args.keeper.now _ _ _ _ _ c.in-Ok.ensures.bytes.0 c.in_err-len.ensures.kept)
+
 pub returns-in_err-len-clause-to_fault : goal.returns-in_err-len-clause-to_fault
 returns-in_err-len-clause-to_fault g c =
     let few : length (take c.in-Ok.count c.read.new.buffer) ≤ MAX_READ_LEN = grind (arith, common_steps) in
@@ -43,13 +54,18 @@ returns-in_err-new-clause-err g c =
     let at = taken_first piece c.in_ok-len.len c.in-Ok.ensures.bytes.0 some c.in_ok-len.ensures.ok c.in_ok-len.ensures.inside in
     rw (p.1, p.2) (taken_memory at _ (omega arith) (grind (arith, common_steps)))
 
+pub returns-in_err-new-clause-kept : goal.returns-in_err-new-clause-kept
+returns-in_err-new-clause-kept g c =
+    let p = err_from_is_err_and c.from_residual-in_err-new.result c.from_residual-in_err-new.ensures.1 in
+    rw (p.1, p.2) (kept_nothing (g.R.Source.remaining c.args.source.now))
+
 pub returns-in_err-new-clause-to_fault : goal.returns-in_err-new-clause-to_fault
 returns-in_err-new-clause-to_fault g c =
     let few : length (take c.in-Ok.count c.read.new.buffer) ≤ MAX_READ_LEN = grind (arith, common_steps) in
     first_to_fault MAX_READ_LEN _ _ _ c.in-Ok.ensures.bytes.0 few
 
 began : (g : _) (c : goal.After-read_on g)
-    → IsTakenTo g.K.Keeper.gathers c.args.keeper c.take_front.new.keeper (g.R.Source.remaining c.args.source.now)
+    → IsTakenTo g.K.Keeper.gathers c.args.keeper.now c.take_front.new.keeper (g.R.Source.remaining c.args.source.now)
     (g.R.Source.remaining c.read.new.self) c.in_ok-new.field-0.held c.in_ok-len.len 1
 began g c =
     let piece = take c.in-Ok.count c.read.new.buffer in
@@ -59,16 +75,19 @@ began g c =
     (taken_first piece c.in_ok-len.len c.in-Ok.ensures.bytes.0 some c.in_ok-len.ensures.ok c.in_ok-len.ensures.inside)
 
 pub returns-clause-ok : goal.returns-clause-ok
-returns-clause-ok g c = c.read_on.ensures.ok c.args.keeper (g.R.Source.remaining c.args.source.now) (began g c)
+returns-clause-ok g c = c.read_on.ensures.ok c.args.keeper.now (g.R.Source.remaining c.args.source.now) (began g c)
 
 pub returns-clause-err : goal.returns-clause-err
-returns-clause-err g c = c.read_on.ensures.err c.args.keeper (g.R.Source.remaining c.args.source.now) (began g c)
+returns-clause-err g c = c.read_on.ensures.err c.args.keeper.now (g.R.Source.remaining c.args.source.now) (began g c)
+
+pub returns-clause-kept : goal.returns-clause-kept
+returns-clause-kept g c = c.read_on.ensures.kept c.args.keeper.now (g.R.Source.remaining c.args.source.now) (began g c)
 
 pub returns-clause-read : goal.returns-clause-read
-returns-clause-read g c = c.read_on.ensures.read c.args.keeper (g.R.Source.remaining c.args.source.now) (began g c)
+returns-clause-read g c = c.read_on.ensures.read c.args.keeper.now (g.R.Source.remaining c.args.source.now) (began g c)
 
 pub returns-clause-no_fault : goal.returns-clause-no_fault
-returns-clause-no_fault g c = c.read_on.ensures.no_fault c.args.keeper (g.R.Source.remaining c.args.source.now) (began g c)
+returns-clause-no_fault g c = c.read_on.ensures.no_fault c.args.keeper.now (g.R.Source.remaining c.args.source.now) (began g c)
 
 pub returns-clause-to_fault : goal.returns-clause-to_fault
-returns-clause-to_fault g c = c.read_on.ensures.to_fault c.args.keeper (g.R.Source.remaining c.args.source.now) (began g c)
+returns-clause-to_fault g c = c.read_on.ensures.to_fault c.args.keeper.now (g.R.Source.remaining c.args.source.now) (began g c)

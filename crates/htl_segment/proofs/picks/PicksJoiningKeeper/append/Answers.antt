@@ -2,7 +2,7 @@
 use Rattle.htl_segment.specs.Repeated.{sequences_of}
 use Rattle.htl_segment.specs.Traces.{all_events}
 use Rattle.htl_segment.proofs.PicksLaws.{both_events, both_outlines, both_sequences}
-use Rattle.htl_segment.proofs.picks.PicksKeeper.append.Goals as goal
+use Rattle.htl_segment.proofs.picks.PicksJoiningKeeper.append.Goals as goal
 
 pub returns-clause-taken : goal.returns-clause-taken
 returns-clause-taken c = λ kind segments more so_far also.

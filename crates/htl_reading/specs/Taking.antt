@@ -1,0 +1,35 @@
+-- What a keeper took of one source: all that it gives, or what stands before a fault (this project's own).
+use Rattle.std.specs.Prelude.{⊤, ℕ, List, Option, Some}
+use Rattle.std.specs.Io.KnownBytes.{Consumes}
+use Rattle.htl_segment.specs.Content.{Content}
+use Rattle.htl_segment.specs.Bundles.{IsRest, Splits}
+use Rattle.htl_segment.specs.Keepers.{Took, TookUpTo}
+use Rattle.htl_reading.specs.Sources.{IsLeft}
+use Rattle.htl_reading.specs.declared.fault.SourceFault.{SourceFault}
+use Rattle.htl_reading.specs.declared.fault.SourceFault.TheVariants.{Segment, Read, NoMemory}
+use Rattle.htl_reading.specs.declared.outcome.EarlyEnd.{EarlyEnd}
+
+-- it took the segments that these bytes begin with, and what is left behind them is told
+abbrev pub TookToEnd : {S K : Type 0} → (S → K → List Content → Type 0) → K → K → Option EarlyEnd → List ℕ → Type 0
+TookToEnd gathers old new early_end bytes =
+    (segments : List Content) × (rest : List ℕ) × Splits bytes segments rest × IsLeft segments rest early_end
+    × Took gathers old new segments
+
+-- It took the whole segments of those of these bytes that were read: others are left, and what was read behind the segments
+-- begins no whole one.
+pub record TookRead {S K : Type 0} (gathers : S → K → List Content → Type 0) (old new : K) (left : Option (List ℕ)) (bytes : List ℕ)
+    : Type 0 where
+  pub segments : List Content
+  pub read : List ℕ
+  pub rest : List ℕ
+  pub gave : Consumes (Some bytes) left read
+  pub splits : Splits read segments rest
+  pub is_rest : IsRest rest
+  pub took : Took gathers old new segments
+
+-- What it took before this fault of a source that gave some of these bytes, and has others left: the segments before the bytes
+-- that are no segment, and where a read failed those that were read. After refused memory nothing is promised.
+abbrev pub TookBefore : {S K : Type 0} → (S → K → List Content → Type 0) → K → K → Option (List ℕ) → List ℕ → SourceFault → Type 0
+TookBefore gathers old new left bytes (Segment offset fault) = TookUpTo gathers old new bytes offset
+TookBefore gathers old new left bytes Read = TookRead gathers old new left bytes
+TookBefore gathers old new left bytes NoMemory = ⊤

@@ -18,3 +18,4 @@ pub mod KeyEvents
 pub mod Falling
 pub mod Answered
 pub mod EventNumbers
+pub mod TakenAll

@@ -7,6 +7,7 @@ pub mod Refusals
 pub mod Steps
 pub mod Moments
 pub mod TakenEvents
+pub mod TakenAll
 pub mod Laws
 -- cited by private contracts alone
 pub mod StepParts

@@ -15,10 +15,11 @@
 //!
 //! `specs/` is read in this order: `States`, `Keys` and `TakenEvents` (a state as a value),
 //! `Right` (when it is right about a trace), `Steps` and `Refusals` (what calls make of it, and
-//! why they are refused), `Moments` (up to which moment nothing is missing), `Same` and `Laws`. In
-//! `proofs/`, `Takes`, `Merges`, `Folds`, `Compacts` and `Workers` show that each step keeps a state
-//! right, `Counted` how many segments are taken after it, `Determined` and `MergeLaws` the laws,
-//! `KeyEvents` and `Answered` that the events of the taken keys are those of the parts,
+//! why they are refused), `TakenAll` (when it has taken the segments of a list and no others),
+//! `Moments` (up to which moment nothing is missing), `Same` and `Laws`. In `proofs/`, `Takes`,
+//! `Merges`, `Folds`, `Compacts` and `Workers` show that each step keeps a state right, `Counted`
+//! how many segments are taken after it, `TakenAll` which ones, `Determined` and `MergeLaws` the
+//! laws, `KeyEvents` and `Answered` that the events of the taken keys are those of the parts,
 //! `EventNumbers` that their number is, and `Falling` what is complete.
 #![tactic(auto)]
 

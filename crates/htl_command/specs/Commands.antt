@@ -2,7 +2,7 @@
 use Rattle.std.specs.Prelude.{ℕ, Bool, true, false, List, [], ◌∷◌, Option, codes, find}
 use Rattle.std.specs.Str.{bytes_eq}
 use Rattle.htl_command.specs.declared.names.CommandFlag.{CommandFlag}
-use Rattle.htl_command.specs.declared.names.CommandFlag.TheVariants.{ExitCode, Folded, Json, Complete, Hex, Partial, Notes}
+use Rattle.htl_command.specs.declared.names.CommandFlag.TheVariants.{ExitCode, Folded, Json, Fold, Complete, Hex, Partial, Notes}
 use Rattle.htl_command.specs.declared.names.CommandName.{CommandName}
 use Rattle.htl_command.specs.declared.names.CommandName.TheVariants.{Question, Ask, Explain, Dump, Encode}
 use Rattle.htl_command.specs.declared.names.CommandOption.{CommandOption}
@@ -74,6 +74,7 @@ abbrev pub flag_name : CommandFlag → List ℕ
 flag_name ExitCode = codes "exit-code"
 flag_name Folded = codes "folded"
 flag_name Json = codes "json"
+flag_name Fold = codes "fold"
 flag_name Complete = codes "complete"
 flag_name Hex = codes "hex"
 flag_name Partial = codes "partial"

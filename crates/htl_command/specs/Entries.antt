@@ -6,7 +6,7 @@ use Rattle.clap.specs.Words.{App, Kinds, Row, Rule, Text, fault_of, new_app, new
 use Rattle.clap.specs.declared.builder.ArgAction.TheVariants.{SetTrue}
 use Rattle.htl_command.specs.Commands.{commands, flag_name, is_required, name_of, option_name, own_flags, own_options}
 use Rattle.htl_command.specs.declared.names.CommandFlag.{CommandFlag}
-use Rattle.htl_command.specs.declared.names.CommandFlag.TheVariants.{Complete, Hex, Json, Notes, Partial}
+use Rattle.htl_command.specs.declared.names.CommandFlag.TheVariants.{Complete, Fold, Hex, Json, Notes, Partial}
 use Rattle.htl_command.specs.declared.names.CommandName.{CommandName}
 use Rattle.htl_command.specs.declared.names.CommandName.TheVariants.{Question, Ask, Explain, Dump, Encode}
 use Rattle.htl_command.specs.declared.names.CommandOption.{CommandOption}
@@ -52,8 +52,8 @@ encode_rules = flag_rule Hex ∷ flag_rule Notes ∷ files_rule ∷ []
 -- what a dialogue has: at least one file, since questions come from standard input
 abbrev pub dialogue_rules : List Rule
 dialogue_rules =
-    option_rule Symbols ∷ option_rule Workers ∷ flag_rule Complete ∷ flag_rule Hex ∷ flag_rule Partial ∷ flag_rule Notes
-    ∷ record files_rule { required = true } ∷ []
+    option_rule Symbols ∷ option_rule Workers ∷ flag_rule Fold ∷ flag_rule Complete ∷ flag_rule Hex ∷ flag_rule Partial
+    ∷ flag_rule Notes ∷ record files_rule { required = true } ∷ []
 
 -- a code is one argument
 abbrev pub code_rule : Rule

@@ -7,3 +7,4 @@ pub mod Requests
 pub mod Refusals
 pub mod Steps
 pub mod Statuses
+pub mod Needs

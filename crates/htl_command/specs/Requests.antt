@@ -100,13 +100,13 @@ pub record Work : Type 0 where
   pub files : List Text
   pub symbols : Option Text
 
--- what is asked for; what is to be explained is a text
+-- What is asked for: what is to be explained is a text, and a dialogue folds what was read or doesn't.
 pub data Request : Type 0 where
   answers : Work → Request
   explains : Text → Request
   dumps : InputForm → List Text → Request
   encodes : Bool → List Text → Request
-  asks : Setting → List Text → Option Text → Request
+  asks : Setting → Bool → List Text → Option Text → Request
 
 abbrev pub file_names : List Row → List Text
 file_names rows = unwrap_or (all_of (codes "files") rows) []
@@ -125,7 +125,8 @@ request_of (command.Question name) rows = option_map (λ job. answers (with_file
 request_of command.Explain rows = option_map (λ text. explains text) (first_of (codes "code") rows)
 request_of command.Dump rows = Some (dumps (input_form rows) (file_names rows))
 request_of command.Encode rows = Some (encodes (is_given flag.Hex rows) (file_names rows))
-request_of command.Ask rows = option_map (λ setting. asks setting (file_names rows) (given Symbols rows)) (setting_of rows)
+request_of command.Ask rows =
+    option_map (λ setting. asks setting (is_given flag.Fold rows) (file_names rows) (given Symbols rows)) (setting_of rows)
 
 -- what a command's name and its entries ask for
 abbrev pub request_met : Option (Text × List Row) → Option Request
@@ -199,7 +200,7 @@ Meets asked (wish.Explain fault) = ⊥
 Meets asked (wish.Question run) = asked ≡ answers (work run)
 Meets asked (wish.Dump form files) = asked ≡ dumps form (map string_bytes files.items)
 Meets asked (wish.Encode hex files) = asked ≡ encodes hex (map string_bytes files.items)
-Meets asked (wish.Ask of) = asked ≡ asks of.setting (map string_bytes of.files.items) (option_map string_bytes of.symbols)
+Meets asked (wish.Ask of) = asked ≡ asks of.setting of.folds (map string_bytes of.files.items) (option_map string_bytes of.symbols)
 
 abbrev pub IsAskedFor : Option Request → Command → Type 0
 IsAskedFor None command = ⊥

@@ -198,6 +198,7 @@ fn with_dialogue_options<'a>(
         alloc,
         command,
         &[
+            CommandFlag::Fold,
             CommandFlag::Complete,
             CommandFlag::Hex,
             CommandFlag::Partial,

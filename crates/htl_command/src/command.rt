@@ -71,6 +71,9 @@ pub struct Run {
 #[derive(Debug, PartialEq, Eq, Drop)]
 pub struct Dialogue {
     pub setting: Setting,
+    /// Whether what was read is folded and forgotten: memory is that of the state then, and `trace`,
+    /// `growth` and `--until` aren't answered.
+    pub folds: bool,
     /// The names of the inputs, in order. There is at least one.
     pub files: Vec<String>,
     /// The name of the file with the symbol table.
@@ -301,11 +304,13 @@ fn with_inputs(
     setting: Setting,
     entries: &ArgMatches,
 ) -> Result<Dialogue, AllocError>
-    ensures { IfOk result (λ of. IsAskedFor (Some (asks setting (file_names (entries_of entries.now))
+    ensures { IfOk result (λ of. IsAskedFor (Some (asks setting
+        (is_given_in flag.Fold (entries_of entries.now)) (file_names (entries_of entries.now))
         (given_in option.Symbols (entries_of entries.now)))) (wish.Ask of)) }
 {
     Ok(Dialogue {
         setting,
+        folds: is_given(entries, CommandFlag::Fold),
         files: files(alloc, entries)?,
         symbols: symbols(alloc, entries)?,
     })

@@ -74,6 +74,14 @@ For more information, try 'hleak encode --help'.";
         of_line(alloc, "'read' takes files, and no option")
     }
 
+    /// The fault of a question that needs the events where these are forgotten.
+    pub fn needs_events(alloc: Global) -> ParseFault
+        ensures { IsUsageWith ⊤ result }
+    {
+        let why = "'--fold' keeps no events, which 'trace', 'growth' and '--until' need";
+        of_line(alloc, why)
+    }
+
     /// The exit status of the program: 0 for help, 2 for arguments that are no command line, 6 for
     /// memory.
     pub fn status(&self) -> u8
@@ -117,7 +125,7 @@ pub(crate) fn of_clap(alloc: Global, error: &clap::Error, tip: Option<&str>) -> 
 fn of_mistake(alloc: Global, why: &str, tip: Option<&str>) -> ParseFault
     ensures { IsUsageWith ⊤ result }
 {
-    let (before, after) = around_file_tip(why, tip.is_some());
+    let (before, after) = around_tip(why, tip.is_some());
     let tip = tip.unwrap_or("");
     match format!(in alloc; "{before}{tip}{after}") {
         Ok(why) => usage(alloc, &why, ""),
@@ -125,16 +133,31 @@ fn of_mistake(alloc: Global, why: &str, tip: Option<&str>) -> ParseFault
     }
 }
 
-/// What stands before and after the tip of `clap`'s to pass a word as a file, where it is wrong: the
-/// word is known to be none, or begins with `--`, as the options of other commands do.
-fn around_file_tip(why: &str, is_known: bool) -> (&str, &str) {
-    match why.split_once("\n\n  tip: to pass '") {
-        Some((before, tip)) if is_known || tip.starts_with("--") => {
+/// What stands before and after the tip of `clap`'s, where it is wrong.
+fn around_tip(why: &str, is_known: bool) -> (&str, &str) {
+    match why.split_once("\n\n  tip: ") {
+        Some((before, tip)) if is_file_tip(tip, is_known) || is_fold_tip(before, tip) => {
             let end = tip.find("\n\n").unwrap_or(tip.len());
             (before, tip.get(end..).unwrap_or(""))
         }
         _ => (why, ""),
     }
+}
+
+/// Whether the tip is to pass a word as a file, which is known to be none, or begins with `--`, as
+/// the options of other commands do.
+fn is_file_tip(tip: &str, is_known: bool) -> bool {
+    match tip.strip_prefix("to pass '") {
+        Some(word) => is_known || word.starts_with("--"),
+        None => false,
+    }
+}
+
+/// Whether the tip takes `--fold` of a dialogue and `--folded` of a question for each other.
+fn is_fold_tip(before: &str, tip: &str) -> bool {
+    (before.ends_with("'--folded' found") && tip.starts_with("a similar argument exists: '--fold'"))
+        || (before.ends_with("'--fold' found")
+            && tip.starts_with("a similar argument exists: '--folded'"))
 }
 
 /// The fault of entries that are no job, in the form of `clap`'s texts. The program's name is empty
@@ -186,8 +209,8 @@ pub(crate) fn no_question(alloc: Global) -> ParseFault
     let why = "\
 a line is a question with its own options
 
-  tip: files, --symbols, --workers, --complete, --hex, --partial and --notes
-  stand after 'hleak ask'";
+  tip: files, --symbols, --workers, --fold, --complete, --hex, --partial and
+  --notes stand after 'hleak ask'";
     of_line(alloc, why)
 }
 

@@ -269,6 +269,11 @@ impl CommandFlag {
             CommandFlag::ExitCode => "End with status 1 where the answer finds something",
             CommandFlag::Folded => "Folded stacks, for flame graph programs",
             CommandFlag::Json => "One JSON object a line, for other programs",
+            CommandFlag::Fold => {
+                "\
+Keep what the events come to, not the events: trace,
+growth and --until are not answered then"
+            }
             CommandFlag::Complete => "Refuse segments of which one is missing (C8)",
             CommandFlag::Hex => "The files hold hexadecimal digits, not bytes",
             CommandFlag::Partial => "A file may end within a segment, which is left out",

@@ -48,6 +48,18 @@ pub enum Question {
     },
 }
 
+impl Question {
+    ghost use Rattle.std.specs.Prelude.{◌≡◌};
+    ghost use Rattle.htl_command.specs.Needs.{is_of_events};
+
+    /// Whether the answer lists events, or counts at many moments.
+    fn is_of_events(&self) -> bool
+        ensures { result ≡ is_of_events self.now }
+    {
+        matches!(self, Question::Trace { .. } | Question::Growth { .. })
+    }
+}
+
 /// Since when handles count: those that were opened later.
 #[derive(Clone, Copy, Debug, PartialEq, Eq)]
 pub enum Since {
@@ -116,4 +128,17 @@ pub struct Job {
     /// Whether the exit status says that the answer finds something. The text is the same.
     pub exit_code: bool,
     pub format: Format,
+}
+
+impl Job {
+    ghost use Rattle.std.specs.Prelude.{◌≡◌};
+    ghost use Rattle.htl_command.specs.Needs.{needs_events};
+
+    /// Whether the answer needs the events themselves, one by one: a listing, a growth, and an answer
+    /// as of a moment do.
+    pub fn needs_events(&self) -> bool
+        ensures { result ≡ needs_events self.now }
+    {
+        self.question.is_of_events() || self.until.is_some()
+    }
 }

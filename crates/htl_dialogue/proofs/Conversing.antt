@@ -9,11 +9,12 @@ use Rattle.htl_dialogue.specs.Lines.{lines_of}
 use Rattle.htl_dialogue.specs.Notes.{Note, awaits}
 use Rattle.htl_dialogue.specs.Reading.{IsLine, IsNext}
 use Rattle.htl_dialogue.specs.Replying.{KeepsFault}
-use Rattle.htl_dialogue.specs.Sayings.{saying, saying_of}
+use Rattle.htl_dialogue.specs.Sayings.{saying, saying_in, saying_of}
 use Rattle.htl_dialogue.specs.declared.dialogue.Conversed.{Conversed}
 use Rattle.htl_dialogue.specs.declared.reading.NextLine.{NextLine}
 use Rattle.htl_dialogue.specs.declared.saying.Said.{Said}
 use Rattle.htl_dialogue.proofs.Exchanging.{AreReplied, IsNextReply, none_replied, one_replied}
+use Rattle.htl_dialogue.proofs.Hearing.{end_of_line}
 use Rattle.htl_dialogue.proofs.NextLines.{first_line, line_first}
 use Rattle.htl_dialogue.proofs.Noting.{one_more}
 
@@ -35,11 +36,11 @@ pub record Progress {S Host : Type 0} (answers : Answers S) (wanted : Bool) (tol
   pub are : AreReplied answers wanted told initial old host lines state new now conversed
   pub each : count + length rest ≤ length text
 
--- A line was read, and this is said of it.
-pub record Takes (left now : Option (List ℕ)) (next : NextLine) (of : Said) : Type 0 where
+-- A line was read, and this is said of it in a dialogue that forgets events or keeps them.
+pub record Takes (forgets : Bool) (left now : Option (List ℕ)) (next : NextLine) (of : Said) : Type 0 where
   pub found : IsNext left now next
-  pub says : (bytes : List ℕ) → IsLine bytes next.line → saying of ≡ saying_of bytes
-  pub keeps : (bytes : List ℕ) → IsLine bytes next.line → KeepsFault bytes of
+  pub says : (bytes : List ℕ) → IsLine bytes next.line → saying of ≡ saying_in forgets bytes
+  pub keeps : (bytes : List ℕ) → IsLine bytes next.line → KeepsFault forgets bytes of
 
 -- a line that ends the dialogue, and one that doesn't
 asked_none : (line : List ℕ) (more : List (List ℕ)) → line_is_end line ≡ true → before_end (line ∷ more) ≡ []
@@ -80,12 +81,12 @@ module _ {S Host : Type 0} {answers : Answers S} {wanted : Bool} {told : Host �
   -- the line ends the dialogue
   pub ended : {left after new : Option (List ℕ)} {state : S} {now mid : Host} {conversed : Conversed} {count : ℕ} {next : NextLine}
       {of : Said} → Progress answers wanted told initial text old host left state new now conversed count → mid ≡ told now awaits
-      → Takes left after next of → is_end (saying of) ≡ true
+      → Takes answers.forgets left after next of → is_end (saying of) ≡ true
       → Converses answers wanted initial text (Gets old new told host mid) conversed
-  ended {left = left} {after = after} {state = state} {now = now} {mid = mid} {next = next} so_far waited line ends =
+  ended {left = left} {after = after} {state = state} {now = now} {mid = mid} {next = next} {of = of} so_far waited line ends =
       let first = first_line so_far.rest left after next so_far.left_is line.found in
       let same = line.says first.bytes first.is in
-      let is : line_is_end first.bytes ≡ true = ap is_end (sym same) ∙ ends in
+      let is : line_is_end first.bytes ≡ true = end_of_line answers.forgets first.bytes of same ∙ ends in
       let lines : lines_of text ≡ so_far.lines ++ first.bytes ∷ first.others = ap lines_of so_far.is ∙ so_far.reads so_far.rest
       ∙ ap (λ l. so_far.lines ++ l) first.lines in
       let all : asked_lines text ≡ so_far.lines = ap before_end lines ∙ so_far.asks (first.bytes ∷ first.others)
@@ -106,13 +107,14 @@ module _ {S Host : Type 0} {answers : Answers S} {wanted : Bool} {told : Host �
   -- the line got its reply and its notes, and is the last
   pub replied_last : {left rest mid_out new : Option (List ℕ)} {before after : S} {now end : Host} {conversed all : Conversed}
       {count : ℕ} {next : NextLine} {of : Said}
-      → Progress answers wanted told initial text old host left before mid_out now conversed count → Takes left rest next of
-      → is_end (saying of) ≡ false → IsNextReply answers wanted told of before after mid_out new now end conversed all
-      → next.is_last ≡ true → Converses answers wanted initial text (Gets old new told host end) all
-  replied_last {left = left} {rest = rest} {after = after} {next = next} so_far line goes_on reply last =
+      → Progress answers wanted told initial text old host left before mid_out now conversed count
+      → Takes answers.forgets left rest next of → is_end (saying of) ≡ false
+      → IsNextReply answers wanted told of before after mid_out new now end conversed all → next.is_last ≡ true
+      → Converses answers wanted initial text (Gets old new told host end) all
+  replied_last {left = left} {rest = rest} {after = after} {next = next} {of = of} so_far line goes_on reply last =
       let first = first_line so_far.rest left rest next so_far.left_is line.found in
       let same = line.says first.bytes first.is in
-      let not_end : line_is_end first.bytes ≡ false = ap is_end (sym same) ∙ goes_on in
+      let not_end : line_is_end first.bytes ≡ false = end_of_line answers.forgets first.bytes of same ∙ goes_on in
       let lines : lines_of text ≡ so_far.lines ++ first.bytes ∷ [] = ap lines_of so_far.is ∙ so_far.reads so_far.rest
       ∙ ap (λ l. so_far.lines ++ l) first.lines ∙ ap (λ l. so_far.lines ++ first.bytes ∷ l) (first.last last) in
       let all : asked_lines text ≡ so_far.lines ++ first.bytes ∷ [] = ap before_end lines ∙ so_far.asks (first.bytes ∷ [])
@@ -133,13 +135,14 @@ module _ {S Host : Type 0} {answers : Answers S} {wanted : Bool} {told : Host �
   -- or lines are left
   pub replied : {left rest mid_out new : Option (List ℕ)} {before after : S} {now end : Host} {conversed all : Conversed}
       {count : ℕ} {next : NextLine} {of : Said}
-      → Progress answers wanted told initial text old host left before mid_out now conversed count → Takes left rest next of
-      → is_end (saying of) ≡ false → IsNextReply answers wanted told of before after mid_out new now end conversed all
-      → next.is_last ≡ false → Progress answers wanted told initial text old host rest after new end all (count + 1)
-  replied {left = left} {rest = rest} {next = next} so_far line goes_on reply more =
+      → Progress answers wanted told initial text old host left before mid_out now conversed count
+      → Takes answers.forgets left rest next of → is_end (saying of) ≡ false
+      → IsNextReply answers wanted told of before after mid_out new now end conversed all → next.is_last ≡ false
+      → Progress answers wanted told initial text old host rest after new end all (count + 1)
+  replied {left = left} {rest = rest} {next = next} {of = of} so_far line goes_on reply more =
       let first = first_line so_far.rest left rest next so_far.left_is line.found in
       let same = line.says first.bytes first.is in
-      let not_end : line_is_end first.bytes ≡ false = ap is_end (sym same) ∙ goes_on in
+      let not_end : line_is_end first.bytes ≡ false = end_of_line answers.forgets first.bytes of same ∙ goes_on in
       let later = first.more more in
       record {
         read = so_far.read ++ (first.bytes ++ 10 ∷ []);

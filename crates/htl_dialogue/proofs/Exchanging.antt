@@ -10,14 +10,14 @@ use Rattle.std.proofs.lemmas.List.Folds.{list_any-append}
 use Rattle.htl_dialogue.specs.Dialogues.{Answers, AreExchanges, IsExchange, IsReplied, is_wrong}
 use Rattle.htl_dialogue.specs.Notes.{IsFaultOf, Note, after_notes, awaits, first_fault}
 use Rattle.htl_dialogue.specs.Replying.{IsSaidFault, KeepsFault, Replies}
-use Rattle.htl_dialogue.specs.Sayings.{saying, saying_of}
+use Rattle.htl_dialogue.specs.Sayings.{saying, saying_in}
 use Rattle.htl_dialogue.specs.declared.dialogue.Conversed.{Conversed}
 use Rattle.htl_dialogue.specs.declared.saying.Said.{Said}
 use Rattle.htl_dialogue.specs.declared.saying.Said.TheVariants as said
 use Rattle.htl_dialogue.proofs.Noting.{first_fault-append, line_fault, line_more}
 
-abbrev pub line_is_wrong : List ℕ → Bool
-line_is_wrong line = is_wrong (saying_of line)
+abbrev pub line_is_wrong : Bool → List ℕ → Bool
+line_is_wrong forgets line = is_wrong (saying_in forgets line)
 
 -- Lines got their replies and the host its notes, and this is said of them.
 pub record AreReplied {S Host : Type 0} (answers : Answers S) (wanted : Bool) (told : Host → Note → Host) (initial : S)
@@ -28,7 +28,7 @@ pub record AreReplied {S Host : Type 0} (answers : Answers S) (wanted : Bool) (t
   pub exchanged : AreExchanges answers wanted initial lines state replies notes
   pub written : Appends old new replies
   pub heard : now ≡ after_notes told host notes
-  pub any : conversed.has_wrong ≡ list_any line_is_wrong lines
+  pub any : conversed.has_wrong ≡ list_any (line_is_wrong answers.forgets) lines
   pub first : conversed.first_fault ≡ first_fault notes
 
 -- One line more is said, awaited and replied to, with what is said of all lines then.
@@ -43,20 +43,21 @@ pub record IsNextReply {S Host : Type 0} (answers : Answers S) (wanted : Bool) (
 
 module _ {S : Type 0} (answers : Answers S) where
   -- the fault that is said of a line is the line's
-  fault_is_of_line : (line : List ℕ) (of : Said) (before after : S) (reply : List ℕ) (early : List Note) → KeepsFault line of
-      → IsReplied answers (IsSaidFault of) before (saying of) after reply early
-      → IsReplied answers (IsFaultOf line) before (saying of) after reply early
+  fault_is_of_line : (line : List ℕ) (of : Said) (before after : S) (reply : List ℕ) (early : List Note)
+      → KeepsFault answers.forgets line of → IsReplied answers (IsSaidFault of) before (saying of) after reply early
+      → IsReplied answers (IsFaultOf answers.forgets line) before (saying of) after reply early
   fault_is_of_line line said.Nothing before after reply early keeps replied = replied
   fault_is_of_line line said.Quits before after reply early keeps replied = replied
   fault_is_of_line line (said.Asks job) before after reply early keeps replied = replied
   fault_is_of_line line (said.Reads files) before after reply early keeps replied = replied
   fault_is_of_line line (said.Wrong kept) before after reply early keeps replied =
-      (replied.0, replied.1, (replied.2.0, subst (IsFaultOf line) (sym (replied.2.1)) keeps, replied.2.2))
+      (replied.0, replied.1, (replied.2.0, subst (IsFaultOf answers.forgets line) (sym (replied.2.1)) keeps, replied.2.2))
 
   -- what was said of a line got its reply, so the line did
   pub reply_is_of_line : (line : List ℕ) (of : Said) (before after : S) (reply : List ℕ) (early : List Note)
-      → saying of ≡ saying_of line → KeepsFault line of → IsReplied answers (IsSaidFault of) before (saying of) after reply early
-      → IsReplied answers (IsFaultOf line) before (saying_of line) after reply early
+      → saying of ≡ saying_in answers.forgets line → KeepsFault answers.forgets line of
+      → IsReplied answers (IsSaidFault of) before (saying of) after reply early
+      → IsReplied answers (IsFaultOf answers.forgets line) before (saying_in answers.forgets line) after reply early
   reply_is_of_line line of before after reply early same keeps replied =
       rw (← same) (fault_is_of_line line of before after reply early keeps replied)
 
@@ -89,10 +90,10 @@ module _ {S : Type 0} (answers : Answers S) where
   )
 
 -- whether one of the lines is wrong, with one line more
-wrong_more : (lines : List (List ℕ)) (line : List ℕ) (has_wrong wrong : Bool) → has_wrong ≡ list_any line_is_wrong lines
-    → wrong ≡ is_wrong (saying_of line) → (has_wrong || wrong) ≡ list_any line_is_wrong (lines ++ line ∷ [])
-wrong_more lines line has_wrong wrong any is =
-    rw (any, is) (sym (list_any-append line_is_wrong lines (line ∷ []) ∙ ap (λ b. list_any line_is_wrong lines || b) (only (line_is_wrong line))))
+wrong_more : (is_such : List ℕ → Bool) (lines : List (List ℕ)) (line : List ℕ) (has_wrong wrong : Bool) → has_wrong ≡ list_any is_such lines
+    → wrong ≡ is_such line → (has_wrong || wrong) ≡ list_any is_such (lines ++ line ∷ [])
+wrong_more is_such lines line has_wrong wrong any is =
+    rw (any, is) (sym (list_any-append is_such lines (line ∷ []) ∙ ap (λ b. list_any is_such lines || b) (only (is_such line))))
   where
     only : (b : Bool) → (b || false) ≡ b
     only true = refl
@@ -118,7 +119,7 @@ module _ {S Host : Type 0} {answers : Answers S} {wanted : Bool} {told : Host �
       {so_far conversed : Conversed} {of : Said} (line : List ℕ)
       → AreReplied answers wanted told initial old host lines before mid_out now so_far
       → IsNextReply answers wanted told of before after mid_out new now end so_far conversed
-      → saying of ≡ saying_of line → KeepsFault line of
+      → saying of ≡ saying_in answers.forgets line → KeepsFault answers.forgets line of
       → AreReplied answers wanted told initial old host (lines ++ line ∷ []) after new end conversed
   one_replied {lines = lines} {before = before} {after = after} {mid_out = mid_out} {new = new} {now = now} {end = end}
       {so_far = so_far} {conversed = conversed} {of = of} line are next same keeps =
@@ -126,7 +127,7 @@ module _ {S Host : Type 0} {answers : Answers S} {wanted : Bool} {told : Host �
       let own = awaits ∷ (reply.early ++ reply.late) in
       let absent = rw same at reply.absence in
       let own_fault : first_fault own ≡ first_fault reply.early =
-      line_fault (answers.has_subject before) wanted (saying_of line) reply.early reply.late absent in
+      line_fault (answers.has_subject before) wanted (saying_in answers.forgets line) reply.early reply.late absent in
       let all_faults : first_fault (are.notes ++ own) ≡ option_or (first_fault are.notes) (first_fault own) =
       first_fault-append are.notes own in
       record {
@@ -141,7 +142,8 @@ module _ {S Host : Type 0} {answers : Answers S} {wanted : Bool} {told : Host �
         });
         written = Appends-trans old mid_out new are.replies reply.reply are.written reply.written;
         heard = line_more told host now next.waiting end are.notes (reply.early ++ reply.late) are.heard next.waited reply.all;
-        any = next.wrong ∙ wrong_more lines line so_far.has_wrong next.line.has_wrong are.any (reply.wrong ∙ ap is_wrong same);
+        any = next.wrong ∙ wrong_more (line_is_wrong answers.forgets) lines line so_far.has_wrong next.line.has_wrong are.any
+            (reply.wrong ∙ ap is_wrong same);
         first = next.first ∙ ap (λ o. option_or o next.line.first_fault) are.first
             ∙ ap (λ o. option_or (first_fault are.notes) o) (reply.first ∙ sym own_fault) ∙ sym all_faults;
       }

@@ -3,6 +3,7 @@ pub mod Feeds
 pub mod Takings
 pub mod NextLines
 pub mod Noting
+pub mod Hearing
 pub mod Exchanging
 pub mod Conversing
 pub mod Stopping

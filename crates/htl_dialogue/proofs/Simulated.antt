@@ -1,19 +1,20 @@
 -- What is said of a dialogue with one who answers holds with another, whose states follow those of the first.
-use Rattle.std.proofs.Common.{ℕ, Bool, true, false, List, [], ◌∷◌, refl}
+use Rattle.std.proofs.Common.{◌≡◌, ℕ, Bool, true, false, List, [], ◌∷◌, refl}
 use Rattle.std.specs.Prelude.{Option, Result}
 use Rattle.htl_command.specs.declared.fault.ParseFault.{ParseFault}
 use Rattle.htl_command.specs.declared.question.Job.{Job}
 use Rattle.htl_dialogue.specs.Dialogues.{Answers, AreExchanges, Converses, GotAt, IsReplied, StopsAt, asked_lines}
 use Rattle.htl_dialogue.specs.Notes.{IsAbsence, IsAbsenceOf, IsFaultOf, Note}
-use Rattle.htl_dialogue.specs.Sayings.{Saying, asks, nothing, quits, reads, saying_of, wrong}
+use Rattle.htl_dialogue.specs.Sayings.{Saying, asks, nothing, quits, reads, saying_in, wrong}
 use Rattle.htl_dialogue.specs.declared.dialogue.Conversed.{Conversed}
 use Rattle.htl_dialogue.specs.declared.dialogue.DialogueFault.{DialogueFault}
 use Rattle.htl_dialogue.specs.declared.dialogue.DialogueFault.TheVariants.{Questions, Write, NoMemory}
 use Rattle.htl_main.specs.declared.adding.Added.{Added}
 use Rattle.htl_main.specs.declared.refused.Refused.{Refused}
 
--- The other answers what the first does, and reads files where the first does, with the same end, so that it follows.
-module _ {A B : Type 0} (one : Answers A) (other : Answers B) (Follows : A → B → Type 0)
+-- The other answers what the first does, and reads files where the first does, with the same end, so that it follows. Both forget events,
+-- or keep them.
+module _ {A B : Type 0} (one : Answers A) (other : Answers B) (alike : one.forgets ≡ other.forgets) (Follows : A → B → Type 0)
     (text_too : (a : A) (b : B) (job : Job) (text : List ℕ) → Follows a b → one.has_text a job text → other.has_text b job text)
     (subject_too : (a : A) (b : B) (job : Job) (found : Bool) → Follows a b → one.has_subject a job found → other.has_subject b job found)
     (reads_too : (a : A) (b : B) (files : List (List ℕ)) (after : A) (ended : Result Added Refused) → Follows a b
@@ -49,7 +50,8 @@ module _ {A B : Type 0} (one : Answers A) (other : Answers B) (Follows : A → B
   exchanges_too wanted a b [] after replies notes follows are = (b, rw (are.0) follows, (refl, are.1, are.2))
   exchanges_too wanted a b (line ∷ more) after replies notes follows are =
       let first = are.5 in
-      let here = replied_too (IsFaultOf line) a b (saying_of line) are.0 are.1 first.early follows first.replied in
+      let forgets = other.forgets in
+      let here = replied_too (IsFaultOf forgets line) a b (saying_in forgets line) are.0 are.1 first.early follows (rw alike at first.replied) in
       let then = exchanges_too wanted are.0 here.0 more after are.2 are.4 here.1 are.6 in (
         then.0,
         then.1,
@@ -63,7 +65,7 @@ module _ {A B : Type 0} (one : Answers A) (other : Answers B) (Follows : A → B
             early = first.early;
             late = first.late;
             replied = here.2;
-            absence = absence_too wanted a b (saying_of line) first.late follows first.absence;
+            absence = absence_too wanted a b (saying_in forgets line) first.late follows (rw alike at first.absence);
             all = first.all;
           },
           then.2,
@@ -83,7 +85,7 @@ module _ {A B : Type 0} (one : Answers A) (other : Answers B) (Follows : A → B
         notes = is.notes;
         exchanged = all.2;
         got = is.got;
-        any = is.any;
+        any = rw alike at is.any;
         first = is.first;
       }
 
@@ -94,7 +96,8 @@ module _ {A B : Type 0} (one : Answers A) (other : Answers B) (Follows : A → B
   got_too a b failed Got NoMemory later replies notes follows is = is
   got_too a b failed Got Write [] replies notes follows is = absurd is
   got_too a b failed Got Write (line ∷ more) replies notes follows is =
-      let here = replied_too (IsFaultOf line) a b (saying_of line) is.0 is.1 is.3 follows is.4 in
+      let forgets = other.forgets in
+      let here = replied_too (IsFaultOf forgets line) a b (saying_in forgets line) is.0 is.1 is.3 follows (rw alike at is.4) in
       (here.0, is.1, is.2, is.3, here.2, is.5)
 
   -- So is one that a fault ends.

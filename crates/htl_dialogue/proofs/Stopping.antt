@@ -19,6 +19,7 @@ use Rattle.htl_dialogue.specs.declared.reading.NextLine.{NextLine}
 use Rattle.htl_dialogue.specs.declared.saying.Said.{Said}
 use Rattle.htl_dialogue.proofs.Conversing.{Progress, Takes, asked_one, line_is_end}
 use Rattle.htl_dialogue.proofs.Exchanging.{reply_is_of_line}
+use Rattle.htl_dialogue.proofs.Hearing.{end_of_line}
 use Rattle.htl_dialogue.proofs.NextLines.{first_line, one_line}
 use Rattle.htl_dialogue.proofs.Noting.{line_more, one_more}
 
@@ -106,7 +107,8 @@ module _ {S Host : Type 0} {answers : Answers S} {wanted : Bool} {told : Host �
 
     -- the reply to a line could not be written, or there was none
     pub unreplied : {rest : Option (List ℕ)} {next : NextLine} {of : Said} (after end_out : Option (List ℕ)) (mid end : Host)
-        (failed write_failed : Bool) (fault : DialogueFault) → mid ≡ told now awaits → Takes left rest next of → is_end (saying of) ≡ false
+        (failed write_failed : Bool) (fault : DialogueFault) → mid ≡ told now awaits → Takes answers.forgets left rest next of
+        → is_end (saying of) ≡ false
         → IsRefusedReply answers of state new end_out write_failed told mid end fault → failed ≡ false
         → StopsAt answers wanted initial text after failed (Gets old end_out told host end) fault
     unreplied after end_out mid end failed write_failed Questions waited line goes_on refused fine = absurd refused
@@ -115,7 +117,7 @@ module _ {S Host : Type 0} {answers : Answers S} {wanted : Bool} {told : Host �
     unreplied {rest = rest} {next = next} {of = of} after end_out mid end failed write_failed Write waited line goes_on refused fine =
         let first = first_line so_far.rest left rest next so_far.left_is line.found in
         let same = line.says first.bytes first.is in
-        let not_end : line_is_end first.bytes ≡ false = ap is_end (sym same) ∙ goes_on in
+        let not_end : line_is_end first.bytes ≡ false = end_of_line answers.forgets first.bytes of same ∙ goes_on in
         let one : asked_lines so_far.rest ≡ first.bytes ∷ before_end first.others = ap before_end first.lines
         ∙ asked_one first.bytes first.others not_end in
         let part = refused.1 in

@@ -8,7 +8,7 @@ use Rattle.htl_command.specs.declared.fault.ParseFault.{ParseFault}
 use Rattle.htl_command.specs.declared.question.Job.{Job}
 use Rattle.htl_dialogue.specs.Lines.{lines_of}
 use Rattle.htl_dialogue.specs.Notes.{IsAbsence, IsFaultOf, Note, after_notes, awaits, first_fault, refuses, reads as notes_reading}
-use Rattle.htl_dialogue.specs.Sayings.{Saying, nothing, quits, asks, reads, wrong, saying_of}
+use Rattle.htl_dialogue.specs.Sayings.{Saying, nothing, quits, asks, reads, wrong, saying_in, saying_of}
 use Rattle.htl_dialogue.specs.declared.dialogue.Conversed.{Conversed}
 use Rattle.htl_dialogue.specs.declared.dialogue.DialogueFault.{DialogueFault}
 use Rattle.htl_dialogue.specs.declared.dialogue.DialogueFault.TheVariants.{Questions, Write, NoMemory}
@@ -16,16 +16,18 @@ use Rattle.htl_main.specs.Adding.{added_text}
 use Rattle.htl_main.specs.declared.adding.Added.{Added}
 use Rattle.htl_main.specs.declared.refused.Refused.{Refused}
 
--- Who answers, by what holds in each of its states: which texts answer a job, whether what a job's question names has an event, and to
--- which state it leads that files of these names are read, and how that ends.
+-- Who answers: whether it forgets events; and by what holds in each of its states, which texts answer a job, whether what a job's
+-- question names has an event, and to which state it leads that files of these names are read, and how that ends.
 pub record Answers (S : Type 0) : Type 1 where
+  pub forgets : Bool
   pub has_text : S → Job → List ℕ → Type 0
   pub has_subject : S → Job → Bool → Type 0
   pub reads : S → List (List ℕ) → S → Result Added Refused → Type 0
 
-abbrev pub answers_by : {S : Type 0} → (S → Job → List ℕ → Type 0) → (S → Job → Bool → Type 0)
+abbrev pub answers_by : {S : Type 0} → Bool → (S → Job → List ℕ → Type 0) → (S → Job → Bool → Type 0)
     → (S → List (List ℕ) → S → Result Added Refused → Type 0) → Answers S
-answers_by has_text has_subject reads_files = record { has_text = has_text; has_subject = has_subject; reads = reads_files }
+answers_by forgets has_text has_subject reads_files =
+    record { forgets = forgets; has_text = has_text; has_subject = has_subject; reads = reads_files }
 
 -- the reply to files that were to be read: what they brought, or the line feed alone
 abbrev pub reading_reply : Result Added Refused → List ℕ
@@ -51,8 +53,8 @@ pub record IsExchange {S : Type 0} (answers : Answers S) (wanted : Bool) (before
     (notes : List Note) : Type 0 where
   pub early : List Note
   pub late : List Note
-  pub replied : IsReplied answers (IsFaultOf line) before (saying_of line) after reply early
-  pub absence : IsAbsence (answers.has_subject before) wanted (saying_of line) late
+  pub replied : IsReplied answers (IsFaultOf answers.forgets line) before (saying_in answers.forgets line) after reply early
+  pub absence : IsAbsence (answers.has_subject before) wanted (saying_in answers.forgets line) late
   pub all : notes ≡ awaits ∷ (early ++ late)
 
 -- Lines got their replies, one after the other.
@@ -96,7 +98,7 @@ pub record Converses {S : Type 0} (answers : Answers S) (wanted : Bool) (before 
   pub notes : List Note
   pub exchanged : AreExchanges answers wanted before (asked_lines text) after replies notes
   pub got : Got replies (notes ++ last_wait text)
-  pub any : conversed.has_wrong ≡ list_any (λ line. is_wrong (saying_of line)) (asked_lines text)
+  pub any : conversed.has_wrong ≡ list_any (λ line. is_wrong (saying_in answers.forgets line)) (asked_lines text)
   pub first : conversed.first_fault ≡ first_fault notes
 
 -- What was written and told where a fault ends the replies. Where a reply could not be written, some first part of it was, after the
@@ -106,7 +108,7 @@ abbrev pub GotAt : {S : Type 0} → Answers S → S → Bool → (List ℕ → L
 GotAt answers state failed Got Write [] replies notes = ⊥
 GotAt {S = S} answers state failed Got Write (line ∷ more) replies notes =
     (after : S) × (reply : List ℕ) × (count : ℕ) × (early : List Note)
-    × IsReplied answers (IsFaultOf line) state (saying_of line) after reply early
+    × IsReplied answers (IsFaultOf answers.forgets line) state (saying_in answers.forgets line) after reply early
     × Got (replies ++ take count reply) (notes ++ awaits ∷ early)
 GotAt answers state failed Got Questions later replies notes = Got replies (notes ++ awaits ∷ []) ⊎ ((failed ≡ false) × Got replies notes)
 GotAt answers state failed Got NoMemory later replies notes = Got replies (notes ++ awaits ∷ []) ⊎ ((failed ≡ false) × Got replies notes)

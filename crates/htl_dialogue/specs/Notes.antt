@@ -7,7 +7,7 @@ use Rattle.htl_command.specs.declared.fault.ParseFault.TheVariants.{Memory}
 use Rattle.htl_command.specs.declared.question.Job.{Job}
 use Rattle.htl_command.specs.declared.question.Question.{Question}
 use Rattle.htl_dialogue.specs.Lines.{arguments_of}
-use Rattle.htl_dialogue.specs.Sayings.{Saying, is_read, is_readable, meant}
+use Rattle.htl_dialogue.specs.Sayings.{Saying, asks_forgotten, is_read, is_readable, meant, saying_of}
 use Rattle.htl_dialogue.specs.Sayings.{nothing, quits, asks, reads as says_reads, wrong}
 use Rattle.htl_main.specs.declared.adding.Added.{Added}
 use Rattle.htl_main.specs.declared.fault.RunFault.{RunFault}
@@ -43,10 +43,12 @@ IsFaultIn false arguments fault = IsUsageWith ⊤ fault
 abbrev pub IsFaultBy : List (List ℕ) → ParseFault → Type 0
 IsFaultBy arguments fault = IsFaultIn (not (is_read arguments)) arguments fault
 
--- why a line is wrong, which is not that memory was refused: its arguments are, or it has none
-abbrev pub IsFaultOf : List ℕ → ParseFault → Type 0
-IsFaultOf line fault =
-    (fault ≢ Memory) × IsFaultIn (is_readable line && not (is_read (arguments_of line))) (arguments_of line) fault
+-- Why a line is wrong in a dialogue that forgets events, or keeps them. It is not that memory was refused: its arguments are wrong, or it
+-- has none, or it asks what needs events that are forgotten.
+abbrev pub IsFaultOf : Bool → List ℕ → ParseFault → Type 0
+IsFaultOf forgets line fault =
+    (fault ≢ Memory) × IsFaultIn (not (asks_forgotten forgets (saying_of line)) && (is_readable line && not (is_read (arguments_of line))))
+    (arguments_of line) fault
 
 -- after the reply to a question, where the host wants to know: that what it names has no event
 abbrev pub IsAbsenceOf : (Job → Bool → Type 0) → Bool → Job → List Note → Type 0

@@ -41,9 +41,9 @@ HasFault IsSuch (said.Reads files) = ⊤
 abbrev pub HasReason : (ParseFault → Type 0) → Said → Type 0
 HasReason IsSuch = HasFault (λ fault. (fault ≢ Memory) × IsSuch fault)
 
--- the fault of this line
-abbrev pub KeepsFault : List ℕ → Said → Type 0
-KeepsFault line = HasFault (IsFaultOf line)
+-- the fault of this line, in a dialogue that forgets events or keeps them
+abbrev pub KeepsFault : Bool → List ℕ → Said → Type 0
+KeepsFault forgets line = HasFault (IsFaultOf forgets line)
 
 -- this fault is the one that is said of a wrong line
 abbrev pub IsSaidFault : Said → ParseFault → Type 0

@@ -1,8 +1,10 @@
 -- What a line says (this project's own): a question, or that files are read, or that the dialogue ends, or nothing; or it is wrong.
-use Rattle.std.specs.Prelude.{ℕ, ◌&&◌, ◌||◌, ◌==◌, Bool, false, not, List, [], ◌∷◌, codes, if◌then◌else◌, length, map, nat_le, string_bytes}
+use Rattle.std.specs.Prelude.{ℕ, ◌&&◌, ◌||◌, ◌==◌, Bool, true, false, not, List, [], ◌∷◌, codes, if◌then◌else◌, length, map, nat_le}
+use Rattle.std.specs.Prelude.{string_bytes}
 use Rattle.std.specs.List.{list_all, list_any}
 use Rattle.std.specs.Option.{option_map_or}
 use Rattle.std.specs.Str.{bytes_eq, is_utf8}
+use Rattle.htl_command.specs.Needs.{needs_events}
 use Rattle.htl_command.specs.Requests.{asked_in}
 use Rattle.htl_command.specs.declared.question.Job.{Job}
 use Rattle.htl_dialogue.specs.Lines.{arguments_of, ends_quoted}
@@ -68,6 +70,20 @@ is_readable line = nat_le (length line) MAX_LINE_LEN && (not (ends_quoted false 
 -- What a line says.
 unfoldable pub saying_of : List ℕ → Saying
 saying_of line = if is_readable line then saying_by (arguments_of line) else wrong
+
+-- it asks what needs events, where a dialogue forgets them
+abbrev pub asks_forgotten : Bool → Saying → Bool
+asks_forgotten false said = false
+asks_forgotten true (asks job) = needs_events job
+asks_forgotten true other = false
+
+-- what is said in a dialogue that forgets events, or keeps them: where it forgets them, a question that needs them is wrong
+abbrev pub heard : Bool → Saying → Saying
+heard forgets said = if asks_forgotten forgets said then wrong else said
+
+-- What a line says there.
+abbrev pub saying_in : Bool → List ℕ → Saying
+saying_in forgets line = heard forgets (saying_of line)
 
 -- the same of the program's own type
 abbrev pub saying : Said → Saying

@@ -1,14 +1,16 @@
 //! What a line says.
 
-ghost use Rattle.std.specs.Prelude.{◌≡◌, ◌<◌, ⊤, ℕ, List, IfErr, IfOk, Some, length, map, string_bytes};
+ghost use Rattle.std.specs.Prelude.{◌≡◌, ◌<◌, ⊤, ℕ, List, IfErr, IfOk, Some, false, length, map};
+ghost use Rattle.std.specs.Prelude.{string_bytes};
 ghost use Rattle.std.specs.List.{list_any};
 ghost use Rattle.htl_command.specs.Refusals.{IsUsageWith, RefusesQuestion};
 ghost use Rattle.htl_command.specs.Requests.{asked_in};
 ghost use Rattle.htl_dialogue.specs.Reading.{IsLine};
 ghost use Rattle.htl_dialogue.specs.Notes.{IsFaultBy};
 ghost use Rattle.htl_dialogue.specs.Replying.{HasReason, KeepsFault};
-ghost use Rattle.htl_dialogue.specs.Sayings.{asking, is_farewell, is_help_sign, is_option, is_quit};
-ghost use Rattle.htl_dialogue.specs.Sayings.{is_read, meant, reading, saying, saying_by, saying_of};
+ghost use Rattle.htl_dialogue.specs.Sayings.{asking, asks_forgotten, is_farewell, is_help_sign};
+ghost use Rattle.htl_dialogue.specs.Sayings.{is_option, is_quit, is_read, meant, reading, saying};
+ghost use Rattle.htl_dialogue.specs.Sayings.{saying_by, saying_in, saying_of};
 ghost use Rattle.htl_dialogue.specs.Sayings.{wrong as says_wrong};
 
 use crate::line::Line;
@@ -32,13 +34,39 @@ pub enum Said {
     Wrong(ParseFault),
 }
 
-/// What a line says.
+/// What a line says in a dialogue. Where the dialogue forgets events, a question that needs them is
+/// wrong.
+pub fn read_line(alloc: Global, line: &Line, forgets: bool) -> Result<Said, NoMemory>
+    ensures said { IfOk result (λ said. (bytes : List ℕ) → IsLine bytes line.now
+        → saying said ≡ saying_in forgets bytes) }
+    ensures fault { IfOk result (λ said. (bytes : List ℕ) → IsLine bytes line.now
+        → KeepsFault forgets bytes said) }
+{
+    let said = said_of(alloc, line)?;
+    if asks_forgotten(&said, forgets) {
+        wrong(ParseFault::needs_events(alloc))
+    } else {
+        Ok(said)
+    }
+}
+
+/// Whether it is a question that needs events, where these are forgotten.
+fn asks_forgotten(said: &Said, forgets: bool) -> bool
+    ensures { result ≡ asks_forgotten forgets (saying said.now) }
+{
+    match said {
+        Said::Asks(job) => forgets && job.needs_events(),
+        _ => false,
+    }
+}
+
+/// What a line says where events are kept.
 #[tactic(auto, unfolding(crate::specs::Sayings::saying_of))]
-pub fn read_line(alloc: Global, line: &Line) -> Result<Said, NoMemory>
+fn said_of(alloc: Global, line: &Line) -> Result<Said, NoMemory>
     ensures said { IfOk result (λ said. (bytes : List ℕ) → IsLine bytes line.now
         → saying said ≡ saying_of bytes) }
     ensures fault { IfOk result (λ said. (bytes : List ℕ) → IsLine bytes line.now
-        → KeepsFault bytes said) }
+        → KeepsFault false bytes said) }
 {
     let Line::Whole(bytes) = line else {
         return wrong(ParseFault::long_line(alloc));

@@ -8,6 +8,9 @@ pub mod EncodeLaws
 pub mod FewSegments
 pub mod OfProcessor
 pub mod Covered
+pub mod FoldLaws
+pub mod FolderLaws
+pub mod FoldInputs
 pub mod Outlined
 pub mod WholeLaws
 pub mod Missing

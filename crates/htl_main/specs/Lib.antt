@@ -16,10 +16,12 @@ pub mod Encodings
 pub mod Origins
 pub mod Loading
 pub mod Adding
+pub mod Folding
 pub mod Picked
 pub mod Statuses
 -- What only private contracts cite.
 pub mod Ends
+pub mod Folders
 pub mod Faults
 pub mod Questions
 pub mod Reads

@@ -109,7 +109,11 @@ pub(crate) fn answer_of_lists<E: EventList>(
 }
 
 /// The answer of parts to a question about events.
-fn answer_of<P: Part>(alloc: Global, parts: &[P], question: Question) -> Result<Answer, NoMemory>
+pub(crate) fn answer_of<P: Part>(
+    alloc: Global,
+    parts: &[P],
+    question: Question,
+) -> Result<Answer, NoMemory>
     requires about { IsOfParts question }
     requires few { size_of_all (map P.contents parts.now) < 2 ^ 64 }
     ensures { IfOk result (λ answer. (events : List Event)

@@ -7,5 +7,9 @@ pub mod Lent
 pub mod RanOut
 mod SourcesRead
 mod RunEnds
+pub mod NamesRead
 pub mod LoadLaws
+pub mod FoldLaws
+pub mod KeptLaws
 pub mod Begun
+pub mod OfForm

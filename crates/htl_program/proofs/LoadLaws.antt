@@ -1,8 +1,8 @@
--- What is said of what was loaded is said of runs of their own over all that was read, also once files are added.
+-- What is said of what was loaded is said of runs of their own over all inputs, also once files are added.
 use Rattle.std.proofs.Common.{◌≡◌, ◌⊎◌, ◌∙◌, ℕ, Bool, List, [], ◌∷◌, ◌++◌, Option, None, Some, map, refl, sym, ap, subst, inl, inr}
-use Rattle.std.proofs.Common.{append_assoc}
-use Rattle.std.specs.Prelude.{All, Contains, IfErr, IfOk, IfSome, Result, Ok, Err, String, option_map, string_bytes, false}
-use Rattle.std.proofs.lemmas.List.Elements.{All-nil, Contains-append_cases, Contains-append_left, Contains-append_right}
+use Rattle.std.proofs.Common.{All, append_assoc, false}
+use Rattle.std.specs.Prelude.{IfErr, IfOk, Result, Ok, Err}
+use Rattle.std.proofs.lemmas.List.Elements.{Contains-append_cases, Contains-append_left, Contains-append_right}
 use Rattle.htl_case.specs.Cases.{IsCaseOf}
 use Rattle.htl_segment.specs.Content.{Content}
 use Rattle.htl_segment.specs.Traces.{Trace}
@@ -22,61 +22,35 @@ use Rattle.htl_main.specs.Subjects.{HasSubject}
 use Rattle.htl_main.specs.declared.adding.Added.{Added}
 use Rattle.htl_main.specs.declared.coverage.Coverage.{Coverage}
 use Rattle.htl_main.specs.declared.cut_inputs.CutInputs.{CutInputs}
-use Rattle.htl_main.specs.declared.fault.RunFault.TheVariants.{Read}
 use Rattle.htl_main.specs.declared.loading.Loaded.{Loaded}
 use Rattle.htl_main.specs.declared.origin.Between.TheVariants.{Nothing}
 use Rattle.htl_main.specs.declared.refused.Refused.{Refused}
 use Rattle.htl_main.proofs.AfterLoading.{as_of, runs_subject, runs_text}
-use Rattle.htl_program.specs.Asking.{AddsTo, IsAdding, IsRunsSubject, IsRunsText, Opening, Opens, ReadsMore, all_known, both_known}
-use Rattle.htl_program.specs.Asking.{own_run, read_by_then}
+use Rattle.htl_program.specs.Asking.{AddsTo, IsAdding, IsRunsSubject, IsRunsText, Opens, own_run}
 use Rattle.htl_program.specs.Endings.{RunsOut}
 use Rattle.htl_program.specs.Opened.{Known, Opened, ends, lefts}
 use Rattle.htl_program.specs.Loads.{AddsFiles}
 use Rattle.htl_program.specs.Readings.{AreFresh}
-use Rattle.htl_program.specs.Worlds.{IsFirstRefused, of_each}
-use Rattle.htl_program.proofs.Lent.{same_fault}
-use Rattle.htl_program.proofs.FirstAbsent.{IsUnopenedFor, first_or_memory, held_memory, none_absent}
-
-abbrev pub opening : Coverage → Option CutInputs → Opening
-opening coverage cut = record { coverage = coverage; cut = cut }
+use Rattle.htl_program.proofs.FirstAbsent.{IsUnopenedFor, held_memory}
+use Rattle.htl_program.proofs.NamesRead.{all_read, none_read}
 
 module _ (setting : Setting) (inputs : List (List ℕ)) (symbols : Option (List ℕ)) (T : Trace) (table : List Range)
     (loaded : AreLoadedOf inputs symbols setting None T table) where
   pub loaded_opens : (coverage : Coverage) (cut : Option CutInputs) → IsCoverage T coverage → AreCut setting.form.hex inputs cut
-      → Opens setting.form inputs (opening coverage cut)
+      → Opens setting.form inputs (record { coverage = coverage; cut = cut })
   loaded_opens coverage cut is are = record { coverage = (loaded.segments, loaded.decoded, (T, loaded.loaded.case, is)); cut = are }
 
-  loaded_text : (job : Job) (text : List ℕ) → IsText T table job text → IsRunsText setting symbols inputs job text
+  pub loaded_text : (job : Job) (text : List ℕ) → IsText T table job text → IsRunsText setting symbols inputs job text
   loaded_text job text is =
       let own = own_run setting job in
       runs_text setting inputs symbols T table own (as_of inputs symbols setting own T table loaded) text (λ coded. absurd (cc coded)) is
 
-  loaded_subject : (job : Job) (found : Bool) → HasSubject T job found → IsRunsSubject setting inputs job found
+  pub loaded_subject : (job : Job) (found : Bool) → HasSubject T job found → IsRunsSubject setting inputs job found
   loaded_subject job found is =
       let own = own_run setting job in
       runs_subject setting inputs symbols T table own (as_of inputs symbols setting own T table loaded) found is
 
 -- ---- over time
-
--- What was loaded is what was read, where that is known.
-pub record Holds (setting : Setting) (symbols : Option (List ℕ)) (loaded : Loaded) (read : Option (List (List ℕ))) : Type 0 where
-  pub coverage : IsCoverage loaded.case loaded.coverage
-  pub inputs : IfSome read (λ inputs. AreLoadedOf inputs symbols setting None loaded.case loaded.symbols)
-
-module _ (setting : Setting) (symbols : Option (List ℕ)) (loaded : Loaded) where
-  pub holds_text : (read : Option (List (List ℕ))) (job : Job) (text : List ℕ) → Holds setting symbols loaded read
-      → (IsCoverage loaded.case loaded.coverage → IsText loaded.case loaded.symbols job text)
-      → IfSome read (λ inputs. IsRunsText setting symbols inputs job text)
-  holds_text None job text holds is = tt
-  holds_text (Some inputs) job text holds is =
-      loaded_text setting inputs symbols loaded.case loaded.symbols holds.inputs job text (is holds.coverage)
-
-  pub holds_subject : (read : Option (List (List ℕ))) (job : Job) (found : Bool) → Holds setting symbols loaded read
-      → (IsCoverage loaded.case loaded.coverage → HasSubject loaded.case job found)
-      → IfSome read (λ inputs. IsRunsSubject setting inputs job found)
-  holds_subject None job found holds is = tt
-  holds_subject (Some inputs) job found holds is =
-      loaded_subject setting inputs symbols loaded.case loaded.symbols holds.inputs job found (is holds.coverage)
 
 -- the segments of inputs and of others after them
 decode_both : (form : InputForm) (inputs others : List (List ℕ)) (segments more : List Content) → DecodeAll form inputs segments
@@ -107,28 +81,13 @@ case_both segments more T after case then = record {
   );
 }
 
--- texts that are all known
-known_texts : (held : List (Option (List ℕ))) → IfSome (all_known held) (λ texts. held ≡ map (λ text. Some text) texts)
-known_texts [] = refl
-known_texts (None ∷ more) = tt
-known_texts (Some text ∷ more) = one_more (all_known more) (known_texts more)
-  where
-    one_more : (rest : Option (List (List ℕ))) → IfSome rest (λ texts. more ≡ map (λ t. Some t) texts)
-        → IfSome (option_map (λ texts. text ∷ texts) rest) (λ texts. (Some text ∷ more) ≡ map (λ t. Some t) texts)
-    one_more None is = tt
-    one_more (Some others) is = ap (λ l. Some text ∷ l) is
-
--- Files were added to what is known by what was read, or were not.
+-- Files were added to what was loaded of inputs, or were not.
 module _ {R : Type 0} (world : Known) (ways : Opened R) (setting : Setting) (symbols : Option (List ℕ)) (before after : Loaded)
-    (names : List (List ℕ)) where
-  added_to : (read rest : Option (List (List ℕ))) (added : Added) → Holds setting symbols before read
-      → IfSome rest (λ texts. map world.holds names ≡ map (λ t. Some t) texts)
+    (names : List (List ℕ)) (inputs : List (List ℕ)) (old : AreLoadedOf inputs symbols setting None before.case before.symbols) where
+  pub loaded_then : (texts : List (List ℕ)) (added : Added) → map world.holds names ≡ map (λ t. Some t) texts
       → AddsFiles world ways setting before names after (Ok added)
-      → IfSome (both_known read rest) (λ inputs. AreLoadedOf inputs symbols setting None after.case after.symbols)
-  added_to None rest added holds held adds = tt
-  added_to (Some inputs) None added holds held adds = tt
-  added_to (Some inputs) (Some texts) added holds held adds =
-      let old : AreLoadedOf inputs symbols setting None before.case before.symbols = holds.inputs in
+      → AreLoadedOf (inputs ++ texts) symbols setting None after.case after.symbols
+  loaded_then texts added held adds =
       let new = only_added (adds.adds texts held) in
       record {
         workers = old.workers;
@@ -145,13 +104,11 @@ module _ {R : Type 0} (world : Known) (ways : Opened R) (setting : Setting) (sym
       only_added (inl is) = is
       only_added (inr is) = absurd is
 
-  then_added : (read : Option (List (List ℕ))) (inputs texts : List (List ℕ)) (ended : Result Added Refused)
-      → Holds setting symbols before read → read ≡ Some inputs
-      → (adds : AddsFiles world ways setting before names after ended) → map world.holds names ≡ map (λ t. Some t) texts
+  pub adds_to : (texts : List (List ℕ)) (ended : Result Added Refused) (adds : AddsFiles world ways setting before names after ended)
+      → map world.holds names ≡ map (λ t. Some t) texts
       → AddsTo setting inputs texts (lefts (record ways { files = adds.sources })) (ends (record ways { files = adds.sources })) ended
       ⊎ RunsOut ended
-  then_added read inputs texts ended holds known adds held =
-      let old : AreLoadedOf inputs symbols setting None before.case before.symbols = rw known at holds.inputs in
+  adds_to texts ended adds held =
       elim (adds.adds texts held) [
         | inl is ↦ inl (record {
           segments = old.segments;
@@ -164,43 +121,7 @@ module _ {R : Type 0} (world : Known) (ways : Opened R) (setting : Setting) (sym
         | inr out ↦ inr out
       ]
 
-  reads_more : (read : Option (List (List ℕ))) (ended : Result Added Refused) → Holds setting symbols before read
-      → AddsFiles world ways setting before names after ended
-      → ReadsMore world ways setting read names (read_by_then read (all_known (map world.holds names)) ended) ended
-  reads_more read ended holds adds = record {
-    sources = adds.sources;
-    reads = adds.reads;
-    ends = λ inputs texts known held. then_added read inputs texts ended holds known adds held;
-    after_is = refl;
-  }
-
-  holds_then : (read : Option (List (List ℕ))) (ended : Result Added Refused) → Holds setting symbols before read
-      → AddsFiles world ways setting before names after ended
-      → Holds setting symbols after (read_by_then read (all_known (map world.holds names)) ended)
-  holds_then read (Ok added) holds adds = record {
-    coverage = adds.coverage;
-    inputs = added_to read (all_known (map world.holds names)) added holds (known_texts (map world.holds names)) adds;
-  }
-  holds_then read (Err refused) holds adds = rw adds.same holds
-
-  pub reading_more : (read : Option (List (List ℕ))) (ended : Result Added Refused) → Holds setting symbols before read
-      → AddsFiles world ways setting before names after ended
-      → (then : Option (List (List ℕ))) × Holds setting symbols after then × ReadsMore world ways setting read names then ended
-  reading_more read ended holds adds = (
-    read_by_then read (all_known (map world.holds names)) ended,
-    holds_then read ended holds adds,
-    reads_more read ended holds adds,
-  )
-
 -- ---- how files are added
-
-same_place : (one other : ℕ) → Read one ≡ Read other → one ≡ other
-same_place one other is = cc is
-
--- names in their order, each by its bytes
-pub by_bytes : {X A : Type 0} (of : List ℕ → X) (names : List (String A)) → of_each of names ≡ map of (map string_bytes names)
-by_bytes of [] = refl
-by_bytes of (name ∷ names) = ap (λ l. of (string_bytes name) ∷ l) (by_bytes of names)
 
 module _ {R : Type 0} (world : Known) (ways : Opened R) (setting : Setting) (before : Loaded) (names : List (List ℕ)) where
   -- Files were not opened, and nothing was added.
@@ -208,23 +129,12 @@ module _ {R : Type 0} (world : Known) (ways : Opened R) (setting : Setting) (bef
       → refused.between ≡ Nothing → AddsFiles world ways setting before names before (Err refused)
   not_opened refused unopened alone = record {
     sources = [];
-    reads = record {
-      absent = λ place absent. first_or_memory (Err refused.fault) (map world.holds names) (map world.is_absent names) refused.fault place
-          refl unopened absent;
-      reading = inr (refl, record { fresh = All-nil _; inside = All-nil _ });
-      read = λ place told. inl (first place (same_fault refused.fault (Read place) _ refl told) unopened);
-    };
+    reads = none_read world ways setting.form.hex names refused.fault unopened;
     adds = λ texts held. inr (held_memory (map world.holds names) (map world.is_absent names) texts refused.fault held unopened, alone);
     coverage = tt;
     symbols = refl;
     same = refl;
   }
-    where
-      first : (place : ℕ) → refused.fault ≡ Read place
-          → IsUnopenedFor (map world.holds names) (map world.is_absent names) refused.fault
-          → IsFirstRefused (map world.holds names) (map world.is_absent names) place
-      first place told (inl memory) = absurd (cc (memory, told))
-      first place told (inr (at, is, unopened)) = rw (← same_place at place (sym is ∙ told)) unopened
 
   -- Files were opened, and what was added is what came of them.
   pub opened_and_added : (after : Loaded) (sources now : List R) (ended : Result Added Refused)
@@ -240,11 +150,7 @@ module _ {R : Type 0} (world : Known) (ways : Opened R) (setting : Setting) (bef
       → AddsFiles world ways setting before names after ended
   opened_and_added after sources now ended fresh hold there ok err covered same symbols read = record {
     sources = now;
-    reads = record {
-      absent = λ place absent. absurd (none_absent (map world.holds names) (map world.is_absent names) place there absent);
-      reading = inl (record { opened = sources; are = fresh; hold = hold; read = read });
-      read = λ place told. inr (rw hold at read.read place told);
-    };
+    reads = all_read world ways setting.form.hex names sources now (by_fault ended) fresh hold there read;
     adds = λ texts held. inl (adding ended texts (ok texts (hold ∙ held)) (err texts (hold ∙ held)));
     coverage = known_coverage ended covered;
     symbols = symbols;

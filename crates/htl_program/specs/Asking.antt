@@ -1,30 +1,36 @@
--- What asking comes to (this project's own): who answers is known by the texts of all inputs that were read so far, as far as these are
--- known. A question gets the text that a run of its own over them prints.
-use Rattle.std.specs.Prelude.{◌≡◌, ◌⊎◌, ◌++◌, ◌∷◌, [], ℕ, Bool, false, List, Option, None, Some, IfSome, Result, Ok, Err}
-use Rattle.std.specs.Prelude.{map, option_map}
+-- What asking comes to (this project's own). Who answers is known by what was read so far, as far as that is known: the texts of all
+-- inputs, where their segments are kept, or the segments that were taken, where these are forgotten. A question gets the text that a run of
+-- its own over these prints.
+use Rattle.std.specs.Prelude.{◌≡◌, ◌≢◌, ◌≤◌, ◌⊎◌, ◌++◌, ◌∷◌, [], ⊤, ℕ, Bool, true, false, List, Option, None, Some, Result, Ok, Err}
+use Rattle.std.specs.Prelude.{IfErr, IfSome, length, map, option_map}
 use Rattle.htl_case.specs.Cases.{IsCaseOf}
 use Rattle.htl_command.specs.declared.question.InputForm.{InputForm}
 use Rattle.htl_command.specs.declared.question.Job.{Job}
 use Rattle.htl_command.specs.declared.question.Setting.{Setting}
 use Rattle.htl_dialogue.specs.Dialogues.{Answers, Gets, answers_by}
+use Rattle.htl_device.specs.declared.whole.TheConstants.{MAX_READS}
 use Rattle.htl_dialogue.specs.Notes.{Note, begins}
+use Rattle.htl_dialogue.specs.declared.dialogue.DialogueFault.TheVariants.{Questions, Write}
 use Rattle.htl_main.specs.Adding.{IsAdded, IsAddingRefused}
 use Rattle.htl_main.specs.Coverages.{Covers}
 use Rattle.htl_main.specs.CutInputs.{AreCut}
+use Rattle.htl_main.specs.Folding.{IsBeginningRefused, IsFolded, IsFoldingRefused, IsHalfKnown}
 use Rattle.htl_main.specs.Inputs.{DecodeAll}
 use Rattle.htl_main.specs.Loading.{in_setting}
-use Rattle.htl_main.specs.Origins.{by_fault}
-use Rattle.htl_main.specs.Printed.{Printed}
+use Rattle.htl_main.specs.Origins.{IsBetween, by_fault}
+use Rattle.htl_main.specs.Printed.{HasSymbols, IsText, Printed}
 use Rattle.htl_main.specs.Sources.{IsEndless, IsSourcesCause, IsTrueAt}
 use Rattle.htl_main.specs.Subjects.{ReportsSubject}
 use Rattle.htl_main.specs.declared.adding.Added.{Added}
 use Rattle.htl_main.specs.declared.coverage.Coverage.{Coverage}
 use Rattle.htl_main.specs.declared.cut_inputs.CutInputs.{CutInputs}
 use Rattle.htl_main.specs.declared.fault.RunFault.{RunFault}
-use Rattle.htl_main.specs.declared.fault.RunFault.TheVariants.{Read}
+use Rattle.htl_main.specs.declared.fault.RunFault.TheVariants.{Memory, Read}
+use Rattle.htl_main.specs.declared.origin.Between.{Between}
 use Rattle.htl_main.specs.declared.refused.Refused.{Refused}
 use Rattle.htl_segment.specs.Content.{Content}
 use Rattle.htl_segment.specs.Traces.{Trace}
+use Rattle.htl_symbols.specs.Ranges.{Range}
 use Rattle.htl_program.specs.Endings.{IsUnopened, RunsOut}
 use Rattle.htl_program.specs.Opened.{Known, Opened, ends, lefts}
 use Rattle.htl_program.specs.Readings.{AreInputs}
@@ -43,6 +49,29 @@ IsRunsText setting symbols inputs job text = Printed (own_run setting job) input
 -- This is what it reports of the subject.
 abbrev pub IsRunsSubject : Setting → List (List ℕ) → Job → Bool → Type 0
 IsRunsSubject setting inputs job found = ReportsSubject inputs (own_run setting job) found
+
+-- ---- what was read
+
+-- what was read so far: inputs of these texts, whose segments are kept; or these segments, which were taken and forgotten
+pub data Taken : Type 0 where
+  inputs : List (List ℕ) → Taken
+  segments : List Content → Taken
+
+-- This is what a run over segments prints that are a case: the text of the definition's value over all of them.
+abbrev pub IsFoldsText : Option (List ℕ) → List Content → Job → List ℕ → Type 0
+IsFoldsText symbols taken job text =
+    (T : Trace) → IsCaseOf taken T → (table : List Range) × HasSymbols symbols table × IsText T table job text
+
+abbrev pub IsTextOver : Setting → Option (List ℕ) → Option Taken → Job → List ℕ → Type 0
+IsTextOver setting symbols None job text = ⊤
+IsTextOver setting symbols (Some (inputs texts)) job text = IsRunsText setting symbols texts job text
+IsTextOver setting symbols (Some (segments taken)) job text = IsFoldsText symbols taken job text
+
+-- What is told of the subject of a question. Where events were forgotten, it is never told that there is none.
+abbrev pub IsSubjectOver : Setting → Option Taken → Job → Bool → Type 0
+IsSubjectOver setting None job found = ⊤
+IsSubjectOver setting (Some (inputs texts)) job found = IsRunsSubject setting texts job found
+IsSubjectOver setting (Some (segments taken)) job found = found ≡ true
 
 -- ---- reading more
 
@@ -73,35 +102,51 @@ pub record AddsTo (setting : Setting) (inputs texts : List (List ℕ)) (lefts : 
   pub after : Trace
   pub adds : IsAdding setting before.segments texts lefts ends after ended
 
+-- what sources of these texts come to that are folded behind segments, where this holds of all that were taken then
+abbrev pub IsFolding : Setting → List Content → List (List ℕ) → List (Option (List ℕ)) → List Bool → (List Content → Type 0)
+    → Result Added Refused → Type 0
+IsFolding setting before texts lefts ends Keeps (Ok added) = IsFolded setting before texts Keeps added
+IsFolding setting before texts lefts ends Keeps (Err refused) =
+    IsFoldingRefused setting before texts lefts ends Keeps refused.fault × IsHalfKnown refused.fault refused.between
+
 -- these texts, where each of them is known
 abbrev pub all_known : List (Option (List ℕ)) → Option (List (List ℕ))
 all_known [] = Some []
 all_known (None ∷ more) = None
 all_known (Some text ∷ more) = option_map (λ texts. text ∷ texts) (all_known more)
 
--- two lists put together, where both are known
-abbrev pub both_known : Option (List (List ℕ)) → Option (List (List ℕ)) → Option (List (List ℕ))
-both_known None more = None
-both_known (Some inputs) more = option_map (λ texts. inputs ++ texts) more
+-- the inputs by then: refused files leave those from before, and files of unknown texts leave them unknown
+abbrev pub inputs_then : List (List ℕ) → Option (List (List ℕ)) → Result Added Refused → Option Taken
+inputs_then before more (Ok added) = option_map (λ texts. inputs (before ++ texts)) more
+inputs_then before more (Err refused) = Some (inputs before)
 
--- what was read then: refused files leave what was read before
-abbrev pub read_by_then : Option (List (List ℕ)) → Option (List (List ℕ)) → Result Added Refused → Option (List (List ℕ))
-read_by_then before more (Ok added) = both_known before more
-read_by_then before more (Err refused) = before
+-- The dialogue goes on: where memory was refused to what forgets, it isn't known what was taken, and nothing more is answered.
+abbrev pub GoesOn : Result Added Refused → Type 0
+GoesOn ended = IfErr ended (λ refused. refused.fault ≢ Memory)
+
+-- What was read before leads to what was read then, where files were read, of which these texts are known.
+abbrev pub LeadsTo : Setting → Option Taken → Option (List (List ℕ)) → List (Option (List ℕ)) → List Bool → Option Taken
+    → Result Added Refused → Type 0
+LeadsTo setting None more lefts ends after ended = after ≡ None
+LeadsTo setting (Some (inputs before)) more lefts ends after ended =
+    (after ≡ inputs_then before more ended) × IfSome more (λ texts. AddsTo setting before texts lefts ends ended ⊎ RunsOut ended)
+LeadsTo setting (Some (segments before)) None lefts ends after ended = GoesOn ended × (after ≡ None)
+LeadsTo setting (Some (segments before)) (Some texts) lefts ends after ended =
+    GoesOn ended × (taken : List Content) × (after ≡ Some (segments taken))
+    × IsFolding setting before texts lefts ends (λ all. all ≡ taken) ended
 
 -- Files of these names were read in a world, and that ended so; the functions say what was read of sources.
-pub record ReadsMore {R : Type 0} (world : Known) (ways : Opened R) (setting : Setting) (before : Option (List (List ℕ)))
-    (names : List (List ℕ)) (after : Option (List (List ℕ))) (ended : Result Added Refused) : Type 0 where
+pub record ReadsMore {R : Type 0} (world : Known) (ways : Opened R) (setting : Setting) (before : Option Taken) (names : List (List ℕ))
+    (after : Option Taken) (ended : Result Added Refused) : Type 0 where
   pub sources : List R
   pub reads : ReadsNames world setting.form.hex names (record ways { files = sources }) (by_fault ended)
-  pub ends : (inputs texts : List (List ℕ)) → before ≡ Some inputs → map world.holds names ≡ map Some texts
-      → AddsTo setting inputs texts (lefts (record ways { files = sources })) (ends (record ways { files = sources })) ended ⊎ RunsOut ended
-  pub after_is : after ≡ read_by_then before (all_known (map world.holds names)) ended
+  pub leads : LeadsTo setting before (all_known (map world.holds names)) (lefts (record ways { files = sources }))
+      (ends (record ways { files = sources })) after ended
 
 -- Who answers from what was read so far.
-abbrev pub answers_over : {R : Type 0} → Known → Opened R → Setting → Option (List ℕ) → Answers (Option (List (List ℕ)))
-answers_over world ways setting symbols = answers_by (λ read job text. IfSome read (λ inputs. IsRunsText setting symbols inputs job text))
-    (λ read job found. IfSome read (λ inputs. IsRunsSubject setting inputs job found)) (ReadsMore world ways setting)
+abbrev pub answers_over : {R : Type 0} → Known → Opened R → Setting → Bool → Option (List ℕ) → Answers (Option Taken)
+answers_over world ways setting forgets symbols =
+    answers_by forgets (IsTextOver setting symbols) (IsSubjectOver setting) (ReadsMore world ways setting)
 
 -- ---- the beginning
 
@@ -115,6 +160,13 @@ pub record Opens (form : InputForm) (inputs : List (List ℕ)) (opening : Openin
   pub coverage : Covers form inputs opening.coverage
   pub cut : AreCut form.hex inputs opening.cut
 
+-- What was read before the first line. Where it is folded, it is told how much of their trace the segments have that are a case.
+abbrev pub Begins : Bool → Setting → List (List ℕ) → Taken → Opening → Type 0
+Begins false setting texts (inputs read) opening = (read ≡ texts) × Opens setting.form texts opening
+Begins true setting texts (segments taken) opening =
+    (added : Added) × IsFolded setting [] texts (λ all. all ≡ taken) added × (opening.coverage ≡ added.coverage) × (opening.cut ≡ added.cut)
+Begins folds setting texts read opening = ⊥
+
 -- the first note
 abbrev pub opening_note : Coverage → Option CutInputs → Note
 opening_note coverage cut = begins coverage.gaps coverage.complete_to (option_map (λ inputs. (inputs.first, inputs.others)) cut)
@@ -127,8 +179,27 @@ BeginsAndGets old new told audience after opening replies notes =
 
 -- why a run of its own over sources of these bytes would end, whatever it is asked of all events
 abbrev pub IsRunsCause : Setting → List (List ℕ) → List (Option (List ℕ)) → List Bool → Option (List ℕ) → RunFault → Type 0
-IsRunsCause setting inputs lefts ends symbols fault =
-    (job : Job) → job.until ≡ None → IsSourcesCause (in_setting setting job) inputs lefts ends symbols fault
+IsRunsCause setting texts lefts ends symbols fault =
+    (job : Job) → job.until ≡ None → IsSourcesCause (in_setting setting job) texts lefts ends symbols fault
+
+-- why nothing can be asked, in each form
+abbrev pub IsBeginsCause : Bool → Setting → List (List ℕ) → List (Option (List ℕ)) → List Bool → Option (List ℕ) → RunFault → Type 0
+IsBeginsCause false setting texts lefts ends symbols fault = IsRunsCause setting texts lefts ends symbols fault
+IsBeginsCause true setting texts lefts ends symbols fault = IsBeginningRefused setting symbols texts lefts ends fault
+
+-- which two segments that is about
+abbrev pub IsBeginsBetween : Bool → Setting → List (List ℕ) → RunFault → Between → Type 0
+IsBeginsBetween false setting texts fault between = IsBetween setting.form texts fault between
+IsBeginsBetween true setting texts fault between = IsHalfKnown fault between
+
+-- What failed of the questions and of the output is reported, and nothing else is reported as failed. Which bytes the questions have is
+-- given where it is known.
+pub record ReportsDevices {S : Type 0} (has_failed : Bool) (questions : Option (List ℕ)) (is_full : Bool) (ended : Result S AskFault)
+    : Type 0 where
+  pub lines : has_failed ≡ true → ended ≡ Err (Dialogue Questions)
+  pub unread : ended ≡ Err (Dialogue Questions) → (has_failed ≡ true) ⊎ IfSome questions (λ bytes. MAX_READS ≤ length bytes)
+  pub full : is_full ≡ true → ended ≡ Err (Dialogue Write)
+  pub unwritten : ended ≡ Err (Dialogue Write) → is_full ≡ true
 
 -- how what comes before the dialogue ends: what ends the dialogue is no fault of it
 abbrev pub before_dialogue : {S : Type 0} → Result S AskFault → Result (Unit {0}) Refused

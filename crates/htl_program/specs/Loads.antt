@@ -1,17 +1,61 @@
--- For the clauses of private functions: what was loaded answers the lines of a dialogue, before files are added and after.
-use Rattle.std.specs.Prelude.{◌≡◌, ◌⊎◌, ℕ, List, IfErr, IfOk, Some, Result, map}
+-- For the clauses of private functions: what is kept answers the lines of a dialogue, before files are read and after.
+use Rattle.std.specs.Prelude.{◌≡◌, ◌⊎◌, ⊤, ℕ, Bool, true, false, List, IfErr, IfOk, None, Some, Option, Result, map}
+use Rattle.htl_case.specs.Cases.{IsCaseOf}
+use Rattle.htl_command.specs.Needs.{needs_events}
+use Rattle.htl_command.specs.declared.question.Job.{Job}
 use Rattle.htl_command.specs.declared.question.Setting.{Setting}
 use Rattle.htl_dialogue.specs.Dialogues.{Answers, answers_by}
+use Rattle.htl_dialogue.specs.declared.saying.Said.{Said}
+use Rattle.htl_dialogue.specs.declared.saying.Said.TheVariants as said
 use Rattle.htl_main.specs.Coverages.{IsCoverage}
+use Rattle.htl_main.specs.Folding.{AreFolded}
+use Rattle.htl_main.specs.Loading.{AreLoadedOf}
 use Rattle.htl_main.specs.Origins.{by_fault}
-use Rattle.htl_main.specs.Printed.{IsText}
+use Rattle.htl_main.specs.Printed.{HasSymbols, IsText}
 use Rattle.htl_main.specs.Subjects.{HasSubject}
 use Rattle.htl_main.specs.declared.adding.Added.{Added}
+use Rattle.htl_main.specs.declared.folding.Folded.{Folded}
 use Rattle.htl_main.specs.declared.loading.Loaded.{Loaded}
 use Rattle.htl_main.specs.declared.refused.Refused.{Refused}
-use Rattle.htl_program.specs.Asking.{IsAdding, ReadsNames}
+use Rattle.htl_segment.specs.Content.{Content}
+use Rattle.htl_segment.specs.Traces.{Trace}
+use Rattle.htl_program.specs.Asking.{Begins, GoesOn, IsAdding, IsFolding, ReadsNames, Taken, inputs, segments}
 use Rattle.htl_program.specs.Endings.{RunsOut}
 use Rattle.htl_program.specs.Opened.{Known, Opened, ends, lefts}
+use Rattle.htl_program.specs.declared.kept.Begun.{Begun}
+use Rattle.htl_program.specs.declared.kept.Kept.{Kept}
+use Rattle.htl_program.specs.declared.kept.Kept.TheVariants.{Case, State}
+
+abbrev pub is_state : Kept → Bool
+is_state (Case loaded) = false
+is_state (State folded) = true
+
+-- a question is one that what is kept answers
+abbrev pub IsOfForm : Bool → Said → Type 0
+IsOfForm forgets (said.Asks job) = forgets ≡ true → needs_events job ≡ false
+IsOfForm forgets other = ⊤
+
+-- ---- what is kept
+
+-- This answers the job. That the coverage of a case is known is a premise, which every step keeps; and so is that a state was folded of
+-- segments.
+abbrev pub HasTextIn : Kept → Job → List ℕ → Type 0
+HasTextIn (Case loaded) job text = IsCoverage loaded.case loaded.coverage → IsText loaded.case loaded.symbols job text
+HasTextIn (State folded) job text =
+    (taken : List Content) (T : Trace) → AreFolded folded.analyst taken → IsCaseOf taken T → IsText T folded.symbols job text
+
+-- a state can't tell that there is no event
+abbrev pub HasSubjectIn : Kept → Job → Bool → Type 0
+HasSubjectIn (Case loaded) job found = IsCoverage loaded.case loaded.coverage → HasSubject loaded.case job found
+HasSubjectIn (State folded) job found = found ≡ true
+
+-- What is kept is of what was read, where that is known.
+abbrev pub AreKept : Setting → Option (List ℕ) → Kept → Taken → Type 0
+AreKept setting symbols (Case loaded) (inputs texts) = AreLoadedOf texts symbols setting None loaded.case loaded.symbols
+AreKept setting symbols (State folded) (segments taken) = AreFolded folded.analyst taken × HasSymbols symbols folded.symbols
+AreKept setting symbols kept read = ⊥
+
+-- ---- reading more
 
 -- Files of these names were read in a world and added to what was loaded, and that ended so.
 pub record AddsFiles {R : Type 0} (world : Known) (ways : Opened R) (setting : Setting) (before : Loaded) (names : List (List ℕ))
@@ -25,8 +69,36 @@ pub record AddsFiles {R : Type 0} (world : Known) (ways : Opened R) (setting : S
   pub symbols : after.symbols ≡ before.symbols
   pub same : IfErr ended (λ refused. after ≡ before)
 
--- What was loaded answers. That its coverage is known is a premise, which every step keeps.
-abbrev pub answers_from : {R : Type 0} → Known → Opened R → Setting → Answers Loaded
-answers_from world ways setting = answers_by
-    (λ loaded job text. IsCoverage loaded.case loaded.coverage → IsText loaded.case loaded.symbols job text)
-    (λ loaded job found. IsCoverage loaded.case loaded.coverage → HasSubject loaded.case job found) (AddsFiles world ways setting)
+-- The same of files that were folded behind what was folded. After refused memory it isn't known how they were read and what was taken.
+pub record FoldsFiles {R : Type 0} (world : Known) (ways : Opened R) (setting : Setting) (before : Folded) (names : List (List ℕ))
+    (after : Folded) (ended : Result Added Refused) : Type 0 where
+  pub sources : List R
+  pub reads : GoesOn ended → ReadsNames world setting.form.hex names (record ways { files = sources }) (by_fault ended)
+  pub folds : GoesOn ended → (taken : List Content) (texts : List (List ℕ)) → AreFolded before.analyst taken
+      → map world.holds names ≡ map Some texts
+      → IsFolding setting taken texts (lefts (record ways { files = sources })) (ends (record ways { files = sources }))
+      (AreFolded after.analyst) ended
+  pub symbols : after.symbols ≡ before.symbols
+
+abbrev pub ReadsFiles : {R : Type 0} → Known → Opened R → Setting → Kept → List (List ℕ) → Kept → Result Added Refused → Type 0
+ReadsFiles world ways setting (Case before) names (Case after) ended = AddsFiles world ways setting before names after ended
+ReadsFiles world ways setting (State before) names (State after) ended =
+    FoldsFiles world ways setting before names after ended × GoesOn ended
+ReadsFiles world ways setting before names after ended = ⊥
+
+-- ---- a dialogue
+
+-- who answers from what is kept
+abbrev pub answers_from : {R : Type 0} → Known → Opened R → Setting → Bool → Answers Kept
+answers_from world ways setting forgets = answers_by forgets HasTextIn HasSubjectIn (ReadsFiles world ways setting)
+
+-- What there is before the first line, by what was read.
+pub record IsBegun (folds : Bool) (setting : Setting) (symbols : Option (List ℕ)) (texts : List (List ℕ)) (begun : Begun) : Type 0 where
+  pub read : Taken
+  pub kept : AreKept setting symbols begun.kept read
+  pub opens : Begins folds setting texts read (record { coverage = begun.coverage; cut = begun.cut })
+
+-- how much of its trace a case has is known
+abbrev pub IsCovered : Kept → Type 0
+IsCovered (Case loaded) = IsCoverage loaded.case loaded.coverage
+IsCovered (State folded) = ⊤

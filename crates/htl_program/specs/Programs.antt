@@ -1,6 +1,6 @@
 -- What the program does with its arguments (this project's own).
-use Rattle.std.specs.Prelude.{◌≡◌, ◌≢◌, ◌≤◌, ◌⊎◌, ◌&&◌, ◌||◌, ⊤, not, ℕ, Bool, true, false, List, map, length, Option, Some}
-use Rattle.std.specs.Prelude.{IfErr, IfOk, IfSome, OnOk, Result, Ok, Err, String, string_bytes}
+use Rattle.std.specs.Prelude.{◌≡◌, ◌≢◌, ◌⊎◌, ◌&&◌, ◌||◌, ⊤, not, ℕ, Bool, true, false, List, map, Option, Some}
+use Rattle.std.specs.Prelude.{IfErr, IfOk, OnOk, Result, Ok, Err, String, string_bytes}
 use Rattle.std.specs.Io.KnownBytes.{Appends}
 use Rattle.htl_command.specs.Refusals.{IsUsageWith, RefusesArguments}
 use Rattle.htl_command.specs.Requests.{IsAskedFor, notes_in, requested}
@@ -13,20 +13,20 @@ use Rattle.htl_command.specs.declared.fault.ParseFault.{ParseFault}
 use Rattle.htl_command.specs.declared.fault.ParseFault.TheVariants.{Help, Usage, Memory}
 use Rattle.htl_command.specs.declared.question.InputForm.{InputForm}
 use Rattle.htl_device.specs.Devices.{AppendsPrefix}
-use Rattle.htl_device.specs.declared.whole.TheConstants.{MAX_READS}
 use Rattle.htl_dialogue.specs.Dialogues.{Converses, StopsAt}
 use Rattle.htl_dialogue.specs.Notes.{Note}
 use Rattle.htl_dialogue.specs.declared.dialogue.Conversed.{Conversed}
 use Rattle.htl_dialogue.specs.declared.dialogue.DialogueFault.{DialogueFault}
 use Rattle.htl_dialogue.specs.declared.dialogue.DialogueFault.TheVariants as dialogues
 use Rattle.htl_main.specs.Dumps.{is_failed_write}
-use Rattle.htl_main.specs.Origins.{IsBetween, by_fault}
+use Rattle.htl_main.specs.Origins.{by_fault}
 use Rattle.htl_main.specs.declared.completed.Completed.{Completed}
 use Rattle.htl_main.specs.declared.cut_inputs.CutInputs.{CutInputs}
 use Rattle.htl_main.specs.declared.fault.RunFault.{RunFault}
 use Rattle.htl_main.specs.declared.fault.RunFault.TheVariants as faults
 use Rattle.htl_main.specs.declared.refused.Refused.{Refused}
-use Rattle.htl_program.specs.Asking.{BeginsAndGets, IsRunsCause, Opening, Opens, answers_over, before_dialogue}
+use Rattle.htl_program.specs.Asking.{Begins, BeginsAndGets, IsBeginsBetween, IsBeginsCause, Opening, ReportsDevices, Taken, answers_over}
+use Rattle.htl_program.specs.Asking.{before_dialogue}
 use Rattle.htl_program.specs.Endings.{Ends, EndsDump, EndsEncoding, IsUnopened, IsUntabled, RunsOut}
 use Rattle.htl_program.specs.Opened.{Known, Opened, ends, lefts, ways_of}
 use Rattle.htl_program.specs.Readings.{AreInputs, ReportsRead}
@@ -216,26 +216,22 @@ pub record DoesConverse {S R : Type 0} (in_words : Bool) (speaker : Spoken S) (w
   pub asked : inputs.questions ≡ Some questions
   pub replies : (texts : List (List ℕ)) → (table : Option (List ℕ)) → (lines : List ℕ) → HaveTexts world of.files.items texts
       → IsTable world.holds of.symbols table → world.standard ≡ Some lines
-      → IfOk ended (λ conversed. (opening : Opening) × Opens of.setting.form texts opening
-      × Converses (answers_over world (ways_of inputs) of.setting table) speaker.wants_absence (Some texts) lines
+      → IfOk ended (λ conversed. (read : Taken) × (opening : Opening) × Begins of.folds of.setting texts read opening
+      × Converses (answers_over world (ways_of inputs) of.setting of.folds table) speaker.wants_absence (Some read) lines
       (HasGot speaker listening old new opening) conversed)
   pub stops : (texts : List (List ℕ)) → (table : Option (List ℕ)) → (lines : List ℕ) → (stopped : DialogueFault)
       → HaveTexts world of.files.items texts → IsTable world.holds of.symbols table → world.standard ≡ Some lines
-      → ended ≡ Err (asks.Dialogue stopped) → (opening : Opening) × Opens of.setting.form texts opening
-      × StopsAt (answers_over world (ways_of inputs) of.setting table) speaker.wants_absence (Some texts) lines
+      → ended ≡ Err (asks.Dialogue stopped)
+      → (read : Taken) × (opening : Opening) × Begins of.folds of.setting texts read opening
+      × StopsAt (answers_over world (ways_of inputs) of.setting of.folds table) speaker.wants_absence (Some read) lines
       (inputs.remaining questions) (inputs.has_failed questions) (HasGot speaker listening old new opening) stopped
-  -- What failed is reported, and nothing else is reported as failed.
-  pub lines : inputs.has_failed questions ≡ true → ended ≡ Err (asks.Dialogue dialogues.Questions)
-  pub unread : ended ≡ Err (asks.Dialogue dialogues.Questions)
-      → (inputs.has_failed questions ≡ true) ⊎ IfSome world.standard (λ bytes. MAX_READS ≤ length bytes)
-  pub full : new.is_full ≡ true → ended ≡ Err (asks.Dialogue dialogues.Write)
-  pub unwritten : ended ≡ Err (asks.Dialogue dialogues.Write) → new.is_full ≡ true
+  pub devices : ReportsDevices (inputs.has_failed questions) world.standard new.is_full ended
   pub cause : (texts : List (List ℕ)) → (table : Option (List ℕ)) → HaveTexts world of.files.items texts
       → IsTable world.holds of.symbols table
       → IfErr (by_fault (before_dialogue ended)) (λ reported.
-      IsRunsCause of.setting texts (lefts inputs) (ends inputs) table reported ⊎ (reported ≡ faults.Memory))
+      IsBeginsCause of.folds of.setting texts (lefts inputs) (ends inputs) table reported ⊎ (reported ≡ faults.Memory))
   pub between : (texts : List (List ℕ)) → HaveTexts world of.files.items texts
-      → IfErr (before_dialogue ended) (λ refused. IsBetween of.setting.form texts refused.fault refused.between)
+      → IfErr (before_dialogue ended) (λ refused. IsBeginsBetween of.folds of.setting texts refused.fault refused.between)
   pub absent : (place : ℕ) → IsAbsentAt world of.files.items place → IsUnopened place (by_fault (before_dialogue ended))
   pub untabled : (texts : List (List ℕ)) → HaveTexts world of.files.items texts → IsTableAbsent world.is_absent of.symbols
       → IsUntabled (by_fault (before_dialogue ended))

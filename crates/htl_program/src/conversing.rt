@@ -1,17 +1,15 @@
 //! A dialogue in a world: the files are read once, and each line of standard input gets its reply.
 
-ghost use Rattle.std.specs.Prelude.{◌≡◌, ◌⊎◌, ℕ, All, Err, IfErr, IfOk, List, OnOk, Option, Some};
-ghost use Rattle.std.specs.Prelude.{IfSome, ◌≤◌, false, length, map, option_copied, option_map};
-ghost use Rattle.std.specs.Prelude.{true};
-ghost use Rattle.htl_command.specs.declared.question.InputForm.{InputForm};
+ghost use Rattle.std.specs.Prelude.{◌≡◌, ◌⊎◌, ℕ, All, Bool, Err, IfErr, IfOk, List, OnOk, Option, Some};
+ghost use Rattle.std.specs.Prelude.{false, map, option_copied, option_map};
+ghost use Rattle.htl_command.specs.declared.question.Setting.{Setting};
 ghost use Rattle.htl_dialogue.specs.Dialogues.{Converses, StopsAt};
-ghost use Rattle.htl_device.specs.declared.whole.TheConstants.{MAX_READS};
 ghost use Rattle.htl_dialogue.specs.declared.dialogue.DialogueFault.{DialogueFault};
-ghost use Rattle.htl_dialogue.specs.declared.dialogue.DialogueFault.TheVariants as dialogues;
-ghost use Rattle.htl_main.specs.Origins.{IsBetween, by_fault};
+ghost use Rattle.htl_main.specs.Origins.{by_fault};
 ghost use Rattle.htl_main.specs.Readings.{AreRead};
-ghost use Rattle.htl_program.specs.Asking.{BeginsAndGets, IsRunsCause, Opening, Opens};
-ghost use Rattle.htl_program.specs.Asking.{answers_over, before_dialogue};
+ghost use Rattle.htl_program.specs.Asking.{Begins, BeginsAndGets, IsBeginsBetween, IsBeginsCause};
+ghost use Rattle.htl_program.specs.Asking.{Opening, ReportsDevices, Taken, answers_over};
+ghost use Rattle.htl_program.specs.Asking.{before_dialogue};
 ghost use Rattle.htl_program.specs.Endings.{IsUnopened, IsUntabled};
 ghost use Rattle.htl_program.specs.Opened.{known, ways};
 ghost use Rattle.htl_program.specs.Readings.{AreInputs, ReportsRead};
@@ -21,13 +19,14 @@ ghost use Rattle.htl_program.specs.Worlds.{of_each, of_inputs};
 use crate::ask_fault::AskFault;
 use crate::dialogue::converse_lines;
 use crate::files::Files;
+use crate::kept::{Begun, begin};
 use crate::opening::{as_bytes, open_inputs, read_table};
 use crate::speaker::Speaker;
 use crate::world::World;
 use htl_command::{Dialogue, Setting};
 use htl_device::{Sink, Source};
 use htl_dialogue::Conversed;
-use htl_main::{Between, Refused, RunFault, load};
+use htl_main::{Between, Refused, RunFault};
 use std::alloc::Global;
 use std::thread::Threads;
 
@@ -53,10 +52,11 @@ pub fn converse<Rt: Threads + Sync, W: World, Q: Source, O: Sink, H: Speaker>(
     ensures replies { (texts : List (List ℕ)) → (table : Option (List ℕ)) → (lines : List ℕ)
         → of_inputs (W.holds world.now) (W.standard world.now) of.now.files.items ≡ map Some texts
         → IsTable (W.holds world.now) of.now.symbols table → Q.remaining questions.old ≡ Some lines
-        → IfOk result (λ conversed. (opening : Opening) × Opens of.now.setting.form texts opening
+        → IfOk result (λ conversed. (read : Taken) × (opening : Opening)
+        × Begins of.now.folds of.now.setting texts read opening
         × Converses (answers_over (known W.holds W.is_absent W.standard world.now)
         (ways W.Input.remaining W.Input.has_ended W.Input.has_failed W.Input.good_reads)
-        of.now.setting table) (H.wants_absence speaker.old) (Some texts) lines
+        of.now.setting of.now.folds table) (H.wants_absence speaker.old) (Some read) lines
         (BeginsAndGets (O.contents out.old) (O.contents out.new) H.told speaker.old speaker.new
         opening) conversed) }
     ensures stops { (texts : List (List ℕ)) → (table : Option (List ℕ)) → (lines : List ℕ)
@@ -64,34 +64,26 @@ pub fn converse<Rt: Threads + Sync, W: World, Q: Source, O: Sink, H: Speaker>(
         → of_inputs (W.holds world.now) (W.standard world.now) of.now.files.items ≡ map Some texts
         → IsTable (W.holds world.now) of.now.symbols table → Q.remaining questions.old ≡ Some lines
         → result ≡ Err (AskFault.Dialogue stopped)
-        → (opening : Opening) × Opens of.now.setting.form texts opening
+        → (read : Taken) × (opening : Opening) × Begins of.now.folds of.now.setting texts read opening
         × StopsAt (answers_over (known W.holds W.is_absent W.standard world.now)
         (ways W.Input.remaining W.Input.has_ended W.Input.has_failed W.Input.good_reads)
-        of.now.setting table) (H.wants_absence speaker.old) (Some texts) lines
+        of.now.setting of.now.folds table) (H.wants_absence speaker.old) (Some read) lines
         (Q.remaining questions.new) (Q.has_failed questions.new)
         (BeginsAndGets (O.contents out.old) (O.contents out.new) H.told speaker.old speaker.new
         opening) stopped }
-    // What failed is reported, and nothing else is reported as failed.
-    ensures lines { Q.has_failed questions.new ≡ true
-        → result ≡ Err (AskFault.Dialogue dialogues.Questions) }
-    ensures questions { result ≡ Err (AskFault.Dialogue dialogues.Questions)
-        → (Q.has_failed questions.new ≡ true)
-        ⊎ IfSome (Q.remaining questions.old) (λ text. MAX_READS ≤ length text) }
-    ensures write { O.has_failed out.new ≡ true
-        → result ≡ Err (AskFault.Dialogue dialogues.Write) }
-    ensures failed { result ≡ Err (AskFault.Dialogue dialogues.Write)
-        → O.has_failed out.new ≡ true }
+    ensures devices { ReportsDevices (Q.has_failed questions.new) (Q.remaining questions.old)
+        (O.has_failed out.new) result }
     ensures cause { (texts : List (List ℕ)) → (table : Option (List ℕ))
         → of_inputs (W.holds world.now) (W.standard world.now) of.now.files.items ≡ map Some texts
         → IsTable (W.holds world.now) of.now.symbols table
-        → IfErr (by_fault (before_dialogue result)) (λ fault. IsRunsCause of.now.setting texts
-        (map W.Input.remaining inputs.new.items) (map W.Input.has_ended inputs.new.items) table fault
-        ⊎ (fault ≡ RunFault.Memory)) }
+        → IfErr (by_fault (before_dialogue result)) (λ fault. IsBeginsCause of.now.folds
+        of.now.setting texts (map W.Input.remaining inputs.new.items)
+        (map W.Input.has_ended inputs.new.items) table fault ⊎ (fault ≡ RunFault.Memory)) }
     // Where a fault is about two segments, they are named.
     ensures between { (texts : List (List ℕ))
         → of_inputs (W.holds world.now) (W.standard world.now) of.now.files.items ≡ map Some texts
-        → IfErr (before_dialogue result) (λ refused.
-        IsBetween of.now.setting.form texts refused.fault refused.between) }
+        → IfErr (before_dialogue result) (λ refused. IsBeginsBetween of.now.folds of.now.setting
+        texts refused.fault refused.between) }
     // The first name for which there is nothing is reported by its place.
     ensures absent { (place : ℕ) → IsFirstAbsent (of_each (W.holds world.now) of.now.files.items)
         (of_each (W.is_absent world.now) of.now.files.items) place
@@ -118,6 +110,7 @@ pub fn converse<Rt: Threads + Sync, W: World, Q: Source, O: Sink, H: Speaker>(
             rt,
             alloc,
             world,
+            of.folds,
             of.setting,
             inputs,
             as_bytes(&table),
@@ -155,8 +148,8 @@ fn open_all<W: World>(
     ensures untabled { (texts : List (List ℕ))
         → of_inputs (W.holds world.now) (W.standard world.now) of.now.files.items ≡ map Some texts
         → IsTableAbsent (W.is_absent world.now) of.now.symbols → IsUntabled result }
-    ensures alone { (form : InputForm) → (texts : List (List ℕ)) → IfErr result (λ fault.
-        IsBetween form texts fault Between.Nothing) }
+    ensures alone { (folds : Bool) → (setting : Setting) → (texts : List (List ℕ))
+        → IfErr result (λ fault. IsBeginsBetween folds setting texts fault Between.Nothing) }
     ensures read { (place : ℕ) → result ≡ Err (RunFault.Read place)
         → IsFirstRefused (of_each (W.holds world.now) of.now.files.items)
         (of_each (W.is_absent world.now) of.now.files.items) place }
@@ -171,6 +164,7 @@ fn ask_opened<Rt: Threads + Sync, W: World, Q: Source, O: Sink, H: Speaker>(
     rt: &Rt,
     alloc: Global,
     world: &W,
+    folds: bool,
     setting: Setting,
     inputs: &mut Vec<W::Input>,
     symbols: Option<&[u8]>,
@@ -186,49 +180,46 @@ fn ask_opened<Rt: Threads + Sync, W: World, Q: Source, O: Sink, H: Speaker>(
     ensures replies { (texts : List (List ℕ)) → (lines : List ℕ)
         → map W.Input.remaining inputs.old.items ≡ map Some texts
         → Q.remaining questions.old ≡ Some lines
-        → IfOk result (λ conversed. (opening : Opening) × Opens setting.form texts opening
+        → IfOk result (λ conversed. (read : Taken) × (opening : Opening)
+        × Begins folds setting texts read opening
         × Converses (answers_over (known W.holds W.is_absent W.standard world.now)
         (ways W.Input.remaining W.Input.has_ended W.Input.has_failed W.Input.good_reads)
-        setting (option_copied symbols.entry)) (H.wants_absence speaker.old) (Some texts) lines
+        setting folds (option_copied symbols.entry)) (H.wants_absence speaker.old) (Some read) lines
         (BeginsAndGets (O.contents out.old) (O.contents out.new) H.told speaker.old speaker.new
         opening) conversed) }
     ensures stops { (texts : List (List ℕ)) → (lines : List ℕ) → (stopped : DialogueFault)
         → map W.Input.remaining inputs.old.items ≡ map Some texts
         → Q.remaining questions.old ≡ Some lines
         → result ≡ Err (AskFault.Dialogue stopped)
-        → (opening : Opening) × Opens setting.form texts opening
+        → (read : Taken) × (opening : Opening) × Begins folds setting texts read opening
         × StopsAt (answers_over (known W.holds W.is_absent W.standard world.now)
         (ways W.Input.remaining W.Input.has_ended W.Input.has_failed W.Input.good_reads)
-        setting (option_copied symbols.entry)) (H.wants_absence speaker.old) (Some texts) lines
+        setting folds (option_copied symbols.entry)) (H.wants_absence speaker.old) (Some read) lines
         (Q.remaining questions.new) (Q.has_failed questions.new)
         (BeginsAndGets (O.contents out.old) (O.contents out.new) H.told speaker.old speaker.new
         opening) stopped }
-    // What failed is reported, and nothing else is reported as failed.
-    ensures lines { Q.has_failed questions.new ≡ true
-        → result ≡ Err (AskFault.Dialogue dialogues.Questions) }
-    ensures questions { result ≡ Err (AskFault.Dialogue dialogues.Questions)
-        → (Q.has_failed questions.new ≡ true)
-        ⊎ IfSome (Q.remaining questions.old) (λ text. MAX_READS ≤ length text) }
-    ensures write { O.has_failed out.new ≡ true
-        → result ≡ Err (AskFault.Dialogue dialogues.Write) }
-    ensures failed { result ≡ Err (AskFault.Dialogue dialogues.Write)
-        → O.has_failed out.new ≡ true }
+    ensures devices { ReportsDevices (Q.has_failed questions.new) (Q.remaining questions.old)
+        (O.has_failed out.new) result }
     ensures cause { (texts : List (List ℕ)) → map W.Input.remaining inputs.old.items ≡ map Some texts
-        → IfErr (by_fault (before_dialogue result)) (IsRunsCause setting texts
+        → IfErr (by_fault (before_dialogue result)) (IsBeginsCause folds setting texts
         (map W.Input.remaining inputs.new.items) (map W.Input.has_ended inputs.new.items)
         (option_copied symbols.entry)) }
     ensures between { (texts : List (List ℕ)) → map W.Input.remaining inputs.old.items ≡ map Some texts
         → IfErr (before_dialogue result) (λ refused.
-        IsBetween setting.form texts refused.fault refused.between) }
+        IsBeginsBetween folds setting texts refused.fault refused.between) }
     ensures reading { AreRead setting.form.hex W.Input.has_failed W.Input.has_ended W.Input.good_reads
         W.Input.remaining inputs.old.items inputs.new.items (by_fault (before_dialogue result)) }
     ensures untouched { IfErr (before_dialogue result)
         (λ _. (questions.new ≡ questions.old) × (out.new ≡ out.old)
         × (speaker.new ≡ speaker.old)) }
 {
-    let mut loaded = load(rt, alloc, setting, None, inputs, symbols)?;
-    speaker.begins(loaded.coverage, loaded.cut);
+    let Begun {
+        mut kept,
+        coverage,
+        cut,
+    } = begin(rt, alloc, folds, setting, inputs, symbols)?;
+    speaker.begins(coverage, cut);
     let files = Files { rt, world, setting };
-    let conversed = converse_lines(alloc, &files, &mut loaded, questions, out, speaker)?;
+    let conversed = converse_lines(alloc, &files, &mut kept, questions, out, speaker)?;
     Ok(conversed)
 }

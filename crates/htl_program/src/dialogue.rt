@@ -1,4 +1,4 @@
-//! A dialogue over what was loaded: each line gets its reply, and files that it names are added.
+//! A dialogue over what is kept: each line gets its reply, and files that it names are read too.
 
 ghost use Rattle.std.specs.Prelude.{◌≡◌, ◌≤◌, ◌⊎◌, ℕ, List, Err, Some, false, true};
 ghost use Rattle.std.specs.Prelude.{IfErr, IfOk, IfSome, OnOk, length, string_bytes};
@@ -7,19 +7,16 @@ ghost use Rattle.htl_device.specs.Devices.{AppendsPrefix};
 ghost use Rattle.htl_dialogue.specs.Dialogues.{Converses, Gets, StopsAt, is_end, reading_reply};
 ghost use Rattle.htl_dialogue.specs.Replying.{IsRefusedReply, Lacks, Replies, fault_of};
 ghost use Rattle.htl_dialogue.specs.Sayings.{saying};
-ghost use Rattle.htl_main.specs.Coverages.{IsCoverage};
-ghost use Rattle.htl_main.specs.Printed.{IsText};
-ghost use Rattle.htl_main.specs.Subjects.{HasSubject};
-ghost use Rattle.htl_program.specs.Loads.{answers_from};
+ghost use Rattle.htl_program.specs.Loads.{HasSubjectIn, IsOfForm, answers_from, is_state};
 ghost use Rattle.htl_program.specs.Opened.{known, ways};
 
 use crate::files::Files;
+use crate::kept::Kept;
 use crate::world::World;
 use htl_command::Job;
 use htl_device::{MAX_READS, Sink, Source, write_whole};
 use htl_dialogue::{Conversed, DialogueFault, Held, Host, Said, next_line, read_line};
-use htl_event::NoMemory;
-use htl_main::{Added, Loaded, Refused, RunFault, answer_text, has_subject};
+use htl_main::{Added, Refused, RunFault};
 use std::alloc::{AllocError, Global};
 use std::thread::Threads;
 
@@ -33,7 +30,7 @@ use std::thread::Threads;
 pub(crate) fn converse_lines<Rt: Threads + Sync, W: World, Q: Source, O: Sink, H: Host>(
     alloc: Global,
     files: &Files<Rt, W>,
-    loaded: &mut Loaded,
+    kept: &mut Kept,
     questions: &mut Q,
     out: &mut O,
     host: &mut H,
@@ -45,13 +42,13 @@ pub(crate) fn converse_lines<Rt: Threads + Sync, W: World, Q: Source, O: Sink, H
     ensures ok { (text : List ℕ) → Q.remaining questions.old ≡ Some text → IfOk result
         (Converses (answers_from (known W.holds W.is_absent W.standard files.now.world.now)
         (ways W.Input.remaining W.Input.has_ended W.Input.has_failed W.Input.good_reads)
-        files.now.setting) (H.wants_absence host.old) loaded.old text
+        files.now.setting (is_state kept.old)) (H.wants_absence host.old) kept.old text
         (Gets (O.contents out.old) (O.contents out.new) H.told host.old host.new)) }
     // Or those before a fault do: where a read fails, these are all that were read.
     ensures stops { (text : List ℕ) → Q.remaining questions.old ≡ Some text → IfErr result
         (StopsAt (answers_from (known W.holds W.is_absent W.standard files.now.world.now)
         (ways W.Input.remaining W.Input.has_ended W.Input.has_failed W.Input.good_reads)
-        files.now.setting) (H.wants_absence host.old) loaded.old text
+        files.now.setting (is_state kept.old)) (H.wants_absence host.old) kept.old text
         (Q.remaining questions.new) (Q.has_failed questions.new)
         (Gets (O.contents out.old) (O.contents out.new) H.told host.old host.new)) }
     ensures fine { OnOk result ((Q.has_failed questions.new ≡ false)
@@ -69,11 +66,11 @@ pub(crate) fn converse_lines<Rt: Threads + Sync, W: World, Q: Source, O: Sink, H
     for _line in 0..MAX_READS {
         host.awaits();
         let next = next_line(alloc, questions, &mut held)?;
-        let said = read_line(alloc, &next.line)?;
+        let said = read_line(alloc, &next.line, kept.forgets())?;
         if ends(&said) {
             return Ok(conversed);
         }
-        let line = reply(alloc, files, loaded, &said, out, host)?;
+        let line = reply(alloc, files, kept, &said, out, host)?;
         conversed = conversed.then(line);
         if next.is_last {
             return Ok(conversed);
@@ -93,25 +90,26 @@ fn ends(said: &Said) -> bool
 fn reply<Rt: Threads + Sync, W: World, O: Sink, H: Host>(
     alloc: Global,
     files: &Files<Rt, W>,
-    loaded: &mut Loaded,
+    kept: &mut Kept,
     said: &Said,
     out: &mut O,
     host: &mut H,
 ) -> Result<Conversed, DialogueFault>
-    requires { O.has_failed out.old ≡ false }
+    requires out { O.has_failed out.old ≡ false }
+    requires asks { IsOfForm (is_state kept.old) said.now }
     ensures ok { IfOk result (Replies
         (answers_from (known W.holds W.is_absent W.standard files.now.world.now)
         (ways W.Input.remaining W.Input.has_ended W.Input.has_failed W.Input.good_reads)
-        files.now.setting) (H.wants_absence host.old) said.now loaded.old loaded.new
+        files.now.setting (is_state kept.old)) (H.wants_absence host.old) said.now kept.old kept.new
         (O.contents out.old) (O.contents out.new) H.told host.old host.new) }
     ensures fine { OnOk result (O.has_failed out.new ≡ false) }
     ensures err { IfErr result (IsRefusedReply
         (answers_from (known W.holds W.is_absent W.standard files.now.world.now)
         (ways W.Input.remaining W.Input.has_ended W.Input.has_failed W.Input.good_reads)
-        files.now.setting)
-        said.now loaded.old (O.contents out.old) (O.contents out.new) (O.has_failed out.new)
-        H.told host.old host.new) }
+        files.now.setting (is_state kept.old)) said.now kept.old (O.contents out.old)
+        (O.contents out.new) (O.has_failed out.new) H.told host.old host.new) }
     ensures same { H.wants_absence host.new ≡ H.wants_absence host.old }
+    ensures form { OnOk result (is_state kept.new ≡ is_state kept.old) }
 {
     match said {
         Said::Nothing | Said::Quits => Ok(Conversed::fine()),
@@ -124,14 +122,14 @@ fn reply<Rt: Threads + Sync, W: World, O: Sink, H: Host>(
             })
         }
         Said::Asks(job) => {
-            let mut text = answer(alloc, job, loaded)?;
+            let mut text = kept.answer(alloc, job)?;
             text.push(b'\n')?;
             write(out, &text)?;
-            note_absence(loaded, job, host);
+            note_absence(kept, job, host);
             Ok(Conversed::fine())
         }
         Said::Reads(names) => {
-            let ended = files.add(alloc, loaded, names);
+            let ended = files.read(alloc, kept, names)?;
             let text = reading_reply(alloc, ended)?;
             host.reads(names, ended);
             write(out, text.as_bytes())?;
@@ -141,15 +139,6 @@ fn reply<Rt: Threads + Sync, W: World, O: Sink, H: Host>(
             })
         }
     }
-}
-
-/// The text of the answer to a job, which is that of a run.
-fn answer(alloc: Global, job: &Job, loaded: &Loaded) -> Result<Vec<u8>, NoMemory>
-    ensures { IfOk result (λ text. IsCoverage loaded.now.case loaded.now.coverage
-        → IsText loaded.now.case loaded.now.symbols job.now text.items) }
-{
-    let text = answer_text(alloc, job, loaded)?;
-    Ok(text.lines)
 }
 
 /// The reply to files that were to be read.
@@ -173,13 +162,12 @@ fn fault_of(ended: Result<Added, Refused>) -> Option<RunFault>
 }
 
 /// Tells a host that wants to know where what a question names has no event.
-fn note_absence<H: Host>(loaded: &Loaded, job: &Job, host: &mut H)
-    ensures told { Lacks (λ job found. IsCoverage loaded.now.case loaded.now.coverage
-        → HasSubject loaded.now.case job found) (H.wants_absence host.old) H.told host.old job.now
+fn note_absence<H: Host>(kept: &Kept, job: &Job, host: &mut H)
+    ensures told { Lacks (HasSubjectIn kept.now) (H.wants_absence host.old) H.told host.old job.now
         host.new }
     ensures same { H.wants_absence host.new ≡ H.wants_absence host.old }
 {
-    if host.notes_absence() && !has_subject(job, loaded) {
+    if host.notes_absence() && !kept.has_subject(job) {
         host.lacks(job.question);
     }
 }

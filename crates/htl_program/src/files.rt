@@ -1,13 +1,15 @@
 //! The files that a dialogue reads later.
 
-ghost use Rattle.std.specs.Prelude.{map, string_bytes};
-ghost use Rattle.htl_program.specs.Loads.{AddsFiles};
+ghost use Rattle.std.specs.Prelude.{map, string_bytes, IfOk};
+ghost use Rattle.htl_program.specs.Loads.{AddsFiles, FoldsFiles, ReadsFiles};
 ghost use Rattle.htl_program.specs.Opened.{known, ways};
 
+use crate::kept::Kept;
 use crate::opening::open_files;
 use crate::world::World;
 use htl_command::Setting;
-use htl_main::{Added, Loaded, Refused, add};
+use htl_event::NoMemory;
+use htl_main::{Added, Folded, Loaded, Refused, RunFault, add, fold};
 use std::alloc::Global;
 use std::thread::Threads;
 
@@ -20,18 +22,49 @@ pub(crate) struct Files<'a, Rt, W> {
 }
 
 impl<Rt: Threads + Sync, W: World> Files<'_, Rt, W> {
-    /// Opens files, each before any is read, and adds their segments to what was loaded.
-    pub fn add(
+    /// Opens files, each before any is read, and adds their segments to what is kept. Where memory is
+    /// refused while a state takes them, it isn't known what it took, and nothing can be asked of it.
+    pub fn read(
         &self,
         alloc: Global,
-        loaded: &mut Loaded,
+        kept: &mut Kept,
         names: &[String],
-    ) -> Result<Added, Refused>
+    ) -> Result<Result<Added, Refused>, NoMemory>
+        ensures { IfOk result (ReadsFiles (known W.holds W.is_absent W.standard self.now.world.now)
+            (ways W.Input.remaining W.Input.has_ended W.Input.has_failed W.Input.good_reads)
+            self.now.setting kept.old (map string_bytes names.now) kept.new) }
+    {
+        match kept {
+            Kept::Case(loaded) => Ok(self.add(alloc, loaded, names)),
+            Kept::State(folded) => match self.fold(alloc, folded, names) {
+                Err(
+                    Refused {
+                        fault: RunFault::Memory,
+                        ..
+                    },
+                ) => Err(NoMemory),
+                ended => Ok(ended),
+            },
+        }
+    }
+
+    /// Opens files and adds their segments to what was loaded.
+    fn add(&self, alloc: Global, loaded: &mut Loaded, names: &[String]) -> Result<Added, Refused>
         ensures { AddsFiles (known W.holds W.is_absent W.standard self.now.world.now)
             (ways W.Input.remaining W.Input.has_ended W.Input.has_failed W.Input.good_reads)
             self.now.setting loaded.old (map string_bytes names.now) loaded.new result }
     {
         let mut inputs = open_files(alloc, self.world, names)?;
         add(self.rt, alloc, self.setting, loaded, &mut inputs)
+    }
+
+    /// Opens files and folds their segments behind what was folded.
+    fn fold(&self, alloc: Global, folded: &mut Folded, names: &[String]) -> Result<Added, Refused>
+        ensures { FoldsFiles (known W.holds W.is_absent W.standard self.now.world.now)
+            (ways W.Input.remaining W.Input.has_ended W.Input.has_failed W.Input.good_reads)
+            self.now.setting folded.old (map string_bytes names.now) folded.new result }
+    {
+        let mut inputs = open_files(alloc, self.world, names)?;
+        fold(self.rt, alloc, self.setting, folded, &mut inputs)
     }
 }

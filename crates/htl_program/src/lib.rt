@@ -11,9 +11,10 @@
 //! `opening.rt` (how: each file before any is read, and the table of symbols), `answering.rt` and
 //! `running.rt` (a question, from the names that it is asked of to its end), `converting.rt` (`dump`
 //! and `encode`), `conversing.rt`, `dialogue.rt` and `files.rt` (a dialogue: each line is answered as by
-//! a run over all that was read so far), `ask_fault.rt` (why it ends before its lines do),
-//! `explained.rt` and `words.rt` (what a fault means), `part.rt` (the part of the inputs that it
-//! names), `subject.rt` (what a question is about).
+//! a run over all that was read so far), `kept.rt` (what is kept of that: all segments, or what they
+//! come to), `ask_fault.rt` (why it ends before its lines do), `explained.rt` and `words.rt` (what a
+//! fault means), `part.rt` (the part of the inputs that it names), `subject.rt` (what a question is
+//! about).
 #![tactic(auto)]
 
 mod answering;
@@ -26,6 +27,7 @@ mod ending;
 mod explained;
 mod files;
 mod inputs;
+mod kept;
 mod opening;
 mod output;
 mod part;

@@ -233,3 +233,27 @@ read segments=1 new=0 complete_to=7 gaps=0
     };
     is_obeyed(&rt, rt.alloc(), &line);
 }
+
+#[test]
+fn files_are_folded_in_a_dialogue(rt: HostRuntime) {
+    let line = Line {
+        words: &["ask", "--fold", "--symbols", "symbols", "first", "second"],
+        input: "\
+stacks --object 1000 --tag Lky8
+trace --process 4 --handle 44
+read second first
+",
+        status: 2,
+        printed: "\
+stacks object=0x0000000000001000 tag=Lky8 count=1
+STACK refs=1 derefs=0
+  app!main+0x4
+
+
+read segments=2 new=0 complete_to=7 gaps=0
+
+",
+        ..LINE
+    };
+    is_obeyed(&rt, rt.alloc(), &line);
+}

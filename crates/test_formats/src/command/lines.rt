@@ -381,8 +381,9 @@ const ENCODED: &[(&str, bool, &[&str])] = &[
     ("encode|a.txt|--hex|--|-b.txt", true, &["a.txt", "-b.txt"]),
 ];
 
-/// Lines that ask for a dialogue: how its files are read, which they are, and its symbols.
-const DIALOGUES: &[(&str, Setting, &[&str], Option<&str>)] = &[
+/// Lines that ask for a dialogue: how its files are read, whether they are folded, which they are, and
+/// its symbols.
+const DIALOGUES: &[(&str, Setting, bool, &[&str], Option<&str>)] = &[
     (
         "ask|a.hls",
         Setting {
@@ -390,6 +391,7 @@ const DIALOGUES: &[(&str, Setting, &[&str], Option<&str>)] = &[
             workers: 1,
             complete: false,
         },
+        false,
         &["a.hls"],
         None,
     ),
@@ -400,17 +402,30 @@ const DIALOGUES: &[(&str, Setting, &[&str], Option<&str>)] = &[
             workers: 8,
             complete: true,
         },
+        false,
         &["a.hls", "b.hls"],
         None,
     ),
     (
-        "ask|--symbols|names.csv|--partial|--|--hex",
+        "ask|--fold|a.hls|--workers=2|--complete|b.hls",
+        Setting {
+            form: BYTES,
+            workers: 2,
+            complete: true,
+        },
+        true,
+        &["a.hls", "b.hls"],
+        None,
+    ),
+    (
+        "ask|--symbols|names.csv|--partial|--|--fold",
         Setting {
             form: PARTIAL,
             workers: 1,
             complete: false,
         },
-        &["--hex"],
+        false,
+        &["--fold"],
         Some("names.csv"),
     ),
 ];
@@ -564,6 +579,8 @@ encode|--hex|--hex => '--hex'
 encode|--partial => '--partial'
 ask => <FILES>
 ask|--hex => <FILES>
+ask|--fold => <FILES>
+ask|a.hls|--fold|--fold => '--fold'
 ask|a.hls|--json => '--json'
 ask|a.hls|--exit-code => '--exit-code'
 ask|a.hls|--top|1 => '--top'
@@ -605,6 +622,8 @@ dump|--complete => '--complete'
 dump|--json => '--json'
 summary|--json|--json => '--json'
 summary|--folded => '--folded'
+summary|--fold => '--fold'
+dump|--fold => '--fold'
 bad|--process|4|--folded => '--folded'
 leaks|--process|4|--folded|--json => '--json' cannot be used with '--folded'
 bad|--process|4|--workers => '--workers <N>'
@@ -815,11 +834,11 @@ fn dialogue(rt: &impl Abort, alloc: Global, line: &str) -> Dialogue {
 
 #[test]
 fn lines_ask_for_dialogues(rt: HostRuntime) {
-    for (line, setting, files, symbols) in DIALOGUES {
+    for (line, setting, folds, files, symbols) in DIALOGUES {
         let of = dialogue(&rt, rt.alloc(), line);
         has_files(&rt, line, &of.files, files);
-        let found = (of.setting, of.symbols.as_deref());
-        assert_row(&rt, *line, found, (*setting, *symbols));
+        let found = (of.setting, of.folds, of.symbols.as_deref());
+        assert_row(&rt, *line, found, (*setting, *folds, *symbols));
     }
 }
 

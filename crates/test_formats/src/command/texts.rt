@@ -337,6 +337,8 @@ Arguments:
 Options:
       --symbols <FILE>  Names for addresses: CSV of start,end,module,name
       --workers <N>     How many threads decode segments: 1 to 8 [default: 1]
+      --fold            Keep what the events come to, not the events: trace,
+                        growth and --until are not answered then
       --complete        Refuse segments of which one is missing (C8)
       --hex             The files hold hexadecimal digits, not bytes
       --partial         A file may end within a segment, which is left out
@@ -522,8 +524,8 @@ For more information, try '--help'.
 const DIALOGUE_NOTES: &str = "\
 error: a line is a question with its own options
 
-  tip: files, --symbols, --workers, --complete, --hex, --partial and --notes
-  stand after 'hleak ask'
+  tip: files, --symbols, --workers, --fold, --complete, --hex, --partial and
+  --notes stand after 'hleak ask'
 
 For more information, try 'hleak ask --help'.
 ";
@@ -611,6 +613,42 @@ Usage: hleak leaks [OPTIONS] --process <N> [FILES]...
 For more information, try '--help'.
 ";
 
+/// No tip takes `--fold` of a dialogue and `--folded` of a question for each other.
+const FOLDED_DIALOGUE: &str = "\
+error: unexpected argument '--folded' found
+
+Usage: hleak ask --fold <FILES>...
+
+For more information, try '--help'.
+";
+
+const FOLDING_QUESTION: &str = "\
+error: unexpected argument '--fold' found
+
+Usage: hleak leaks --process <N> --folded [FILES]...
+
+For more information, try '--help'.
+";
+
+/// A word that is like one of them alone still has its tip.
+const MISSPELT_FOLD: &str = "\
+error: unexpected argument '--fol' found
+
+  tip: a similar argument exists: '--fold'
+
+Usage: hleak ask --fold <FILES>...
+
+For more information, try '--help'.
+";
+
+const DIALOGUE_FOLD: &str = "\
+error: unexpected argument '--fold' found
+
+Usage: leaks --process <N> --folded
+
+For more information, try '--help'.
+";
+
 /// Lines that ask for help, and what they are answered.
 const HELP: &[(&str, &str)] = &[
     ("--help", PROGRAM),
@@ -649,6 +687,9 @@ const USAGE: &[(&str, &str)] = &[
     ("leaks|--process|4|--at-least|-4", SEPARATED_NUMBER),
     ("bad|--process|4|--since|4", OTHER_OPTION),
     ("leaks|--process|4|-x", SEPARATED_FILE),
+    ("ask|--folded|a.hls", FOLDED_DIALOGUE),
+    ("leaks|--process|4|--fold", FOLDING_QUESTION),
+    ("ask|--fol|a.hls", MISSPELT_FOLD),
 ];
 
 /// Lines of a dialogue that ask for help, and what they are answered.
@@ -666,6 +707,7 @@ const DIALOGUE_USAGE: &[(&str, &str)] = &[
     ("leaks|--proces|4", DIALOGUE_MISSPELT),
     ("leak|--process|4", DIALOGUE_COMMAND),
     ("leaks|--process|4|--notes", DIALOGUE_NOTES),
+    ("leaks|--process|4|--fold", DIALOGUE_FOLD),
 ];
 
 /// Each line fits into 80 columns.

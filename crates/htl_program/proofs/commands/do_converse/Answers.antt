@@ -13,10 +13,7 @@ returns g c = record {
       c.converse-ended.ensures.replies texts table lines all has (c.questions-questions.ensures.bytes ∙ known);
   stops = λ texts table lines stopped all has known is.
       c.converse-ended.ensures.stops texts table lines stopped all has (c.questions-questions.ensures.bytes ∙ known) is;
-  lines = search rules;
-  unread = search rules;
-  full = search rules;
-  unwritten = search rules;
+  devices = rw c.questions-questions.ensures.bytes at c.converse-ended.ensures.devices;
   cause = search rules;
   between = search rules;
   absent = search rules;

@@ -8,6 +8,8 @@ use Rattle.htl_dialogue.specs.Dialogues.{AreRead, is_end}
 use Rattle.htl_dialogue.specs.Sayings.{saying}
 use Rattle.htl_dialogue.proofs.Conversing.{begins, ended, replied, replied_last}
 use Rattle.htl_dialogue.proofs.Stopping.{all_read, before_read, endless, read_failed, stopped, stopped_between, too_many, unreplied}
+use Rattle.htl_program.specs.Loads.{is_state}
+use Rattle.htl_program.proofs.OfForm.{of_form}
 use Rattle.htl_program.proofs.dialogue.converse_lines.Goals as goal
 
 pub loop-line-init : goal.loop-line-init
@@ -15,6 +17,7 @@ loop-line-init g c = record {
   readable = c.requires.questions;
   inside = c.requires.inside;
   writable = c.requires.out;
+  form = refl;
   wants = refl;
   so_far = λ text known. begins c.fine-conversed.result
       (rw (c.in_ok-held.ensures, prepend_known-nil (g.Q.Source.remaining c.args.questions.now)) known)
@@ -24,37 +27,46 @@ loop-line-init g c = record {
 pub loop-line-preserved : goal.loop-line-preserved
 loop-line-preserved g c =
     let inv = c.loop-line.invariant in
+    let alike : c.forgets.result ≡ is_state c.args.kept.now = c.forgets.ensures ∙ inv.form in
     let goes_on : is_end (saying c.in_ok-said.said) ≡ false = sym (c.ends.ensures) ∙ c.if-ends.false in
     let same = c.awaits.ensures.same ∙ inv.wants in
     record {
       readable = search rules;
       inside = c.in_ok-next.ensures.inside c.if-next.false;
       writable = search rules;
+      form = c.in_ok-line.ensures.form ∙ inv.form;
       wants = c.reply.ensures.same ∙ same;
       so_far = λ text known. replied (inv.so_far text known)
-          (record { found = c.in_ok-next.ensures.ok; says = c.in_ok-said.ensures.said; keeps = c.in_ok-said.ensures.fault }) goes_on
+          (record { found = c.in_ok-next.ensures.ok; says = rw alike at c.in_ok-said.ensures.said; keeps = rw alike at c.in_ok-said.ensures.fault }) goes_on
           (record {
             waiting = c.awaits.new.self;
             waited = c.awaits.ensures.told;
             line = c.in_ok-line.line;
-            replies = rw same at c.in_ok-line.ensures.ok;
+            replies = rw (inv.form, same) at c.in_ok-line.ensures.ok;
             wrong = c.then-conversed.ensures.wrong;
             first = c.then-conversed.ensures.first;
           }) c.if-next.false;
     }
 
+pub reply-requires-clause-asks : goal.reply-requires-clause-asks
+reply-requires-clause-asks g c =
+    let next = c.in_ok-next.ensures.ok in
+    λ lifetimes outlive. of_form (is_state c.loop-line.kept) c.in_ok-said.said next.bytes
+    (rw c.forgets.ensures at c.in_ok-said.ensures.said next.bytes next.line)
+
 pub returns-then-next-clause-ok : goal.returns-then-next-clause-ok
 returns-then-next-clause-ok g c =
     let inv = c.loop-line.invariant in
+    let alike : c.forgets.result ≡ is_state c.args.kept.now = c.forgets.ensures ∙ inv.form in
     let goes_on : is_end (saying c.in_ok-said.said) ≡ false = sym (c.ends.ensures) ∙ c.if-ends.false in
     let same = c.awaits.ensures.same ∙ inv.wants in
     λ text known. replied_last (inv.so_far text known)
-    (record { found = c.in_ok-next.ensures.ok; says = c.in_ok-said.ensures.said; keeps = c.in_ok-said.ensures.fault }) goes_on
+    (record { found = c.in_ok-next.ensures.ok; says = rw alike at c.in_ok-said.ensures.said; keeps = rw alike at c.in_ok-said.ensures.fault }) goes_on
     (record {
       waiting = c.awaits.new.self;
       waited = c.awaits.ensures.told;
       line = c.in_ok-line.line;
-      replies = rw same at c.in_ok-line.ensures.ok;
+      replies = rw (inv.form, same) at c.in_ok-line.ensures.ok;
       wrong = c.then-conversed.ensures.wrong;
       first = c.then-conversed.ensures.first;
     }) c.if-next.true
@@ -62,10 +74,11 @@ returns-then-next-clause-ok g c =
 pub returns-then-ends-clause-ok : goal.returns-then-ends-clause-ok
 returns-then-ends-clause-ok g c =
     let inv = c.loop-line.invariant in
+    let alike : c.forgets.result ≡ is_state c.args.kept.now = c.forgets.ensures ∙ inv.form in
     let ends : is_end (saying c.in_ok-said.said) ≡ true = sym (c.ends.ensures) ∙ c.if-ends.true in
     λ text known. ended {after = prepend_known c.next_line.new.held (g.Q.Source.remaining c.next_line.new.source)}
     (inv.so_far text known) c.awaits.ensures.told
-    (record { found = c.in_ok-next.ensures.ok; says = c.in_ok-said.ensures.said; keeps = c.in_ok-said.ensures.fault }) ends
+    (record { found = c.in_ok-next.ensures.ok; says = rw alike at c.in_ok-said.ensures.said; keeps = rw alike at c.in_ok-said.ensures.fault }) ends
 
 pub returns-in_err-held-clause-stops : goal.returns-in_err-held-clause-stops
 returns-in_err-held-clause-stops g c =
@@ -106,14 +119,16 @@ returns-in_err-said-clause-stops g c =
 pub returns-in_err-line-clause-stops : goal.returns-in_err-line-clause-stops
 returns-in_err-line-clause-stops g c =
     let p = err_from_is_err_and c.from_residual-in_err-line.result c.from_residual-in_err-line.ensures.1 in
+    let inv = c.loop-line.invariant in
+    let alike : c.forgets.result ≡ is_state c.args.kept.now = c.forgets.ensures ∙ inv.form in
     let goes_on : is_end (saying c.in_ok-said.said) ≡ false = sym (c.ends.ensures) ∙ c.if-ends.false in
     let failed = g.Q.Source.has_failed c.next_line.new.source in
     let fine : failed ≡ false = search rules in
     λ text known. rw (p.1, p.2) (unreplied (c.loop-line.invariant.so_far text known) (g.Q.Source.remaining c.next_line.new.source)
     (g.O.Sink.contents c.reply.new.out) c.awaits.new.self c.reply.new.host failed (g.O.Sink.has_failed c.reply.new.out)
     c.in_err-line.field-0.0 c.awaits.ensures.told
-    (record { found = c.in_ok-next.ensures.ok; says = c.in_ok-said.ensures.said; keeps = c.in_ok-said.ensures.fault }) goes_on
-    c.in_err-line.ensures.err fine)
+    (record { found = c.in_ok-next.ensures.ok; says = rw alike at c.in_ok-said.ensures.said; keeps = rw alike at c.in_ok-said.ensures.fault }) goes_on
+    (rw inv.form at c.in_err-line.ensures.err) fine)
 
 pub returns-clause-stops : goal.returns-clause-stops
 returns-clause-stops g c =

@@ -62,7 +62,7 @@ returns-in_err-write-in-Wrong-clause-err g c =
     rw (p.1, p.2, failed.0, c.in-Wrong.is) (
       failed.1,
       record {
-        after = c.args.loaded.now;
+        after = c.args.kept.now;
         reply = 10 ∷ [];
         early = refuses c.in-Wrong.fault ∷ [];
         replied = (refl, refl, (c.in-Wrong.fault, refl, refl));
@@ -79,7 +79,7 @@ returns-in_ok-write-in-Asks-clause-ok g c =
       reply = text ++ 10 ∷ [];
       early = [];
       late = noted.absence;
-      replied = (refl {a = c.args.loaded.now}, (text, c.in_ok-text-in-Asks.ensures, refl), refl);
+      replied = (refl {a = c.args.kept.now}, (text, c.in_ok-text-in-Asks.ensures, refl), refl);
       absence = noted.is;
       written = rw (c.deref.ensures.value, c.in_ok-push-in-Asks.ensures.items) at c.in_ok-write-in-Asks.ensures.ok;
       all = noted.heard;
@@ -95,10 +95,10 @@ returns-in_err-write-in-Asks-clause-err g c =
     rw (p.1, p.2, failed.0, c.in-Asks.is) (
       failed.1,
       record {
-        after = c.args.loaded.now;
+        after = c.args.kept.now;
         reply = text ++ 10 ∷ [];
         early = [];
-        replied = (refl {a = c.args.loaded.now}, (text, c.in_ok-text-in-Asks.ensures, refl), refl);
+        replied = (refl {a = c.args.kept.now}, (text, c.in_ok-text-in-Asks.ensures, refl), refl);
         written = failed.2;
         all = refl {a = c.args.host.now};
       },
@@ -106,13 +106,13 @@ returns-in_err-write-in-Asks-clause-err g c =
 
 pub returns-in_ok-write-in-Reads-clause-ok : goal.returns-in_ok-write-in-Reads-clause-ok
 returns-in_ok-write-in-Reads-clause-ok g c =
-    let ended = c.add-ended.result in
+    let ended = c.in_ok-ended-in-Reads.ended in
     let files = map string_bytes c.in-Reads.names.items in
     rw (c.in-Reads.is) (record {
       reply = reading_reply ended;
       early = reads files ended ∷ [];
       late = [];
-      replied = (ended, rw (c.deref-in-Reads.ensures.value) at c.add-ended.ensures, refl, refl);
+      replied = (ended, rw (c.deref-in-Reads.ensures.value) at c.in_ok-ended-in-Reads.ensures, refl, refl);
       absence = refl;
       written = rw (c.as_bytes.ensures.value, c.in_ok-text-in-Reads.ensures) at c.in_ok-write-in-Reads.ensures.ok;
       all = rw (c.deref-in-Reads-2.ensures.value) at c.reads.ensures.told;
@@ -124,15 +124,15 @@ pub returns-in_err-write-in-Reads-clause-err : goal.returns-in_err-write-in-Read
 returns-in_err-write-in-Reads-clause-err g c =
     let p = err_from_is_err_and c.from_residual-in_err-write-in-Reads.result c.from_residual-in_err-write-in-Reads.ensures.1 in
     let failed = rw (c.as_bytes.ensures.value, c.in_ok-text-in-Reads.ensures) at c.in_err-write-in-Reads.ensures.err in
-    let ended = c.add-ended.result in
+    let ended = c.in_ok-ended-in-Reads.ended in
     let files = map string_bytes c.in-Reads.names.items in
     rw (p.1, p.2, failed.0, c.in-Reads.is) (
       failed.1,
       record {
-        after = c.add-ended.new.loaded;
+        after = c.read.new.kept;
         reply = reading_reply ended;
         early = reads files ended ∷ [];
-        replied = (ended, rw (c.deref-in-Reads.ensures.value) at c.add-ended.ensures, refl, refl);
+        replied = (ended, rw (c.deref-in-Reads.ensures.value) at c.in_ok-ended-in-Reads.ensures, refl, refl);
         written = failed.2;
         all = rw (c.deref-in-Reads-2.ensures.value) at c.reads.ensures.told;
       },

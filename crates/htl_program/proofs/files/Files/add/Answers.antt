@@ -2,7 +2,8 @@
 use Rattle.std.proofs.Common.{◌≡◌, ◌∙◌, All, false, map, string_bytes, subst}
 use Rattle.std.proofs.lemmas.Result.{err_from_is_err_and}
 use Rattle.htl_program.specs.Opened.{known, ways}
-use Rattle.htl_program.proofs.LoadLaws.{by_bytes, not_opened, opened_and_added}
+use Rattle.htl_program.proofs.LoadLaws.{not_opened, opened_and_added}
+use Rattle.htl_program.proofs.NamesRead.{by_bytes}
 use Rattle.htl_program.proofs.files.Files.add.Goals as goal
 
 pub returns-in_err-inputs : goal.returns-in_err-inputs

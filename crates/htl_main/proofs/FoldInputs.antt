@@ -1,0 +1,550 @@
+-- What a folder took of inputs one after another, and why a reading that forgets ends.
+use Rattle.std.proofs.Common.{◌≡◌, ◌≢◌, ◌⊎◌, ◌+◌, ◌-◌, ◌<◌, ◌≤◌, ℕ, Bool, true, false, List, [], ◌∷◌, ◌++◌, length, take}
+use Rattle.std.proofs.Common.{refl, sym, ap, ◌∙◌, subst, arith, inl, inr, append_assoc, append-nil, length-append}
+use Rattle.std.proofs.Common.{Option, Some, None, IfErr, IfOk, IfSome, Result, Ok, Err}
+use Rattle.std.specs.Prelude.{Contains, OnErr, OnOk, slice_get}
+use Rattle.htl_event.proofs.Members.{Contains-here, Contains-nil}
+use Rattle.htl_analyst.specs.States.{State}
+use Rattle.htl_case.specs.declared.fault.CaseFault.{CaseFault}
+use Rattle.htl_case.specs.declared.fault.CaseFault.TheVariants as cases
+use Rattle.htl_command.specs.declared.question.InputForm.{InputForm}
+use Rattle.htl_command.specs.declared.question.Setting.{Setting}
+use Rattle.htl_device.specs.declared.whole.ReadFault.{ReadFault}
+use Rattle.htl_device.specs.declared.whole.ReadFault.TheVariants as reads
+use Rattle.htl_reading.specs.Sources.{IsLeft}
+use Rattle.htl_reading.specs.Taking.{TookBefore, TookToEnd}
+use Rattle.htl_reading.specs.declared.fault.SourceFault.{SourceFault}
+use Rattle.htl_reading.specs.declared.fault.SourceFault.TheVariants as sources
+use Rattle.htl_reading.specs.declared.outcome.EarlyEnd.{EarlyEnd}
+use Rattle.htl_segment.specs.Bundles.{Splits, bundle}
+use Rattle.htl_segment.specs.Content.{Content}
+use Rattle.htl_segment.specs.Keepers.{Took, TookUpTo}
+use Rattle.htl_segment.specs.Traces.{Trace}
+use Rattle.htl_segment.specs.declared.fault.Fault.{Fault}
+use Rattle.htl_segment.specs.declared.fault.Fault.TheVariants as segments
+use Rattle.htl_segment.specs.declared.hexadecimal.HexFault.{HexFault}
+use Rattle.htl_segment.specs.declared.hexadecimal.HexFault.TheVariants as digits
+use Rattle.htl_main.specs.CutInputs.{AreCut}
+use Rattle.htl_main.specs.Ends.{IsEnd, IsEndRefused, IsInput}
+use Rattle.htl_main.specs.Faults.{of_case, of_hex, of_read, of_segment, of_source}
+use Rattle.htl_main.specs.Folders.{AreAllTaken, Folds, GaveOwn, IsAdded, IsMissingOf, IsNotAdded, IsOfInput, IsSymbolsFault, KeepsAll}
+use Rattle.htl_main.specs.Folders.{number_of}
+use Rattle.htl_main.specs.Folding.{AreAccepted, AreAllOf, AreFolded, AreGiven, AreTaken, AsksFoldsMemory, IsFolded, IsFoldedFar, IsFoldedUpTo}
+use Rattle.htl_main.specs.Folding.{AreReadToFold, IsBeginningRefused, IsFoldingRefused, IsFoldsFault, TakesUpTo, counted}
+use Rattle.htl_main.specs.Inputs.{DecodeAll, HasBytes, StopsAt}
+use Rattle.htl_main.specs.Printed.{WorkersFit}
+use Rattle.htl_main.specs.Readings.{AreRead}
+use Rattle.htl_main.specs.Reads.{NeverRead}
+use Rattle.htl_main.specs.Sources.{EndsBefore, IsReportedAt, IsReportedOfSource}
+use Rattle.htl_main.specs.declared.adding.Added.{Added}
+use Rattle.htl_main.specs.declared.cut_inputs.CutInputs.{CutInputs}
+use Rattle.htl_main.specs.declared.fault.RunFault.{RunFault}
+use Rattle.htl_main.specs.declared.fault.RunFault.TheVariants as faults
+use Rattle.htl_main.specs.declared.folder.Folder.{Folder}
+use Rattle.htl_main.proofs.EndLaws.{input_of, source_of, source_refused}
+use Rattle.htl_main.proofs.FoldLaws.{all_counted}
+use Rattle.htl_main.proofs.ReadingLaws.{ends_too, ill, read_then, well}
+
+-- ---- what a keeper took
+
+module _ {S K : Type 0} (gathers : S → K → List Content → Type 0) where
+  pub took_none : (k : K) → Took gathers k k []
+  took_none k kind before was = subst (gathers kind k) (sym (append-nil before)) was
+
+  pub took_both : (a b c : K) (first more : List Content) → Took gathers a b first → Took gathers b c more → Took gathers a c (first ++ more)
+  took_both a b c first more one two kind before was =
+      subst (gathers kind c) (append_assoc before first more) (two kind (before ++ first) (one kind before was))
+
+  -- of an input it took these, or those before its fault
+  abbrev pub TookInput : K → K → InputForm → List ℕ → Bool → Type 0
+  TookInput old new form text is_cut = (given : List Content) × IsInput form text given is_cut × Took gathers old new given
+
+  abbrev pub TookOwn : K → K → InputForm → Option (List ℕ) → List ℕ → RunFault → Type 0
+  TookOwn old new form left text fault =
+      fault ≢ faults.Memory → (given : List Content) × GaveOwn form left text fault given × Took gathers old new given
+
+  module _ (old new : K) (form : InputForm) (place : ℕ) where
+    -- ---- a text
+
+    own_of_end : (left : Option (List ℕ)) (text bytes rest : List ℕ) (segments : List Content) (fault : RunFault)
+        → HasBytes form.hex text bytes → Splits bytes segments rest → IsEndRefused form place (length (bundle segments)) rest fault
+        → GaveOwn form left text fault segments
+    own_of_end left text bytes rest segments fault has split refused = rw (refused.is) (bytes, rest, has, split, refl)
+
+    pub text_ok : (text bytes rest : List ℕ) (segments : List Content) (result : Result Bool RunFault) → HasBytes form.hex text bytes
+        → Splits bytes segments rest → Took gathers old new segments → IfOk result (IsEnd form rest)
+        → IfOk result (λ is_cut. TookInput old new form text is_cut)
+    text_ok text bytes rest segments (Ok is_cut) has split took end =
+        (segments, input_of form text bytes rest segments has split is_cut end, took)
+    text_ok text bytes rest segments (Err fault) has split took end = tt
+
+    pub text_kept : (left : Option (List ℕ)) (text bytes rest : List ℕ) (segments : List Content) (result : Result Bool RunFault)
+        → HasBytes form.hex text bytes → Splits bytes segments rest → Took gathers old new segments
+        → IfErr result (IsEndRefused form place (length (bundle segments)) rest)
+        → IfErr result (λ fault. TookOwn old new form left text fault)
+    text_kept left text bytes rest segments (Ok is_cut) has split took refused = tt
+    text_kept left text bytes rest segments (Err fault) has split took refused =
+        λ other. (segments, own_of_end left text bytes rest segments fault has split refused, took)
+
+    -- bytes that are no segment
+    pub kept_before : (left : Option (List ℕ)) (text bytes : List ℕ) (offset : ℕ) (fault : Fault) → HasBytes form.hex text bytes
+        → (fault ≢ segments.NoMemory → TookUpTo gathers old new bytes offset)
+        → TookOwn old new form left text (of_segment place offset fault)
+    kept_before left text bytes offset segments.NoMemory has kept other = absurd (other refl)
+    kept_before left text bytes offset fault has kept other =
+        let took = kept (λ is. cc is) in
+        (took.0.before, (bytes, took.0.rest, has, took.0.splits, took.0.offset_is), took.1)
+
+    -- ---- a source of bytes
+
+    pub source_ok : (first : Option (List ℕ)) (end : Option EarlyEnd) (result : Result Bool RunFault) → form.hex ≡ false
+        → IfSome first (TookToEnd gathers old new end)
+        → ((segments : List Content) (rest : List ℕ) → IsLeft segments rest end → IfOk result (IsEnd form rest))
+        → IfOk result (λ is_cut. IfSome first (λ text. TookInput old new form text is_cut))
+    source_ok None end (Ok is_cut) is took ends = tt
+    source_ok (Some text) end (Ok is_cut) is took ends =
+        (took.0, source_of form text took.1 took.0 is took.2 is_cut (ends took.0 took.1 took.3), took.4)
+    source_ok first end (Err fault) is took ends = tt
+
+    pub source_err : (first left : Option (List ℕ)) (ended : Bool) (end : Option EarlyEnd) (result : Result Bool RunFault)
+        → form.hex ≡ false → IfSome first (TookToEnd gathers old new end)
+        → ((segments : List Content) (rest : List ℕ) → IsLeft segments rest end
+        → IfErr result (IsEndRefused form place (length (bundle segments)) rest))
+        → IfErr result (λ fault. IfSome first (λ text. IsReportedOfSource form left ended place text fault))
+    source_err first left ended end (Ok is_cut) is took refused = tt
+    source_err None left ended end (Err fault) is took refused = tt
+    source_err (Some text) left ended end (Err fault) is took refused =
+        source_refused form text took.1 took.0 is took.2 left ended place fault (refused took.0 took.1 took.3)
+
+    pub source_kept : (first left : Option (List ℕ)) (end : Option EarlyEnd) (result : Result Bool RunFault) → form.hex ≡ false
+        → IfSome first (TookToEnd gathers old new end)
+        → ((segments : List Content) (rest : List ℕ) → IsLeft segments rest end
+        → IfErr result (IsEndRefused form place (length (bundle segments)) rest))
+        → IfErr result (λ fault. IfSome first (λ text. TookOwn old new form left text fault))
+    source_kept first left end (Ok is_cut) is took refused = tt
+    source_kept None left end (Err fault) is took refused = tt
+    source_kept (Some text) left end (Err fault) is took refused = λ other. (
+      took.0,
+      own_of_end left text text took.1 took.0 fault (rw is refl) took.2 (refused took.0 took.1 took.3),
+      took.4,
+    )
+
+    at_fault : (left : Option (List ℕ)) (text : List ℕ) (fault : SourceFault) → form.hex ≡ false
+        → TookBefore gathers old new left text fault → TookOwn old new form left text (of_source place fault)
+    at_fault left text (sources.Segment offset fault) is took other =
+        (took.0.before, (text, took.0.rest, rw is refl, took.0.splits, took.0.offset_is), took.1)
+    at_fault left text sources.Read is took other =
+        (took.segments, rw is (took.read, took.rest, took.gave, took.splits, took.is_rest), took.took)
+    at_fault left text sources.NoMemory is took other = absurd (other refl)
+
+    pub fault_kept : (first left : Option (List ℕ)) (fault : SourceFault) → form.hex ≡ false
+        → IfSome first (λ text. TookBefore gathers old new left text fault)
+        → IfSome first (λ text. TookOwn old new form left text (of_source place fault))
+    fault_kept None left fault is took = tt
+    fault_kept (Some text) left fault is took = at_fault left text fault is took
+
+    -- ---- a source of digits
+
+    pub known_ok : (first : Option (List ℕ)) (text : List ℕ) (result : Result Bool RunFault) → IfSome first (λ xs. text ≡ xs)
+        → IfOk result (λ is_cut. TookInput old new form text is_cut)
+        → IfOk result (λ is_cut. IfSome first (λ xs. TookInput old new form xs is_cut))
+    known_ok None text (Ok is_cut) is took = tt
+    known_ok (Some xs) text (Ok is_cut) is took = rw (← is) took
+    known_ok first text (Err fault) is took = tt
+
+    -- what was left of it doesn't matter
+    any_left : (left other : Option (List ℕ)) (text : List ℕ) (fault : RunFault) (own : List Content) → form.hex ≡ true
+        → GaveOwn form other text fault own → GaveOwn form left text fault own
+    any_left left other text (faults.Read at) own is gave =
+        let none : own ≡ [] = rw is at gave in rw is none
+    any_left left other text (faults.Segment at offset fault) own is gave = gave
+    any_left left other text (faults.Hex at fault) own is gave = gave
+    any_left left other text fault own is gave = absurd gave
+
+    pub known_kept : (first left : Option (List ℕ)) (text : List ℕ) (result : Result Bool RunFault) → form.hex ≡ true
+        → IfSome first (λ xs. text ≡ xs) → IfErr result (λ fault. TookOwn old new form None text fault)
+        → IfErr result (λ fault. IfSome first (λ xs. TookOwn old new form left xs fault))
+    known_kept first left text (Ok is_cut) hex is took = tt
+    known_kept None left text (Err fault) hex is took = tt
+    known_kept (Some xs) left text (Err fault) hex is took = λ other.
+        (let own = took other in
+        (own.0, subst (λ (l : List ℕ). GaveOwn form left l fault own.0) is (any_left left None text fault own.0 hex own.1), own.2))
+
+  -- nothing was taken of digits with a fault
+  pub digits_kept : (k : K) (form : InputForm) (place : ℕ) (left : Option (List ℕ)) (text : List ℕ) (fault : HexFault)
+      → TookOwn k k form left text (of_hex place fault)
+  digits_kept k form place left text digits.NoMemory other = absurd (other refl)
+  digits_kept k form place left text fault other = ([], refl, took_none k)
+
+  -- and nothing of those that couldn't be gathered
+  pub unread_kept : (k : K) (form : InputForm) (place : ℕ) (first left : Option (List ℕ)) (fault : ReadFault) → form.hex ≡ true
+      → IfSome first (λ text. TookOwn k k form left text (of_read place fault))
+  unread_kept k form place None left fault is = tt
+  unread_kept k form place (Some text) left reads.NoMemory is = λ other. absurd (other refl)
+  unread_kept k form place (Some text) left reads.Failed is = λ other. ([], rw is refl, took_none k)
+
+-- ---- one input after another
+
+abbrev pub folds_of : Folder → Folder → List Content → Type 0
+folds_of first now given = Folds first.analyst now.analyst now.unfit now.segments given
+
+-- what the inputs gave before the fault of one: those of the inputs before it, and its own
+module _ (form : InputForm) (inputs : List (List ℕ)) (lefts : List (Option (List ℕ))) (place : ℕ) (text : List ℕ)
+    (earlier own : List Content) (before : DecodeAll form (take place inputs) earlier) (here : slice_get inputs place ≡ Some text) where
+  pub given_before : (left : Option (List ℕ)) (ended : Bool) (fault : RunFault) → slice_get lefts place ≡ Some left
+      → IsReportedOfSource form left ended place text fault → fault ≢ faults.Memory → GaveOwn form left text fault own
+      → AreGiven form inputs lefts fault (earlier ++ own)
+  given_before left ended (faults.Segment at offset fault) left_is told other gave =
+      rw (told.0) (earlier, own, text, before, here, gave, refl)
+  given_before left ended (faults.Hex at fault) left_is told other gave =
+      rw (told.0, gave) (subst (DecodeAll form (take place inputs)) (sym (append-nil earlier)) before)
+  given_before left ended (faults.Read at) left_is told other gave =
+      rw told (left, left_is, (earlier, own, text, before, here, gave, refl))
+  given_before left ended faults.Memory left_is told other gave = absurd (other refl)
+  given_before left ended fault left_is told other gave = absurd gave
+
+-- ---- what was taken of all inputs
+
+on_ok : {U E P Q : Type 0} (result : Result U E) → OnOk result P → (P → Q) → OnOk result Q
+on_ok (Ok value) holds then = then holds
+on_ok (Err fault) holds then = tt
+
+pub on_err : {U E P Q : Type 0} (result : Result U E) → OnErr result P → (P → Q) → OnErr result Q
+on_err (Ok value) holds then = tt
+on_err (Err fault) holds then = then holds
+
+module _ (first now : Option State) (n : ℕ) (given before : List Content) (was : AreFolded first before) where
+  taken_all : Folds first now None n given → (form : InputForm) (texts : List (List ℕ)) (cut : Option CutInputs)
+      → DecodeAll form texts given → IsFoldedFar now → AreCut form.hex texts cut → AreAllTaken form before texts first now n cut
+  taken_all folds form texts cut decoded far cut_is =
+      let takes = folds.takes before was in
+      let all : given ≡ folds.taken = takes.cut ∙ ap (λ (l : List Content). folds.taken ++ l) takes.ends ∙ append-nil folds.taken in
+      record {
+        given = given;
+        decoded = decoded;
+        accepted = subst (AreAccepted before) (sym all) takes.accepted;
+        folded = record {
+          taken = subst (λ (l : List Content). AreTaken (before ++ l) now) (sym all) (folds.kept before was);
+          far = far;
+        };
+        number = folds.number ∙ ap counted (sym all);
+        cut_is = cut_is;
+        keeps = folds.keeps;
+      }
+
+  pub all_taken : {U E : Type 0} (ended : Result U E) → Folds first now None n given → (form : InputForm) (texts : List (List ℕ))
+      (cut : Option CutInputs) → DecodeAll form texts given → OnOk ended (IsFoldedFar now) → AreCut form.hex texts cut
+      → OnOk ended (AreAllTaken form before texts first now n cut)
+  all_taken ended folds form texts cut decoded far cut_is =
+      on_ok ended far (λ is_far. taken_all folds form texts cut decoded is_far cut_is)
+
+  pub some_given : (unfit : Option CaseFault) → Folds first now unfit n given → 0 < n → given ≢ []
+  some_given unfit folds some none =
+      let takes = folds.takes before was in
+      let long = length-append folds.taken takes.later in
+      let cut : length given ≡ length (folds.taken ++ takes.later) = ap length takes.cut in
+      let nothing : length given ≡ 0 = ap length none in
+      let number = folds.number in
+      absurd (omega (arith, some, long, cut, nothing, number))
+
+-- what a folder took since it was made
+pub since : (analyst : Option State) (old new : Folder) (given : List Content)
+    → Folds analyst old.analyst old.unfit old.segments [] → old.analyst ≡ analyst → Took folds_of old new given
+    → Folds analyst new.analyst new.unfit new.segments given
+since analyst old new given none same took =
+    subst (λ (a : Option State). Folds a new.analyst new.unfit new.segments given) same
+    (took old [] (subst (λ (a : Option State). Folds a old.analyst old.unfit old.segments []) (sym same) none))
+
+memory_or_not : (fault : RunFault) → (fault ≡ faults.Memory) ⊎ (fault ≢ faults.Memory)
+memory_or_not faults.Memory = inl refl
+memory_or_not fault = inr (λ is. cc is)
+
+-- ---- how many segments
+
+fewer : (old new : Option State) → KeepsAll old new → number_of old ≤ number_of new
+fewer None new keeps = omega arith
+fewer (Some old) None keeps = absurd keeps
+fewer (Some old) (Some new) keeps = keeps.number
+
+no_members : (ss : List Content) → ((s : Content) → Contains ss s → ⊥) → length ss ≡ 0
+no_members [] none = refl
+no_members (s ∷ ss) none = absurd (none s (Contains-here s ss))
+
+counted_before : (before : List Content) (old : Option State) (T : Trace) → AreTaken before old → AreAllOf before T
+    → number_of old ≡ length T.segments
+counted_before before None T taken all =
+    sym (no_members T.segments (λ s has.
+    Contains-nil s (subst (λ (ss : List Content). Contains ss s) taken ((all.members s).0 has))))
+counted_before before (Some a) T taken all = all_counted before a T taken.1 taken.0 all
+
+-- ---- why a reading ends
+
+module _ (setting : Setting) (before : List Content) (texts : List (List ℕ)) (lefts : List (Option (List ℕ))) (ends : List Bool) where
+  abbrev pub Stops : RunFault → Type 0
+  Stops fault = StopsAt setting.form (IsReportedAt setting.form lefts ends) texts fault
+
+  abbrev pub Refuses : Option State → RunFault → Type 0
+  Refuses now fault = IsFoldingRefused setting before texts lefts ends (AreFolded now) fault
+
+  -- before the first read
+  pub no_workers : (now : Option State) → AreFolded now before → (WorkersFit setting.workers → ⊥) → Refuses now faults.Workers
+  no_workers now was unfit = record {
+    given = [];
+    are_given = refl;
+    taken = [];
+    unfit = None;
+    takes = record { later = []; cut = refl; accepted = tt; ends = refl };
+    kept = subst (AreFolded now) (sym (append-nil before)) was;
+    why = unfit;
+  }
+
+  module _ (fit : WorkersFit setting.workers) (first : Option State) (was : AreFolded first before) {U E : Type 0} (ended : Result U E) where
+    -- what was taken is known where it was folded
+    abbrev pub Ends : Option State → RunFault → Type 0
+    Ends now fault = IsFoldingRefused setting before texts lefts ends (λ taken. OnOk ended (AreFolded now taken)) fault
+
+    up_to : (now : Option State) (unfit : Option CaseFault) (n : ℕ) (fault : RunFault) (given : List Content)
+        → AreGiven setting.form texts lefts fault given → (folds : Folds first now unfit n given) → OnOk ended (IsFoldedFar now)
+        → IsFoldsFault setting before texts lefts ends folds.taken unfit fault
+        → IsFoldedUpTo setting before texts lefts ends (λ taken. OnOk ended (AreFolded now taken)) fault
+    up_to now unfit n fault given are folds far why = record {
+      given = given;
+      are_given = are;
+      taken = folds.taken;
+      unfit = unfit;
+      takes = folds.takes before was;
+      kept = on_ok ended far (λ is_far. record { taken = folds.kept before was; far = is_far });
+      why = why;
+    }
+
+    -- for a segment that is unfit
+    pub refused_unfit : (now : Option State) (n : ℕ) (given : List Content) (fault : CaseFault) → Folds first now (Some fault) n given
+        → OnOk ended (IsFoldedFar now) → DecodeAll setting.form texts given → Ends now (of_case fault)
+    refused_unfit now n given cases.Empty folds far decoded = absurd ((folds.takes before was).ends.3)
+    refused_unfit now n given cases.NoMemory folds far decoded = absurd ((folds.takes before was).ends.3)
+    refused_unfit now n given fault folds far decoded =
+        up_to now (Some fault) n (faults.Case fault) given decoded folds far (fit, refl)
+
+    module _ (old mid : Folder) (none : Folds first old.analyst old.unfit old.segments []) (same : old.analyst ≡ first) where
+      abbrev pub GaveBy : RunFault → Type 0
+      GaveBy fault =
+          fault ≢ faults.Memory → (given : List Content) × AreGiven setting.form texts lefts fault given × Took folds_of old mid given
+
+      -- for refused memory, after the last read
+      pub refused_fold : {T : Type 0} (result : Result T RunFault) → 0 < mid.segments
+          → OnOk result ((given : List Content) × DecodeAll setting.form texts given × Took folds_of old mid given)
+          → IfErr result Stops → IfErr result GaveBy → AsksFoldsMemory setting before texts lefts ends
+      refused_fold (Ok done) some all stops gave = (
+        fit,
+        inr (inl (
+          all.0,
+          some_given first mid.analyst mid.segments all.0 before was mid.unfit (since first old mid all.0 none same all.2) some,
+          faults.Memory,
+          all.1,
+        )),
+      )
+      refused_fold (Err fault) some all stops gave =
+          elim (memory_or_not fault) [
+            | inl is ↦ (fit, inl (subst Stops is stops))
+            | inr other ↦
+                let own = gave other in (
+                  fit,
+                  inr (inl (
+                    own.0,
+                    some_given first mid.analyst mid.segments own.0 before was mid.unfit
+                        (since first old mid own.0 none same own.2) some,
+                    fault,
+                    own.1,
+                  )),
+                )
+          ]
+
+      -- for the fault of an input
+      pub refused_read : (now : Option State) (unfit : Option CaseFault) (n : ℕ) (fault : RunFault)
+          → ((a : Option State) (given : List Content) → Folds a mid.analyst mid.unfit mid.segments given → Folds a now unfit n given)
+          → ((given : List Content) → Folds first mid.analyst mid.unfit mid.segments given → OnOk ended (IsFoldedFar now))
+          → Stops fault → IsOfInput fault → GaveBy fault → Ends now fault
+      refused_read now unfit n faults.Memory carry far stops is gave = (fit, inl stops)
+      refused_read now unfit n (faults.Segment at offset fault) carry far stops is gave =
+          let own = gave (λ e. cc e) in
+          let since_then = since first old mid own.0 none same own.2 in
+          up_to now unfit n (faults.Segment at offset fault) own.0 own.1 (carry first own.0 since_then) (far own.0 since_then)
+          (fit, stops)
+      refused_read now unfit n (faults.Hex at fault) carry far stops is gave =
+          let own = gave (λ e. cc e) in
+          let since_then = since first old mid own.0 none same own.2 in
+          up_to now unfit n (faults.Hex at fault) own.0 own.1 (carry first own.0 since_then) (far own.0 since_then) (fit, stops)
+      refused_read now unfit n (faults.Read at) carry far stops is gave =
+          let own = gave (λ e. cc e) in
+          let since_then = since first old mid own.0 none same own.2 in
+          up_to now unfit n (faults.Read at) own.0 own.1 (carry first own.0 since_then) (far own.0 since_then) (fit, stops)
+      refused_read now unfit n fault carry far stops is gave = absurd is
+
+  -- ---- once all segments were taken
+
+  module _ (fit : WorkersFit setting.workers) (old new : Option State) (n : ℕ) (cut : Option CutInputs)
+      (all : AreAllTaken setting.form before texts old new n cut) where
+    takes_all : TakesUpTo before all.given all.given None
+    takes_all = record { later = []; cut = sym (append-nil all.given); accepted = all.accepted; ends = refl }
+
+    folded_in : (a : Option State) → new ≡ a → AreFolded a (before ++ all.given)
+    folded_in a is = subst (λ (x : Option State). AreFolded x (before ++ all.given)) is all.folded
+
+    -- there is none
+    none_there : new ≡ None → Refuses new (faults.Case cases.Empty)
+    none_there is = record {
+      given = all.given;
+      are_given = all.decoded;
+      taken = all.given;
+      unfit = None;
+      takes = takes_all;
+      kept = all.folded;
+      why = (fit, (folded_in None is).taken);
+    }
+
+    -- one is missing, or memory was refused
+    not_covered : (a : State) (fault : RunFault) → new ≡ Some a → IsMissingOf setting.complete a fault → Refuses new fault
+    not_covered a faults.Memory is missing = (fit, inr (inr (all.given, all.decoded, (folded_in (Some a) is).taken.0)))
+    not_covered a (faults.Incomplete processor number) is missing = record {
+      given = all.given;
+      are_given = all.decoded;
+      taken = all.given;
+      unfit = None;
+      takes = takes_all;
+      kept = all.folded;
+      why = (fit, refl, missing.0, λ T case. missing.1 (before ++ all.given) T (folded_in (Some a) is) case);
+    }
+    not_covered a fault is missing = absurd missing
+
+    not_added_to : (now : Option State) → new ≡ now → (fault : RunFault) → IsNotAdded setting.complete now fault → Refuses new fault
+    not_added_to None is fault told = rw told (none_there is)
+    not_added_to (Some a) is fault told = not_covered a fault is told
+
+    pub not_added : (fault : RunFault) → IsNotAdded setting.complete new fault → Refuses new fault
+    not_added fault told = not_added_to new refl fault told
+
+    -- all is well
+    pub is_folded : (added : Added) → AreFolded old before → IsAdded setting.complete new (number_of old) n cut added
+        → IsFolded setting before texts (AreFolded new) added
+    is_folded added was is =
+        let now = folded_in (Some is.analyst) is.there in
+        record {
+          workers = fit;
+          given = all.given;
+          decoded = all.decoded;
+          accepted = all.accepted;
+          kept = all.folded;
+          some = now.taken.0;
+          segments = is.segments_are ∙ all.number;
+          new = λ T U all_before all_after.
+              (let first = counted_before before old T was.taken all_before in
+              let last : number_of new ≡ length U.segments = ap number_of is.there
+              ∙ all_counted (before ++ all.given) is.analyst U now.taken.1 now.taken.0 all_after in
+              let more = fewer old new all.keeps in
+              let new_are = is.new_are in
+              omega (arith, first, last, more, new_are));
+          coverage = λ T case. (is.covered (before ++ all.given) T now case).0;
+          whole = λ asked T case. (is.covered (before ++ all.given) T now case).1 asked;
+          cut = subst (AreCut setting.form.hex texts) (sym is.cut_is) all.cut_is;
+        }
+
+-- ---- what a fault isn't
+
+-- that of a gap
+missing_no_read : {S : Type 0} (complete : Bool) (a : State) (fault : RunFault) → IsMissingOf complete a fault → NeverRead (ill {S = S} fault)
+missing_no_read complete a (faults.Read at) is = absurd is
+missing_no_read complete a fault is = λ place same. cc same
+
+missing_no_end : (complete : Bool) (a : State) (fault : RunFault) → IsMissingOf complete a fault → (place : ℕ) → EndsBefore fault place → ⊥
+missing_no_end complete a faults.Memory is = λ place before. before
+missing_no_end complete a (faults.Incomplete processor number) is = λ place before. before
+missing_no_end complete a fault is = absurd is
+
+-- that of symbols
+symbols_no_read : {S : Type 0} (symbols : Option (List ℕ)) (fault : RunFault) → IsSymbolsFault symbols fault
+    → NeverRead (ill {S = S} fault)
+symbols_no_read symbols (faults.Read at) is = absurd is
+symbols_no_read symbols fault is = λ place same. cc same
+
+symbols_no_end : (symbols : Option (List ℕ)) (fault : RunFault) → IsSymbolsFault symbols fault → (place : ℕ) → EndsBefore fault place → ⊥
+symbols_no_end symbols faults.Memory is = λ place before. before
+symbols_no_end symbols (faults.Symbols fault) is = λ place before. before
+symbols_no_end symbols fault is = absurd is
+
+-- ---- how the sources are read
+
+module _ {R : Type 0} (is_text : Bool) (has_failed has_ended : R → Bool) (good_reads : R → ℕ) (remaining : R → Option (List ℕ))
+    (old new : List R) where
+  -- memory was refused to fold what was read
+  pub read_to_fold : {S T : Type 0} (result : Result S RunFault)
+      → AreRead is_text has_failed has_ended good_reads remaining old new result
+      → AreReadToFold is_text has_failed has_ended good_reads remaining old new (ill {S = T} faults.Memory)
+  read_to_fold (Ok value) read =
+      inl (read_then is_text has_failed has_ended good_reads remaining old new value (ill faults.Memory) read (λ at told. cc told)
+      (λ place before. before))
+  read_to_fold (Err fault) read = inr (refl, fault, ends_too is_text has_failed has_ended good_reads remaining old new fault read)
+
+  module _ {S T : Type 0} (value : S) (read : AreRead is_text has_failed has_ended good_reads remaining old new (well value)) where
+    -- there is no segment, or one is missing
+    pub read_to_gap : (complete : Bool) (now : Option State) (fault : RunFault) → IsNotAdded complete now fault
+        → AreRead is_text has_failed has_ended good_reads remaining old new (ill {S = T} fault)
+    read_to_gap complete now fault told =
+        read_then is_text has_failed has_ended good_reads remaining old new value (ill fault) read (never now fault told) (names now fault told)
+      where
+        never : (now : Option State) (fault : RunFault) → IsNotAdded complete now fault → NeverRead (ill {S = T} fault)
+        never None fault told at is = cc (told, is)
+        never (Some a) fault told at is = missing_no_read complete a fault told at is
+
+        names : (now : Option State) (fault : RunFault) → IsNotAdded complete now fault → (place : ℕ) → EndsBefore fault place → ⊥
+        names None fault told place = rw told (λ before. before)
+        names (Some a) fault told place = missing_no_end complete a fault told place
+
+    -- or the symbols have a fault
+    pub read_to_symbols : (symbols : Option (List ℕ)) (fault : RunFault) → IsSymbolsFault symbols fault
+        → AreRead is_text has_failed has_ended good_reads remaining old new (ill {S = T} fault)
+    read_to_symbols symbols fault is =
+        read_then is_text has_failed has_ended good_reads remaining old new value (ill fault) read (symbols_no_read symbols fault is)
+        (symbols_no_end symbols fault is)
+
+-- ---- at the beginning
+
+pub nothing_folded : AreFolded None []
+nothing_folded = record { taken = refl; far = tt }
+
+module _ (setting : Setting) (symbols : Option (List ℕ)) (texts : List (List ℕ)) (lefts : List (Option (List ℕ))) (ends : List Bool)
+    (Keeps : List Content → Type 0) where
+  pub begins_refused : (fault : RunFault) → IsFoldingRefused setting [] texts lefts ends Keeps fault
+      → IsBeginningRefused setting symbols texts lefts ends fault
+  begins_refused faults.Memory refused = refused
+  begins_refused (faults.Symbols fault) refused = absurd (refused.why)
+  begins_refused fault refused = record {
+    given = refused.given;
+    are_given = refused.are_given;
+    taken = refused.taken;
+    unfit = refused.unfit;
+    takes = refused.takes;
+    kept = tt;
+    why = refused.why;
+  }
+
+  pub symbols_refused : (added : Added) (fault : RunFault) → IsFolded setting [] texts Keeps added → IsSymbolsFault symbols fault
+      → IsBeginningRefused setting symbols texts lefts ends fault
+  symbols_refused added faults.Memory folded told = (folded.workers, inr (inr (folded.given, folded.decoded, folded.some)))
+  symbols_refused added (faults.Symbols fault) folded told = (
+    told,
+    added,
+    record {
+      workers = folded.workers;
+      given = folded.given;
+      decoded = folded.decoded;
+      accepted = folded.accepted;
+      kept = tt;
+      some = folded.some;
+      segments = folded.segments;
+      new = folded.new;
+      coverage = folded.coverage;
+      whole = folded.whole;
+      cut = folded.cut;
+    },
+  )
+  symbols_refused added fault folded told = absurd told

@@ -1,0 +1,533 @@
+-- What an analyst that took a list of segments has of every trace that these are of, and which segments it takes after them.
+use Rattle.std.proofs.Common.{◌≡◌, ◌≢◌, ℕ, ◌+◌, ◌<◌, ◌≤◌, Bool, true, false, cond, List, [], ◌∷◌, ◌++◌, length, length-set, refl, sym, ap, ◌∙◌, subst}
+use Rattle.std.proofs.Common.{inl, inr, ◌⊎◌, arith, append_assoc, Some, None, Option, eq-eqb, eqb, eqb-true, ltb, ltb-true}
+use Rattle.std.specs.Prelude.{Contains, ◌↔◌, ◌||◌, count_by, is_some, map, slice_get}
+use Rattle.std.specs.List.{AllByRecursion}
+use Rattle.std.proofs.lemmas.Bool.{and_from, and_parts, cases_Bool, cases_eq, cases_lt, lt-ltb}
+use Rattle.std.proofs.Common.{leb, leb-true, leb-false}
+use Rattle.std.proofs.lemmas.List.Elements.{Contains-append_left}
+use Rattle.std.proofs.lemmas.List.Sums.{sum_by-cons}
+use Rattle.htl_event.specs.Events.{Event}
+use Rattle.htl_event.specs.Handles.{IsGreatestSequence}
+use Rattle.htl_event.proofs.Members.{Contains-cases, Contains-from_map, Contains-here, Contains-map, Contains-nil, Contains-there}
+use Rattle.htl_event.proofs.Members.{at_member, each_member, some_member}
+use Rattle.htl_segment.specs.Content.{Content, EventsFit, Fits}
+use Rattle.htl_segment.specs.Keys.{run_below}
+use Rattle.htl_segment.specs.Traces.{Trace, HasKey, all_events, key_is_in}
+use Rattle.htl_segment.specs.Versions.{limits_of}
+use Rattle.htl_segment.specs.declared.version.Version.{Version}
+use Rattle.htl_segment.proofs.Traces.{members_agree}
+use Rattle.htl_taken.specs.Gaps.{IsGapBefore, IsGaps, processor_of}
+use Rattle.htl_taken.specs.Numbers.{Numbers, front_at, loose_at, numbers_at, with_loose}
+use Rattle.htl_taken.specs.declared.gap.Gap.{Gap}
+use Rattle.htl_taken.proofs.Gaps.{gaps_agree}
+use Rattle.htl_taken.proofs.NumberSets.{numbers_at-set_same}
+use Rattle.htl_answers.specs.Parts.{AreEventsOf, Contents}
+use Rattle.htl_analyst.specs.Keys.{HasTaken, keys, number_taken}
+use Rattle.htl_analyst.specs.Moments.{IsLeastLastFolded}
+use Rattle.htl_analyst.specs.Refusals.{HoldsOther, TakeAccepted, TakeRefused}
+use Rattle.htl_analyst.specs.Right.{IsCollection, IsOwned, IsRight, IsState, run_events}
+use Rattle.htl_analyst.specs.States.{State, folded_at, held_at, part_at}
+use Rattle.htl_analyst.specs.TakenAll.{HasKeyOf, HasTakenAll}
+use Rattle.htl_analyst.specs.TakenEvents.{taken_events}
+use Rattle.htl_analyst.proofs.Held.{collection_of, number, one_segment}
+use Rattle.htl_analyst.proofs.KeyEvents.{keys_taken, taken_keys}
+use Rattle.htl_analyst.proofs.TakenAll.{all_were_taken, take_has_taken_one_more}
+use Rattle.htl_analyst.proofs.Updates.{place-set_other}
+use Rattle.htl_analyst.specs.Steps.{taken_as}
+use Rattle.htl_analyst.specs.declared.fault.Took.{Took}
+use Rattle.htl_analyst.specs.declared.fault.Took.TheVariants.{New, Repeat}
+use Rattle.htl_case.specs.Cases.{IsCaseOf}
+use Rattle.htl_case.specs.Complete.{IsCompleteTo, IsFirstMissing, IsUnbrokenTo}
+use Rattle.htl_case.specs.Faults.{key_of}
+use Rattle.htl_case.proofs.Sizes.{size_is}
+use Rattle.htl_main.specs.Completeness.{IsComplete, IsLeastMissing}
+use Rattle.htl_main.specs.Coverages.{IsCoverage}
+use Rattle.htl_main.specs.Folders.{IsFallen, IsNewTo, Keeps, KeepsAll, TookNext}
+use Rattle.htl_main.specs.declared.coverage.Coverage.{Coverage}
+use Rattle.htl_main.specs.Folding.{Accepts, AreAllOf, AreFolded, AreSomeOf, IsFoldedFar, IsUnbroken, IsUnfit}
+use Rattle.htl_case.specs.declared.fault.CaseFault.TheVariants as cases
+use Rattle.htl_command.specs.Needs.{is_of_events, needs_events}
+use Rattle.htl_command.specs.declared.question.Job.{Job}
+use Rattle.htl_command.specs.declared.question.Moment.{Moment}
+use Rattle.htl_command.specs.declared.question.Question.{Question}
+use Rattle.htl_command.specs.declared.question.Question.TheVariants as questions
+use Rattle.htl_main.specs.Questions.{IsOfParts}
+use Rattle.htl_main.proofs.Covered.{one_first}
+
+abbrev AreIdsOf : State → Content → Type 0
+AreIdsOf a s = (s.trace_id ≡ a.trace_id) × (s.processors ≡ a.processors)
+
+-- ---- a collection that the segments are of
+
+module _ (segments : List Content) (a : State) (T : Trace) (took : HasTakenAll segments a) (some : segments ≢ [])
+    (collection : IsCollection T) (each : (s : Content) → Contains segments s → Contains T.segments s) where
+  -- it has the analyst's trace id and processor count
+  pub same_ids : (T.id ≡ a.trace_id) × (T.processors ≡ a.processors)
+  same_ids =
+      let one = some_member segments some in
+      let ids = at_member (AreIdsOf a) segments one.0 took.ids one.1 in
+      let same = at_member (λ s. (s.trace_id ≡ T.id) × (s.processors ≡ T.processors)) T.segments one.0 collection.same (each one.0 one.1) in
+      (sym same.0 ∙ ids.0, sym same.1 ∙ ids.1)
+
+  pub is_right : IsRight a T
+  is_right = took.right T collection same_ids.0 same_ids.1 (each_member (Contains T.segments) segments each)
+
+  -- the segment of a taken key is one of the list
+  pub in_list : (s : Content) → Contains T.segments s → HasTaken a s.processor s.number → Contains segments s
+  in_list s has taken =
+      let key = (took.keys s.processor s.number).0 taken in
+      subst (Contains segments)
+      (one_segment T.segments collection.in_order key.0 s (each key.0 key.1) has key.2 key.3) key.1
+
+-- ---- all of its segments
+
+count_all : (p : Content → Bool) (ss : List Content) → ((s : Content) → Contains ss s → p s ≡ true) → count_by p ss ≡ length ss
+count_all p [] each = refl
+count_all p (s ∷ ss) each =
+    let one = sum_by-cons (λ t. cond (p t) 1 0) s ss in
+    let first = ap {B = ℕ} (λ (b : Bool). cond b 1 0) (each s (Contains-here s ss)) in
+    let rest = count_all p ss (λ t h. each t (Contains-there s ss t h)) in
+    omega (arith, one, first, rest)
+
+module _ (segments : List Content) (a : State) (T : Trace) (took : HasTakenAll segments a) (some : segments ≢ [])
+    (all : AreAllOf segments T) where
+  right_of_all : IsRight a T
+  right_of_all = is_right segments a T took some all.collection (λ s h. (all.members s).1 h)
+
+  -- they were taken
+  pub all_keys : (p n : ℕ) → HasTaken a p n ↔ HasKey T p n
+  all_keys p n = (
+    λ taken. (let key = (took.keys p n).0 taken in (key.0, (all.members key.0).1 key.1, key.2, key.3)),
+    λ has. (took.keys p n).1 (has.0, (all.members has.0).0 has.1, has.2, has.3),
+  )
+
+  -- each once
+  pub all_counted : number_taken a ≡ length T.segments
+  all_counted =
+      size_is T a right_of_all
+      ∙ count_all (key_is_in (keys a)) T.segments
+      (λ s h. taken_keys a s.processor s.number ((all_keys s.processor s.number).1 (s, h, refl, refl)))
+
+-- ---- a case of them
+
+module _ (segments : List Content) (a : State) (T : Trace) (took : HasTakenAll segments a) (some : segments ≢ [])
+    (case : IsCaseOf segments T) where
+  pub all_of_case : AreAllOf segments T
+  all_of_case = record { collection = collection_of T case.is_case.trace; members = case.members }
+
+  pub right_of_case : IsRight a T
+  right_of_case = right_of_all segments a T took some all_of_case
+
+  pub events_of_case : taken_events T a ≡ all_events T.segments
+  events_of_case = all_were_taken segments T a took (λ s h. (case.members s).0 h)
+
+  pub gaps_of_case : (gaps : List Gap) → IsGaps (HasTaken a) a.processors gaps → IsGaps (HasKey T) T.processors gaps
+  gaps_of_case gaps listed =
+      gaps_agree (HasTaken a) (HasKey T) T.processors gaps (λ p n within. all_keys segments a T took some all_of_case p n)
+      (subst (λ (n : ℕ). IsGaps (HasTaken a) n gaps) (sym right_of_case.processors) listed)
+
+  -- where all was folded that could be, a front is the first missing number
+  pub front_missing : IsFoldedFar (Some a) → (p : ℕ) → IsFirstMissing T p (front_at a.taken p)
+  front_missing far p = record {
+    below = λ n lt. (all_keys segments a T took some all_of_case p n).0 (inl lt);
+    missing = λ has. far p ((all_keys segments a T took some all_of_case p (front_at a.taken p)).1 has);
+  }
+
+  pub complete_of_case : IsFoldedFar (Some a) → (n : ℕ) → IsLeastLastFolded T a n → IsCompleteTo T n
+  complete_of_case far n least = record {
+    bound = λ p m within unbroken.
+        (let first = one_first T p unbroken.0 (front_at a.taken p) unbroken.1 (front_missing far p) in
+        least.bound p m (subst (λ (x : ℕ). p < x) right_of_case.processors within)
+        (subst (λ (f : ℕ). IsGreatestSequence (Contains (run_events T p f)) m) first unbroken.2));
+    processor = least.processor;
+    within = subst (λ (x : ℕ). least.processor < x) (sym right_of_case.processors) least.within;
+    reached = (front_at a.taken least.processor, front_missing far least.processor, least.reached);
+  }
+
+  no_earlier : (one other : Gap) → IsGapBefore one other → processor_of one ≤ processor_of other
+  no_earlier one other (inl lt) = omega (arith, lt)
+  no_earlier one other (inr both) = let e = both.0 in omega (arith, e)
+
+  -- the first gap is of the processor whose front is the least missing number
+  pub least_of_gaps : IsFoldedFar (Some a) → (gap : Gap) (more : List Gap) → IsGaps (HasTaken a) a.processors (gap ∷ more)
+      → IsLeastMissing T (processor_of gap) (front_at a.taken (processor_of gap))
+  least_of_gaps far gap more listed =
+      let all = gaps_of_case (gap ∷ more) listed in
+      record {
+        gap = gap;
+        there = (all.members gap).0 (Contains-here gap more);
+        own = refl;
+        first = front_missing far (processor_of gap);
+        before = λ other there. elim (Contains-cases gap more other ((all.members other).1 there)) [
+          | inl same ↦ let e = ap processor_of same in omega (arith, e)
+          | inr later ↦ no_earlier gap other (at_member (IsGapBefore gap) more other all.rising.0 later)
+        ];
+      }
+
+  pub none_missing : IsGaps (HasTaken a) a.processors [] → IsComplete T
+  none_missing listed gap there = Contains-nil gap (((gaps_of_case [] listed).members gap).1 there)
+
+  pub covered : IsFoldedFar (Some a) → (gaps : List Gap) (coverage : Coverage) → IsGaps (HasTaken a) a.processors gaps
+      → coverage.gaps ≡ length gaps → IsLeastLastFolded T a coverage.complete_to → IsCoverage T coverage
+  covered far gaps coverage listed counted least = record {
+    gaps = gaps;
+    are_gaps = gaps_of_case gaps listed;
+    counted = counted;
+    complete_to = complete_of_case far coverage.complete_to least;
+  }
+
+-- ---- the next segment
+
+module _ (segments : List Content) (a : State) (T : Trace) (took : HasTakenAll segments a) (some : segments ≢ [])
+    (of : AreSomeOf segments T) where
+  member_of : (s : Content) → Contains segments s → Contains T.segments s
+  member_of s has = at_member (Contains T.segments) segments s of.members has
+
+  right_of_some : IsRight a T
+  right_of_some = is_right segments a T took some of.collection member_of
+
+  -- a segment of the list is of one of the analyst's processors
+  of_processor : (t : Content) → Contains segments t → t.processor < a.processors
+  of_processor t has =
+      let fits = at_member Fits T.segments t of.collection.fit (member_of t has) in
+      let ids = at_member (AreIdsOf a) segments t took.ids has in
+      let below = fits.processor in
+      let same = ids.1 in
+      omega (arith, below, same)
+
+  -- what is held of a processor are segments of the list
+  pub held_in_list : (p : ℕ) (h : Content) → p < a.processors → Contains (held_at a.parts p) h
+      → (h.processor ≡ p) × Contains segments h
+  held_in_list p h within has =
+      let part = right_of_some.state.each p within in
+      let owned = at_member (IsOwned a.trace_id a.processors p) (held_at a.parts p) h part.owned has in
+      let there = at_member (Contains T.segments) (held_at a.parts p) h (right_of_some.each p within).held has in
+      let numbered = subst (λ (ns : List ℕ). Contains ns h.number) part.numbers (Contains-mapped h has) in
+      let taken : HasTaken a h.processor h.number = subst (λ (q : ℕ). HasTaken a q h.number) (sym owned.processor) (inr numbered) in
+      (owned.processor, in_list segments a T took some of.collection member_of h there taken)
+    where
+      Contains-mapped : (h : Content) → Contains (held_at a.parts p) h → Contains (map number (held_at a.parts p)) h.number
+      Contains-mapped h has = Contains-map number (held_at a.parts p) h has
+
+  -- what is not in an unbroken run is held
+  pub held_of : (t : Content) → Contains segments t → (IsUnbroken segments t → ⊥) → Contains (held_at a.parts t.processor) t
+  held_of t has broken =
+      let p = t.processor in
+      let within = of_processor t has in
+      let part = right_of_some.state.each p within in
+      elim ((took.keys p t.number).1 (t, has, refl, refl)) [
+        | inl below ↦
+            absurd (broken (λ n le. (took.keys p n).0 (inl (omega (arith, below, le)))))
+        | inr loose ↦
+            let found = Contains-from_map number (held_at a.parts p) t.number
+            (subst (λ (ns : List ℕ). Contains ns t.number) (sym part.numbers) loose) in
+            let h = held_in_list p found.0 within found.1 in
+            subst (Contains (held_at a.parts p))
+            (one_segment T.segments of.collection.in_order found.0 t (member_of found.0 h.1) (member_of t has) h.0 found.2) found.1
+      ]
+
+  -- an event below a front of a processor is at most the last that was folded
+  pub at_most_last : (t : Content) (f : Event) → Contains segments t → t.number < front_at a.taken t.processor → Contains t.events f
+      → f.sequence ≤ (folded_at a.parts t.processor).last_sequence
+  at_most_last t f has below in_t =
+      let p = t.processor in
+      let front = front_at a.taken p in
+      let run : run_below p front t.processor t.number ≡ true =
+      and_from (eqb t.processor p) (ltb t.number front) (eq-eqb t.processor p refl) (lt-ltb t.number front below) in
+      let there = (members_agree (run_below p front) T.segments f).1 (t, member_of t has, run, in_t) in
+      (right_of_some.each p (of_processor t has)).folded.last.bound f there
+
+  -- where that isn't 0, it is the sequence of an event of a segment of the list below the front
+  pub last_is_of : (p : ℕ) → p < a.processors → 0 < (folded_at a.parts p).last_sequence
+      → (t : Content) × Contains segments t × (t.processor ≡ p) × (t.number < front_at a.taken p)
+      × (f : Event) × Contains t.events f × (f.sequence ≡ (folded_at a.parts p).last_sequence)
+  last_is_of p within above =
+      elim ((right_of_some.each p within).folded.last.reached) [
+        | inl none ↦ absurd (omega (arith, none, above))
+        | inr found ↦
+            let front = front_at a.taken p in
+            let at = (members_agree (run_below p front) T.segments found.0).0 found.1 in
+            let key = and_parts (eqb (at.0).processor p) (ltb (at.0).number front) at.2 in
+            let own : (at.0).processor ≡ p = eqb-true (at.0).processor p key.0 in
+            let low : (at.0).number < front = ltb-true (at.0).number front key.1 in
+            let taken : HasTaken a (at.0).processor (at.0).number =
+            subst (λ (q : ℕ). HasTaken a q (at.0).number) (sym own) (inl low) in
+            (at.0, in_list segments a T took some of.collection member_of at.0 at.1 taken, own, low, found.0, at.3, found.2)
+      ]
+
+-- Segments from before were folded as far as they could be, and others taken since: one more is accepted that the analyst takes.
+module _ (before earlier : List Content) (a : State) where
+  -- an unbroken run from before is below the fronts
+  front_above : (first : Option State) → AreFolded first before → KeepsAll first (Some a) → (t : Content) → Contains before t
+      → IsUnbroken before t → t.number < front_at a.taken t.processor
+  front_above None was keeps t has unbroken = absurd (Contains-nil t (subst (λ (ts : List Content). Contains ts t) was.taken has))
+  front_above (Some first) was keeps t has unbroken =
+      let p = t.processor in
+      let kept = keeps.fronts p in
+      elim (cases_lt t.number (front_at first.taken p)) [
+        | inl lt ↦ omega (arith, lt, kept)
+        | inr le ↦ absurd (was.far p ((was.taken.1.keys p (front_at first.taken p)).1 (unbroken (front_at first.taken p) le)))
+      ]
+
+  module _ (first : Option State) (s : Content) (was : AreFolded first before) (some : before ++ earlier ≢ [])
+      (took : HasTakenAll (before ++ earlier) a) (keeps : KeepsAll first (Some a)) (accepted : TakeAccepted a s)
+      (rising : IsFallen a s false) where
+    content_agrees : (T : Trace) → AreSomeOf (before ++ earlier) T → (t : Content) → Contains (before ++ earlier) t → key_of t ≡ key_of s
+        → (IsUnbroken (before ++ earlier) t → ⊥) → t ≢ s → ⊥
+    content_agrees T of t has same broken other =
+        let same_p : t.processor ≡ s.processor = ap (λ (k : ℕ × ℕ). k.0) same in
+        accepted.agrees (record {
+          held = t;
+          here = subst (λ (p : ℕ). Contains (held_at a.parts p) t) same_p (held_of (before ++ earlier) a T took some of t has broken);
+          number = ap (λ (k : ℕ × ℕ). k.1) same;
+          other = other;
+        })
+
+    rises_above : (T : Trace) → AreSomeOf (before ++ earlier) T → (HasKeyOf (before ++ earlier) s.processor s.number → ⊥)
+        → (t : Content) → Contains before t → IsUnbroken before t → t.processor ≡ s.processor
+        → (e f : Event) → Contains s.events e → Contains t.events f → f.sequence < e.sequence
+    rises_above T of new t has unbroken same e f in_s in_t =
+        let last = at_most_last (before ++ earlier) a T took some of t f (Contains-append_left before earlier t has)
+        (front_above first was keeps t has unbroken) in_t in
+        let fresh : IsNewTo a s = record {
+          trace_id = accepted.of_state.trace_id;
+          processors = accepted.of_state.processors;
+          new = λ taken. new ((took.keys s.processor s.number).0 taken);
+        } in
+        let above = rising fresh e in_s in
+        let at : (folded_at a.parts t.processor).last_sequence ≡ (folded_at a.parts s.processor).last_sequence =
+        ap (λ (q : ℕ). (folded_at a.parts q).last_sequence) same in
+        omega (arith, last, above, at)
+
+    pub accepts_next : Accepts before earlier s
+    accepts_next = record {
+      trace = each_member (λ t. (t.trace_id ≡ s.trace_id) × (t.processors ≡ s.processors)) (before ++ earlier)
+          (λ t has. (let ids = at_member (AreIdsOf a) (before ++ earlier) t took.ids has in
+          (ids.0 ∙ sym accepted.of_state.trace_id, ids.1 ∙ sym accepted.of_state.processors)));
+      content = content_agrees;
+      rises = rises_above;
+    }
+
+-- ---- a segment that is not taken
+
+-- every event of what fits has a sequence above 0
+above_last : (version : Version) (last : ℕ) (es : List Event) → EventsFit version last es → (e : Event) → Contains es e
+    → last < e.sequence
+above_last version last [] fit e has = absurd (Contains-nil e has)
+above_last version last (x ∷ xs) fit e has =
+    elim (Contains-cases x xs e has) [
+      | inl same ↦ subst (λ (y : Event). last < y.sequence) same fit.1
+      | inr later ↦ (let low = fit.1 in let high = above_last version x.sequence xs fit.2 e later in omega (arith, low, high))
+    ]
+
+module _ (segments : List Content) (a : State) (s : Content) (took : HasTakenAll segments a) (some : segments ≢ []) where
+  -- an event that isn't above all that was folded
+  pub falls : (fits : Fits s) → IsFallen a s true → IsUnfit segments s (cases.Falling s.processor s.number)
+  falls fits fallen = (
+    refl,
+    λ T of.
+        (let e = fallen.1 in
+        let right = right_of_some segments a T took some of in
+        let above = above_last s.version 0 s.events fits.events e fallen.2 in
+        let low = fallen.3 in
+        let count = fallen.0.processors in
+        let own = fits.processor in
+        let within : s.processor < a.processors = omega (arith, own, count) in
+        let last = last_is_of segments a T took some of s.processor within (omega (arith, above, low)) in
+        let t = last.0 in
+        let behind : t.number < s.number =
+        elim (cases_lt t.number s.number) [
+          | inl lt ↦ lt
+          | inr le ↦ (let below = last.3 in absurd (fallen.0.new (inl (omega (arith, le, below)))))
+        ] in
+        let is = last.6 in
+        (t, last.1, last.2, behind, e, last.4, fallen.2, last.5, omega (arith, low, is))),
+  )
+
+  -- another content is held
+  pub conflicts : (other : HoldsOther a s) → s.processor < a.processors
+      → IsUnfit segments s (cases.TwoContents s.processor s.number)
+  conflicts other within = (
+    refl,
+    λ T of.
+        (let h = held_in_list segments a T took some of s.processor other.held within other.here in
+        (other.held, h.1, same_pair other.held s h.0 other.number, other.other)),
+  )
+    where
+      same_pair : (t u : Content) → t.processor ≡ u.processor → t.number ≡ u.number → key_of t ≡ key_of u
+      same_pair t u p n = cc
+
+  pub of_other_trace : s.trace_id ≢ a.trace_id → (place : ℕ) → IsUnfit segments s (cases.OtherTrace place)
+  of_other_trace differ place = (
+    some,
+    each_member (λ t. t.trace_id ≢ s.trace_id) segments
+        (λ t has same. differ (sym same ∙ (at_member (AreIdsOf a) segments t took.ids has).0)),
+  )
+
+  pub of_other_count : s.trace_id ≡ a.trace_id → s.processors ≢ a.processors → (place : ℕ)
+      → IsUnfit segments s (cases.OtherProcessors place)
+  of_other_count same differ place = (
+    some,
+    each_member (λ t. (t.trace_id ≡ s.trace_id) × (t.processors ≢ s.processors)) segments
+        (λ t has. (let ids = at_member (AreIdsOf a) segments t took.ids has in
+        (ids.0 ∙ sym same, λ equal. differ (sym equal ∙ ids.1)))),
+  )
+
+-- the first of a list
+pub first_at : (gaps : List Gap) (gap : Gap) → slice_get gaps 0 ≡ Some gap → (more : List Gap) × (gaps ≡ gap ∷ more)
+first_at [] gap at = absurd (cc at)
+first_at (g ∷ gs) gap at = let same : g ≡ gap = cc at in (gs, ap (λ (x : Gap). x ∷ gs) same)
+
+-- nothing is no case
+pub no_case : (segments : List Content) (T : Trace) → segments ≡ [] → IsCaseOf segments T → ⊥
+no_case segments T none case =
+    let one = some_member T.segments case.is_case.some in
+    Contains-nil one.0 (subst (λ (ss : List Content). Contains ss one.0) none ((case.members one.0).0 one.1))
+
+pub no_first : (gaps : List Gap) → slice_get gaps 0 ≡ None → gaps ≡ []
+no_first [] at = refl
+no_first (g ∷ gs) at = absurd (cc at)
+
+-- a key that isn't taken is none of the state's
+pub not_a_key : (a : State) (p n : ℕ) → (HasTaken a p n → ⊥) → keys a p n ≡ false
+not_a_key a p n none = elim (cases_Bool (keys a p n)) [
+  | inl is ↦ absurd (none (keys_taken a p n is))
+  | inr not_so ↦ not_so
+]
+
+-- the first event of what fits has the least sequence
+pub first_least : (version : Version) (e : Event) (es : List Event) → EventsFit version 0 (e ∷ es) → (x : Event) → Contains (e ∷ es) x
+    → e.sequence ≤ x.sequence
+first_least version e es fit x has =
+    elim (Contains-cases e es x has) [
+      | inl same ↦ subst (λ (y : Event). e.sequence ≤ y.sequence) same (omega arith)
+      | inr later ↦ (let above = above_last version e.sequence es fit.2 x later in omega (arith, above))
+    ]
+
+-- where the first event is above what was folded, all are; where it isn't, the segment falls
+pub fallen_by_first : (a : State) (s : Content) (e : Event) (last : ℕ) → Fits s → slice_get s.events 0 ≡ Some e
+    → last ≡ (folded_at a.parts s.processor).last_sequence → IsNewTo a s → IsFallen a s (leb e.sequence last)
+fallen_by_first a s e last fits first is new = by_test (leb e.sequence last) refl
+  where
+    all_of : (es : List Event) → EventsFit s.version 0 es → slice_get es 0 ≡ Some e → (x : Event) → Contains es x → e.sequence ≤ x.sequence
+    all_of [] fit at x has = absurd (cc at)
+    all_of (y ∷ ys) fit at x has =
+        let same : y ≡ e = cc at in
+        subst (λ (z : Event). z.sequence ≤ x.sequence) same (first_least s.version y ys fit x has)
+
+    has_first : (es : List Event) → slice_get es 0 ≡ Some e → Contains es e
+    has_first [] at = absurd (cc at)
+    has_first (y ∷ ys) at = let same : y ≡ e = cc at in subst (Contains (y ∷ ys)) same (Contains-here y ys)
+
+    by_test : (test : Bool) → leb e.sequence last ≡ test → IsFallen a s test
+    by_test true is_low = (new, e, has_first s.events first, (let low = leb-true e.sequence last is_low in omega (arith, low, is)))
+    by_test false is_high = λ again x has.
+        (let high = leb-false e.sequence last is_high in
+        let least = all_of s.events fits.events first x has in
+        omega (arith, high, least, is))
+
+-- a segment without events doesn't fall, nor does one that isn't new
+pub not_fallen : (a : State) (s : Content) → (IsNewTo a s → ⊥) → IsFallen a s false
+not_fallen a s old new = absurd (old new)
+
+pub none_fallen : (a : State) (s : Content) → slice_get s.events 0 ≡ None → IsFallen a s false
+none_fallen a s none = go s.events none
+  where
+    go : (es : List Event) → slice_get es 0 ≡ None → IsNewTo a s → (x : Event) → Contains es x
+        → (folded_at a.parts s.processor).last_sequence < x.sequence
+    go [] at new x has = absurd (Contains-nil x has)
+    go (y ∷ ys) at new x has = absurd (cc at)
+
+-- ---- a segment that is taken
+
+-- as many places are left
+places_after : (took : Took) (a b : State) (s : Content) → b ≡ taken_as took a s → length b.taken ≡ length a.taken
+places_after Repeat a b s is = ap (λ (x : State). length x.taken) is
+places_after New a b s is =
+    ap (λ (x : State). length x.taken) is
+    ∙ length-set a.taken s.processor (with_loose (numbers_at a.taken s.processor) s.number)
+
+processors_after : (took : Took) (a b : State) (s : Content) → b ≡ taken_as took a s → b.processors ≡ a.processors
+processors_after Repeat a b s is = ap (λ (x : State). x.processors) is
+processors_after New a b s is = ap (λ (x : State). x.processors) is
+
+-- no front moves
+front_after : (took : Took) (a b : State) (s : Content) (p : ℕ) → s.processor < length a.taken → b ≡ taken_as took a s
+    → front_at b.taken p ≡ front_at a.taken p
+front_after Repeat a b s p within is = ap (λ (x : State). front_at x.taken p) is
+front_after New a b s p within is =
+    let q = with_loose (numbers_at a.taken s.processor) s.number in
+    ap (λ (x : State). front_at x.taken p) is
+    ∙ elim (cases_eq p s.processor) [
+      | inl same ↦ rw same (ap (λ (x : Numbers). x.front) (numbers_at-set_same a.taken s.processor q within))
+      | inr other ↦ ap (λ (x : Numbers). x.front) (place-set_other a.taken s.processor p q other)
+    ]
+
+number_after : (took : Took) (a b : State) (s : Content) → b ≡ taken_as took a s
+    → (took ≡ New → number_taken b ≡ number_taken a + 1) → number_taken a ≤ number_taken b
+number_after Repeat a b s is more = (let same = ap number_taken is in omega (arith, same))
+number_after New a b s is more = (let one = more refl in omega (arith, one))
+
+pub keeps_one : (a b : State) (s : Content) (took : Took) → IsState b → Fits s → b ≡ taken_as took a s → TakeAccepted a s
+    → (took ≡ New → number_taken b ≡ number_taken a + 1) → Keeps a b
+keeps_one a b s took state fits is accepted more = record {
+  fronts = λ p.
+      (let own = fits.processor in
+      let count = accepted.of_state.processors in
+      let places = state.places in
+      let long = places_after took a b s is in
+      let processors = processors_after took a b s is in
+      let within : s.processor < length a.taken = omega (arith, own, count, places, long, processors) in
+      let same = front_after took a b s p within is in
+      omega (arith, same));
+  number = number_after took a b s is more;
+}
+
+pub keeps_same : (a b : State) → b ≡ a → Keeps a b
+keeps_same a b is = record {
+  fronts = λ p. (let same = ap (λ (x : State). front_at x.taken p) is in omega (arith, same));
+  number = (let same = ap number_taken is in omega (arith, same));
+}
+
+pub takes_one : (segments : List Content) (a b : State) (s : Content) (took : Took) → HasTakenAll segments a
+    → b ≡ taken_as took a s → TakeAccepted a s → IsFallen a s false
+    → ((p n : ℕ) → HasTaken b p n ↔ (HasTaken a p n ⊎ ((p ≡ s.processor) × (n ≡ s.number))))
+    → ((T : Trace) → IsRight a T → Contains T.segments s → IsRight b T) → TookNext segments s a b
+takes_one segments a b s took before is accepted rising keys right = record {
+  accepted = accepted;
+  rising = rising;
+  kept = take_has_taken_one_more segments s took a b before is accepted keys right;
+}
+
+-- ---- answers
+
+module _ (segments : List Content) (a : State) (T : Trace) (folded : AreFolded (Some a) segments) (case : IsCaseOf segments T)
+    (parts : List Contents) (of : AreEventsOf parts (taken_events T a)) where
+  pub parts_of_case : AreEventsOf parts (all_events T.segments)
+  parts_of_case = subst (AreEventsOf parts) (events_of_case segments a T folded.taken.1 folded.taken.0 case) of
+
+-- a question that needs no events is asked of all of them
+pub all_count : (job : Job) → needs_events job ≡ false → (is_of_events job.question ≡ false) × (job.until ≡ None)
+all_count job none = (
+  fst_or (is_of_events job.question) (is_some job.until) none,
+  no_moment job.until (snd_or (is_of_events job.question) (is_some job.until) none),
+)
+  where
+    fst_or : (x y : Bool) → (x || y) ≡ false → x ≡ false
+    fst_or false y is = refl
+    fst_or true y is = is
+
+    snd_or : (x y : Bool) → (x || y) ≡ false → y ≡ false
+    snd_or false y is = is
+    snd_or true y is = absurd (cc is)
+
+    no_moment : (until : Option Moment) → is_some until ≡ false → until ≡ None
+    no_moment None is = refl
+    no_moment (Some moment) is = absurd (cc is)
+
+pub of_parts : (question : Question) → is_of_events question ≡ false → (question ≡ questions.Summary → ⊥) → IsOfParts question
+of_parts questions.Summary none other = absurd (other refl)
+of_parts (questions.Trace process handle) none other = absurd (cc none)
+of_parts (questions.Growth process points) none other = absurd (cc none)
+of_parts question none other = tt

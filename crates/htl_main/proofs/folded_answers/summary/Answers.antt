@@ -1,0 +1,24 @@
+-- The rows are those of all events of the case of what was taken.
+use Rattle.std.proofs.Common.{map}
+use Rattle.htl_analyst.specs.TakenEvents.{contents_of}
+use Rattle.htl_segment.specs.Traces.{all_events}
+use Rattle.htl_main.proofs.FoldLaws.{gaps_of_case, parts_of_case, right_of_case}
+use Rattle.htl_main.proofs.folded_answers.summary.Goals as goal
+
+pub summarize-requires : goal.summarize-requires
+summarize-requires c = c.parts.ensures.few
+
+pub returns : goal.returns
+returns c = λ segments T folded case.
+    let a = c.args.analyst.now in
+    let some = folded.taken.0 in
+    let took = folded.taken.1 in
+    let right = right_of_case segments a T took some case in
+    let events = all_events T.segments in
+    let of = parts_of_case segments a T folded case (map contents_of c.parts.result.now) (c.parts.ensures.events T right) in
+    record {
+      totals_are = c.totals.ensures segments T folded case (c.in_ok-objects.ensures.number events of);
+      gaps_are = gaps_of_case segments a T took some case c.in_ok-gaps.gaps.items c.in_ok-gaps.ensures;
+      processes_are = c.in_ok-objects.ensures.processes events of case.is_case.trace.sequences;
+      objects_are = c.in_ok-objects.ensures.unbalanced events of;
+    }

@@ -1,0 +1,58 @@
+-- A segment is taken, or is unfit, and the analyst as before.
+use Rattle.std.proofs.Common.{◌≡◌, ◌<◌, ◌∙◌, ℕ, arith, refl, sym}
+use Rattle.htl_main.proofs.FoldLaws.{conflicts, falls, keeps_one, keeps_same, of_other_count, of_other_trace, takes_one}
+use Rattle.htl_main.proofs.folder.take.Goals as goal
+
+pub returns-then-is_fallen-clause-taken : goal.returns-then-is_fallen-clause-taken
+returns-then-is_fallen-clause-taken c = λ segments some took. (
+  rw (c.processor-processor.ensures.value, c.number-number.ensures)
+      (falls segments c.args.analyst.now c.args.segment took some c.if-is_fallen.ensures.fits (rw c.if-is_fallen.true at c.is_fallen.ensures.is)),
+  tt,
+)
+
+pub returns-then-is_fallen-clause-keeps : goal.returns-then-is_fallen-clause-keeps
+returns-then-is_fallen-clause-keeps c = keeps_same c.args.analyst.now c.args.analyst.now refl
+
+pub returns-in-Ok-clause-taken : goal.returns-in-Ok-clause-taken
+returns-in-Ok-clause-taken c = λ segments some took.
+    let is = c.in-Ok.ensures in
+    takes_one segments c.args.analyst.now c.take.new.self c.args.segment c.in-Ok.field-0 took is.state is.accepted
+    (rw c.if-is_fallen.false at c.is_fallen.ensures.is) is.keys is.right
+
+pub returns-in-Ok-clause-keeps : goal.returns-in-Ok-clause-keeps
+returns-in-Ok-clause-keeps c =
+    let is = c.in-Ok.ensures in
+    keeps_one c.args.analyst.now c.take.new.self c.args.segment c.in-Ok.field-0 is.is_state c.if-is_fallen.ensures.fits is.state is.accepted
+    is.one_more
+
+pub returns-in-Err-OtherTrace-default-clause-taken : goal.returns-in-Err-OtherTrace-default-clause-taken
+returns-in-Err-OtherTrace-default-clause-taken c = λ segments some took. (
+  of_other_trace segments c.args.analyst.now c.args.segment took some
+      (rw c.in-Err-OtherTrace-default.field-0-0-is at c.in-Err-OtherTrace-default.ensures.refused) c.args.place,
+  refl,
+)
+
+pub returns-in-Err-OtherTrace-default-clause-keeps : goal.returns-in-Err-OtherTrace-default-clause-keeps
+returns-in-Err-OtherTrace-default-clause-keeps c = keeps_same c.args.analyst.now c.take.new.self c.in-Err-OtherTrace-default.ensures.err.1
+
+pub returns-in-Err-OtherProcessors-default-clause-taken : goal.returns-in-Err-OtherProcessors-default-clause-taken
+returns-in-Err-OtherProcessors-default-clause-taken c = λ segments some took.
+    let is = rw (c.in-Err-OtherProcessors-default).field-0-0-is at (c.in-Err-OtherProcessors-default).ensures.refused in
+    (of_other_count segments c.args.analyst.now c.args.segment took some is.0 is.1 c.args.place, refl)
+
+pub returns-in-Err-OtherProcessors-default-clause-keeps : goal.returns-in-Err-OtherProcessors-default-clause-keeps
+returns-in-Err-OtherProcessors-default-clause-keeps c =
+    keeps_same c.args.analyst.now c.take.new.self (c.in-Err-OtherProcessors-default).ensures.err.1
+
+pub returns-in-Err-Conflict-default-clause-taken : goal.returns-in-Err-Conflict-default-clause-taken
+returns-in-Err-Conflict-default-clause-taken c = λ segments some took.
+    let a = c.args.analyst.now in
+    let s = c.args.segment in
+    let is = rw c.in-Err-Conflict-default.field-0-0-is at c.in-Err-Conflict-default.ensures.refused in
+    let own = c.if-is_fallen.ensures.fits.processor in
+    let count = is.0.processors in
+    let within : s.processor < a.processors = omega (arith, own, count) in
+    (rw (is.1, is.2) (conflicts segments a s took some is.3 within), tt)
+
+pub returns-in-Err-Conflict-default-clause-keeps : goal.returns-in-Err-Conflict-default-clause-keeps
+returns-in-Err-Conflict-default-clause-keeps c = keeps_same c.args.analyst.now c.take.new.self c.in-Err-Conflict-default.ensures.err.1

@@ -1,0 +1,21 @@
+-- The folder took the segments of the sources so far, which were read to their ends.
+use Rattle.std.proofs.Common.{◌≡◌, ℕ, List, Some, map, take}
+use Rattle.htl_segment.specs.Content.{Content}
+use Rattle.htl_segment.specs.Keepers.{Took}
+use Rattle.htl_main.specs.CutInputs.{AreCut}
+use Rattle.htl_main.specs.Ends.{OthersFit}
+use Rattle.htl_main.specs.Inputs.{DecodeAll}
+use Rattle.htl_main.proofs.FoldInputs.{folds_of}
+use Rattle.htl_main.proofs.ReadingLaws.{ReadBefore}
+use Rattle.htl_main.proofs.folding.read_all.Given as goal
+
+abbrev pub invariant-loop-place : goal.invariant-loop-place
+invariant-loop-place g l = record {
+  before : ReadBefore l.form.hex g.R.Source.has_failed g.R.Source.has_ended g.R.Source.good_reads g.R.Source.remaining
+      l.initial.sources l.sources l.place;
+  took : (inputs : List (List ℕ)) → map g.R.Source.remaining l.initial.sources ≡ map Some inputs
+      → (given : List Content) × DecodeAll l.form (take l.place inputs) given × Took folds_of l.initial.folder l.folder given;
+  cut : (inputs : List (List ℕ)) → map g.R.Source.remaining l.initial.sources ≡ map Some inputs
+      → AreCut l.form.hex (take l.place inputs) l.cut;
+  few : OthersFit l.cut l.place;
+}

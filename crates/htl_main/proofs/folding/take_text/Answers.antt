@@ -1,0 +1,8 @@
+-- The bytes that a text in hexadecimal writes are those that are taken; of digits with a fault nothing is.
+use Rattle.std.proofs.Common.{None}
+use Rattle.htl_main.proofs.FoldInputs.{digits_kept, folds_of}
+use Rattle.htl_main.proofs.folding.take_text.Goals as goal
+
+pub returns-in-Err-clause-kept : goal.returns-in-Err-clause-kept
+returns-in-Err-clause-kept c =
+    rw (c.of_hex.ensures) (digits_kept folds_of c.args.folder.now c.args.form c.args.place None c.args.text.now c.in-Err.fault)

@@ -1,0 +1,127 @@
+-- For the clauses of private functions: how an analyst takes one segment after another, and what it keeps of them.
+use Rattle.std.specs.Prelude.{◌≡◌, ◌≤◌, ◌<◌, ◌-◌, ◌++◌, ◌∷◌, [], ⊤, ℕ, Bool, true, false, List, Contains, Option, None, Some, length}
+use Rattle.htl_analyst.specs.Keys.{HasTaken, number_taken}
+use Rattle.htl_analyst.specs.Refusals.{TakeAccepted}
+use Rattle.htl_analyst.specs.States.{State, folded_at}
+use Rattle.htl_analyst.specs.TakenAll.{HasTakenAll}
+use Rattle.htl_case.specs.declared.fault.CaseFault.{CaseFault}
+use Rattle.htl_case.specs.declared.fault.CaseFault.TheVariants.{Empty}
+use Rattle.htl_event.specs.Events.{Event}
+use Rattle.htl_segment.specs.Content.{Content}
+use Rattle.htl_segment.specs.Traces.{Trace}
+use Rattle.htl_case.specs.Cases.{IsCaseOf}
+use Rattle.htl_main.specs.Completeness.{IsComplete, IsLeastMissing}
+use Rattle.htl_main.specs.Coverages.{IsCoverage}
+use Rattle.htl_main.specs.Printed.{HasSymbolFault}
+use Rattle.htl_taken.specs.Numbers.{front_at}
+use Rattle.htl_command.specs.declared.question.InputForm.{InputForm}
+use Rattle.htl_main.specs.CutInputs.{AreCut}
+use Rattle.htl_main.specs.Folding.{AreAccepted, AreFolded, AreTaken, GaveBefore, IsOfPlace, IsUnfit, StandBefore, TakesUpTo, counted}
+use Rattle.htl_main.specs.Inputs.{DecodeAll}
+use Rattle.htl_main.specs.declared.adding.Added.{Added}
+use Rattle.htl_main.specs.declared.cut_inputs.CutInputs.{CutInputs}
+use Rattle.htl_main.specs.declared.fault.RunFault.{RunFault}
+use Rattle.htl_main.specs.declared.fault.RunFault.TheVariants.{Segment, Hex, Read, Case, Incomplete, Memory, Symbols}
+
+-- No front falls and no key is lost from the one state to the other.
+pub record Keeps (old new : State) : Type 0 where
+  pub fronts : (p : ℕ) → front_at old.taken p ≤ front_at new.taken p
+  pub number : number_taken old ≤ number_taken new
+
+abbrev pub KeepsAll : Option State → Option State → Type 0
+KeepsAll None new = ⊤
+KeepsAll (Some old) None = ⊥
+KeepsAll (Some old) (Some new) = Keeps old new
+
+-- Of the segments that were given, the analyst took all, or those before the first that is unfit, after what it took first.
+pub record Folds (first now : Option State) (unfit : Option CaseFault) (segments : ℕ) (given : List Content) : Type 0 where
+  pub taken : List Content
+  pub takes : (before : List Content) → AreFolded first before → TakesUpTo before given taken unfit
+  pub kept : (before : List Content) → AreFolded first before → AreTaken (before ++ taken) now
+  pub number : segments ≡ counted taken
+  pub keeps : KeepsAll first now
+  pub same : segments ≡ 0 → now ≡ first
+
+-- the segment is of the analyst's trace, and new
+pub record IsNewTo (a : State) (s : Content) : Type 0 where
+  pub trace_id : s.trace_id ≡ a.trace_id
+  pub processors : s.processors ≡ a.processors
+  pub new : HasTaken a s.processor s.number → ⊥
+
+-- it is new, and an event of it isn't above all that was folded of its processor; or it isn't so
+abbrev pub IsFallen : State → Content → Bool → Type 0
+IsFallen a s true = IsNewTo a s × (e : Event) × Contains s.events e × (e.sequence ≤ (folded_at a.parts s.processor).last_sequence)
+IsFallen a s false = IsNewTo a s → (e : Event) → Contains s.events e → (folded_at a.parts s.processor).last_sequence < e.sequence
+
+-- A segment was taken after these, since it is fit for what the analyst holds and has folded; or it is unfit.
+pub record TookNext (segments : List Content) (s : Content) (old new : State) : Type 0 where
+  pub accepted : TakeAccepted old s
+  pub rising : IsFallen old s false
+  pub kept : HasTakenAll (segments ++ s ∷ []) new
+
+abbrev pub TookFit : List Content → Content → ℕ → State → State → Option CaseFault → Type 0
+TookFit segments s place old new None = TookNext segments s old new
+TookFit segments s place old new (Some fault) = IsUnfit segments s fault × IsOfPlace fault place
+
+-- how many segments were taken, each key once
+abbrev pub number_of : Option State → ℕ
+number_of None = 0
+number_of (Some a) = number_taken a
+
+-- ---- of inputs
+
+-- the segments that a source at a place gave before its fault
+abbrev pub GaveOwn : InputForm → Option (List ℕ) → List ℕ → RunFault → List Content → Type 0
+GaveOwn form left text (Segment at offset fault) own = StandBefore form offset text own
+GaveOwn form left text (Hex at fault) own = own ≡ []
+GaveOwn form left text (Read at) own = GaveBefore form.hex left text own
+GaveOwn form left text fault own = ⊥
+
+-- a fault of an input, or refused memory
+abbrev pub IsOfInput : RunFault → Type 0
+IsOfInput (Segment at offset fault) = ⊤
+IsOfInput (Hex at fault) = ⊤
+IsOfInput (Read at) = ⊤
+IsOfInput Memory = ⊤
+IsOfInput fault = ⊥
+
+-- a complete trace was asked for, and of a trace that the analyst took this is the least key that is missing; or memory was refused
+abbrev pub IsMissingOf : Bool → State → RunFault → Type 0
+IsMissingOf complete a Memory = ⊤
+IsMissingOf complete a (Incomplete processor number) =
+    (complete ≡ true) × ((segments : List Content) (T : Trace) → AreFolded (Some a) segments → IsCaseOf segments T
+    → IsLeastMissing T processor number)
+IsMissingOf complete a fault = ⊥
+
+-- Some segments were added to others, of which so many keys had been taken: how many they are, how many of them are new, how much of its
+-- trace the analyst has, and which inputs are cut.
+pub record IsAdded (complete : Bool) (now : Option State) (before segments : ℕ) (cut : Option CutInputs) (added : Added) : Type 0 where
+  pub analyst : State
+  pub there : now ≡ Some analyst
+  pub segments_are : added.segments ≡ segments
+  pub new_are : added.new ≡ number_of now - before
+  pub covered : (all : List Content) (T : Trace) → AreFolded (Some analyst) all → IsCaseOf all T
+      → IsCoverage T added.coverage × (complete ≡ true → IsComplete T)
+  pub cut_is : added.cut ≡ cut
+
+-- there is no segment; or one is missing, or memory was refused
+abbrev pub IsNotAdded : Bool → Option State → RunFault → Type 0
+IsNotAdded complete None fault = fault ≡ Case Empty
+IsNotAdded complete (Some a) fault = IsMissingOf complete a fault
+
+-- the first fault of the symbols, or refused memory
+abbrev pub IsSymbolsFault : Option (List ℕ) → RunFault → Type 0
+IsSymbolsFault symbols Memory = ⊤
+IsSymbolsFault symbols (Symbols fault) = HasSymbolFault symbols fault
+IsSymbolsFault symbols fault = ⊥
+
+-- All segments of the inputs were taken after those from before, which these are from now on.
+pub record AreAllTaken (form : InputForm) (before : List Content) (inputs : List (List ℕ)) (old new : Option State) (segments : ℕ)
+    (cut : Option CutInputs) : Type 0 where
+  pub given : List Content
+  pub decoded : DecodeAll form inputs given
+  pub accepted : AreAccepted before given
+  pub folded : AreFolded new (before ++ given)
+  pub number : segments ≡ counted given
+  pub cut_is : AreCut form.hex inputs cut
+  pub keeps : KeepsAll old new

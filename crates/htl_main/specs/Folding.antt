@@ -1,0 +1,229 @@
+-- A reading that forgets (this project's own): segments are folded as they come, and no event is kept. What is kept stands for the list of
+-- the segments that were taken. What is said of their contents holds where these are some of one collection, with one content a key, which
+-- nothing that forgets contents can test.
+use Rattle.std.specs.Prelude.{◌≡◌, ◌≢◌, ◌<◌, ◌≤◌, ◌+◌, ◌-◌, ◌^◌, ◌⊎◌, ◌↔◌, ◌++◌, ◌∷◌, [], ⊤, ℕ, Bool, true, false, List}
+use Rattle.std.specs.Prelude.{Contains}
+use Rattle.std.specs.Prelude.{length, min, slice_get, take, Option, None, Some, Result, Err}
+use Rattle.std.specs.List.{AllByRecursion}
+use Rattle.std.specs.Io.KnownBytes.{Consumes}
+use Rattle.htl_analyst.specs.Right.{IsCollection}
+use Rattle.htl_analyst.specs.States.{State}
+use Rattle.htl_analyst.specs.Keys.{HasTaken}
+use Rattle.htl_analyst.specs.TakenAll.{HasKeyOf, HasTakenAll}
+use Rattle.htl_case.specs.Cases.{IsCaseOf}
+use Rattle.htl_case.specs.Faults.{key_of}
+use Rattle.htl_case.specs.declared.fault.CaseFault.{CaseFault}
+use Rattle.htl_case.specs.declared.fault.CaseFault.TheVariants as cases
+use Rattle.htl_command.specs.declared.question.InputForm.{InputForm}
+use Rattle.htl_command.specs.declared.question.Setting.{Setting}
+use Rattle.htl_event.specs.Events.{Event}
+use Rattle.htl_segment.specs.Bundles.{IsRest, Splits, bundle}
+use Rattle.htl_segment.specs.Content.{Content}
+use Rattle.htl_segment.specs.Traces.{Trace}
+use Rattle.htl_taken.specs.Numbers.{front_at}
+use Rattle.htl_main.specs.Completeness.{IsComplete, IsLeastMissing}
+use Rattle.htl_main.specs.Coverages.{IsCoverage}
+use Rattle.htl_main.specs.CutInputs.{AreCut}
+use Rattle.htl_main.specs.Inputs.{DecodeAll, HasBytes, StopsAt}
+use Rattle.htl_main.specs.Origins.{is_about_two}
+use Rattle.htl_main.specs.Printed.{HasSymbolFault, WorkersFit}
+use Rattle.htl_main.specs.Readings.{AreRead}
+use Rattle.htl_main.specs.Sources.{IsReportedAt}
+use Rattle.htl_main.specs.declared.adding.Added.{Added}
+use Rattle.htl_main.specs.declared.fault.RunFault.{RunFault}
+use Rattle.htl_main.specs.declared.fault.RunFault.TheVariants as faults
+use Rattle.htl_main.specs.declared.origin.Between.{Between}
+use Rattle.htl_main.specs.declared.origin.Between.TheVariants.{Nothing, Unknown}
+
+-- An analyst took exactly these segments. Before the first of them there is none.
+abbrev pub AreTaken : List Content → Option State → Type 0
+AreTaken segments None = segments ≡ []
+AreTaken segments (Some analyst) = (segments ≢ []) × HasTakenAll segments analyst
+
+-- It holds no segment that it could fold: the least number that wasn't taken is its front.
+abbrev pub IsFoldedFar : Option State → Type 0
+IsFoldedFar None = ⊤
+IsFoldedFar (Some analyst) = (processor : ℕ) → HasTaken analyst processor (front_at analyst.taken processor) → ⊥
+
+-- Folded: it took them, and folded all that it can.
+pub record AreFolded (analyst : Option State) (segments : List Content) : Type 0 where
+  pub taken : AreTaken segments analyst
+  pub far : IsFoldedFar analyst
+
+-- ---- which segments are taken
+
+-- they are some of the segments of a collection
+pub record AreSomeOf (segments : List Content) (T : Trace) : Type 0 where
+  pub collection : IsCollection T
+  pub members : AllByRecursion (Contains T.segments) segments
+
+-- they are all of its segments
+pub record AreAllOf (segments : List Content) (T : Trace) : Type 0 where
+  pub collection : IsCollection T
+  pub members : (s : Content) → Contains T.segments s ↔ Contains segments s
+
+-- no segment of the processor is missing up to this one
+abbrev pub IsUnbroken : List Content → Content → Type 0
+IsUnbroken segments s = (n : ℕ) → n ≤ s.number → HasKeyOf segments s.processor n
+
+-- A segment is accepted after others: it is of their trace; where its key came before and isn't in an unbroken run, its content is the one
+-- from then; and where its key is new, its sequences are above those of the unbroken run that there was before the reading began.
+pub record Accepts (before earlier : List Content) (s : Content) : Type 0 where
+  pub trace : AllByRecursion (λ t. (t.trace_id ≡ s.trace_id) × (t.processors ≡ s.processors)) (before ++ earlier)
+  pub content : (T : Trace) → AreSomeOf (before ++ earlier) T → (t : Content) → Contains (before ++ earlier) t → key_of t ≡ key_of s
+      → (IsUnbroken (before ++ earlier) t → ⊥) → t ≢ s → ⊥
+  pub rises : (T : Trace) → AreSomeOf (before ++ earlier) T → (HasKeyOf (before ++ earlier) s.processor s.number → ⊥)
+      → (t : Content) → Contains before t → IsUnbroken before t → t.processor ≡ s.processor
+      → (e f : Event) → Contains s.events e → Contains t.events f → f.sequence < e.sequence
+
+-- each of them is, one after another
+abbrev pub AreAcceptedAfter : List Content → List Content → List Content → Type 0
+AreAcceptedAfter before earlier [] = ⊤
+AreAcceptedAfter before earlier (s ∷ more) = Accepts before earlier s × AreAcceptedAfter before (earlier ++ s ∷ []) more
+
+abbrev pub AreAccepted : List Content → List Content → Type 0
+AreAccepted before segments = AreAcceptedAfter before [] segments
+
+-- a count of 64 bits, which stays at the greatest one
+abbrev pub counted : List Content → ℕ
+counted segments = min (length segments) (2 ^ 64 - 1)
+
+-- Why a segment isn't taken after others: its trace or its number of processors is another; its key came with another content; or it has
+-- an event that isn't above all those of a segment of a lower number.
+abbrev pub IsUnfit : List Content → Content → CaseFault → Type 0
+IsUnfit taken s (cases.OtherTrace place) = (taken ≢ []) × AllByRecursion (λ t. t.trace_id ≢ s.trace_id) taken
+IsUnfit taken s (cases.OtherProcessors place) =
+    (taken ≢ []) × AllByRecursion (λ t. (t.trace_id ≡ s.trace_id) × (t.processors ≢ s.processors)) taken
+IsUnfit taken s (cases.TwoContents processor number) =
+    (key_of s ≡ (processor, number))
+    × ((T : Trace) → AreSomeOf taken T → (t : Content) × Contains taken t × (key_of t ≡ key_of s) × (t ≢ s))
+IsUnfit taken s (cases.Falling processor number) =
+    (key_of s ≡ (processor, number))
+    × ((T : Trace) → AreSomeOf taken T → (t : Content) × Contains taken t × (t.processor ≡ s.processor) × (t.number < s.number)
+    × (e f : Event) × Contains s.events e × Contains t.events f × (e.sequence ≤ f.sequence))
+IsUnfit taken s fault = ⊥
+
+-- a fault that names the place of a segment names this one
+abbrev pub IsOfPlace : CaseFault → ℕ → Type 0
+IsOfPlace (cases.OtherTrace at) place = at ≡ place
+IsOfPlace (cases.OtherProcessors at) place = at ≡ place
+IsOfPlace fault place = ⊤
+
+-- where the taking ends: behind the last segment, or before the first that is unfit
+abbrev pub EndsAt : List Content → List Content → List Content → Option CaseFault → Type 0
+EndsAt before taken later None = later ≡ []
+EndsAt before taken later (Some fault) =
+    (s : Content) × (more : List Content) × (later ≡ s ∷ more) × IsUnfit (before ++ taken) s fault × IsOfPlace fault (counted taken)
+
+-- Taken: of the segments that were given all, or those before the first that is unfit.
+pub record TakesUpTo (before given taken : List Content) (unfit : Option CaseFault) : Type 0 where
+  pub later : List Content
+  pub cut : given ≡ taken ++ later
+  pub accepted : AreAccepted before taken
+  pub ends : EndsAt before taken later unfit
+
+-- ---- what a reading brings, and why it ends
+
+-- Read: all segments of the inputs were taken, and this holds of all that were taken by then. What is said of them counts them, and those
+-- whose keys were not there.
+pub record IsFolded (setting : Setting) (before : List Content) (inputs : List (List ℕ)) (Keeps : List Content → Type 0) (added : Added)
+    : Type 0 where
+  pub workers : WorkersFit setting.workers
+  pub given : List Content
+  pub decoded : DecodeAll setting.form inputs given
+  pub accepted : AreAccepted before given
+  pub kept : Keeps (before ++ given)
+  pub some : before ++ given ≢ []
+  pub segments : added.segments ≡ counted given
+  pub new : (T U : Trace) → AreAllOf before T → AreAllOf (before ++ given) U → length U.segments ≡ length T.segments + added.new
+  pub coverage : (T : Trace) → IsCaseOf (before ++ given) T → IsCoverage T added.coverage
+  pub whole : setting.complete ≡ true → (T : Trace) → IsCaseOf (before ++ given) T → IsComplete T
+  pub cut : AreCut setting.form.hex inputs added.cut
+
+-- the segments that a source gave by the bytes that it has not left; a text in hexadecimal gives them at its end
+abbrev pub GaveBefore : Bool → Option (List ℕ) → List ℕ → List Content → Type 0
+GaveBefore true left text own = own ≡ []
+GaveBefore false left text own = (read rest : List ℕ) × Consumes (Some text) left read × Splits read own rest × IsRest rest
+
+-- the segments before an offset of an input
+abbrev pub StandBefore : InputForm → ℕ → List ℕ → List Content → Type 0
+StandBefore form offset text own =
+    (bytes rest : List ℕ) × HasBytes form.hex text bytes × Splits bytes own rest × (offset ≡ length (bundle own))
+
+-- those of the inputs before a place, and these of the one there
+abbrev pub ComeBefore : InputForm → List (List ℕ) → ℕ → (List ℕ → List Content → Type 0) → List Content → Type 0
+ComeBefore form inputs place Own given =
+    (earlier own : List Content) × (text : List ℕ) × DecodeAll form (take place inputs) earlier × (slice_get inputs place ≡ Some text)
+    × Own text own × (given ≡ earlier ++ own)
+
+-- The segments that inputs gave before a fault of one of them; all, where it is no such fault. This is left of each input.
+abbrev pub AreGiven : InputForm → List (List ℕ) → List (Option (List ℕ)) → RunFault → List Content → Type 0
+AreGiven form inputs lefts faults.Workers given = given ≡ []
+AreGiven form inputs lefts (faults.Segment place offset fault) given = ComeBefore form inputs place (StandBefore form offset) given
+AreGiven form inputs lefts (faults.Hex place fault) given = DecodeAll form (take place inputs) given
+AreGiven form inputs lefts (faults.Read place) given =
+    (left : Option (List ℕ)) × (slice_get lefts place ≡ Some left) × ComeBefore form inputs place (GaveBefore form.hex left) given
+AreGiven form inputs lefts fault given = DecodeAll form inputs given
+
+-- Memory is asked for to read; to fold segments that were given, before a fault too; and to say what was read.
+abbrev pub AsksFoldsMemory : Setting → List Content → List (List ℕ) → List (Option (List ℕ)) → List Bool → Type 0
+AsksFoldsMemory setting before inputs lefts ends =
+    WorkersFit setting.workers × (StopsAt setting.form (IsReportedAt setting.form lefts ends) inputs faults.Memory
+    ⊎ (((given : List Content) × (given ≢ []) × (fault : RunFault) × AreGiven setting.form inputs lefts fault given)
+    ⊎ ((given : List Content) × DecodeAll setting.form inputs given × (before ++ given ≢ []))))
+
+-- why a reading ends, by what its inputs gave and which of that was taken
+abbrev pub IsFoldsFault : Setting → List Content → List (List ℕ) → List (Option (List ℕ)) → List Bool → List Content → Option CaseFault
+    → RunFault → Type 0
+IsFoldsFault setting before inputs lefts ends taken unfit faults.Workers = WorkersFit setting.workers → ⊥
+IsFoldsFault setting before inputs lefts ends taken unfit (faults.Segment place offset fault) =
+    WorkersFit setting.workers × StopsAt setting.form (IsReportedAt setting.form lefts ends) inputs (faults.Segment place offset fault)
+IsFoldsFault setting before inputs lefts ends taken unfit (faults.Hex place fault) =
+    WorkersFit setting.workers × StopsAt setting.form (IsReportedAt setting.form lefts ends) inputs (faults.Hex place fault)
+IsFoldsFault setting before inputs lefts ends taken unfit (faults.Read place) =
+    WorkersFit setting.workers × StopsAt setting.form (IsReportedAt setting.form lefts ends) inputs (faults.Read place)
+IsFoldsFault setting before inputs lefts ends taken unfit (faults.Case cases.Empty) = WorkersFit setting.workers × (before ++ taken ≡ [])
+IsFoldsFault setting before inputs lefts ends taken unfit (faults.Case fault) = WorkersFit setting.workers × (unfit ≡ Some fault)
+IsFoldsFault setting before inputs lefts ends taken unfit (faults.Incomplete processor number) =
+    WorkersFit setting.workers × (unfit ≡ None) × (setting.complete ≡ true)
+    × ((T : Trace) → IsCaseOf (before ++ taken) T → IsLeastMissing T processor number)
+IsFoldsFault setting before inputs lefts ends taken unfit fault = ⊥
+
+-- Refused: what came before the fault was taken, and counts.
+pub record IsFoldedUpTo (setting : Setting) (before : List Content) (inputs : List (List ℕ)) (lefts : List (Option (List ℕ)))
+    (ends : List Bool) (Keeps : List Content → Type 0) (fault : RunFault) : Type 0 where
+  pub given : List Content
+  pub are_given : AreGiven setting.form inputs lefts fault given
+  pub taken : List Content
+  pub unfit : Option CaseFault
+  pub takes : TakesUpTo before given taken unfit
+  pub kept : Keeps (before ++ taken)
+  pub why : IsFoldsFault setting before inputs lefts ends taken unfit fault
+
+-- After refused memory nothing is said of what was taken.
+abbrev pub IsFoldingRefused : Setting → List Content → List (List ℕ) → List (Option (List ℕ)) → List Bool → (List Content → Type 0)
+    → RunFault → Type 0
+IsFoldingRefused setting before inputs lefts ends Keeps faults.Memory = AsksFoldsMemory setting before inputs lefts ends
+IsFoldingRefused setting before inputs lefts ends Keeps fault = IsFoldedUpTo setting before inputs lefts ends Keeps fault
+
+-- Why nothing can be asked: a fault of the inputs, which are the first; or else of the symbols.
+abbrev pub IsBeginningRefused : Setting → Option (List ℕ) → List (List ℕ) → List (Option (List ℕ)) → List Bool → RunFault → Type 0
+IsBeginningRefused setting symbols inputs lefts ends (faults.Symbols fault) =
+    HasSymbolFault symbols fault × (added : Added) × IsFolded setting [] inputs (λ taken. ⊤) added
+IsBeginningRefused setting symbols inputs lefts ends fault = IsFoldingRefused setting [] inputs lefts ends (λ taken. ⊤) fault
+
+-- Its sources are read as by a run that ends so. Where memory was refused to fold what came before a fault, they were read as by a run that
+-- ends with that fault.
+abbrev pub AreReadToFold : {R S : Type 0} → Bool → (R → Bool) → (R → Bool) → (R → ℕ) → (R → Option (List ℕ)) → List R → List R
+    → Result S RunFault → Type 0
+AreReadToFold {R} {S} is_text has_failed has_ended good_reads remaining old new result =
+    AreRead is_text has_failed has_ended good_reads remaining old new result
+    ⊎ ((result ≡ Err faults.Memory) × (fault : RunFault)
+    × AreRead {S = S} is_text has_failed has_ended good_reads remaining old new (Err fault))
+
+-- of the two segments that a fault is about the one was forgotten
+abbrev pub IsHalfKnown : RunFault → Between → Type 0
+IsHalfKnown (faults.Case fault) Nothing = is_about_two fault ≡ false
+IsHalfKnown (faults.Case fault) Unknown = is_about_two fault ≡ true
+IsHalfKnown (faults.Case fault) between = ⊥
+IsHalfKnown fault between = between ≡ Nothing

@@ -1,0 +1,83 @@
+//! Answers over what was folded.
+
+ghost use Rattle.std.specs.Prelude.{◌≡◌, IfOk, List, None, Some, false};
+ghost use Rattle.htl_case.specs.Cases.{IsCaseOf};
+ghost use Rattle.htl_command.specs.Needs.{is_of_events, needs_events};
+ghost use Rattle.htl_command.specs.declared.question.Question.TheVariants as questions;
+ghost use Rattle.htl_segment.specs.Content.{Content};
+ghost use Rattle.htl_segment.specs.Traces.{Trace, all_events};
+ghost use Rattle.htl_event.specs.Summaries.{IsNumberOfObjects};
+ghost use Rattle.htl_main.specs.Answers.{IsAnswer};
+ghost use Rattle.htl_main.specs.Folding.{AreFolded};
+ghost use Rattle.htl_main.specs.Printed.{IsText};
+ghost use Rattle.htl_main.specs.Summaries.{AreTotals};
+
+use crate::answering::answer_of;
+use crate::folding::Folded;
+use crate::printing::lines;
+use htl_analyst::Analyst;
+use htl_command::{Job, Question};
+use htl_event::NoMemory;
+use htl_report::{Answer, Totals};
+use htl_summary::{Objects, Summary, summarize};
+use std::alloc::Global;
+
+/// Answers the job's question over what was folded: the lines are those of a run over all segments that
+/// were taken. There are none before the first segment.
+pub fn folded_text(alloc: Global, job: &Job, folded: &Folded) -> Result<Vec<u8>, NoMemory>
+    requires { needs_events job.now ≡ false }
+    ensures { IfOk result (λ text. (segments : List Content) (T : Trace)
+        → AreFolded folded.now.analyst segments → IsCaseOf segments T
+        → IsText T folded.now.symbols job.now text.items) }
+{
+    let Some(analyst) = &folded.analyst else {
+        return Ok(Vec::new(alloc));
+    };
+    let answer = answer(alloc, job.question, analyst)?;
+    lines(alloc, job, None, &answer, &folded.symbols)
+}
+
+/// The answer of an analyst to a question that needs no events.
+fn answer(alloc: Global, question: Question, analyst: &Analyst<Global>) -> Result<Answer, NoMemory>
+    requires { is_of_events question ≡ false }
+    ensures { IfOk result (λ answer. (segments : List Content) (T : Trace)
+        → AreFolded (Some analyst.now) segments → IsCaseOf segments T
+        → IsAnswer T None question answer) }
+{
+    match question {
+        Question::Summary => summary(alloc, analyst),
+        question => answer_of(alloc, analyst.parts(), question),
+    }
+}
+
+/// The summary of what an analyst took.
+fn summary(alloc: Global, analyst: &Analyst<Global>) -> Result<Answer, NoMemory>
+    ensures { IfOk result (λ answer. (segments : List Content) (T : Trace)
+        → AreFolded (Some analyst.now) segments → IsCaseOf segments T
+        → IsAnswer T None questions.Summary answer) }
+{
+    let gaps = analyst.gaps(alloc)?;
+    let Summary { objects, processes } = summarize(alloc, &alloc, analyst.parts())?;
+    let Objects { number, unbalanced } = objects;
+    Ok(Answer::Summary {
+        totals: totals(analyst, number),
+        gaps,
+        processes,
+        objects: unbalanced,
+    })
+}
+
+/// The totals of what an analyst took, which has so many objects.
+fn totals(analyst: &Analyst<Global>, objects: u64) -> Totals
+    ensures { (segments : List Content) (T : Trace) → AreFolded (Some analyst.now) segments
+        → IsCaseOf segments T → IsNumberOfObjects (all_events T.segments) objects
+        → AreTotals T None result }
+{
+    Totals {
+        processors: analyst.processors(),
+        segments: analyst.taken(),
+        events: analyst.events(),
+        complete_to: analyst.complete_to(),
+        objects,
+    }
+}

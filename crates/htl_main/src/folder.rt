@@ -1,0 +1,201 @@
+//! Who takes segments into an analyst, and forgets them.
+
+ghost use Rattle.std.specs.Prelude.{◌≡◌, ◌≢◌, ◌∷◌, [], IfOk, List, OnOk, is_some, true};
+ghost use Rattle.htl_analyst.specs.TakenAll.{HasTakenAll};
+ghost use Rattle.htl_segment.specs.Content.{Content, Fits};
+ghost use Rattle.htl_main.specs.Folders.{IsFallen, IsNewTo, Keeps, TookFit};
+
+use htl_analyst::{Analyst, TakeFault};
+use htl_case::CaseFault;
+use htl_event::NoMemory;
+use htl_segment::{Keeper, Segment, SegmentBytes, StackCache};
+use std::alloc::Global;
+use std::thread::Threads;
+
+/// How many records may be held before they are folded. An event takes 48 bytes beside its stack,
+/// which equal ones share.
+const MOST_HELD: u64 = 1 << 20;
+
+/// Takes segments into an analyst, up to the first that is unfit, and has it fold what it holds.
+#[derive(Drop)]
+pub(crate) struct Folder {
+    /// Stacks that were met lately, which equal ones share.
+    cache: StackCache,
+    /// How many events and segments were taken since the last fold.
+    held: u64,
+    /// The analyst, where a segment was taken.
+    pub analyst: Option<Analyst<Global>>,
+    /// How many segments were taken, up to the greatest number.
+    pub segments: u64,
+    /// Why the segment after these isn't taken.
+    pub unfit: Option<CaseFault>,
+}
+
+impl Folder {
+    ghost use Rattle.std.specs.Prelude.{◌≡◌, ◌<◌, ◌++◌, ◌∷◌, [], List, None, OnErr, OnOk, Option};
+    ghost use Rattle.htl_analyst.specs.States.{State};
+    ghost use Rattle.htl_segment.specs.Content.{Content};
+    ghost use Rattle.htl_main.specs.Folders.{Folds};
+    ghost use Rattle.htl_main.specs.Folding.{IsFoldedFar};
+
+    /// A folder that goes on with an analyst.
+    pub fn new(alloc: Global, analyst: Option<Analyst<Global>>) -> Folder
+        ensures none { Folds analyst result.analyst result.unfit result.segments [] }
+        ensures same { result.analyst ≡ analyst }
+    {
+        Folder {
+            cache: StackCache::new(alloc),
+            held: 0,
+            analyst,
+            segments: 0,
+            unfit: None,
+        }
+    }
+
+    /// Takes the next segment, or finds that it is unfit.
+    fn take_segment(&mut self, alloc: Global, segment: Segment) -> Result<(), NoMemory>
+        requires { self.old.unfit ≡ None }
+        ensures { (first : Option State) (given : List Content)
+            → Folds first self.old.analyst self.old.unfit self.old.segments given
+            → OnOk result (Folds first self.new.analyst self.new.unfit self.new.segments
+            (given ++ segment ∷ [])) }
+    {
+        let records = 1 + segment.events().len() as u64;
+        let Some(analyst) = &mut self.analyst else {
+            self.analyst = Some(begun_by(alloc, segment)?);
+            self.segments = 1;
+            return Ok(());
+        };
+        self.unfit = take(analyst, segment, self.segments)?;
+        if self.unfit.is_some() {
+            return Ok(());
+        }
+        self.segments = self.segments.saturating_add(1);
+        self.held = self.held.saturating_add(records);
+        if self.held < MOST_HELD {
+            return Ok(());
+        }
+        self.fold()
+    }
+
+    /// Folds all that can be folded of what is held. Memory is asked for only where a segment was taken.
+    fn fold(&mut self) -> Result<(), NoMemory>
+        ensures kept { (first : Option State) (given : List Content)
+            → Folds first self.old.analyst self.old.unfit self.old.segments given
+            → Folds first self.new.analyst self.new.unfit self.new.segments given }
+        ensures far { (first : Option State) (given : List Content)
+            → Folds first self.old.analyst self.old.unfit self.old.segments given
+            → IsFoldedFar first → OnOk result (IsFoldedFar self.new.analyst) }
+        ensures some { OnErr result (0 < self.old.segments) }
+        ensures same { (self.new.unfit ≡ self.old.unfit) × (self.new.segments ≡ self.old.segments) }
+    {
+        if self.segments == 0 {
+            return Ok(());
+        }
+        self.held = 0;
+        match &mut self.analyst {
+            Some(analyst) => analyst.compact(),
+            None => Ok(()),
+        }
+    }
+
+    /// The same as `fold`, by so many workers.
+    pub fn fold_by(&mut self, rt: &(impl Threads + Sync), workers: u32) -> Result<(), NoMemory>
+        ensures kept { (first : Option State) (given : List Content)
+            → Folds first self.old.analyst self.old.unfit self.old.segments given
+            → Folds first self.new.analyst self.new.unfit self.new.segments given }
+        ensures far { (first : Option State) (given : List Content)
+            → Folds first self.old.analyst self.old.unfit self.old.segments given
+            → IsFoldedFar first → OnOk result (IsFoldedFar self.new.analyst) }
+        ensures some { OnErr result (0 < self.old.segments) }
+        ensures same { (self.new.unfit ≡ self.old.unfit) × (self.new.segments ≡ self.old.segments) }
+    {
+        if self.segments == 0 {
+            return Ok(());
+        }
+        self.held = 0;
+        match &mut self.analyst {
+            Some(analyst) => analyst.compact_by(rt, workers),
+            None => Ok(()),
+        }
+    }
+}
+
+impl Keeper for Folder {
+    ghost use Rattle.htl_main.specs.Folders.{Folds};
+
+    ghost gathers = { λ first now given. Folds first.analyst now.analyst now.unfit now.segments given };
+
+    fn take(&mut self, alloc: Global, found: &SegmentBytes<'_>) -> Result<(), NoMemory> {
+        if self.unfit.is_some() {
+            return Ok(());
+        }
+        let segment = found.to_segment_with(alloc, &mut self.cache)?;
+        self.take_segment(alloc, segment)
+    }
+}
+
+/// An analyst that took a segment.
+fn begun_by(alloc: Global, segment: Segment) -> Result<Analyst<Global>, NoMemory>
+    ensures { IfOk result (HasTakenAll (segment ∷ [])) }
+{
+    let Ok(mut analyst) = Analyst::new(alloc, segment.trace_id(), segment.processors()) else {
+        return Err(NoMemory);
+    };
+    match analyst.take(segment) {
+        Ok(_) => Ok(analyst),
+        Err(_) => Err(NoMemory),
+    }
+}
+
+/// Has an analyst take a segment, or says why it is unfit. So many were taken before.
+fn take(
+    analyst: &mut Analyst<Global>,
+    segment: Segment,
+    place: u64,
+) -> Result<Option<CaseFault>, NoMemory>
+    ensures taken { (segments : List Content) → segments ≢ [] → HasTakenAll segments analyst.old
+        → IfOk result (TookFit segments segment place analyst.old analyst.new) }
+    ensures keeps { OnOk result (Keeps analyst.old analyst.new) }
+    ensures same { IfOk result (λ unfit. is_some unfit ≡ true → analyst.new ≡ analyst.old) }
+{
+    let processor = segment.processor();
+    let number = segment.number();
+    if is_fallen(analyst, &segment) {
+        return Ok(Some(CaseFault::Falling(processor, number)));
+    }
+    match analyst.take(segment) {
+        Ok(_) => Ok(None),
+        Err((TakeFault::OtherTrace, _)) => Ok(Some(CaseFault::OtherTrace(place))),
+        Err((TakeFault::OtherProcessors, _)) => Ok(Some(CaseFault::OtherProcessors(place))),
+        Err((TakeFault::Conflict(processor, number), _)) => {
+            Ok(Some(CaseFault::TwoContents(processor, number)))
+        }
+        Err((TakeFault::NoMemory, _)) => Err(NoMemory),
+    }
+}
+
+/// Whether the segment is new to the analyst, and has an event that isn't above all those that were
+/// folded of its processor.
+fn is_fallen(analyst: &Analyst<Global>, segment: &Segment) -> bool
+    ensures is { IsFallen analyst.now segment.now result }
+    ensures fits { Fits segment.now }
+{
+    match segment.events().first() {
+        Some(event) => {
+            is_new_to(analyst, segment)
+                && event.sequence <= analyst.last_folded(segment.processor())
+        }
+        None => false,
+    }
+}
+
+/// Whether the segment is of the analyst's trace, and its key isn't taken.
+fn is_new_to(analyst: &Analyst<Global>, segment: &Segment) -> bool
+    ensures yes { result ≡ true → IsNewTo analyst.now segment.now }
+    ensures no { IsNewTo analyst.now segment.now → result ≡ true }
+{
+    segment.trace_id() == analyst.trace_id()
+        && segment.processors() == analyst.processors()
+        && !analyst.has(segment.processor(), segment.number())
+}

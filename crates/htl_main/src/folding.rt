@@ -1,0 +1,430 @@
+//! A reading that forgets: segments are folded as they come, and no event is kept.
+
+ghost use Rattle.std.specs.Prelude.{◌≡◌, ◌≢◌, ◌⊎◌, [], ℕ, List, All, Some, None, false, true, map};
+ghost use Rattle.std.specs.Prelude.{IfErr, IfOk, IfSome, OnErr, OnOk};
+ghost use Rattle.std.specs.Option.{option_copied};
+ghost use Rattle.htl_analyst.specs.Keys.{HasTaken};
+ghost use Rattle.htl_taken.specs.Gaps.{IsGaps, processor_of};
+ghost use Rattle.htl_segment.specs.Content.{Content};
+ghost use Rattle.htl_segment.specs.Traces.{Trace};
+ghost use Rattle.htl_case.specs.Cases.{IsCaseOf};
+ghost use Rattle.htl_device.specs.declared.whole.TheConstants.{MAX_READS};
+ghost use Rattle.htl_segment.specs.Keepers.{Took};
+ghost use Rattle.htl_main.specs.Completeness.{IsComplete};
+ghost use Rattle.htl_main.specs.Coverages.{IsCoverage};
+ghost use Rattle.htl_main.specs.CutInputs.{AreCut};
+ghost use Rattle.htl_main.specs.Ends.{IsInput};
+ghost use Rattle.htl_main.specs.Folders.{AreAllTaken, GaveOwn, IsMissingOf, IsOfInput};
+ghost use Rattle.htl_main.specs.Folders.{IsAdded, IsNotAdded, IsSymbolsFault};
+ghost use Rattle.htl_main.specs.Folding.{AreFolded, AreGiven, AreReadToFold, AsksFoldsMemory};
+ghost use Rattle.htl_main.specs.Folding.{IsBeginningRefused, IsFolded, IsFoldingRefused, IsHalfKnown};
+ghost use Rattle.htl_main.specs.Inputs.{DecodeAll, HasBytes, IsReported, StopsAt};
+ghost use Rattle.htl_main.specs.Faults.{of_case};
+ghost use Rattle.htl_main.specs.Origins.{by_fault};
+ghost use Rattle.htl_main.specs.Printed.{HasSymbols, WorkersFit};
+ghost use Rattle.htl_main.specs.Readings.{AreRead};
+ghost use Rattle.htl_main.specs.Reads.{IsRead, NamesOnly, NeverRead, NeverWrite};
+ghost use Rattle.htl_main.specs.Sources.{IsReportedAt, IsReportedOfSource};
+
+use crate::adding::Added;
+use crate::coverage::Coverage;
+use crate::cut_inputs::{CutInputs, check_end, with_input};
+use crate::fault::RunFault;
+use crate::folder::Folder;
+use crate::origin::Between;
+use crate::printing::{check_workers, read_symbols};
+use crate::refused::Refused;
+use htl_analyst::Analyst;
+use htl_case::CaseFault;
+use htl_command::{InputForm, Setting};
+use htl_device::{Parted, read_whole};
+use htl_event::NoMemory;
+use htl_reading::{early_end, take_source};
+use htl_segment::{Keeper, from_hex, split};
+use htl_symbols::Symbols;
+use htl_taken::Gap;
+use std::alloc::Global;
+use std::mem;
+use std::thread::Threads;
+
+/// What was folded of the segments that were read, and the names of addresses. No event is kept, but
+/// for those of segments that wait for others with lower numbers.
+#[derive(Drop)]
+pub struct Folded {
+    /// It is there once a segment was taken.
+    pub analyst: Option<Analyst<Global>>,
+    pub symbols: Symbols,
+}
+
+impl Folded {
+    ghost use Rattle.htl_main.specs.Folders.{number_of};
+
+    /// How many segments were taken, each key once.
+    fn number(&self) -> u64
+        ensures { result ≡ number_of self.now.analyst }
+    {
+        match &self.analyst {
+            Some(analyst) => analyst.taken(),
+            None => 0,
+        }
+    }
+}
+
+/// Reads all sources and folds their segments. It is what a dialogue does before its first question,
+/// where it forgets events.
+///
+/// The symbols are read last. That there is no segment at all is a fault (C1).
+pub fn load_folded<Rt: Threads + Sync, R: Parted>(
+    rt: &Rt,
+    alloc: Global,
+    setting: Setting,
+    inputs: &mut [R],
+    symbols: Option<&[u8]>,
+) -> Result<(Folded, Added), Refused>
+    requires fresh { All (λ source. R.has_failed source ≡ false) inputs.old }
+    requires inside { All (λ source. R.has_ended source ≡ false) inputs.old }
+    ensures ok { (texts : List (List ℕ)) → map R.remaining inputs.old ≡ map Some texts
+        → IfOk result (λ begun. IsFolded setting [] texts (AreFolded begun.0.analyst) begun.1) }
+    ensures symbols { IfOk result (λ begun.
+        HasSymbols (option_copied symbols.entry) begun.0.symbols) }
+    ensures err { (texts : List (List ℕ)) → map R.remaining inputs.old ≡ map Some texts
+        → IfErr result (λ refused. IsBeginningRefused setting (option_copied symbols.entry) texts
+        (map R.remaining inputs.new) (map R.has_ended inputs.new) refused.fault) }
+    ensures between { IfErr result (λ refused. IsHalfKnown refused.fault refused.between) }
+    ensures reading { AreRead setting.form.hex R.has_failed R.has_ended R.good_reads
+        R.remaining inputs.old inputs.new (by_fault result) }
+    ensures no_write { NeverWrite (by_fault result) }
+{
+    check_workers(setting.workers)?;
+    let mut folded = Folded {
+        analyst: None,
+        symbols: Symbols::none(alloc),
+    };
+    let (taken, far) = take_all(rt, alloc, setting, &mut folded, inputs);
+    let taken = taken?;
+    far?;
+    let added = added_to(alloc, setting.complete, &folded, 0, taken)?;
+    folded.symbols = symbols_of(alloc, symbols)?;
+    Ok((folded, added))
+}
+
+/// Reads sources one after another and folds their segments as they come, after those that were folded
+/// before. One worker reads and folds, and several fold what is left at the end.
+///
+/// Each source is read to its end, also behind a segment that is unfit, whose fault is reported where no
+/// source has one. What was taken before a fault stays and counts: a mended source can be read again,
+/// and what was taken of it counts once. Places of segments are counted within these sources.
+///
+/// Where memory is refused to fold what came before a fault of a source, that is reported in its place,
+/// since what was taken isn't folded then.
+pub fn fold<Rt: Threads + Sync, R: Parted>(
+    rt: &Rt,
+    alloc: Global,
+    setting: Setting,
+    folded: &mut Folded,
+    inputs: &mut [R],
+) -> Result<Added, Refused>
+    requires fresh { All (λ source. R.has_failed source ≡ false) inputs.old }
+    requires inside { All (λ source. R.has_ended source ≡ false) inputs.old }
+    // What the sources' bytes come to is taken, or what comes before the fault.
+    ensures ok { (before : List Content) (texts : List (List ℕ))
+        → AreFolded folded.old.analyst before → map R.remaining inputs.old ≡ map Some texts
+        → IfOk result (IsFolded setting before texts (AreFolded folded.new.analyst)) }
+    ensures err { (before : List Content) (texts : List (List ℕ))
+        → AreFolded folded.old.analyst before → map R.remaining inputs.old ≡ map Some texts
+        → IfErr result (λ refused. IsFoldingRefused setting before texts
+        (map R.remaining inputs.new) (map R.has_ended inputs.new) (AreFolded folded.new.analyst)
+        refused.fault) }
+    ensures between { IfErr result (λ refused. IsHalfKnown refused.fault refused.between) }
+    ensures symbols { folded.new.symbols ≡ folded.old.symbols }
+    // Where memory was refused after a read that failed, that is reported, and not the read.
+    ensures reading { AreReadToFold setting.form.hex R.has_failed R.has_ended R.good_reads
+        R.remaining inputs.old inputs.new (by_fault result) }
+    ensures no_write { NeverWrite (by_fault result) }
+{
+    check_workers(setting.workers)?;
+    let before = folded.number();
+    let (taken, far) = take_all(rt, alloc, setting, folded, inputs);
+    far?;
+    let taken = taken?;
+    let added = added_to(alloc, setting.complete, folded, before, taken)?;
+    Ok(added)
+}
+
+/// What was added to what was folded, which was of so many segments before. That there is no segment at
+/// all is a fault (C1).
+fn added_to(
+    alloc: Global,
+    complete: bool,
+    folded: &Folded,
+    before: u64,
+    taken: Taken,
+) -> Result<Added, RunFault>
+    ensures ok { IfOk result (IsAdded complete folded.now.analyst before taken.segments taken.cut) }
+    ensures err { IfErr result (IsNotAdded complete folded.now.analyst) }
+{
+    let Some(analyst) = &folded.analyst else {
+        return Err(RunFault::Case(CaseFault::Empty));
+    };
+    let coverage = coverage_of(alloc, complete, analyst)?;
+    Ok(Added {
+        segments: taken.segments,
+        new: analyst.taken().saturating_sub(before),
+        coverage,
+        cut: taken.cut,
+    })
+}
+
+/// The symbols of a table's bytes, or why the run ends for them.
+fn symbols_of(alloc: Global, symbols: Option<&[u8]>) -> Result<Symbols, RunFault>
+    ensures ok { IfOk result (HasSymbols (option_copied symbols.entry)) }
+    ensures err { IfErr result (IsSymbolsFault (option_copied symbols.entry)) }
+{
+    let symbols = read_symbols(alloc, symbols)?;
+    Ok(symbols)
+}
+
+/// What was taken of sources.
+#[derive(Clone, Copy)]
+struct Taken {
+    /// How many segments they have, up to the greatest number.
+    segments: u64,
+    /// Which of them end within one more.
+    cut: Option<CutInputs>,
+}
+
+/// Takes the segments of all sources, and folds all that it can of what it took, also where a source has
+/// a fault: what it took, or why the reading ends, and whether memory was refused to fold that.
+fn take_all<Rt: Threads + Sync, R: Parted>(
+    rt: &Rt,
+    alloc: Global,
+    setting: Setting,
+    folded: &mut Folded,
+    inputs: &mut [R],
+) -> (Result<Taken, Refused>, Result<(), NoMemory>)
+    requires fresh { All (λ source. R.has_failed source ≡ false) inputs.old }
+    requires inside { All (λ source. R.has_ended source ≡ false) inputs.old }
+    ensures ok { (before : List Content) (texts : List (List ℕ))
+        → AreFolded folded.old.analyst before → map R.remaining inputs.old ≡ map Some texts
+        → OnOk result.1 (IfOk result.0 (λ taken. AreAllTaken setting.form before texts
+        folded.old.analyst folded.new.analyst taken.segments taken.cut)) }
+    ensures err { (before : List Content) (texts : List (List ℕ))
+        → AreFolded folded.old.analyst before → map R.remaining inputs.old ≡ map Some texts
+        → WorkersFit setting.workers
+        → IfErr result.0 (λ refused. IsFoldingRefused setting before texts
+        (map R.remaining inputs.new) (map R.has_ended inputs.new)
+        (λ taken. OnOk result.1 (AreFolded folded.new.analyst taken)) refused.fault) }
+    ensures memory { (before : List Content) (texts : List (List ℕ))
+        → AreFolded folded.old.analyst before → map R.remaining inputs.old ≡ map Some texts
+        → WorkersFit setting.workers
+        → OnErr result.1 (AsksFoldsMemory setting before texts
+        (map R.remaining inputs.new) (map R.has_ended inputs.new)) }
+    ensures between { IfErr result.0 (λ refused. IsHalfKnown refused.fault refused.between) }
+    ensures symbols { folded.new.symbols ≡ folded.old.symbols }
+    ensures reading { AreRead setting.form.hex R.has_failed R.has_ended R.good_reads
+        R.remaining inputs.old inputs.new (by_fault result.0) }
+    ensures no_write { NeverWrite (by_fault result.0) }
+{
+    let analyst = mem::replace(&mut folded.analyst, None);
+    let mut folder = Folder::new(alloc, analyst);
+    let read = read_all(alloc, setting.form, inputs, &mut folder);
+    let far = folder.fold_by(rt, setting.workers);
+    folded.analyst = folder.analyst;
+    let cut = match read {
+        Ok(cut) => cut,
+        Err(fault) => return (Err(Refused::from(fault)), far),
+    };
+    if let Some(fault) = folder.unfit {
+        return (Err(half_known(fault)), far);
+    }
+    let taken = Taken {
+        segments: folder.segments,
+        cut,
+    };
+    (Ok(taken), far)
+}
+
+/// Has a folder take the segments of all sources. The first source that can't be read to its end ends
+/// the reading.
+fn read_all<R: Parted>(
+    alloc: Global,
+    form: InputForm,
+    sources: &mut [R],
+    folder: &mut Folder,
+) -> Result<Option<CutInputs>, RunFault>
+    requires fresh { All (λ source. R.has_failed source ≡ false) sources.old }
+    requires inside { All (λ source. R.has_ended source ≡ false) sources.old }
+    ensures ok { (inputs : List (List ℕ)) → map R.remaining sources.old ≡ map Some inputs
+        → OnOk result ((given : List Content) × DecodeAll form inputs given
+        × Took ⟦<Folder as Keeper>⟧.gathers folder.old folder.new given) }
+    ensures cut { (inputs : List (List ℕ)) → map R.remaining sources.old ≡ map Some inputs
+        → IfOk result (AreCut form.hex inputs) }
+    ensures err { (inputs : List (List ℕ)) → map R.remaining sources.old ≡ map Some inputs
+        → IfErr result (StopsAt form (IsReportedAt form (map R.remaining sources.new)
+        (map R.has_ended sources.new)) inputs) }
+    ensures kept { (inputs : List (List ℕ)) → map R.remaining sources.old ≡ map Some inputs
+        → IfErr result (λ fault. fault ≢ RunFault.Memory → (given : List Content)
+        × AreGiven form inputs (map R.remaining sources.new) fault given
+        × Took ⟦<Folder as Keeper>⟧.gathers folder.old folder.new given) }
+    ensures of_input { IfErr result IsOfInput }
+    ensures reading { AreRead form.hex R.has_failed R.has_ended R.good_reads R.remaining
+        sources.old sources.new result }
+{
+    let mut cut = None;
+    for (place, source) in sources.iter_mut().enumerate() {
+        let is_cut = read_input(alloc, form, place as u64, source, folder)?;
+        cut = with_input(cut, place as u64, is_cut);
+    }
+    Ok(cut)
+}
+
+/// Has a folder take the segments of the source at a place, and says whether it ends within one more.
+fn read_input<R: Parted>(
+    alloc: Global,
+    form: InputForm,
+    place: u64,
+    source: &mut R,
+    folder: &mut Folder,
+) -> Result<bool, RunFault>
+    requires fresh { R.has_failed source.old ≡ false }
+    requires inside { R.has_ended source.old ≡ false }
+    ensures ok { IfOk result (λ is_cut. IfSome (R.remaining source.old) (λ text.
+        (given : List Content) × IsInput form text given is_cut
+        × Took ⟦<Folder as Keeper>⟧.gathers folder.old folder.new given)) }
+    ensures err { IfErr result (λ fault. IfSome (R.remaining source.old) (λ text.
+        IsReportedOfSource form (R.remaining source.new) (R.has_ended source.new) place text fault)) }
+    ensures kept { IfErr result (λ fault. IfSome (R.remaining source.old) (λ text.
+        fault ≢ RunFault.Memory → (given : List Content)
+        × GaveOwn form (R.remaining source.new) text fault given
+        × Took ⟦<Folder as Keeper>⟧.gathers folder.old folder.new given)) }
+    ensures of_input { IfErr result IsOfInput }
+    ensures reading { IsRead form.hex MAX_READS R.has_failed R.has_ended R.good_reads R.remaining
+        place source.old source.new result }
+{
+    if form.hex {
+        return match read_whole(alloc, source) {
+            Ok(text) => take_text(alloc, form, place, &text, folder),
+            Err(fault) => Err(RunFault::of_read(place, fault)),
+        };
+    }
+    match take_source(alloc, source, folder) {
+        Ok(end) => check_end(form, place, end),
+        Err(fault) => Err(RunFault::of_source(place, fault)),
+    }
+}
+
+/// Has a folder take the segments of a text in hexadecimal.
+fn take_text(
+    alloc: Global,
+    form: InputForm,
+    place: u64,
+    text: &[u8],
+    folder: &mut Folder,
+) -> Result<bool, RunFault>
+    requires { form.hex ≡ true }
+    ensures ok { IfOk result (λ is_cut. (given : List Content) × IsInput form text.now given is_cut
+        × Took ⟦<Folder as Keeper>⟧.gathers folder.old folder.new given) }
+    ensures err { IfErr result (IsReported form place text.now) }
+    ensures kept { IfErr result (λ fault. fault ≢ RunFault.Memory → (given : List Content)
+        × GaveOwn form None text.now fault given
+        × Took ⟦<Folder as Keeper>⟧.gathers folder.old folder.new given) }
+    ensures no_read { NeverRead result }
+    ensures named { NamesOnly place result }
+    ensures of_input { IfErr result IsOfInput }
+{
+    match from_hex(alloc, text) {
+        Ok(bytes) => take_bytes(alloc, form, place, &bytes, folder),
+        Err(fault) => Err(RunFault::of_hex(place, fault)),
+    }
+}
+
+/// Has a folder take the segments that the bytes of the input at a place encode.
+fn take_bytes(
+    alloc: Global,
+    form: InputForm,
+    place: u64,
+    bytes: &[u8],
+    folder: &mut Folder,
+) -> Result<bool, RunFault>
+    ensures ok { (input : List ℕ) → HasBytes form.hex input bytes.now
+        → IfOk result (λ is_cut. (given : List Content) × IsInput form input given is_cut
+        × Took ⟦<Folder as Keeper>⟧.gathers folder.old folder.new given) }
+    ensures err { (input : List ℕ) → HasBytes form.hex input bytes.now
+        → IfErr result (IsReported form place input) }
+    ensures kept { (input : List ℕ) → HasBytes form.hex input bytes.now
+        → IfErr result (λ fault. fault ≢ RunFault.Memory → (given : List Content)
+        × GaveOwn form None input fault given
+        × Took ⟦<Folder as Keeper>⟧.gathers folder.old folder.new given) }
+    ensures no_read { NeverRead result }
+    ensures named { NamesOnly place result }
+    ensures of_input { IfErr result IsOfInput }
+{
+    let rest = match split(alloc, folder, bytes) {
+        Ok(rest) => rest,
+        Err((offset, fault)) => return Err(RunFault::of_segment(place, offset, fault)),
+    };
+    let offset = (bytes.len() - rest.len()) as u64;
+    check_end(form, place, early_end(offset, rest))
+}
+
+/// Why a segment is unfit, as the fault of a reading. Of the two segments that it is about the one may
+/// be forgotten, so none is named.
+fn half_known(fault: CaseFault) -> Refused
+    ensures fault { result.fault ≡ of_case fault }
+    ensures between { IsHalfKnown result.fault result.between }
+{
+    let between = match fault {
+        CaseFault::Empty | CaseFault::NoMemory => Between::Nothing,
+        _ => Between::Unknown,
+    };
+    Refused {
+        fault: RunFault::from(fault),
+        between,
+    }
+}
+
+/// How much of its trace an analyst has. A gap is refused where a complete trace is asked for.
+fn coverage_of(
+    alloc: Global,
+    complete: bool,
+    analyst: &Analyst<Global>,
+) -> Result<Coverage, RunFault>
+    ensures ok { IfOk result (λ coverage. (segments : List Content) (T : Trace)
+        → AreFolded (Some analyst.now) segments → IsCaseOf segments T → IsCoverage T coverage
+        × (complete ≡ true → IsComplete T)) }
+    ensures err { IfErr result (IsMissingOf complete analyst.now) }
+{
+    let gaps = analyst.gaps(alloc)?;
+    if complete {
+        check_gaps(analyst, &gaps)?;
+    }
+    Ok(Coverage {
+        gaps: gaps.len() as u64,
+        complete_to: analyst.complete_to(),
+    })
+}
+
+/// Refuses the first gap of an analyst that folded all that it can.
+fn check_gaps(analyst: &Analyst<Global>, gaps: &[Gap]) -> Result<(), RunFault>
+    requires { IsGaps (HasTaken analyst.now) analyst.now.processors gaps.now }
+    ensures ok { OnOk result (gaps.now ≡ []) }
+    ensures err { IfErr result (IsMissingOf true analyst.now) }
+{
+    let Some(gap) = gaps.first() else {
+        return Ok(());
+    };
+    let processor = processor_of(*gap);
+    Err(RunFault::Incomplete {
+        processor,
+        number: analyst.front(processor),
+    })
+}
+
+/// The processor that a gap is of.
+fn processor_of(gap: Gap) -> u16
+    ensures { result ≡ processor_of gap }
+{
+    match gap {
+        Gap::Between { processor, .. } | Gap::Absent { processor } => processor,
+    }
+}

@@ -1,0 +1,132 @@
+-- What is said of what was folded is said of the segments that were taken, also once more files are folded.
+use Rattle.std.proofs.Common.{◌≡◌, ◌≢◌, ◌∙◌, ℕ, Bool, List, [], ◌++◌, Option, Some, All, false, map, refl, inl, inr}
+use Rattle.std.specs.Prelude.{IfErr, IfOk, Result, Ok, Err}
+use Rattle.htl_segment.specs.Content.{Content}
+use Rattle.htl_command.specs.declared.question.Setting.{Setting}
+use Rattle.htl_main.specs.Folding.{AreFolded, AreReadToFold, IsFolded, IsFoldedUpTo, IsFoldingRefused, IsHalfKnown}
+use Rattle.htl_main.specs.Origins.{by_fault}
+use Rattle.htl_main.specs.Readings.{AreRead}
+use Rattle.htl_main.specs.declared.adding.Added.{Added}
+use Rattle.htl_main.specs.declared.fault.RunFault.{RunFault}
+use Rattle.htl_main.specs.declared.fault.RunFault.TheVariants as faults
+use Rattle.htl_main.specs.declared.folding.Folded.{Folded}
+use Rattle.htl_main.specs.declared.refused.Refused.{Refused}
+use Rattle.htl_program.specs.Asking.{GoesOn, IsFolding}
+use Rattle.htl_program.specs.Loads.{FoldsFiles}
+use Rattle.htl_program.specs.Opened.{Known, Opened}
+use Rattle.htl_program.specs.Readings.{AreFresh}
+use Rattle.htl_program.proofs.FirstAbsent.{IsUnopenedFor, held_memory}
+use Rattle.htl_program.proofs.NamesRead.{all_read, none_read}
+
+-- What holds of all that were taken holds of a list that these are.
+module _ (setting : Setting) (before : List Content) (texts : List (List ℕ)) (Keeps : List Content → Type 0) where
+  pub took_all : (added : Added) → IsFolded setting before texts Keeps added
+      → (taken : List Content) × Keeps taken × IsFolded setting before texts (λ all. all ≡ taken) added
+  took_all added is = (
+    before ++ is.given,
+    is.kept,
+    record {
+      workers = is.workers;
+      given = is.given;
+      decoded = is.decoded;
+      accepted = is.accepted;
+      kept = refl;
+      some = is.some;
+      segments = is.segments;
+      new = is.new;
+      coverage = is.coverage;
+      whole = is.whole;
+      cut = is.cut;
+    },
+  )
+
+  module _ (lefts : List (Option (List ℕ))) (ends : List Bool) where
+    took_part : (fault : RunFault) → IsFoldedUpTo setting before texts lefts ends Keeps fault
+        → (taken : List Content) × Keeps taken × IsFoldedUpTo setting before texts lefts ends (λ all. all ≡ taken) fault
+    took_part fault is = (
+      before ++ is.taken,
+      is.kept,
+      record {
+        given = is.given;
+        are_given = is.are_given;
+        taken = is.taken;
+        unfit = is.unfit;
+        takes = is.takes;
+        kept = refl;
+        why = is.why;
+      },
+    )
+
+    took_before : (fault : RunFault) → fault ≢ faults.Memory → IsFoldingRefused setting before texts lefts ends Keeps fault
+        → (taken : List Content) × Keeps taken × IsFoldingRefused setting before texts lefts ends (λ all. all ≡ taken) fault
+    took_before faults.Workers known is = took_part faults.Workers is
+    took_before (faults.Segment place offset fault) known is = took_part (faults.Segment place offset fault) is
+    took_before (faults.Hex place fault) known is = took_part (faults.Hex place fault) is
+    took_before (faults.Text place line fault event) known is = took_part (faults.Text place line fault event) is
+    took_before (faults.Case fault) known is = took_part (faults.Case fault) is
+    took_before (faults.Incomplete processor number) known is = took_part (faults.Incomplete processor number) is
+    took_before faults.NoSubject known is = took_part faults.NoSubject is
+    took_before (faults.Symbols fault) known is = took_part (faults.Symbols fault) is
+    took_before (faults.Read place) known is = took_part (faults.Read place) is
+    took_before faults.SymbolsRead known is = took_part faults.SymbolsRead is
+    took_before faults.Write known is = took_part faults.Write is
+    took_before faults.Memory known is = absurd (known refl)
+    took_before faults.NoThread known is = took_part faults.NoThread is
+
+    pub took : (ended : Result Added Refused) → GoesOn ended → IsFolding setting before texts lefts ends Keeps ended
+        → (taken : List Content) × Keeps taken × IsFolding setting before texts lefts ends (λ all. all ≡ taken) ended
+    took (Ok added) known is = took_all added is
+    took (Err refused) known is =
+        let part = took_before refused.fault known is.0 in (part.0, part.1, (part.2, is.1))
+
+-- ---- how files are folded
+
+module _ {R : Type 0} (world : Known) (ways : Opened R) (setting : Setting) (before : Folded) (names : List (List ℕ)) where
+  -- Files were not opened, and nothing was taken.
+  pub none_folded : (refused : Refused) → IsUnopenedFor (map world.holds names) (map world.is_absent names) refused.fault
+      → FoldsFiles world ways setting before names before (Err refused)
+  none_folded refused unopened = record {
+    sources = [];
+    reads = λ known. none_read world ways setting.form.hex names refused.fault unopened;
+    folds = λ known taken texts folded held.
+        absurd (known (held_memory (map world.holds names) (map world.is_absent names) texts refused.fault held unopened));
+    symbols = refl;
+  }
+
+  -- Files were opened, and what was folded is what came of them.
+  pub opened_and_folded : (after : Folded) (sources now : List R) (ended : Result Added Refused)
+      → AreFresh ways.has_failed ways.has_ended sources → map ways.remaining sources ≡ map world.holds names
+      → All (λ absent. absent ≡ false) (map world.is_absent names)
+      → ((taken : List Content) (texts : List (List ℕ)) → AreFolded before.analyst taken
+      → map ways.remaining sources ≡ map (λ t. Some t) texts
+      → IfOk ended (IsFolded setting taken texts (AreFolded after.analyst)))
+      → ((taken : List Content) (texts : List (List ℕ)) → AreFolded before.analyst taken
+      → map ways.remaining sources ≡ map (λ t. Some t) texts
+      → IfErr ended (λ refused. IsFoldingRefused setting taken texts (map ways.remaining now) (map ways.has_ended now)
+      (AreFolded after.analyst) refused.fault))
+      → IfErr ended (λ refused. IsHalfKnown refused.fault refused.between) → after.symbols ≡ before.symbols
+      → AreReadToFold setting.form.hex ways.has_failed ways.has_ended ways.good_reads ways.remaining sources now (by_fault ended)
+      → FoldsFiles world ways setting before names after ended
+  opened_and_folded after sources now ended fresh hold there ok err between symbols read = record {
+    sources = now;
+    reads = λ known. all_read world ways setting.form.hex names sources now (by_fault ended) fresh hold there (as_a_run ended known read);
+    folds = λ known taken texts folded held. folding ended taken texts (ok taken texts folded (hold ∙ held))
+        (err taken texts folded (hold ∙ held)) between;
+    symbols = symbols;
+  }
+    where
+      as_a_run : (ended : Result Added Refused) → GoesOn ended
+          → AreReadToFold setting.form.hex ways.has_failed ways.has_ended ways.good_reads ways.remaining sources now (by_fault ended)
+          → AreRead setting.form.hex ways.has_failed ways.has_ended ways.good_reads ways.remaining sources now (by_fault ended)
+      as_a_run ended known (inl read) = read
+      as_a_run (Ok added) known (inr refused) = absurd (cc refused.0)
+      as_a_run (Err refused) known (inr memory) = absurd (known (cc memory.0))
+
+      folding : (ended : Result Added Refused) (taken : List Content) (texts : List (List ℕ))
+          → IfOk ended (IsFolded setting taken texts (AreFolded after.analyst))
+          → IfErr ended (λ refused. IsFoldingRefused setting taken texts (map ways.remaining now) (map ways.has_ended now)
+          (AreFolded after.analyst) refused.fault)
+          → IfErr ended (λ refused. IsHalfKnown refused.fault refused.between)
+          → IsFolding setting taken texts (map ways.remaining now) (map ways.has_ended now) (AreFolded after.analyst) ended
+      folding (Ok added) taken texts ok err between = ok
+      folding (Err refused) taken texts ok err between = (err, between)

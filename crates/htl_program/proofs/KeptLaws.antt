@@ -1,0 +1,139 @@
+-- What is said of what is kept is said of what was read, as far as that is known, also once more files are read.
+use Rattle.std.proofs.Common.{◌≡◌, ℕ, Bool, List, [], ◌∷◌, Option, None, Some, ap, map, refl, subst, sym}
+use Rattle.std.specs.Prelude.{IfSome, Result, Ok, Err, option_map}
+use Rattle.htl_command.specs.declared.question.Job.{Job}
+use Rattle.htl_command.specs.declared.question.Setting.{Setting}
+use Rattle.htl_main.specs.Folding.{AreFolded}
+use Rattle.htl_main.specs.Loading.{AreLoadedOf}
+use Rattle.htl_main.specs.Printed.{HasSymbols}
+use Rattle.htl_main.specs.declared.adding.Added.{Added}
+use Rattle.htl_main.specs.declared.folding.Folded.{Folded}
+use Rattle.htl_main.specs.declared.loading.Loaded.{Loaded}
+use Rattle.htl_main.specs.declared.refused.Refused.{Refused}
+use Rattle.htl_program.specs.Asking.{GoesOn, IsSubjectOver, IsTextOver, LeadsTo, ReadsMore, Taken, all_known, inputs, inputs_then, segments}
+use Rattle.htl_program.specs.Loads.{AddsFiles, AreKept, FoldsFiles, HasSubjectIn, HasTextIn, IsCovered, ReadsFiles, is_state}
+use Rattle.htl_program.specs.Opened.{Known, Opened, ends, lefts}
+use Rattle.htl_program.specs.declared.kept.Kept.{Kept}
+use Rattle.htl_program.specs.declared.kept.Kept.TheVariants.{Case, State}
+use Rattle.htl_program.proofs.FoldLaws.{took}
+use Rattle.htl_program.proofs.LoadLaws.{adds_to, loaded_subject, loaded_text, loaded_then}
+
+-- What is kept is of what was read, where that is known.
+pub record Holds (setting : Setting) (symbols : Option (List ℕ)) (kept : Kept) (read : Option Taken) : Type 0 where
+  pub covered : IsCovered kept
+  pub are : IfSome read (AreKept setting symbols kept)
+
+module _ (setting : Setting) (symbols : Option (List ℕ)) where
+  pub holds_text : (kept : Kept) (read : Option Taken) (job : Job) (text : List ℕ) → Holds setting symbols kept read
+      → HasTextIn kept job text → IsTextOver setting symbols read job text
+  holds_text kept None job text holds has = tt
+  holds_text (Case loaded) (Some (inputs texts)) job text holds has =
+      loaded_text setting texts symbols loaded.case loaded.symbols holds.are job text (has holds.covered)
+  holds_text (Case loaded) (Some (segments taken)) job text holds has = absurd holds.are
+  holds_text (State folded) (Some (inputs texts)) job text holds has = absurd holds.are
+  holds_text (State folded) (Some (segments taken)) job text holds has =
+      let are : AreFolded folded.analyst taken × HasSymbols symbols folded.symbols = holds.are in
+      λ T case. (folded.symbols, are.1, has taken T are.0 case)
+
+  pub holds_subject : (kept : Kept) (read : Option Taken) (job : Job) (found : Bool) → Holds setting symbols kept read
+      → HasSubjectIn kept job found → IsSubjectOver setting read job found
+  holds_subject kept None job found holds has = tt
+  holds_subject (Case loaded) (Some (inputs texts)) job found holds has =
+      loaded_subject setting texts symbols loaded.case loaded.symbols holds.are job found (has holds.covered)
+  holds_subject (Case loaded) (Some (segments taken)) job found holds has = absurd holds.are
+  holds_subject (State folded) (Some (inputs texts)) job found holds has = absurd holds.are
+  holds_subject (State folded) (Some (segments taken)) job found holds has = has
+
+-- ---- over time
+
+-- texts that are all known
+known_texts : (held : List (Option (List ℕ))) → IfSome (all_known held) (λ texts. held ≡ map (λ text. Some text) texts)
+known_texts [] = refl
+known_texts (None ∷ more) = tt
+known_texts (Some text ∷ more) = one_more (all_known more) (known_texts more)
+  where
+    one_more : (rest : Option (List (List ℕ))) → IfSome rest (λ texts. more ≡ map (λ t. Some t) texts)
+        → IfSome (option_map (λ texts. text ∷ texts) rest) (λ texts. (Some text ∷ more) ≡ map (λ t. Some t) texts)
+    one_more None is = tt
+    one_more (Some others) is = ap (λ l. Some text ∷ l) is
+
+module _ {R : Type 0} (world : Known) (ways : Opened R) (setting : Setting) (symbols : Option (List ℕ)) (names : List (List ℕ)) where
+  -- these texts are those of the names
+  abbrev AreHeld : Option (List (List ℕ)) → Type 0
+  AreHeld rest = IfSome rest (λ texts. map world.holds names ≡ map (λ t. Some t) texts)
+
+  -- what was read then, which is what is kept then, and to which that led which was read before
+  abbrev Then : Option Taken → Option (List (List ℕ)) → List R → Kept → Result Added Refused → Type 0
+  Then read rest sources after ended =
+      (then : Option Taken) × Holds setting symbols after then
+      × LeadsTo setting read rest (lefts (record ways { files = sources })) (ends (record ways { files = sources })) then ended
+
+  module _ (before after : Loaded) (texts : List (List ℕ)) (old : AreLoadedOf texts symbols setting None before.case before.symbols) where
+    added_kept : (rest : Option (List (List ℕ))) (ended : Result Added Refused) → AreHeld rest
+        → AddsFiles world ways setting before names after ended
+        → IfSome (inputs_then texts rest ended) (AreKept setting symbols (Case after))
+    added_kept None (Ok added) held adds = tt
+    added_kept (Some more) (Ok added) held adds =
+        loaded_then world ways setting symbols before after names texts old more added held adds
+    added_kept rest (Err refused) held adds =
+        subst (λ (loaded : Loaded). AreLoadedOf texts symbols setting None loaded.case loaded.symbols) (sym adds.same) old
+
+    added_leads : (rest : Option (List (List ℕ))) (ended : Result Added Refused) → AreHeld rest
+        → (adds : AddsFiles world ways setting before names after ended)
+        → LeadsTo setting (Some (inputs texts)) rest (lefts (record ways { files = adds.sources }))
+        (ends (record ways { files = adds.sources })) (inputs_then texts rest ended) ended
+    added_leads None ended held adds = (refl, tt)
+    added_leads (Some more) ended held adds = (refl, adds_to world ways setting symbols before after names texts old more ended adds held)
+
+  -- Files were added to what is known by what was read, or were not.
+  module _ (before after : Loaded) where
+    covered_then : (read : Option Taken) (ended : Result Added Refused) → Holds setting symbols (Case before) read
+        → AddsFiles world ways setting before names after ended → IsCovered (Case after)
+    covered_then read (Ok added) holds adds = adds.coverage
+    covered_then read (Err refused) holds adds = subst (λ (loaded : Loaded). IsCovered (Case loaded)) (sym adds.same) holds.covered
+
+    case_then : (read : Option Taken) (rest : Option (List (List ℕ))) (ended : Result Added Refused)
+        → Holds setting symbols (Case before) read → AreHeld rest → (adds : AddsFiles world ways setting before names after ended)
+        → Then read rest adds.sources (Case after) ended
+    case_then None rest ended holds held adds =
+        (None, record { covered = covered_then None ended holds adds; are = tt }, refl)
+    case_then (Some (segments taken)) rest ended holds held adds = absurd holds.are
+    case_then (Some (inputs texts)) rest ended holds held adds = (
+      inputs_then texts rest ended,
+      record {
+        covered = covered_then (Some (inputs texts)) ended holds adds;
+        are = added_kept before after texts holds.are rest ended held adds;
+      },
+      added_leads before after texts holds.are rest ended held adds,
+    )
+
+  -- Files were folded behind what was folded, or some of what they have.
+  module _ (before after : Folded) where
+    state_then : (read : Option Taken) (rest : Option (List (List ℕ))) (ended : Result Added Refused)
+        → Holds setting symbols (State before) read → AreHeld rest → (folds : FoldsFiles world ways setting before names after ended)
+        → GoesOn ended → Then read rest folds.sources (State after) ended
+    state_then None rest ended holds held folds fine = (None, record { covered = tt; are = tt }, refl)
+    state_then (Some (inputs texts)) rest ended holds held folds fine = absurd holds.are
+    state_then (Some (segments earlier)) None ended holds held folds fine = (None, record { covered = tt; are = tt }, (fine, refl))
+    state_then (Some (segments earlier)) (Some texts) ended holds held folds fine =
+        let are : AreFolded before.analyst earlier × HasSymbols symbols before.symbols = holds.are in
+        let now = took setting earlier texts (AreFolded after.analyst) (lefts (record ways { files = folds.sources }))
+        (ends (record ways { files = folds.sources })) ended fine (folds.folds fine earlier texts are.0 held) in (
+          Some (segments now.0),
+          record { covered = tt; are = (now.1, subst (HasSymbols symbols) (sym folds.symbols) are.1) },
+          (fine, now.0, refl, now.2),
+        )
+
+  pub reading_more : (before : Kept) (read : Option Taken) (after : Kept) (ended : Result Added Refused)
+      → Holds setting symbols before read → ReadsFiles world ways setting before names after ended
+      → (then : Option Taken) × Holds setting symbols after then × ReadsMore world ways setting read names then ended
+  reading_more (Case before) read (Case after) ended holds adds =
+      let now = case_then before after read (all_known (map world.holds names)) ended holds (known_texts (map world.holds names)) adds in
+      (now.0, now.1, record { sources = adds.sources; reads = adds.reads; leads = now.2 })
+  reading_more (State before) read (State after) ended holds reads =
+      let folds = reads.0 in
+      let now = state_then before after read (all_known (map world.holds names)) ended holds (known_texts (map world.holds names)) folds
+      reads.1 in
+      (now.0, now.1, record { sources = folds.sources; reads = folds.reads reads.1; leads = now.2 })
+  reading_more (Case before) read (State after) ended holds reads = absurd reads
+  reading_more (State before) read (Case after) ended holds reads = absurd reads

@@ -16,6 +16,7 @@ pub mod Determined
 pub mod MergeLaws
 pub mod KeyEvents
 pub mod Falling
+pub mod Compactions
 pub mod Answered
 pub mod EventNumbers
 pub mod TakenAll

@@ -14,34 +14,17 @@ use std::alloc::{Allocator, Global};
 use std::thread::{Threads, for_each_mut};
 
 impl<A: Allocator + Clone> Analyst<A> {
-    ghost use Rattle.std.specs.Prelude.{◌≡◌, ◌↔◌, ◌<◌, ◌≤◌, ◌+◌, ◌*◌, ℕ, OnOk, OnErr, Contains};
-    ghost use Rattle.htl_segment.specs.Content.{Content};
-    ghost use Rattle.htl_segment.specs.Traces.{Trace};
-    ghost use Rattle.htl_taken.specs.Numbers.{front_at};
-    ghost use Rattle.htl_analyst.specs.States.{held_at, folded_at};
-    ghost use Rattle.htl_analyst.specs.Keys.{HasTaken, number_taken};
-    ghost use Rattle.htl_analyst.specs.Right.{IsWithin, IsRight, IsStanding};
-    ghost use Rattle.htl_analyst.specs.Moments.{NeverFalls};
+    ghost use Rattle.std.specs.Prelude.{◌≡◌, ◌<◌, ◌+◌, ◌*◌, ℕ, OnOk, OnErr};
+    ghost use Rattle.htl_analyst.specs.Compactions.{Compacts};
+    ghost use Rattle.htl_analyst.specs.States.{folded_at};
+    ghost use Rattle.htl_analyst.specs.Right.{IsWithin};
     ghost use Rattle.htl_analyst.specs.StepParts.{IsCompactedAt, run_length, settled_with};
 
     /// Moves every front to the least number that wasn't taken. The held segments below it are
     /// folded and dropped. After out of memory some fronts may have moved, and the keys are as
     /// before.
     pub fn compact(&mut self) -> Result<(), NoMemory>
-        ensures keys { (p n : ℕ) → HasTaken self.new p n ↔ HasTaken self.old p n }
-        ensures settled { OnOk result ((p : ℕ)
-            → HasTaken self.new p (front_at self.new.taken p) → ⊥) }
-        ensures trace { (self.new.trace_id ≡ self.old.trace_id)
-            × (self.new.processors ≡ self.old.processors) }
-        ensures fronts { (p : ℕ) → front_at self.old.taken p ≤ front_at self.new.taken p }
-        ensures held { (p : ℕ) (s : Content) → Contains (held_at self.new.parts p) s
-            → Contains (held_at self.old.parts p) s }
-        ensures number { number_taken self.new ≡ number_taken self.old }
-
-        // A trace that the state is right about.
-        ensures right { (T : Trace) → IsRight self.old T → IsRight self.new T }
-        ensures standing { OnOk result ((T : Trace) → IsRight self.old T → IsStanding self.new T) }
-        ensures never_falls { (T : Trace) → IsRight self.old T → NeverFalls self.old self.new }
+        ensures { Compacts self.old self.new result }
     {
         for processor in 0..self.processors {
             self.fold(processor)?;
@@ -79,33 +62,14 @@ impl<A: Allocator + Clone> Analyst<A> {
 }
 
 impl Analyst<Global> {
-    ghost use Rattle.std.specs.Prelude.{◌≡◌, ◌↔◌, ◌≤◌, ℕ, OnOk, Contains};
-    ghost use Rattle.htl_segment.specs.Content.{Content};
-    ghost use Rattle.htl_segment.specs.Traces.{Trace};
-    ghost use Rattle.htl_taken.specs.Numbers.{front_at};
-    ghost use Rattle.htl_analyst.specs.States.{held_at};
-    ghost use Rattle.htl_analyst.specs.Keys.{HasTaken, number_taken};
-    ghost use Rattle.htl_analyst.specs.Right.{IsState, IsRight, IsStanding};
-    ghost use Rattle.htl_analyst.specs.Moments.{NeverFalls};
+    ghost use Rattle.htl_analyst.specs.Compactions.{Compacts};
+    ghost use Rattle.htl_analyst.specs.Right.{IsState};
     ghost use Rattle.htl_analyst.specs.StepParts.{IsFurther};
 
     /// The same as `compact`, by so many workers, each of which folds the runs of some processors.
     /// Where threads are refused, or a worker finds no memory, one worker does what is left.
     pub fn compact_by<T: Threads + Sync>(&mut self, rt: &T, workers: u32) -> Result<(), NoMemory>
-        ensures keys { (p n : ℕ) → HasTaken self.new p n ↔ HasTaken self.old p n }
-        ensures settled { OnOk result ((p : ℕ)
-            → HasTaken self.new p (front_at self.new.taken p) → ⊥) }
-        ensures trace { (self.new.trace_id ≡ self.old.trace_id)
-            × (self.new.processors ≡ self.old.processors) }
-        ensures fronts { (p : ℕ) → front_at self.old.taken p ≤ front_at self.new.taken p }
-        ensures held { (p : ℕ) (s : Content) → Contains (held_at self.new.parts p) s
-            → Contains (held_at self.old.parts p) s }
-        ensures number { number_taken self.new ≡ number_taken self.old }
-
-        // A trace that the state is right about.
-        ensures right { (T : Trace) → IsRight self.old T → IsRight self.new T }
-        ensures standing { OnOk result ((T : Trace) → IsRight self.old T → IsStanding self.new T) }
-        ensures never_falls { (T : Trace) → IsRight self.old T → NeverFalls self.old self.new }
+        ensures { Compacts self.old self.new result }
     {
         self.fold_by(rt, workers);
         self.compact()

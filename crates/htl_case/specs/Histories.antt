@@ -45,12 +45,12 @@ pub record IsTake (T : Trace) (place : ℕ) (old new : State) : Type 0 where
   pub is_new : (took ≡ New) ↔ (HasTaken old segment.processor segment.number → ⊥)
   pub state : new ≡ taken_as took old segment
 
--- `compact` answered Ok (clauses `keys` and `standing`).
+-- `compact` answered Ok (`keys` and `standing` of `Compacts`).
 pub record IsCompaction (old new : State) : Type 0 where
   pub keys : (p n : ℕ) → HasTaken new p n ↔ HasTaken old p n
   pub standing : (T : Trace) → IsRight old T → IsStanding new T
 
--- `compact` answered, Ok or not (clauses `keys` and `right`).
+-- `compact` answered, Ok or not (`keys` and `right` of `Compacts`).
 pub record IsTriedCompaction (old new : State) : Type 0 where
   pub keys : (p n : ℕ) → HasTaken new p n ↔ HasTaken old p n
   pub right : (T : Trace) → IsRight old T → IsRight new T

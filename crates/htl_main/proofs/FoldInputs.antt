@@ -28,7 +28,7 @@ use Rattle.htl_main.specs.CutInputs.{AreCut}
 use Rattle.htl_main.specs.Ends.{IsEnd, IsEndRefused, IsInput}
 use Rattle.htl_main.specs.Faults.{of_case, of_hex, of_read, of_segment, of_source}
 use Rattle.htl_main.specs.Folders.{AreAllTaken, Folds, GaveOwn, IsAdded, IsMissingOf, IsNotAdded, IsOfInput, IsSymbolsFault, KeepsAll}
-use Rattle.htl_main.specs.Folders.{number_of}
+use Rattle.htl_main.specs.Folders.{folds_of, number_of}
 use Rattle.htl_main.specs.Folding.{AreAccepted, AreAllOf, AreFolded, AreGiven, AreTaken, AsksFoldsMemory, IsFolded, IsFoldedFar, IsFoldedUpTo}
 use Rattle.htl_main.specs.Folding.{AreReadToFold, IsBeginningRefused, IsFoldingRefused, IsFoldsFault, TakesUpTo, counted}
 use Rattle.htl_main.specs.Inputs.{DecodeAll, HasBytes, StopsAt}
@@ -184,9 +184,6 @@ module _ {S K : Type 0} (gathers : S → K → List Content → Type 0) where
   unread_kept k form place (Some text) left reads.Failed is = λ other. ([], rw is refl, took_none k)
 
 -- ---- one input after another
-
-abbrev pub folds_of : Folder → Folder → List Content → Type 0
-folds_of first now given = Folds first.analyst now.analyst now.unfit now.segments given
 
 -- what the inputs gave before the fault of one: those of the inputs before it, and its own
 module _ (form : InputForm) (inputs : List (List ℕ)) (lefts : List (Option (List ℕ))) (place : ℕ) (text : List ℕ)

@@ -8,8 +8,7 @@ use Rattle.htl_device.specs.declared.whole.ReadFault.TheVariants as reads
 use Rattle.htl_device.specs.declared.whole.TheConstants.{MAX_READS}
 use Rattle.htl_reading.specs.declared.fault.SourceFault.{SourceFault}
 use Rattle.htl_reading.specs.declared.fault.SourceFault.TheVariants as sources
-use Rattle.htl_device.specs.declared.source.TheConstants.{MAX_READ_LEN}
-use Rattle.htl_reading.specs.Sources.{FailsOnly, IsReadToFault, IsReported}
+use Rattle.htl_reading.specs.Sources.{IsReported, IsSourceRead}
 use Rattle.htl_main.specs.declared.fault.RunFault.{RunFault}
 use Rattle.htl_main.specs.declared.fault.RunFault.TheVariants.{Read, Write}
 use Rattle.htl_main.specs.Ends.{IsSegmentOf}
@@ -68,16 +67,6 @@ never_write place sources.NoMemory is = cc is
 
 -- ---- how one source is read
 
--- the bytes of a source were decoded, and this is how the decoder says that they were read
-pub record IsDecoded {R S : Type 0} (has_failed has_ended : R → Bool) (good_reads : R → ℕ) (remaining : R → Option (List ℕ))
-    (old new : R) (result : Result S SourceFault) : Type 0 where
-  pub ended : OnOk result (has_ended new ≡ true)
-  pub reported : has_failed new ≡ true → result ≡ Err sources.Read
-  pub read : FailsOnly (has_failed new) (good_reads new) (remaining old) MAX_READS result
-  pub no_fault : result ≡ Err sources.Read → IsReadToFault 0 (remaining old) (remaining new)
-  pub bounded : good_reads new ≤ good_reads old + MAX_READS
-  pub to_fault : IsReadToFault MAX_READ_LEN (remaining old) (remaining new)
-
 always : {S E P : Type 0} (result : Result S E) → P → OnOk result P
 always (Ok value) holds = holds
 always (Err fault) holds = tt
@@ -85,7 +74,7 @@ always (Err fault) holds = tt
 module _ {R T : Type 0} (has_failed has_ended : R → Bool) (good_reads : R → ℕ) (remaining : R → Option (List ℕ))
     (place : ℕ) (old new : R) where
   -- so it is read as a source of the run, whatever is made of its segments
-  decoded_well : {S : Type 0} (made : S) (value : T) → IsDecoded has_failed has_ended good_reads remaining old new (made_of made)
+  decoded_well : {S : Type 0} (made : S) (value : T) → IsSourceRead MAX_READS has_failed has_ended good_reads remaining old new (made_of made)
       → IsRead false MAX_READS has_failed has_ended good_reads remaining place old new (well value)
   decoded_well made value is = record {
     ended = is.ended;
@@ -99,7 +88,7 @@ module _ {R T : Type 0} (has_failed has_ended : R → Bool) (good_reads : R → 
 
   -- or as one that ends within a segment and may not
   decoded_early : {S : Type 0} (made : S) (fault : RunFault) → IsSegmentOf place fault
-      → IsDecoded has_failed has_ended good_reads remaining old new (made_of made)
+      → IsSourceRead MAX_READS has_failed has_ended good_reads remaining old new (made_of made)
       → IsRead false MAX_READS has_failed has_ended good_reads remaining place old new (ill {S = T} fault)
   decoded_early made fault segment is = rw (segment.2) record {
     ended = tt;
@@ -112,13 +101,13 @@ module _ {R T : Type 0} (has_failed has_ended : R → Bool) (good_reads : R → 
   }
 
   pub accepted_read : {S : Type 0} (made : S) (result : Result T RunFault) → IfErr result (IsSegmentOf place)
-      → IsDecoded has_failed has_ended good_reads remaining old new (made_of made)
+      → IsSourceRead MAX_READS has_failed has_ended good_reads remaining old new (made_of made)
       → IsRead false MAX_READS has_failed has_ended good_reads remaining place old new result
   accepted_read made (Ok value) segment is = decoded_well made value is
   accepted_read made (Err fault) segment is = decoded_early made fault segment is
 
   -- or as one with a fault
-  pub decoded_ill : {S : Type 0} (fault : SourceFault) → IsDecoded has_failed has_ended good_reads remaining old new (told {S = S} fault)
+  pub decoded_ill : {S : Type 0} (fault : SourceFault) → IsSourceRead MAX_READS has_failed has_ended good_reads remaining old new (told {S = S} fault)
       → IsRead false MAX_READS has_failed has_ended good_reads remaining place old new (ill {S = T} (of_source place fault))
   decoded_ill {S} fault is = record {
     ended = tt;

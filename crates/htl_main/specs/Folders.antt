@@ -20,6 +20,7 @@ use Rattle.htl_main.specs.Folding.{AreAccepted, AreFolded, AreTaken, GaveBefore,
 use Rattle.htl_main.specs.Inputs.{DecodeAll}
 use Rattle.htl_main.specs.declared.adding.Added.{Added}
 use Rattle.htl_main.specs.declared.cut_inputs.CutInputs.{CutInputs}
+use Rattle.htl_main.specs.declared.folder.Folder.{Folder}
 use Rattle.htl_main.specs.declared.fault.RunFault.{RunFault}
 use Rattle.htl_main.specs.declared.fault.RunFault.TheVariants.{Segment, Hex, Read, Case, Incomplete, Memory, Symbols}
 
@@ -41,6 +42,10 @@ pub record Folds (first now : Option State) (unfit : Option CaseFault) (segments
   pub number : segments ≡ counted taken
   pub keeps : KeepsAll first now
   pub same : segments ≡ 0 → now ≡ first
+
+-- the same, of what folders hold
+abbrev pub folds_of : Folder → Folder → List Content → Type 0
+folds_of first now given = Folds first.analyst now.analyst now.unfit now.segments given
 
 -- the segment is of the analyst's trace, and new
 pub record IsNewTo (a : State) (s : Content) : Type 0 where

@@ -3,7 +3,8 @@
 ghost use Rattle.std.specs.Prelude.{◌≡◌, ◌≢◌, ◌∷◌, [], IfOk, List, OnOk, is_some, true};
 ghost use Rattle.htl_analyst.specs.TakenAll.{HasTakenAll};
 ghost use Rattle.htl_segment.specs.Content.{Content, Fits};
-ghost use Rattle.htl_main.specs.Folders.{IsFallen, IsNewTo, Keeps, TookFit};
+ghost use Rattle.htl_segment.specs.Keepers.{Took};
+ghost use Rattle.htl_main.specs.Folders.{IsFallen, IsNewTo, Keeps, TookFit, folds_of};
 
 use htl_analyst::{Analyst, TakeFault};
 use htl_case::CaseFault;
@@ -12,8 +13,8 @@ use htl_segment::{Keeper, Segment, SegmentBytes, StackCache};
 use std::alloc::Global;
 use std::thread::Threads;
 
-/// How many records may be held before they are folded. An event takes 48 bytes beside its stack,
-/// which equal ones share.
+/// How many records are held before they are folded, and what one read brings beside. An event takes 48
+/// bytes beside its stack, which equal ones share.
 const MOST_HELD: u64 = 1 << 20;
 
 /// Takes segments into an analyst, up to the first that is unfit, and has it fold what it holds.
@@ -72,34 +73,21 @@ impl Folder {
         }
         self.segments = self.segments.saturating_add(1);
         self.held = self.held.saturating_add(records);
+        Ok(())
+    }
+
+    /// Folds by so many workers where many records are held.
+    pub fn fold_if_full(&mut self, rt: &(impl Threads + Sync), workers: u32) -> Result<(), NoMemory>
+        ensures { OnOk result (Took folds_of self.old self.new []) }
+    {
         if self.held < MOST_HELD {
             return Ok(());
         }
-        self.fold()
+        self.fold_by(rt, workers)
     }
 
-    /// Folds all that can be folded of what is held. Memory is asked for only where a segment was taken.
-    fn fold(&mut self) -> Result<(), NoMemory>
-        ensures kept { (first : Option State) (given : List Content)
-            → Folds first self.old.analyst self.old.unfit self.old.segments given
-            → Folds first self.new.analyst self.new.unfit self.new.segments given }
-        ensures far { (first : Option State) (given : List Content)
-            → Folds first self.old.analyst self.old.unfit self.old.segments given
-            → IsFoldedFar first → OnOk result (IsFoldedFar self.new.analyst) }
-        ensures some { OnErr result (0 < self.old.segments) }
-        ensures same { (self.new.unfit ≡ self.old.unfit) × (self.new.segments ≡ self.old.segments) }
-    {
-        if self.segments == 0 {
-            return Ok(());
-        }
-        self.held = 0;
-        match &mut self.analyst {
-            Some(analyst) => analyst.compact(),
-            None => Ok(()),
-        }
-    }
-
-    /// The same as `fold`, by so many workers.
+    /// Folds all that can be folded of what is held, by so many workers. Memory is asked for only where
+    /// a segment was taken.
     pub fn fold_by(&mut self, rt: &(impl Threads + Sync), workers: u32) -> Result<(), NoMemory>
         ensures kept { (first : Option State) (given : List Content)
             → Folds first self.old.analyst self.old.unfit self.old.segments given
@@ -122,9 +110,9 @@ impl Folder {
 }
 
 impl Keeper for Folder {
-    ghost use Rattle.htl_main.specs.Folders.{Folds};
+    ghost use Rattle.htl_main.specs.Folders.{folds_of};
 
-    ghost gathers = { λ first now given. Folds first.analyst now.analyst now.unfit now.segments given };
+    ghost gathers = { folds_of };
 
     fn take(&mut self, alloc: Global, found: &SegmentBytes<'_>) -> Result<(), NoMemory> {
         if self.unfit.is_some() {

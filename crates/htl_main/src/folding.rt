@@ -14,7 +14,7 @@ ghost use Rattle.htl_main.specs.Completeness.{IsComplete};
 ghost use Rattle.htl_main.specs.Coverages.{IsCoverage};
 ghost use Rattle.htl_main.specs.CutInputs.{AreCut};
 ghost use Rattle.htl_main.specs.Ends.{IsInput};
-ghost use Rattle.htl_main.specs.Folders.{AreAllTaken, GaveOwn, IsMissingOf, IsOfInput};
+ghost use Rattle.htl_main.specs.Folders.{AreAllTaken, GaveOwn, IsMissingOf, IsOfInput, folds_of};
 ghost use Rattle.htl_main.specs.Folders.{IsAdded, IsNotAdded, IsSymbolsFault};
 ghost use Rattle.htl_main.specs.Folding.{AreFolded, AreGiven, AreReadToFold, AsksFoldsMemory};
 ghost use Rattle.htl_main.specs.Folding.{IsBeginningRefused, IsFolded, IsFoldingRefused, IsHalfKnown};
@@ -40,7 +40,7 @@ use htl_command::{InputForm, Setting};
 use htl_device::{Parted, read_whole};
 use htl_event::NoMemory;
 use htl_reading::{early_end, take_source};
-use htl_segment::{Keeper, from_hex, split};
+use htl_segment::{from_hex, split};
 use htl_symbols::Symbols;
 use htl_taken::Gap;
 use std::alloc::Global;
@@ -109,7 +109,7 @@ pub fn load_folded<Rt: Threads + Sync, R: Parted>(
 }
 
 /// Reads sources one after another and folds their segments as they come, after those that were folded
-/// before. One worker reads and folds, and several fold what is left at the end.
+/// before. One worker reads, and several fold what it read, between its reads.
 ///
 /// Each source is read to its end, also behind a segment that is unfit, whose fault is reported where no
 /// source has one. What was taken before a fault stays and counts: a mended source can be read again,
@@ -227,7 +227,7 @@ fn take_all<Rt: Threads + Sync, R: Parted>(
 {
     let analyst = mem::replace(&mut folded.analyst, None);
     let mut folder = Folder::new(alloc, analyst);
-    let read = read_all(alloc, setting.form, inputs, &mut folder);
+    let read = read_all(rt, alloc, setting, inputs, &mut folder);
     let far = folder.fold_by(rt, setting.workers);
     folded.analyst = folder.analyst;
     let cut = match read {
@@ -246,42 +246,45 @@ fn take_all<Rt: Threads + Sync, R: Parted>(
 
 /// Has a folder take the segments of all sources. The first source that can't be read to its end ends
 /// the reading.
-fn read_all<R: Parted>(
+fn read_all<Rt: Threads + Sync, R: Parted>(
+    rt: &Rt,
     alloc: Global,
-    form: InputForm,
+    setting: Setting,
     sources: &mut [R],
     folder: &mut Folder,
 ) -> Result<Option<CutInputs>, RunFault>
     requires fresh { All (λ source. R.has_failed source ≡ false) sources.old }
     requires inside { All (λ source. R.has_ended source ≡ false) sources.old }
     ensures ok { (inputs : List (List ℕ)) → map R.remaining sources.old ≡ map Some inputs
-        → OnOk result ((given : List Content) × DecodeAll form inputs given
-        × Took ⟦<Folder as Keeper>⟧.gathers folder.old folder.new given) }
+        → OnOk result ((given : List Content) × DecodeAll setting.form inputs given
+        × Took folds_of folder.old folder.new given) }
     ensures cut { (inputs : List (List ℕ)) → map R.remaining sources.old ≡ map Some inputs
-        → IfOk result (AreCut form.hex inputs) }
+        → IfOk result (AreCut setting.form.hex inputs) }
     ensures err { (inputs : List (List ℕ)) → map R.remaining sources.old ≡ map Some inputs
-        → IfErr result (StopsAt form (IsReportedAt form (map R.remaining sources.new)
+        → IfErr result (StopsAt setting.form (IsReportedAt setting.form (map R.remaining sources.new)
         (map R.has_ended sources.new)) inputs) }
     ensures kept { (inputs : List (List ℕ)) → map R.remaining sources.old ≡ map Some inputs
         → IfErr result (λ fault. fault ≢ RunFault.Memory → (given : List Content)
-        × AreGiven form inputs (map R.remaining sources.new) fault given
-        × Took ⟦<Folder as Keeper>⟧.gathers folder.old folder.new given) }
+        × AreGiven setting.form inputs (map R.remaining sources.new) fault given
+        × Took folds_of folder.old folder.new given) }
     ensures of_input { IfErr result IsOfInput }
-    ensures reading { AreRead form.hex R.has_failed R.has_ended R.good_reads R.remaining
+    ensures reading { AreRead setting.form.hex R.has_failed R.has_ended R.good_reads R.remaining
         sources.old sources.new result }
 {
     let mut cut = None;
     for (place, source) in sources.iter_mut().enumerate() {
-        let is_cut = read_input(alloc, form, place as u64, source, folder)?;
+        let is_cut = read_input(rt, alloc, setting, place as u64, source, folder)?;
         cut = with_input(cut, place as u64, is_cut);
     }
     Ok(cut)
 }
 
 /// Has a folder take the segments of the source at a place, and says whether it ends within one more.
-fn read_input<R: Parted>(
+/// What it holds is folded between reads.
+fn read_input<Rt: Threads + Sync, R: Parted>(
+    rt: &Rt,
     alloc: Global,
-    form: InputForm,
+    setting: Setting,
     place: u64,
     source: &mut R,
     folder: &mut Folder,
@@ -289,26 +292,30 @@ fn read_input<R: Parted>(
     requires fresh { R.has_failed source.old ≡ false }
     requires inside { R.has_ended source.old ≡ false }
     ensures ok { IfOk result (λ is_cut. IfSome (R.remaining source.old) (λ text.
-        (given : List Content) × IsInput form text given is_cut
-        × Took ⟦<Folder as Keeper>⟧.gathers folder.old folder.new given)) }
+        (given : List Content) × IsInput setting.form text given is_cut
+        × Took folds_of folder.old folder.new given)) }
     ensures err { IfErr result (λ fault. IfSome (R.remaining source.old) (λ text.
-        IsReportedOfSource form (R.remaining source.new) (R.has_ended source.new) place text fault)) }
+        IsReportedOfSource setting.form (R.remaining source.new) (R.has_ended source.new)
+        place text fault)) }
     ensures kept { IfErr result (λ fault. IfSome (R.remaining source.old) (λ text.
         fault ≢ RunFault.Memory → (given : List Content)
-        × GaveOwn form (R.remaining source.new) text fault given
-        × Took ⟦<Folder as Keeper>⟧.gathers folder.old folder.new given)) }
+        × GaveOwn setting.form (R.remaining source.new) text fault given
+        × Took folds_of folder.old folder.new given)) }
     ensures of_input { IfErr result IsOfInput }
-    ensures reading { IsRead form.hex MAX_READS R.has_failed R.has_ended R.good_reads R.remaining
+    ensures reading { IsRead setting.form.hex MAX_READS R.has_failed R.has_ended R.good_reads R.remaining
         place source.old source.new result }
 {
-    if form.hex {
+    if setting.form.hex {
         return match read_whole(alloc, source) {
-            Ok(text) => take_text(alloc, form, place, &text, folder),
+            Ok(text) => take_text(alloc, setting.form, place, &text, folder),
             Err(fault) => Err(RunFault::of_read(place, fault)),
         };
     }
-    match take_source(alloc, source, folder) {
-        Ok(end) => check_end(form, place, end),
+    let fold = |folder: &mut Folder| -> Result<(), NoMemory>
+        ensures { OnOk result (Took folds_of folder.old folder.new []) }
+    { folder.fold_if_full(rt, setting.workers) };
+    match take_source(alloc, source, folder, &fold) {
+        Ok(end) => check_end(setting.form, place, end),
         Err(fault) => Err(RunFault::of_source(place, fault)),
     }
 }
@@ -323,11 +330,11 @@ fn take_text(
 ) -> Result<bool, RunFault>
     requires { form.hex ≡ true }
     ensures ok { IfOk result (λ is_cut. (given : List Content) × IsInput form text.now given is_cut
-        × Took ⟦<Folder as Keeper>⟧.gathers folder.old folder.new given) }
+        × Took folds_of folder.old folder.new given) }
     ensures err { IfErr result (IsReported form place text.now) }
     ensures kept { IfErr result (λ fault. fault ≢ RunFault.Memory → (given : List Content)
         × GaveOwn form None text.now fault given
-        × Took ⟦<Folder as Keeper>⟧.gathers folder.old folder.new given) }
+        × Took folds_of folder.old folder.new given) }
     ensures no_read { NeverRead result }
     ensures named { NamesOnly place result }
     ensures of_input { IfErr result IsOfInput }
@@ -348,13 +355,13 @@ fn take_bytes(
 ) -> Result<bool, RunFault>
     ensures ok { (input : List ℕ) → HasBytes form.hex input bytes.now
         → IfOk result (λ is_cut. (given : List Content) × IsInput form input given is_cut
-        × Took ⟦<Folder as Keeper>⟧.gathers folder.old folder.new given) }
+        × Took folds_of folder.old folder.new given) }
     ensures err { (input : List ℕ) → HasBytes form.hex input bytes.now
         → IfErr result (IsReported form place input) }
     ensures kept { (input : List ℕ) → HasBytes form.hex input bytes.now
         → IfErr result (λ fault. fault ≢ RunFault.Memory → (given : List Content)
         × GaveOwn form None input fault given
-        × Took ⟦<Folder as Keeper>⟧.gathers folder.old folder.new given) }
+        × Took folds_of folder.old folder.new given) }
     ensures no_read { NeverRead result }
     ensures named { NamesOnly place result }
     ensures of_input { IfErr result IsOfInput }

@@ -2,3 +2,4 @@ pub mod TakenLaws
 pub mod FaultLaws
 pub mod KeptLaws
 pub mod PartLaws
+pub mod ReadLaws

@@ -10,6 +10,7 @@ use Rattle.std.proofs.Math.Seq.{take-append-add}
 use Rattle.std.specs.Io.KnownBytes.{Consumes, IsAtEnd, Keeps, ReadConsumes}
 use Rattle.htl_segment.specs.Content.{Content, Fits}
 use Rattle.htl_segment.specs.Bundles.{bundle, IsRest, RestAt, SegmentAt, Splits}
+use Rattle.htl_segment.specs.Keepers.{Took}
 use Rattle.htl_segment.specs.declared.fault.Fault.TheVariants as faults
 use Rattle.htl_reading.specs.declared.fault.SourceFault.{SourceFault}
 use Rattle.htl_reading.specs.declared.fault.SourceFault.TheVariants.{NoMemory, Read}
@@ -105,6 +106,18 @@ module _ {S K : Type 0} {gathers : S → K → List Content → Type 0} {old new
     read = Consumes-kept given left last (taken at.segments rest) at.read kept;
     each = at.each;
     took = at.took;
+  }
+
+  -- a call of the keeper that takes none
+  pub taken_still : {next : K} → Took gathers new next [] → IsTakenTo gathers old next given left rest offset reads
+  taken_still {next = next} still = record {
+    segments = at.segments;
+    fits = at.fits;
+    offset_is = at.offset_is;
+    is_rest = at.is_rest;
+    read = at.read;
+    each = at.each;
+    took = λ kind before was. rw (← append-nil (before ++ at.segments)) (still kind (before ++ at.segments) (at.took kind before was));
   }
 
   -- that found the end

@@ -1,6 +1,8 @@
 -- How the reading of one source ends, and how far it is read (this project's own). What a source gives is known where it reports its bytes.
-use Rattle.std.specs.Prelude.{◌≡◌, ◌<◌, ◌≤◌, ◌⊎◌, ⊤, ℕ, Bool, true, false, List, [], ◌++◌, length, Option, Some, None, IfSome, Result, Err}
+use Rattle.std.specs.Prelude.{◌≡◌, ◌<◌, ◌≤◌, ◌+◌, ◌⊎◌, ⊤, ℕ, Bool, true, false, List, [], ◌++◌, length, Option, Some, None, IfSome}
+use Rattle.std.specs.Prelude.{OnOk, Result, Err}
 use Rattle.std.specs.Io.KnownBytes.{Consumes}
+use Rattle.htl_device.specs.declared.source.TheConstants.{MAX_READ_LEN}
 use Rattle.htl_segment.specs.Content.{Content}
 use Rattle.htl_segment.specs.Bundles.{BundleFault, IsRest, RestAt, SegmentAt, Splits, bundle, is_early_end}
 use Rattle.htl_segment.specs.Faults.{first_fault}
@@ -49,3 +51,17 @@ pub record IsReadToFault (most : ℕ) (given left : Option (List ℕ)) : Type 0 
   pub last : List ℕ
   pub few : length last ≤ most
   pub read : Consumes given left (before ++ last)
+
+-- How a source is read by a call that ends with this result, and in which at most so many reads give bytes. Which sources have failed or
+-- ended, how many reads of each gave bytes, and which bytes each has left, is said by the functions.
+pub record IsSourceRead {R S : Type 0} (most : ℕ) (has_failed has_ended : R → Bool) (good_reads : R → ℕ) (remaining : R → Option (List ℕ))
+    (old new : R) (result : Result S SourceFault) : Type 0 where
+  -- A call that ends well has found the end.
+  pub ended : OnOk result (has_ended new ≡ true)
+  -- A read that failed is reported.
+  pub reported : has_failed new ≡ true → result ≡ Err Read
+  pub read : FailsOnly (has_failed new) (good_reads new) (remaining old) most result
+  -- A failed read is reported only where what was read has no fault.
+  pub no_fault : result ≡ Err Read → IsReadToFault 0 (remaining old) (remaining new)
+  pub bounded : good_reads new ≤ good_reads old + most
+  pub to_fault : IsReadToFault MAX_READ_LEN (remaining old) (remaining new)

@@ -1,5 +1,6 @@
 -- What a keeper took of one source: all that it gives, or what stands before a fault (this project's own).
-use Rattle.std.specs.Prelude.{⊤, ℕ, List, Option, Some}
+use Rattle.std.specs.Prelude.{⊤, ℕ, List, [], OnOk, Option, Result, Some}
+use Rattle.std.specs.Borrow.{MutBor}
 use Rattle.std.specs.Io.KnownBytes.{Consumes}
 use Rattle.htl_segment.specs.Content.{Content}
 use Rattle.htl_segment.specs.Bundles.{IsRest, Splits}
@@ -33,3 +34,8 @@ abbrev pub TookBefore : {S K : Type 0} → (S → K → List Content → Type 0)
 TookBefore gathers old new left bytes (Segment offset fault) = TookUpTo gathers old new bytes offset
 TookBefore gathers old new left bytes Read = TookRead gathers old new left bytes
 TookBefore gathers old new left bytes NoMemory = ⊤
+
+-- What is done to a keeper between two reads leaves it what it took, unless memory is refused. It is given by what may come of a call.
+abbrev pub LeavesTaken : {S K T E : Type 0} → (S → K → List Content → Type 0) → (MutBor K → Result T E → MutBor K → Type 0) → Type 0
+LeavesTaken {K = K} {T = T} {E = E} gathers may_leave =
+    (old : MutBor K) (result : Result T E) (new : MutBor K) → may_leave old result new → OnOk result (Took gathers old.now new.now [])

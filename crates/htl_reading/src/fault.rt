@@ -1,5 +1,6 @@
 //! Why the reading of a source ended.
 
+use htl_event::NoMemory;
 use htl_segment::Fault;
 use std::alloc::{AllocError, AllocFailed};
 
@@ -26,6 +27,16 @@ impl SourceFault {
             Fault::NoMemory => SourceFault::NoMemory,
             _ => SourceFault::Segment { offset, fault },
         }
+    }
+}
+
+impl From<NoMemory> for SourceFault {
+    ghost use Rattle.htl_reading.specs.Blocks.{IsNoMemory};
+
+    ghost from_gives = { λ _. IsNoMemory };
+
+    fn from(_refused: NoMemory) -> SourceFault {
+        SourceFault::NoMemory
     }
 }
 

@@ -5,13 +5,14 @@ ghost use Rattle.std.specs.Prelude.{IfOk, IfErr, IfSome, OnOk, false, true, leng
 ghost use Rattle.htl_reading.specs.Blocks.{IsKeptAt, IsRefusedAt, IsTakenIn};
 ghost use Rattle.htl_reading.specs.Keepers.{IsTakenOff, IsTakenTo};
 ghost use Rattle.htl_reading.specs.Sources.{FailsOnly, IsReadToFault, IsReported};
-ghost use Rattle.htl_reading.specs.Taking.{TookBefore, TookToEnd};
+ghost use Rattle.htl_reading.specs.Taking.{LeavesTaken, TookBefore, TookToEnd};
 ghost use Rattle.htl_reading.specs.declared.fault.SourceFault.TheVariants.{Read};
 
 use crate::block::Block;
 use crate::fault::SourceFault;
 use crate::outcome::{EarlyEnd, early_end};
 use htl_device::{MAX_READ_LEN, Source};
+use htl_event::NoMemory;
 use htl_segment::{Keeper, split};
 use std::alloc::Global;
 
@@ -42,13 +43,14 @@ impl Gathered {
     }
 
     /// Reads a source on to its end, after one read that gave bytes, and has a keeper take its
-    /// segments. At most `most` reads give bytes.
-    pub fn read_on<R: Source, K: Keeper>(
+    /// segments. At most `most` reads give bytes, and each of them comes after a call of `between`.
+    pub fn read_on<R: Source, K: Keeper, F: Fn(&mut K) -> Result<(), NoMemory>>(
         mut self,
         alloc: Global,
         most: u64,
         source: &mut R,
         keeper: &mut K,
+        between: &F,
     ) -> Result<Option<EarlyEnd>, SourceFault>
         requires fresh { R.has_failed source.old ≡ false }
         requires inside { R.has_ended source.old ≡ false }
@@ -57,6 +59,8 @@ impl Gathered {
         requires short { self.offset + length self.block.held ≤ MAX_READ_LEN }
         requires each { 1 ≤ self.offset + length self.block.held }
         requires counted { 1 ≤ R.good_reads source.old }
+        requires callable { F.IsAlwaysCallable between.now }
+        requires leaves { LeavesTaken K.gathers (F.post between.now) }
         ensures ok { (start : K) (given : Option (List ℕ)) → IsTakenTo K.gathers
             start keeper.old given (R.remaining source.old) self.block.held self.offset 1
             → IfOk result (λ early_end. IfSome given (TookToEnd K.gathers start keeper.new early_end)) }
@@ -82,6 +86,7 @@ impl Gathered {
             → IsReadToFault MAX_READ_LEN given (R.remaining source.new) }
     {
         for _reads in 1..most {
+            between(keeper)?;
             self.block.make_room()?;
             let Ok(count) = self.block.read(source) else {
                 return Err(SourceFault::Read);

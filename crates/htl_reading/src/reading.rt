@@ -4,8 +4,8 @@ ghost use Rattle.std.specs.Prelude.{◌≡◌, ◌*◌, ◌+◌, ◌<◌, ◌≤
 ghost use Rattle.std.specs.Prelude.{Err, IfOk, IfErr, IfSome, OnOk, false, true};
 ghost use Rattle.htl_segment.specs.Content.{Content};
 ghost use Rattle.htl_segment.specs.Bundles.{Splits};
-ghost use Rattle.htl_reading.specs.Sources.{FailsOnly, IsLeft, IsReadToFault, IsReported};
-ghost use Rattle.htl_reading.specs.Taking.{TookBefore, TookToEnd};
+ghost use Rattle.htl_reading.specs.Sources.{IsLeft, IsReported, IsSourceRead};
+ghost use Rattle.htl_reading.specs.Taking.{LeavesTaken, TookBefore, TookToEnd};
 ghost use Rattle.htl_reading.specs.declared.fault.SourceFault.TheVariants.{Read};
 
 use crate::block::Block;
@@ -14,6 +14,7 @@ use crate::gathered::{Gathered, take_front};
 use crate::outcome::{Bundle, EarlyEnd};
 use crate::parts::{append_all, gather_parts};
 use htl_device::{MAX_READ_LEN, MAX_READS, MIN_READ_LEN, Parted, Source};
+use htl_event::NoMemory;
 use htl_segment::{JoiningKeeper, Keeper, Segment, Segments};
 use std::alloc::Global;
 use std::thread::Threads;
@@ -40,15 +41,8 @@ pub fn gather_bundle<T: Threads + Sync, R: Parted, K: JoiningKeeper + Drop + Sen
         → K.gathers kind keeper segments → K.gathers kind bundle.segments (segments ++ more)))) }
     ensures err { IfErr result (λ fault. IfSome (R.remaining source.old) (λ bytes.
         IsReported (R.remaining source.new) (R.has_ended source.new) bytes fault)) }
-    ensures ended { OnOk result (R.has_ended source.new ≡ true) }
-    ensures reported { R.has_failed source.new ≡ true → result ≡ Err Read }
-    ensures read { FailsOnly (R.has_failed source.new) (R.good_reads source.new)
-        (R.remaining source.old) MAX_READS result }
-    // A failed read is reported only where what was read has no fault.
-    ensures no_fault { result ≡ Err Read
-        → IsReadToFault 0 (R.remaining source.old) (R.remaining source.new) }
-    ensures bounded { R.good_reads source.new ≤ R.good_reads source.old + MAX_READS }
-    ensures to_fault { IsReadToFault MAX_READ_LEN (R.remaining source.old) (R.remaining source.new) }
+    ensures reading { IsSourceRead MAX_READS R.has_failed R.has_ended R.good_reads R.remaining
+        source.old source.new result }
 {
     if let Some(parts) = gather_parts(rt, alloc, workers, source, &keeper) {
         let Ok(()) = append_all(&mut keeper, parts) else {
@@ -77,14 +71,8 @@ pub fn read_bundle<T: Threads + Sync, R: Parted>(
         × IsLeft bundle.segments.items rest bundle.early_end)) }
     ensures err { IfErr result (λ fault. IfSome (R.remaining source.old) (λ bytes.
         IsReported (R.remaining source.new) (R.has_ended source.new) bytes fault)) }
-    ensures ended { OnOk result (R.has_ended source.new ≡ true) }
-    ensures reported { R.has_failed source.new ≡ true → result ≡ Err Read }
-    ensures read { FailsOnly (R.has_failed source.new) (R.good_reads source.new)
-        (R.remaining source.old) MAX_READS result }
-    ensures no_fault { result ≡ Err Read
-        → IsReadToFault 0 (R.remaining source.old) (R.remaining source.new) }
-    ensures bounded { R.good_reads source.new ≤ R.good_reads source.old + MAX_READS }
-    ensures to_fault { IsReadToFault MAX_READ_LEN (R.remaining source.old) (R.remaining source.new) }
+    ensures reading { IsSourceRead MAX_READS R.has_failed R.has_ended R.good_reads R.remaining
+        source.old source.new result }
 {
     let Bundle {
         segments,
@@ -101,31 +89,28 @@ pub fn read_bundle<T: Threads + Sync, R: Parted>(
 /// where the source ends within one more.
 ///
 /// After a fault the keeper has the segments before it, unless memory was refused. A source without
-/// bytes needs no memory.
-pub fn take_source<R: Source, K: Keeper>(
+/// bytes needs no memory. Before each read but the first `between` is called, so that the keeper can do
+/// what it does from time to time.
+pub fn take_source<R: Source, K: Keeper, F: Fn(&mut K) -> Result<(), NoMemory>>(
     alloc: Global,
     source: &mut R,
     keeper: &mut K,
+    between: &F,
 ) -> Result<Option<EarlyEnd>, SourceFault>
     requires fresh { R.has_failed source.old ≡ false }
     requires inside { R.has_ended source.old ≡ false }
+    requires callable { F.IsAlwaysCallable between.now }
+    requires leaves { LeavesTaken K.gathers (F.post between.now) }
     ensures ok { IfOk result (λ early_end. IfSome (R.remaining source.old)
         (TookToEnd K.gathers keeper.old keeper.new early_end)) }
     ensures err { IfErr result (λ fault. IfSome (R.remaining source.old) (λ bytes.
         IsReported (R.remaining source.new) (R.has_ended source.new) bytes fault)) }
     ensures kept { IfErr result (λ fault. IfSome (R.remaining source.old) (λ bytes.
         TookBefore K.gathers keeper.old keeper.new (R.remaining source.new) bytes fault)) }
-    ensures ended { OnOk result (R.has_ended source.new ≡ true) }
-    ensures reported { R.has_failed source.new ≡ true → result ≡ Err Read }
-    ensures read { FailsOnly (R.has_failed source.new) (R.good_reads source.new)
-        (R.remaining source.old) MAX_READS result }
-    // A failed read is reported only where what was read has no fault.
-    ensures no_fault { result ≡ Err Read
-        → IsReadToFault 0 (R.remaining source.old) (R.remaining source.new) }
-    ensures bounded { R.good_reads source.new ≤ R.good_reads source.old + MAX_READS }
-    ensures to_fault { IsReadToFault MAX_READ_LEN (R.remaining source.old) (R.remaining source.new) }
+    ensures reading { IsSourceRead MAX_READS R.has_failed R.has_ended R.good_reads R.remaining
+        source.old source.new result }
 {
-    take_reads(alloc, MAX_READS, source, keeper)
+    take_reads(alloc, MAX_READS, source, keeper, between)
 }
 
 /// Reads a source to its end by one worker, with a keeper that is given back. At most `most` reads give
@@ -144,16 +129,13 @@ pub(crate) fn read_source<R: Source, K: Keeper + Drop>(
         (TookToEnd K.gathers keeper bundle.segments bundle.early_end)) }
     ensures err { IfErr result (λ fault. IfSome (R.remaining source.old) (λ bytes.
         IsReported (R.remaining source.new) (R.has_ended source.new) bytes fault)) }
-    ensures ended { OnOk result (R.has_ended source.new ≡ true) }
-    ensures reported { R.has_failed source.new ≡ true → result ≡ Err Read }
-    ensures read { FailsOnly (R.has_failed source.new) (R.good_reads source.new)
-        (R.remaining source.old) most result }
-    ensures no_fault { result ≡ Err Read
-        → IsReadToFault 0 (R.remaining source.old) (R.remaining source.new) }
-    ensures bounded { R.good_reads source.new ≤ R.good_reads source.old + most }
-    ensures to_fault { IsReadToFault MAX_READ_LEN (R.remaining source.old) (R.remaining source.new) }
+    ensures reading { IsSourceRead most R.has_failed R.has_ended R.good_reads R.remaining
+        source.old source.new result }
 {
-    let early_end = take_reads(alloc, most, source, &mut keeper)?;
+    let nothing = |keeper: &mut K| -> Result<(), NoMemory>
+        ensures { keeper.new ≡ keeper.old }
+    { Ok(()) };
+    let early_end = take_reads(alloc, most, source, &mut keeper, &nothing)?;
     Ok(Bundle {
         segments: keeper,
         early_end,
@@ -163,30 +145,27 @@ pub(crate) fn read_source<R: Source, K: Keeper + Drop>(
 /// Has a keeper take the segments of a source, of which at most `most` reads give bytes.
 ///
 /// The first read goes into a short buffer. If it gives bytes, a block is made for all other reads.
-fn take_reads<R: Source, K: Keeper>(
+fn take_reads<R: Source, K: Keeper, F: Fn(&mut K) -> Result<(), NoMemory>>(
     alloc: Global,
     most: u64,
     source: &mut R,
     keeper: &mut K,
+    between: &F,
 ) -> Result<Option<EarlyEnd>, SourceFault>
     requires fresh { R.has_failed source.old ≡ false }
     requires inside { R.has_ended source.old ≡ false }
     requires some { 0 < most }
     requires few { most * MAX_READ_LEN < 2 ^ 64 }
+    requires callable { F.IsAlwaysCallable between.now }
+    requires leaves { LeavesTaken K.gathers (F.post between.now) }
     ensures ok { IfOk result (λ early_end. IfSome (R.remaining source.old)
         (TookToEnd K.gathers keeper.old keeper.new early_end)) }
     ensures err { IfErr result (λ fault. IfSome (R.remaining source.old) (λ bytes.
         IsReported (R.remaining source.new) (R.has_ended source.new) bytes fault)) }
     ensures kept { IfErr result (λ fault. IfSome (R.remaining source.old) (λ bytes.
         TookBefore K.gathers keeper.old keeper.new (R.remaining source.new) bytes fault)) }
-    ensures ended { OnOk result (R.has_ended source.new ≡ true) }
-    ensures reported { R.has_failed source.new ≡ true → result ≡ Err Read }
-    ensures read { FailsOnly (R.has_failed source.new) (R.good_reads source.new)
-        (R.remaining source.old) most result }
-    ensures no_fault { result ≡ Err Read
-        → IsReadToFault 0 (R.remaining source.old) (R.remaining source.new) }
-    ensures bounded { R.good_reads source.new ≤ R.good_reads source.old + most }
-    ensures to_fault { IsReadToFault MAX_READ_LEN (R.remaining source.old) (R.remaining source.new) }
+    ensures reading { IsSourceRead most R.has_failed R.has_ended R.good_reads R.remaining
+        source.old source.new result }
 {
     let mut buffer = [0u8; MIN_READ_LEN];
     let Ok(count) = source.read(&mut buffer) else {
@@ -201,5 +180,5 @@ fn take_reads<R: Source, K: Keeper>(
         offset: len as u64,
         block: Block::new(alloc, &piece[len..])?,
     };
-    gathered.read_on(alloc, most, source, keeper)
+    gathered.read_on(alloc, most, source, keeper, between)
 }

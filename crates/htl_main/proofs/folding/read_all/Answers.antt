@@ -4,7 +4,8 @@ use Rattle.std.proofs.lemmas.Option.{slice_get-get_or}
 use Rattle.std.proofs.lemmas.Result.{err_from_is_err_and}
 use Rattle.htl_main.specs.Sources.{IsReportedOfSource}
 use Rattle.htl_main.proofs.CutLaws.{cut_next, fits_next, none_cut, none_fits}
-use Rattle.htl_main.proofs.FoldInputs.{TookInput, TookOwn, folds_of, given_before, took_both, took_none}
+use Rattle.htl_main.specs.Folders.{folds_of}
+use Rattle.htl_main.proofs.FoldInputs.{TookInput, TookOwn, given_before, took_both, took_none}
 use Rattle.htl_main.proofs.InputLaws.{decode_next}
 use Rattle.htl_main.proofs.ReadingLaws.{all_read, none_before, one_before, read_to}
 use Rattle.htl_main.proofs.SourceLaws.{at_known, knows_now, reported_at, value_there}
@@ -12,10 +13,10 @@ use Rattle.htl_main.proofs.folding.read_all.Goals as goal
 
 pub loop-place-init : goal.loop-place-init
 loop-place-init g c = record {
-  before = none_before c.args.form.hex g.R.Source.has_failed g.R.Source.has_ended g.R.Source.good_reads g.R.Source.remaining
+  before = none_before c.args.setting.form.hex g.R.Source.has_failed g.R.Source.has_ended g.R.Source.good_reads g.R.Source.remaining
       c.args.sources.now c.requires.fresh;
   took = λ inputs all. ([], refl, took_none folds_of c.args.folder.now);
-  cut = λ inputs all. none_cut c.args.form.hex inputs;
+  cut = λ inputs all. none_cut c.args.setting.form.hex inputs;
   few = none_fits 0;
 }
 
@@ -28,25 +29,25 @@ loop-place-preserved g c =
     let source = get_or c.loop-place.sources place c.index-sources-place.result in
     let here = slice_get-get_or c.loop-place.sources place c.index-sources-place.result within in
     record {
-      before = one_before c.args.form.hex g.R.Source.has_failed g.R.Source.has_ended g.R.Source.good_reads g.R.Source.remaining
+      before = one_before c.args.setting.form.hex g.R.Source.has_failed g.R.Source.has_ended g.R.Source.good_reads g.R.Source.remaining
           c.args.sources.now c.loop-place.sources place source c.read_input.new.source inv.before within here _
           c.in_ok-is_cut.ensures.reading;
       took = λ texts all.
           let knows = knows_now g.R.Source.remaining c.args.sources.now c.loop-place.sources texts place source
           (inv.before.left place (omega arith)) here all in
           let own = at_known texts place (g.R.Source.remaining source)
-          (λ text. TookInput folds_of c.loop-place.folder c.read_input.new.folder c.args.form text is_cut) knows c.in_ok-is_cut.ensures.ok in
+          (λ text. TookInput folds_of c.loop-place.folder c.read_input.new.folder c.args.setting.form text is_cut) knows c.in_ok-is_cut.ensures.ok in
           let earlier = inv.took texts all in (
             earlier.0 ++ own.0,
-            decode_next c.args.form texts place knows.input earlier.0 own.0 knows.here earlier.1 own.1.decoded,
+            decode_next c.args.setting.form texts place knows.input earlier.0 own.0 knows.here earlier.1 own.1.decoded,
             took_both folds_of c.args.folder.now c.loop-place.folder c.read_input.new.folder earlier.0 own.0 earlier.2 own.2,
           );
       cut = λ texts all.
           let knows = knows_now g.R.Source.remaining c.args.sources.now c.loop-place.sources texts place source
           (inv.before.left place (omega arith)) here all in
           let own = at_known texts place (g.R.Source.remaining source)
-          (λ text. TookInput folds_of c.loop-place.folder c.read_input.new.folder c.args.form text is_cut) knows c.in_ok-is_cut.ensures.ok in
-          rw (c.with_input-cut.ensures) (cut_next c.args.form.hex texts place knows.input is_cut c.loop-place.cut knows.here
+          (λ text. TookInput folds_of c.loop-place.folder c.read_input.new.folder c.args.setting.form text is_cut) knows c.in_ok-is_cut.ensures.ok in
+          rw (c.with_input-cut.ensures) (cut_next c.args.setting.form.hex texts place knows.input is_cut c.loop-place.cut knows.here
           (inv.cut texts all) own.1.cut);
       few = rw (c.with_input-cut.ensures) (fits_next is_cut place c.loop-place.cut inv.few);
     }
@@ -70,8 +71,8 @@ returns-in_err-is_cut-clause-err g c =
       here = knows.here;
       segments = earlier.0;
       before = earlier.1;
-      reported = reported_at g.R.Source.has_ended g.R.Source.remaining c.loop-place.sources place new within c.args.form knows.input _
-          (at_known texts place (g.R.Source.remaining source) (λ bytes. IsReportedOfSource c.args.form (g.R.Source.remaining new)
+      reported = reported_at g.R.Source.has_ended g.R.Source.remaining c.loop-place.sources place new within c.args.setting.form knows.input _
+          (at_known texts place (g.R.Source.remaining source) (λ bytes. IsReportedOfSource c.args.setting.form (g.R.Source.remaining new)
           (g.R.Source.has_ended new) place bytes c.in_err-is_cut.field-0.0) knows c.in_err-is_cut.ensures.err);
     }
 
@@ -89,14 +90,14 @@ returns-in_err-is_cut-clause-kept g c =
     let knows = knows_now g.R.Source.remaining c.args.sources.now c.loop-place.sources texts place source
     (inv.before.left place (omega arith)) here all in
     let earlier = inv.took texts all in
-    let told = at_known texts place (g.R.Source.remaining source) (λ bytes. IsReportedOfSource c.args.form (g.R.Source.remaining new)
+    let told = at_known texts place (g.R.Source.remaining source) (λ bytes. IsReportedOfSource c.args.setting.form (g.R.Source.remaining new)
     (g.R.Source.has_ended new) place bytes fault) knows c.in_err-is_cut.ensures.err in
     let kept = at_known texts place (g.R.Source.remaining source) (λ bytes. TookOwn folds_of c.loop-place.folder c.read_input.new.folder
-    c.args.form (g.R.Source.remaining new) bytes fault) knows c.in_err-is_cut.ensures.kept in
+    c.args.setting.form (g.R.Source.remaining new) bytes fault) knows c.in_err-is_cut.ensures.kept in
     rw (p.1, p.2) (λ other.
     let own = kept other in (
       earlier.0 ++ own.0,
-      given_before c.args.form texts _ place knows.input earlier.0 own.0 earlier.1 knows.here
+      given_before c.args.setting.form texts _ place knows.input earlier.0 own.0 earlier.1 knows.here
           (g.R.Source.remaining new) (g.R.Source.has_ended new) fault (value_there g.R.Source.remaining c.loop-place.sources place new within)
           told other own.1,
       took_both folds_of c.args.folder.now c.loop-place.folder c.read_input.new.folder earlier.0 own.0 earlier.2 own.2,
@@ -109,11 +110,11 @@ returns-in_err-is_cut-clause-reading g c =
     let within : place < length c.loop-place.sources = omega arith in
     let source = get_or c.loop-place.sources place c.index-sources-place.result in
     let here = slice_get-get_or c.loop-place.sources place c.index-sources-place.result within in
-    rw (p.1, p.2) (read_to c.args.form.hex g.R.Source.has_failed g.R.Source.has_ended g.R.Source.good_reads g.R.Source.remaining
+    rw (p.1, p.2) (read_to c.args.setting.form.hex g.R.Source.has_failed g.R.Source.has_ended g.R.Source.good_reads g.R.Source.remaining
     c.args.sources.now c.loop-place.sources place source c.read_input.new.source c.loop-place.invariant.before within here
     c.in_err-is_cut.field-0.0 c.in_err-is_cut.ensures.reading)
 
 pub returns-clause-reading : goal.returns-clause-reading
 returns-clause-reading g c =
-    all_read c.args.form.hex g.R.Source.has_failed g.R.Source.has_ended g.R.Source.good_reads g.R.Source.remaining c.args.sources.now
+    all_read c.args.setting.form.hex g.R.Source.has_failed g.R.Source.has_ended g.R.Source.good_reads g.R.Source.remaining c.args.sources.now
     c.loop-place.sources c.loop-place.place _ c.loop-place.invariant.before (omega arith)

@@ -5,17 +5,17 @@ use Rattle.htl_segment.specs.Keepers.{Took}
 use Rattle.htl_main.specs.CutInputs.{AreCut}
 use Rattle.htl_main.specs.Ends.{OthersFit}
 use Rattle.htl_main.specs.Inputs.{DecodeAll}
-use Rattle.htl_main.proofs.FoldInputs.{folds_of}
+use Rattle.htl_main.specs.Folders.{folds_of}
 use Rattle.htl_main.proofs.ReadingLaws.{ReadBefore}
 use Rattle.htl_main.proofs.folding.read_all.Given as goal
 
 abbrev pub invariant-loop-place : goal.invariant-loop-place
 invariant-loop-place g l = record {
-  before : ReadBefore l.form.hex g.R.Source.has_failed g.R.Source.has_ended g.R.Source.good_reads g.R.Source.remaining
+  before : ReadBefore l.setting.form.hex g.R.Source.has_failed g.R.Source.has_ended g.R.Source.good_reads g.R.Source.remaining
       l.initial.sources l.sources l.place;
   took : (inputs : List (List ℕ)) → map g.R.Source.remaining l.initial.sources ≡ map Some inputs
-      → (given : List Content) × DecodeAll l.form (take l.place inputs) given × Took folds_of l.initial.folder l.folder given;
+      → (given : List Content) × DecodeAll l.setting.form (take l.place inputs) given × Took folds_of l.initial.folder l.folder given;
   cut : (inputs : List (List ℕ)) → map g.R.Source.remaining l.initial.sources ≡ map Some inputs
-      → AreCut l.form.hex (take l.place inputs) l.cut;
+      → AreCut l.setting.form.hex (take l.place inputs) l.cut;
   few : OthersFit l.cut l.place;
 }

@@ -1,70 +1,57 @@
 -- What a folder took of a source, what is reported of it, and how it is read.
-use Rattle.htl_main.proofs.FoldInputs.{fault_kept, folds_of, known_kept, known_ok, source_err, source_kept, source_ok, unread_kept}
+use Rattle.htl_main.specs.Folders.{folds_of}
+use Rattle.htl_main.proofs.FoldInputs.{fault_kept, known_kept, known_ok, source_err, source_kept, source_ok, unread_kept}
 use Rattle.htl_main.proofs.OneSource.{accepted_read, decoded_ill, reported_bytes_of}
 use Rattle.htl_main.proofs.folding.read_input.Goals as goal
 
 pub returns-in-Ok-clause-ok : goal.returns-in-Ok-clause-ok
 returns-in-Ok-clause-ok g c =
-    known_ok folds_of c.args.folder.now c.take_text.new.folder c.args.form c.args.place (g.R.Source.remaining c.args.source.now)
+    known_ok folds_of c.args.folder.now c.take_text.new.folder c.args.setting.form c.args.place (g.R.Source.remaining c.args.source.now)
     c.in-Ok.text.items c.take_text.result c.in-Ok.ensures.ok (rw (← c.deref.ensures.value) (c.take_text.ensures.ok))
 
 pub returns-in-Ok-clause-kept : goal.returns-in-Ok-clause-kept
 returns-in-Ok-clause-kept g c =
-    known_kept folds_of c.args.folder.now c.take_text.new.folder c.args.form c.args.place (g.R.Source.remaining c.args.source.now) _
-    c.in-Ok.text.items c.take_text.result c.if-form.true c.in-Ok.ensures.ok (rw (← c.deref.ensures.value) (c.take_text.ensures.kept))
+    known_kept folds_of c.args.folder.now c.take_text.new.folder c.args.setting.form c.args.place (g.R.Source.remaining c.args.source.now) _
+    c.in-Ok.text.items c.take_text.result c.if-setting.true c.in-Ok.ensures.ok (rw (← c.deref.ensures.value) (c.take_text.ensures.kept))
 
 pub returns-in-Err-clause-kept : goal.returns-in-Err-clause-kept
 returns-in-Err-clause-kept g c =
-    rw (c.of_read.ensures) (unread_kept folds_of c.args.folder.now c.args.form c.args.place (g.R.Source.remaining c.args.source.now) _
-    c.in-Err.fault c.if-form.true)
+    rw (c.of_read.ensures) (unread_kept folds_of c.args.folder.now c.args.setting.form c.args.place (g.R.Source.remaining c.args.source.now) _
+    c.in-Err.fault c.if-setting.true)
 
 pub returns-in-Ok-take_source-clause-ok : goal.returns-in-Ok-take_source-clause-ok
 returns-in-Ok-take_source-clause-ok g c =
-    source_ok folds_of c.args.folder.now c.take_source.new.keeper c.args.form c.args.place (g.R.Source.remaining c.args.source.now)
-    c.in-Ok-take_source.end c.check_end.result c.if-form.false c.in-Ok-take_source.ensures.ok c.check_end.ensures.end
+    source_ok folds_of c.args.folder.now c.take_source.new.keeper c.args.setting.form c.args.place (g.R.Source.remaining c.args.source.now)
+    c.in-Ok-take_source.end c.check_end.result c.if-setting.false c.in-Ok-take_source.ensures.ok c.check_end.ensures.end
 
 pub returns-in-Ok-take_source-clause-err : goal.returns-in-Ok-take_source-clause-err
 returns-in-Ok-take_source-clause-err g c =
-    source_err folds_of c.args.folder.now c.take_source.new.keeper c.args.form c.args.place (g.R.Source.remaining c.args.source.now) _ _
-    c.in-Ok-take_source.end c.check_end.result c.if-form.false c.in-Ok-take_source.ensures.ok c.check_end.ensures.refused
+    source_err folds_of c.args.folder.now c.take_source.new.keeper c.args.setting.form c.args.place (g.R.Source.remaining c.args.source.now) _ _
+    c.in-Ok-take_source.end c.check_end.result c.if-setting.false c.in-Ok-take_source.ensures.ok c.check_end.ensures.refused
 
 pub returns-in-Ok-take_source-clause-kept : goal.returns-in-Ok-take_source-clause-kept
 returns-in-Ok-take_source-clause-kept g c =
-    source_kept folds_of c.args.folder.now c.take_source.new.keeper c.args.form c.args.place (g.R.Source.remaining c.args.source.now) _
-    c.in-Ok-take_source.end c.check_end.result c.if-form.false c.in-Ok-take_source.ensures.ok c.check_end.ensures.refused
+    source_kept folds_of c.args.folder.now c.take_source.new.keeper c.args.setting.form c.args.place (g.R.Source.remaining c.args.source.now) _
+    c.in-Ok-take_source.end c.check_end.result c.if-setting.false c.in-Ok-take_source.ensures.ok c.check_end.ensures.refused
 
 pub returns-in-Ok-take_source-clause-reading : goal.returns-in-Ok-take_source-clause-reading
 returns-in-Ok-take_source-clause-reading g c =
-    let is = c.in-Ok-take_source.ensures in
-    rw (c.if-form.false) (accepted_read g.R.Source.has_failed g.R.Source.has_ended g.R.Source.good_reads g.R.Source.remaining c.args.place
-    c.args.source.now c.take_source.new.source c.in-Ok-take_source.end c.check_end.result c.check_end.ensures.segment (record {
-      ended = is.ended;
-      reported = is.reported;
-      read = is.read;
-      no_fault = is.no_fault;
-      bounded = is.bounded;
-      to_fault = is.to_fault;
-    }))
+    rw (c.if-setting.false) (accepted_read g.R.Source.has_failed g.R.Source.has_ended g.R.Source.good_reads g.R.Source.remaining c.args.place
+    c.args.source.now c.take_source.new.source c.in-Ok-take_source.end c.check_end.result c.check_end.ensures.segment
+    c.in-Ok-take_source.ensures.reading)
 
 pub returns-in-Err-take_source-clause-err : goal.returns-in-Err-take_source-clause-err
 returns-in-Err-take_source-clause-err g c =
-    rw (c.of_source.ensures) (reported_bytes_of c.args.form (g.R.Source.remaining c.args.source.now) _ _ c.args.place
-    c.in-Err-take_source.fault c.if-form.false c.in-Err-take_source.ensures.err)
+    rw (c.of_source.ensures) (reported_bytes_of c.args.setting.form (g.R.Source.remaining c.args.source.now) _ _ c.args.place
+    c.in-Err-take_source.fault c.if-setting.false c.in-Err-take_source.ensures.err)
 
 pub returns-in-Err-take_source-clause-kept : goal.returns-in-Err-take_source-clause-kept
 returns-in-Err-take_source-clause-kept g c =
-    rw (c.of_source.ensures) (fault_kept folds_of c.args.folder.now c.take_source.new.keeper c.args.form c.args.place
-    (g.R.Source.remaining c.args.source.now) _ c.in-Err-take_source.fault c.if-form.false c.in-Err-take_source.ensures.kept)
+    rw (c.of_source.ensures) (fault_kept folds_of c.args.folder.now c.take_source.new.keeper c.args.setting.form c.args.place
+    (g.R.Source.remaining c.args.source.now) _ c.in-Err-take_source.fault c.if-setting.false c.in-Err-take_source.ensures.kept)
 
 pub returns-in-Err-take_source-clause-reading : goal.returns-in-Err-take_source-clause-reading
 returns-in-Err-take_source-clause-reading g c =
-    let is = c.in-Err-take_source.ensures in
-    rw (c.if-form.false, c.of_source.ensures) (decoded_ill g.R.Source.has_failed g.R.Source.has_ended
-    g.R.Source.good_reads g.R.Source.remaining c.args.place c.args.source.now c.take_source.new.source c.in-Err-take_source.fault (record {
-      ended = is.ended;
-      reported = is.reported;
-      read = is.read;
-      no_fault = is.no_fault;
-      bounded = is.bounded;
-      to_fault = is.to_fault;
-    }))
+    rw (c.if-setting.false, c.of_source.ensures) (decoded_ill g.R.Source.has_failed g.R.Source.has_ended
+    g.R.Source.good_reads g.R.Source.remaining c.args.place c.args.source.now c.take_source.new.source c.in-Err-take_source.fault
+    c.in-Err-take_source.ensures.reading)

@@ -2,7 +2,8 @@
 use Rattle.std.proofs.Common.{None}
 use Rattle.htl_main.proofs.DumpLaws.{rest_at}
 use Rattle.htl_main.proofs.EndLaws.{refused_input}
-use Rattle.htl_main.proofs.FoldInputs.{folds_of, kept_before, text_kept, text_ok}
+use Rattle.htl_main.specs.Folders.{folds_of}
+use Rattle.htl_main.proofs.FoldInputs.{kept_before, text_kept, text_ok}
 use Rattle.htl_main.proofs.InputLaws.{refused_bytes}
 use Rattle.htl_main.proofs.folding.take_bytes.Goals as goal
 

@@ -1,6 +1,7 @@
 -- The bytes that a text in hexadecimal writes are those that are taken; of digits with a fault nothing is.
 use Rattle.std.proofs.Common.{None}
-use Rattle.htl_main.proofs.FoldInputs.{digits_kept, folds_of}
+use Rattle.htl_main.specs.Folders.{folds_of}
+use Rattle.htl_main.proofs.FoldInputs.{digits_kept}
 use Rattle.htl_main.proofs.folding.take_text.Goals as goal
 
 pub returns-in-Err-clause-kept : goal.returns-in-Err-clause-kept

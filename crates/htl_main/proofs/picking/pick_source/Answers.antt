@@ -15,29 +15,13 @@ returns-in-Ok-clause-err g c =
 
 pub returns-in-Ok-clause-reading : goal.returns-in-Ok-clause-reading
 returns-in-Ok-clause-reading g c =
-    let is = c.in-Ok.ensures in
     accepted_read g.R.Source.has_failed g.R.Source.has_ended g.R.Source.good_reads g.R.Source.remaining c.args.place
-    c.args.source.now c.gather_bundle.new.source c.in-Ok.bundle c.accept.result c.accept.ensures.segment (record {
-      ended = is.ended;
-      reported = is.reported;
-      read = is.read;
-      no_fault = is.no_fault;
-      bounded = is.bounded;
-      to_fault = is.to_fault;
-    })
+    c.args.source.now c.gather_bundle.new.source c.in-Ok.bundle c.accept.result c.accept.ensures.segment c.in-Ok.ensures.reading
 
 pub returns-in-Err-clause-reading : goal.returns-in-Err-clause-reading
 returns-in-Err-clause-reading g c =
-    let is = c.in-Err.ensures in
     rw (c.of_source.ensures) (decoded_ill g.R.Source.has_failed g.R.Source.has_ended g.R.Source.good_reads
-    g.R.Source.remaining c.args.place c.args.source.now c.gather_bundle.new.source c.in-Err.fault (record {
-      ended = is.ended;
-      reported = is.reported;
-      read = is.read;
-      no_fault = is.no_fault;
-      bounded = is.bounded;
-      to_fault = is.to_fault;
-    }))
+    g.R.Source.remaining c.args.place c.args.source.now c.gather_bundle.new.source c.in-Err.fault c.in-Err.ensures.reading)
 
 pub returns-in-Err-clause-err : goal.returns-in-Err-clause-err
 returns-in-Err-clause-err g c =

@@ -15,16 +15,9 @@ returns-in-Ok-read_bundle-clause-err g c =
 
 pub returns-in-Ok-read_bundle-clause-reading : goal.returns-in-Ok-read_bundle-clause-reading
 returns-in-Ok-read_bundle-clause-reading g c =
-    let is = c.in-Ok-read_bundle.ensures in
     rw (c.if-form.false) (accepted_read g.R.Source.has_failed g.R.Source.has_ended g.R.Source.good_reads g.R.Source.remaining c.args.place
-    c.args.source.now c.read_bundle.new.source c.in-Ok-read_bundle.bundle c.accept.result c.accept.ensures.segment (record {
-      ended = is.ended;
-      reported = is.reported;
-      read = is.read;
-      no_fault = is.no_fault;
-      bounded = is.bounded;
-      to_fault = is.to_fault;
-    }))
+    c.args.source.now c.read_bundle.new.source c.in-Ok-read_bundle.bundle c.accept.result c.accept.ensures.segment
+    c.in-Ok-read_bundle.ensures.reading)
 
 pub returns-in-Err-read_bundle-clause-err : goal.returns-in-Err-read_bundle-clause-err
 returns-in-Err-read_bundle-clause-err g c =
@@ -33,13 +26,6 @@ returns-in-Err-read_bundle-clause-err g c =
 
 pub returns-in-Err-read_bundle-clause-reading : goal.returns-in-Err-read_bundle-clause-reading
 returns-in-Err-read_bundle-clause-reading g c =
-    let is = c.in-Err-read_bundle.ensures in
     rw (c.if-form.false, c.of_source.ensures) (decoded_ill g.R.Source.has_failed g.R.Source.has_ended
-    g.R.Source.good_reads g.R.Source.remaining c.args.place c.args.source.now c.read_bundle.new.source c.in-Err-read_bundle.fault (record {
-      ended = is.ended;
-      reported = is.reported;
-      read = is.read;
-      no_fault = is.no_fault;
-      bounded = is.bounded;
-      to_fault = is.to_fault;
-    }))
+    g.R.Source.good_reads g.R.Source.remaining c.args.place c.args.source.now c.read_bundle.new.source c.in-Err-read_bundle.fault
+    c.in-Err-read_bundle.ensures.reading)

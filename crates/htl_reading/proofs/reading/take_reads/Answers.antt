@@ -1,5 +1,5 @@
 -- The first read, and what is read on after it.
-use Rattle.std.proofs.Common.{◌≡◌, ◌≤◌, ◌<◌, length, take, arith, true}
+use Rattle.std.proofs.Common.{◌≡◌, ◌≤◌, ◌<◌, length, take, arith, refl, true}
 use Rattle.std.proofs.lemmas.Grind.{common_steps}
 use Rattle.std.proofs.lemmas.List.{length-take-le, take_rest}
 use Rattle.std.proofs.lemmas.Result.{err_from_is_err_and}
@@ -15,21 +15,6 @@ returns-in_default-clause-kept g c =
     let failed : is_err c.read.result ≡ true = grind (arith, common_steps) in
     kept_first g.K.Keeper.gathers c.args.keeper.now _ _ _ c.read.result failed c.read.ensures.bytes
 
-pub returns-in_default-clause-no_fault : goal.returns-in_default-clause-no_fault
-returns-in_default-clause-no_fault g c =
-    let failed : is_err c.read.result ≡ true = grind (arith, common_steps) in
-    λ is. first_failed 0 _ _ _ c.read.result failed c.read.ensures.bytes
-
-pub returns-in_default-clause-to_fault : goal.returns-in_default-clause-to_fault
-returns-in_default-clause-to_fault g c =
-    let failed : is_err c.read.result ≡ true = grind (arith, common_steps) in
-    first_failed _ _ _ _ c.read.result failed c.read.ensures.bytes
-
-pub returns-then-count-eq0-clause-to_fault : goal.returns-then-count-eq0-clause-to_fault
-returns-then-count-eq0-clause-to_fault g c =
-    let few : length (take c.in-Ok.count c.read.new.buffer) ≤ MAX_READ_LEN = grind (arith, common_steps) in
-    first_to_fault MAX_READ_LEN _ _ _ c.in-Ok.ensures.bytes.0 few
-
 pub returns-in_err-len-clause-err : goal.returns-in_err-len-clause-err
 returns-in_err-len-clause-err g c =
     let p = err_from_is_err_and c.from_residual.result c.from_residual.ensures.1 in
@@ -39,11 +24,6 @@ pub returns-in_err-len-clause-kept : goal.returns-in_err-len-clause-kept
 returns-in_err-len-clause-kept g c =
     let p = err_from_is_err_and c.from_residual.result c.from_residual.ensures.1 in
     rw (p.1, p.2) (kept_first_refused g.K.Keeper.gathers c.args.keeper.now _ _ _ _ _ c.in-Ok.ensures.bytes.0 c.in_err-len.ensures.kept)
-
-pub returns-in_err-len-clause-to_fault : goal.returns-in_err-len-clause-to_fault
-returns-in_err-len-clause-to_fault g c =
-    let few : length (take c.in-Ok.count c.read.new.buffer) ≤ MAX_READ_LEN = grind (arith, common_steps) in
-    first_to_fault MAX_READ_LEN _ _ _ c.in-Ok.ensures.bytes.0 few
 
 pub returns-in_err-new-clause-err : goal.returns-in_err-new-clause-err
 returns-in_err-new-clause-err g c =
@@ -58,11 +38,6 @@ pub returns-in_err-new-clause-kept : goal.returns-in_err-new-clause-kept
 returns-in_err-new-clause-kept g c =
     let p = err_from_is_err_and c.from_residual-in_err-new.result c.from_residual-in_err-new.ensures.1 in
     rw (p.1, p.2) (kept_nothing (g.R.Source.remaining c.args.source.now))
-
-pub returns-in_err-new-clause-to_fault : goal.returns-in_err-new-clause-to_fault
-returns-in_err-new-clause-to_fault g c =
-    let few : length (take c.in-Ok.count c.read.new.buffer) ≤ MAX_READ_LEN = grind (arith, common_steps) in
-    first_to_fault MAX_READ_LEN _ _ _ c.in-Ok.ensures.bytes.0 few
 
 began : (g : _) (c : goal.After-read_on g)
     → IsTakenTo g.K.Keeper.gathers c.args.keeper.now c.take_front.new.keeper (g.R.Source.remaining c.args.source.now)
@@ -83,11 +58,66 @@ returns-clause-err g c = c.read_on.ensures.err c.args.keeper.now (g.R.Source.rem
 pub returns-clause-kept : goal.returns-clause-kept
 returns-clause-kept g c = c.read_on.ensures.kept c.args.keeper.now (g.R.Source.remaining c.args.source.now) (began g c)
 
-pub returns-clause-read : goal.returns-clause-read
-returns-clause-read g c = c.read_on.ensures.read c.args.keeper.now (g.R.Source.remaining c.args.source.now) (began g c)
+pub returns-in_default-clause-reading : goal.returns-in_default-clause-reading
+returns-in_default-clause-reading g c =
+    let failed : is_err c.read.result ≡ true = grind (arith, common_steps) in
+    record {
+      ended = tt;
+      reported = λ is. refl;
+      read = λ is. grind (arith, common_steps);
+      no_fault = λ is. first_failed 0 _ _ _ c.read.result failed c.read.ensures.bytes;
+      bounded = grind (arith, common_steps);
+      to_fault = first_failed _ _ _ _ c.read.result failed c.read.ensures.bytes;
+    }
 
-pub returns-clause-no_fault : goal.returns-clause-no_fault
-returns-clause-no_fault g c = c.read_on.ensures.no_fault c.args.keeper.now (g.R.Source.remaining c.args.source.now) (began g c)
+pub returns-then-count-eq0-clause-reading : goal.returns-then-count-eq0-clause-reading
+returns-then-count-eq0-clause-reading g c =
+    let few : length (take c.in-Ok.count c.read.new.buffer) ≤ MAX_READ_LEN = grind (arith, common_steps) in
+    record {
+      ended = grind (arith, common_steps);
+      reported = λ is. grind (arith, common_steps);
+      read = λ is. absurd (cc is);
+      no_fault = λ is. absurd (cc is);
+      bounded = grind (arith, common_steps);
+      to_fault = first_to_fault MAX_READ_LEN _ _ _ c.in-Ok.ensures.bytes.0 few;
+    }
 
-pub returns-clause-to_fault : goal.returns-clause-to_fault
-returns-clause-to_fault g c = c.read_on.ensures.to_fault c.args.keeper.now (g.R.Source.remaining c.args.source.now) (began g c)
+pub returns-in_err-len-clause-reading : goal.returns-in_err-len-clause-reading
+returns-in_err-len-clause-reading g c =
+    let p = err_from_is_err_and c.from_residual.result c.from_residual.ensures.1 in
+    let few : length (take c.in-Ok.count c.read.new.buffer) ≤ MAX_READ_LEN = grind (arith, common_steps) in
+    rw (p.1, p.2) (record {
+      ended = tt;
+      reported = λ is. grind (arith, common_steps);
+      read = λ is. grind (arith, common_steps);
+      no_fault = λ is. grind (arith, common_steps);
+      bounded = grind (arith, common_steps);
+      to_fault = first_to_fault MAX_READ_LEN _ _ _ c.in-Ok.ensures.bytes.0 few;
+    })
+
+pub returns-in_err-new-clause-reading : goal.returns-in_err-new-clause-reading
+returns-in_err-new-clause-reading g c =
+    let p = err_from_is_err_and c.from_residual-in_err-new.result c.from_residual-in_err-new.ensures.1 in
+    let few : length (take c.in-Ok.count c.read.new.buffer) ≤ MAX_READ_LEN = grind (arith, common_steps) in
+    rw (p.1, p.2) (record {
+      ended = tt;
+      reported = λ is. grind (arith, common_steps);
+      read = λ is. absurd (cc is);
+      no_fault = λ is. absurd (cc is);
+      bounded = grind (arith, common_steps);
+      to_fault = first_to_fault MAX_READ_LEN _ _ _ c.in-Ok.ensures.bytes.0 few;
+    })
+
+pub returns-clause-reading : goal.returns-clause-reading
+returns-clause-reading g c =
+    let on = c.read_on.ensures in
+    let at = began g c in
+    let given = g.R.Source.remaining c.args.source.now in
+    record {
+      ended = on.ended;
+      reported = on.reported;
+      read = on.read c.args.keeper.now given at;
+      no_fault = on.no_fault c.args.keeper.now given at;
+      bounded = grind (arith, common_steps);
+      to_fault = on.to_fault c.args.keeper.now given at;
+    }

@@ -1,6 +1,6 @@
 -- One segment more was taken, or is unfit.
-use Rattle.std.proofs.Common.{◌∙◌, ◌++◌, ◌∷◌, [], sym}
-use Rattle.htl_main.proofs.FolderLaws.{fit_next, took_first, unfit_next, whatever}
+use Rattle.std.proofs.Common.{◌∙◌, sym}
+use Rattle.htl_main.proofs.FolderLaws.{fit_next, took_first, unfit_next}
 use Rattle.htl_main.proofs.folder.Folder.take_segment.Goals as goal
 
 pub returns-in_default : goal.returns-in_default
@@ -14,15 +14,8 @@ returns-then-is_some c = λ first given so_far.
     (rw (c.in-Some.is, c.requires) at so_far) c.in_ok-self.field-0 (sym c.is_some.ensures ∙ c.if-is_some.true) c.in_ok-self.ensures.same
     c.in_ok-self.ensures.taken
 
-pub returns-then-self-lt-MOST_HELD : goal.returns-then-self-lt-MOST_HELD
-returns-then-self-lt-MOST_HELD c = λ first given so_far.
+pub returns : goal.returns
+returns c = λ first given so_far.
     fit_next first c.in-Some.analyst c.take.new.analyst given c.args.self.now.segments c.args.segment
     (rw (c.in-Some.is, c.requires) at so_far) c.in_ok-self.field-0 c.saturating_add-self.result (sym c.is_some.ensures ∙ c.if-is_some.false)
     c.saturating_add-self.ensures c.in_ok-self.ensures.keeps c.in_ok-self.ensures.taken
-
-pub returns : goal.returns
-returns c = λ first given so_far.
-    whatever c.fold.result (c.fold.ensures.kept first (given ++ c.args.segment ∷ [])
-    (fit_next first c.in-Some.analyst c.take.new.analyst given c.args.self.now.segments c.args.segment
-    (rw (c.in-Some.is, c.requires) at so_far) c.in_ok-self.field-0 c.saturating_add-self.result (sym c.is_some.ensures ∙ c.if-is_some.false)
-    c.saturating_add-self.ensures c.in_ok-self.ensures.keeps c.in_ok-self.ensures.taken))

@@ -7,19 +7,34 @@ use Rattle.std.specs.Prelude.{is_err}
 use Rattle.htl_device.specs.declared.source.TheConstants.{MAX_READ_LEN}
 use Rattle.htl_reading.proofs.KeptLaws.{kept_nothing}
 use Rattle.htl_reading.proofs.TakenLaws.{taken_and_more, taken_before, taken_before_refused, taken_ended, taken_kept, taken_many, taken_memory}
-use Rattle.htl_reading.proofs.TakenLaws.{taken_more, taken_refused, taken_to_end, taken_to_fault}
+use Rattle.htl_reading.proofs.TakenLaws.{taken_more, taken_refused, taken_still, taken_to_end, taken_to_fault}
 use Rattle.htl_reading.proofs.gathered.Gathered.read_on.Goals as goal
+
+pub returns-in_err-between-clause-err : goal.returns-in_err-between-clause-err
+returns-in_err-between-clause-err g c =
+    let p = err_from_is_err_and c.from_residual.result c.from_residual.ensures.1 in
+    let inv = c.loop-reads.invariant in
+    let some : 0 < c.loop-reads._reads = grind (arith, common_steps) in
+    λ start given at. rw (p.1, p.2) (taken_memory (inv.taken start given at) _ some inv.inside)
+
+pub returns-in_err-between-clause-kept : goal.returns-in_err-between-clause-kept
+returns-in_err-between-clause-kept g c =
+    let p = err_from_is_err_and c.from_residual.result c.from_residual.ensures.1 in
+    λ start given at. rw (p.1, p.2) (kept_nothing given)
+
+pub returns-in_err-between-clause-to_fault : goal.returns-in_err-between-clause-to_fault
+returns-in_err-between-clause-to_fault g c = λ start given at. taken_to_fault (c.loop-reads.invariant.taken start given at) _
 
 pub returns-in_err-make_room-clause-err : goal.returns-in_err-make_room-clause-err
 returns-in_err-make_room-clause-err g c =
-    let p = err_from_is_err_and c.from_residual.result c.from_residual.ensures.1 in
+    let p = err_from_is_err_and c.from_residual-in_err-make_room.result c.from_residual-in_err-make_room.ensures.1 in
     let inv = c.loop-reads.invariant in
     let some : 0 < c.loop-reads._reads = grind (arith, common_steps) in
     λ start given at. rw (p.1, p.2) (taken_memory (inv.taken start given at) _ some inv.inside)
 
 pub returns-in_err-make_room-clause-kept : goal.returns-in_err-make_room-clause-kept
 returns-in_err-make_room-clause-kept g c =
-    let p = err_from_is_err_and c.from_residual.result c.from_residual.ensures.1 in
+    let p = err_from_is_err_and c.from_residual-in_err-make_room.result c.from_residual-in_err-make_room.ensures.1 in
     λ start given at. rw (p.1, p.2) (kept_nothing given)
 
 pub returns-in_err-make_room-clause-to_fault : goal.returns-in_err-make_room-clause-to_fault
@@ -27,8 +42,10 @@ returns-in_err-make_room-clause-to_fault g c = λ start given at. taken_to_fault
 
 pub returns-in_default-clause-kept : goal.returns-in_default-clause-kept
 returns-in_default-clause-kept g c =
+    let still = c.requires.leaves _ _ _ c.in_ok-between.ensures in
     let failed : is_err c.read.result ≡ true = grind (arith, common_steps) in
-    λ start given at. taken_before (taken_kept (c.loop-reads.invariant.taken start given at) c.read.result failed c.read.ensures.err)
+    λ start given at.
+    taken_before (taken_kept (taken_still (c.loop-reads.invariant.taken start given at) still) c.read.result failed c.read.ensures.err)
 
 pub returns-in_default-clause-no_fault : goal.returns-in_default-clause-no_fault
 returns-in_default-clause-no_fault g c =
@@ -44,9 +61,11 @@ returns-in_default-clause-to_fault g c =
 
 pub returns-then-count-eq0-clause-ok : goal.returns-then-count-eq0-clause-ok
 returns-then-count-eq0-clause-ok g c =
+    let still = c.requires.leaves _ _ _ c.in_ok-between.ensures in
     let zero : c.in-Ok.count ≡ 0 = grind (arith, common_steps) in
     let behind = rw (c.make_room.ensures.held, zero) at c.in-Ok.ensures.ok in
-    λ start given at. taken_to_end (taken_ended (c.loop-reads.invariant.taken start given at) behind) c.early_end.result (behind.end refl)
+    λ start given at.
+    taken_to_end (taken_ended (taken_still (c.loop-reads.invariant.taken start given at) still) behind) c.early_end.result (behind.end refl)
     (rw c.held.ensures at c.early_end.ensures)
 
 pub returns-then-count-eq0-clause-to_fault : goal.returns-then-count-eq0-clause-to_fault
@@ -62,9 +81,11 @@ returns-in_err-take-clause-err g c =
 
 pub returns-in_err-take-clause-kept : goal.returns-in_err-take-clause-kept
 returns-in_err-take-clause-kept g c =
+    let still = c.requires.leaves _ _ _ c.in_ok-between.ensures in
     let p = err_from_is_err_and c.from_residual-in_err-take.result c.from_residual-in_err-take.ensures.1 in
     let behind = rw (c.make_room.ensures.held) at c.in-Ok.ensures.ok in
-    λ start given at. rw (p.1, p.2) (taken_before_refused (c.loop-reads.invariant.taken start given at) _ behind c.in_err-take.ensures.kept)
+    λ start given at. rw (p.1, p.2)
+    (taken_before_refused (taken_still (c.loop-reads.invariant.taken start given at) still) _ behind c.in_err-take.ensures.kept)
 
 pub returns-in_err-take-clause-to_fault : goal.returns-in_err-take-clause-to_fault
 returns-in_err-take-clause-to_fault g c =
@@ -73,13 +94,14 @@ returns-in_err-take-clause-to_fault g c =
 
 pub loop-reads-preserved : goal.loop-reads-preserved
 loop-reads-preserved g c =
+    let still = c.requires.leaves _ _ _ c.in_ok-between.ensures in
     let inv = c.loop-reads.invariant in
     let behind = rw (c.make_room.ensures.held) at c.in-Ok.ensures.ok in
     let some : 0 < c.in-Ok.count = grind (arith, common_steps) in
     let found = c.in_ok-take.ensures.ok in
     record {
       taken = λ start given at. rw (found.rest_is, found.later_is)
-          (taken_more (inv.taken start given at) c.in-Ok.count found.len behind some found.off found.inside);
+          (taken_more (taken_still (inv.taken start given at) still) c.in-Ok.count found.len behind some found.off found.inside);
       fine = grind (arith, common_steps);
       inside = grind (arith, common_steps);
       short = omega (

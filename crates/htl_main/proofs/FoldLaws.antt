@@ -1,8 +1,7 @@
 -- What an analyst that took a list of segments has of every trace that these are of, and which segments it takes after them.
 use Rattle.std.proofs.Common.{◌≡◌, ◌≢◌, ℕ, ◌+◌, ◌<◌, ◌≤◌, Bool, true, false, cond, List, [], ◌∷◌, ◌++◌, length, length-set, refl, sym, ap, ◌∙◌, subst}
-use Rattle.std.proofs.Common.{inl, inr, ◌⊎◌, arith, append_assoc, Some, None, Option, eq-eqb, eqb, eqb-true, ltb, ltb-true}
+use Rattle.std.proofs.Common.{inl, inr, ◌⊎◌, arith, Some, None, Option, eq-eqb, eqb, eqb-true, ltb, ltb-true}
 use Rattle.std.specs.Prelude.{Contains, ◌↔◌, ◌||◌, count_by, is_some, map, slice_get}
-use Rattle.std.specs.List.{AllByRecursion}
 use Rattle.std.proofs.lemmas.Bool.{and_from, and_parts, cases_Bool, cases_eq, cases_lt, lt-ltb}
 use Rattle.std.proofs.Common.{leb, leb-true, leb-false}
 use Rattle.std.proofs.lemmas.List.Elements.{Contains-append_left}
@@ -14,20 +13,19 @@ use Rattle.htl_event.proofs.Members.{at_member, each_member, some_member}
 use Rattle.htl_segment.specs.Content.{Content, EventsFit, Fits}
 use Rattle.htl_segment.specs.Keys.{run_below}
 use Rattle.htl_segment.specs.Traces.{Trace, HasKey, all_events, key_is_in}
-use Rattle.htl_segment.specs.Versions.{limits_of}
 use Rattle.htl_segment.specs.declared.version.Version.{Version}
 use Rattle.htl_segment.proofs.Traces.{members_agree}
 use Rattle.htl_taken.specs.Gaps.{IsGapBefore, IsGaps, processor_of}
-use Rattle.htl_taken.specs.Numbers.{Numbers, front_at, loose_at, numbers_at, with_loose}
+use Rattle.htl_taken.specs.Numbers.{Numbers, front_at, numbers_at, with_loose}
 use Rattle.htl_taken.specs.declared.gap.Gap.{Gap}
 use Rattle.htl_taken.proofs.Gaps.{gaps_agree}
 use Rattle.htl_taken.proofs.NumberSets.{numbers_at-set_same}
 use Rattle.htl_answers.specs.Parts.{AreEventsOf, Contents}
 use Rattle.htl_analyst.specs.Keys.{HasTaken, keys, number_taken}
 use Rattle.htl_analyst.specs.Moments.{IsLeastLastFolded}
-use Rattle.htl_analyst.specs.Refusals.{HoldsOther, TakeAccepted, TakeRefused}
+use Rattle.htl_analyst.specs.Refusals.{HoldsOther, TakeAccepted}
 use Rattle.htl_analyst.specs.Right.{IsCollection, IsOwned, IsRight, IsState, run_events}
-use Rattle.htl_analyst.specs.States.{State, folded_at, held_at, part_at}
+use Rattle.htl_analyst.specs.States.{State, folded_at, held_at}
 use Rattle.htl_analyst.specs.TakenAll.{HasKeyOf, HasTakenAll}
 use Rattle.htl_analyst.specs.TakenEvents.{taken_events}
 use Rattle.htl_analyst.proofs.Held.{collection_of, number, one_segment}
@@ -38,7 +36,7 @@ use Rattle.htl_analyst.specs.Steps.{taken_as}
 use Rattle.htl_analyst.specs.declared.fault.Took.{Took}
 use Rattle.htl_analyst.specs.declared.fault.Took.TheVariants.{New, Repeat}
 use Rattle.htl_case.specs.Cases.{IsCaseOf}
-use Rattle.htl_case.specs.Complete.{IsCompleteTo, IsFirstMissing, IsUnbrokenTo}
+use Rattle.htl_case.specs.Complete.{IsCompleteTo, IsFirstMissing}
 use Rattle.htl_case.specs.Faults.{key_of}
 use Rattle.htl_case.proofs.Sizes.{size_is}
 use Rattle.htl_main.specs.Completeness.{IsComplete, IsLeastMissing}

@@ -1,5 +1,5 @@
 -- What was taken of the segments that were given, one segment more at a time.
-use Rattle.std.proofs.Common.{◌≡◌, ◌≢◌, ℕ, ◌+◌, ◌<◌, ◌≤◌, ◌-◌, ◌^◌, List, [], ◌∷◌, ◌++◌, length, min, refl, sym, ap, ◌∙◌, subst}
+use Rattle.std.proofs.Common.{◌≡◌, ◌≢◌, ℕ, ◌+◌, ◌<◌, ◌-◌, ◌^◌, List, [], ◌∷◌, ◌++◌, min, refl, sym, ap, ◌∙◌, subst}
 use Rattle.std.proofs.Common.{arith, append_assoc, append-nil, length-append, Some, None, Option, true, false}
 use Rattle.std.specs.Prelude.{Contains, OnOk, Result, Ok, Err, is_some}
 use Rattle.htl_event.proofs.Members.{Contains-here, Contains-nil}
@@ -9,7 +9,7 @@ use Rattle.htl_analyst.specs.States.{State}
 use Rattle.htl_analyst.specs.TakenAll.{HasTakenAll}
 use Rattle.htl_case.specs.declared.fault.CaseFault.{CaseFault}
 use Rattle.htl_main.specs.Folders.{Folds, Keeps, KeepsAll, TookFit, TookNext}
-use Rattle.htl_main.specs.Folding.{Accepts, AreAccepted, AreAcceptedAfter, AreFolded, AreTaken, EndsAt, IsOfPlace, IsUnfit, TakesUpTo, counted}
+use Rattle.htl_main.specs.Folding.{Accepts, AreAcceptedAfter, AreFolded, AreTaken, IsOfPlace, IsUnfit, TakesUpTo}
 use Rattle.htl_main.proofs.FoldLaws.{accepts_next}
 
 not_empty : (xs : List Content) (s : Content) → xs ++ s ∷ [] ≢ []

@@ -1,5 +1,5 @@
 -- For the clauses of private functions: how an analyst takes one segment after another, and what it keeps of them.
-use Rattle.std.specs.Prelude.{◌≡◌, ◌≤◌, ◌<◌, ◌-◌, ◌++◌, ◌∷◌, [], ⊤, ℕ, Bool, true, false, List, Contains, Option, None, Some, length}
+use Rattle.std.specs.Prelude.{◌≡◌, ◌≤◌, ◌<◌, ◌-◌, ◌++◌, ◌∷◌, [], ⊤, ℕ, Bool, true, false, List, Contains, Option, None, Some}
 use Rattle.htl_analyst.specs.Keys.{HasTaken, number_taken}
 use Rattle.htl_analyst.specs.Refusals.{TakeAccepted}
 use Rattle.htl_analyst.specs.States.{State, folded_at}

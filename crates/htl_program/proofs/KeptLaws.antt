@@ -11,7 +11,7 @@ use Rattle.htl_main.specs.declared.folding.Folded.{Folded}
 use Rattle.htl_main.specs.declared.loading.Loaded.{Loaded}
 use Rattle.htl_main.specs.declared.refused.Refused.{Refused}
 use Rattle.htl_program.specs.Asking.{GoesOn, IsSubjectOver, IsTextOver, LeadsTo, ReadsMore, Taken, all_known, inputs, inputs_then, segments}
-use Rattle.htl_program.specs.Loads.{AddsFiles, AreKept, FoldsFiles, HasSubjectIn, HasTextIn, IsCovered, ReadsFiles, is_state}
+use Rattle.htl_program.specs.Loads.{AddsFiles, AreKept, FoldsFiles, HasSubjectIn, HasTextIn, IsCovered, ReadsFiles}
 use Rattle.htl_program.specs.Opened.{Known, Opened, ends, lefts}
 use Rattle.htl_program.specs.declared.kept.Kept.{Kept}
 use Rattle.htl_program.specs.declared.kept.Kept.TheVariants.{Case, State}

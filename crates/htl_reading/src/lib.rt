@@ -17,8 +17,9 @@
 //!
 //! `specs/Sources` says what is left at the end, what is reported and how far a source is read, and
 //! `specs/Taking` what a keeper took of it. In `proofs/`, `TakenLaws` shows which segments reads give,
-//! `FaultLaws` which faults are reported, `KeptLaws` which segments a keeper has after one, and
-//! `PartLaws` that the parts of several workers give the segments of all bytes.
+//! `FaultLaws` which faults are reported, `KeptLaws` which segments a keeper has after one, `ReadLaws`
+//! that a reading is told as well by another value, and `PartLaws` that the parts of several workers
+//! give the segments of all bytes.
 #![tactic(auto)]
 
 mod block;

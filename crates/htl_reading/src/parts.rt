@@ -1,10 +1,10 @@
 //! Parts of a source's bytes, each of which a worker reads.
 
 ghost use Rattle.std.specs.Prelude.{◌≡◌, ◌<◌, ◌^◌, ℕ, List, IfSome, OnOk, OnSome, Some, drop, length};
-ghost use Rattle.std.specs.Prelude.{map, option_map, take};
+ghost use Rattle.std.specs.Prelude.{map, take};
 ghost use Rattle.std.specs.Io.Take.{take_remaining};
 ghost use Rattle.htl_reading.specs.Keepers.{TookAll};
-ghost use Rattle.htl_reading.specs.Parts.{ArePartsOf, IsAnother, IsPartOf, TookInOrder};
+ghost use Rattle.htl_reading.specs.Parts.{ArePartsOf, IsPartOf, TookInOrder};
 
 use crate::reading::read_source;
 use crate::starts::starts;

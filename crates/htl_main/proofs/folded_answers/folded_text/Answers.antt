@@ -1,5 +1,5 @@
 -- The lines are those of the answer over the case of what was taken, of which all events count.
-use Rattle.std.proofs.Common.{◌≡◌, [], None, Some, refl}
+use Rattle.std.proofs.Common.{None, refl}
 use Rattle.std.proofs.lemmas.Result.{IfOk-weaker}
 use Rattle.htl_main.proofs.FoldLaws.{all_count, no_case}
 use Rattle.htl_main.proofs.folded_answers.folded_text.Goals as goal

@@ -1,5 +1,5 @@
 -- The first gap is of the processor whose front is the least missing number.
-use Rattle.std.proofs.Common.{◌≡◌, List, refl, subst, sym}
+use Rattle.std.proofs.Common.{List, refl, subst, sym}
 use Rattle.htl_analyst.specs.Keys.{HasTaken}
 use Rattle.htl_taken.specs.Gaps.{IsGaps}
 use Rattle.htl_taken.specs.declared.gap.Gap.{Gap}

@@ -1,5 +1,5 @@
 -- What was taken stays taken where it is folded.
-use Rattle.std.proofs.Common.{◌≡◌, ◌<◌, ℕ, arith, sym}
+use Rattle.std.proofs.Common.{◌≡◌, ◌<◌, ℕ, arith}
 use Rattle.htl_analyst.proofs.TakenAll.{compact_has_taken_the_same}
 use Rattle.htl_main.proofs.FolderLaws.{folded_too}
 use Rattle.htl_main.proofs.folder.Folder.fold_by.Goals as goal

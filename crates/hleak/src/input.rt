@@ -25,13 +25,6 @@ impl<'a, D: Read> Input<'a, D> {
     {
         Input { device, progress }
     }
-
-    /// Nothing more will be read of it.
-    pub fn end(&self) {
-        if let Some(progress) = self.progress {
-            progress.end();
-        }
-    }
 }
 
 impl<'a> Input<'a, Device> {
@@ -66,6 +59,16 @@ impl<'a> Input<'a, Device> {
         match &self.device {
             Device::File(file) if file.is_unread() => Some(file),
             _ => None,
+        }
+    }
+
+    /// Passes over bytes of a file, which count as read.
+    pub fn pass(&mut self, len: u64) {
+        if let Device::File(file) = &mut self.device {
+            file.pass(len);
+        }
+        if let Some(progress) = self.progress {
+            progress.count(len);
         }
     }
 }

@@ -1,6 +1,7 @@
 //! The inputs of the program as sources, of which several workers may read parts.
 
-ghost use Rattle.std.specs.Prelude.{◌≡◌, false};
+ghost use Rattle.std.specs.Prelude.{◌≡◌, false, is_some};
+ghost use Rattle.hleak.specs.Inputs.{unread_file};
 
 use crate::input::{Device, Input};
 use htl_device::{Failed, Parted, Reading, Source};
@@ -46,16 +47,17 @@ impl<'a> Source for InputSource<'a> {
 impl Parted for InputSource<'_> {
     type Tail = File;
 
+    ghost is_parted = { λ s. is_some (unread_file s.reading.reader.device) };
+
     fn len(&self) -> Option<u64> {
-        self.reading.reader().unread_file()?.len()
+        self.reading.reader.unread_file()?.len()
     }
 
     fn tail(&self, offset: u64) -> Option<File> {
-        self.reading.reader().unread_file()?.tail(offset).ok()
+        self.reading.reader.unread_file()?.tail(offset).ok()
     }
 
-    fn finish(&mut self) {
-        self.reading.reader().end();
-        self.reading.finish();
+    fn pass(&mut self, len: u64) {
+        self.reading.reader.pass(len);
     }
 }

@@ -1,6 +1,6 @@
 -- What reads of a source and writes to a sink leave (this project's own).
 use Rattle.std.specs.Prelude.{◌==◌, ◌&&◌, ◌+◌, ◌-◌, ◌^◌, not, min, ℕ, Bool, true, false, List, Option, Result, Ok, Err, take, length}
-use Rattle.std.specs.Prelude.{if◌then◌else◌, [], drop, option_map}
+use Rattle.std.specs.Prelude.{if◌then◌else◌, drop, option_map}
 use Rattle.std.specs.Io.KnownBytes.{Appends}
 
 -- some first bytes of the text were added to the known bytes
@@ -25,8 +25,3 @@ finds_end (Err e) = false
 -- the known bytes from an offset on
 abbrev pub tail_of : ℕ → Option (List ℕ) → Option (List ℕ)
 tail_of offset known = option_map (drop offset) known
-
--- what is left of a source: nothing, where it was ended, and else what its reader has left
-abbrev pub left_of : Bool → Option (List ℕ) → Option (List ℕ)
-left_of true left = option_map (λ _. []) left
-left_of false left = left

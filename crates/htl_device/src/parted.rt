@@ -1,6 +1,6 @@
 //! Sources that several workers may read at once.
 
-ghost use Rattle.std.specs.Prelude.{◌≡◌, [], IfSome, false, length, option_map, true};
+ghost use Rattle.std.specs.Prelude.{◌≡◌, ◌≤◌, Bool, IfSome, OnSome, false, length, true};
 ghost use Rattle.htl_device.specs.Devices.{tail_of};
 
 use crate::{Reading, Source};
@@ -12,9 +12,13 @@ pub trait Parted: Source {
     /// What reads from a place on.
     type Tail: Read + Send + Drop;
 
+    // Whether it can be read from several places.
+    ghost is_parted: { Self → Bool };
+
     /// The number of bytes that are left, if it can be read from several places.
     fn len(&self) -> Option<u64>
-        ensures { IfSome result (λ len. IfSome (Self.remaining self.now)
+        ensures parted { OnSome result (is_parted self.now ≡ true) }
+        ensures len { IfSome result (λ len. IfSome (Self.remaining self.now)
             (λ bytes. length bytes ≡ len)) };
 
     /// Another reader, of the bytes that are left from an offset on.
@@ -22,18 +26,22 @@ pub trait Parted: Source {
         ensures { IfSome result (λ tail.
             Self.Tail.remaining tail ≡ tail_of offset (Self.remaining self.now)) };
 
-    /// Ends the source, of which all bytes were read in parts.
-    fn finish(&mut self)
-        requires { Self.has_failed self.old ≡ false }
-        ensures bytes { Self.remaining self.new ≡ option_map (λ _. []) (Self.remaining self.old) }
+    /// Passes over the next bytes, which were read by other readers.
+    fn pass(&mut self, len: u64)
+        requires parted { is_parted self.old ≡ true }
+        requires fresh { Self.has_failed self.old ≡ false }
+        requires inside { Self.has_ended self.old ≡ false }
+        ensures bytes { Self.remaining self.new ≡ tail_of len (Self.remaining self.old) }
         ensures fresh { Self.has_failed self.new ≡ false }
-        ensures counts { Self.good_reads self.new ≡ Self.good_reads self.old }
-        ensures ends { Self.has_ended self.new ≡ true };
+        ensures inside { Self.has_ended self.new ≡ false }
+        ensures counts { Self.good_reads self.new ≤ Self.good_reads self.old };
 }
 
 /// A reader of std is read from one place.
 impl<R: Read> Parted for Reading<R> {
     type Tail = Empty;
+
+    ghost is_parted = { λ _. false };
 
     fn len(&self) -> Option<u64> {
         None
@@ -43,7 +51,7 @@ impl<R: Read> Parted for Reading<R> {
         None
     }
 
-    fn finish(&mut self) {
-        self.end();
+    fn pass(&mut self, _len: u64) {
+        unreachable!()
     }
 }

@@ -49,12 +49,11 @@ pub trait Source {
 /// A reader of std as a source.
 #[derive(Drop)]
 pub struct Reading<R> {
-    reader: R,
+    /// The reader, of which the bytes that were read are gone.
+    pub reader: R,
     failed: bool,
     reads: u64,
     ended: bool,
-    /// Whether it was ended without the end being read.
-    is_finished: bool,
 }
 
 impl<R: Read> Reading<R> {
@@ -65,46 +64,28 @@ impl<R: Read> Reading<R> {
         ensures unread { ⟦<Reading<R> as Source>⟧.good_reads result ≡ 0 }
         ensures inside { ⟦<Reading<R> as Source>⟧.has_ended result ≡ false }
         ensures bytes { ⟦<Reading<R> as Source>⟧.remaining result ≡ R.remaining reader }
+        ensures reader { result.reader ≡ reader }
     {
         Reading {
             reader,
             failed: false,
             reads: 0,
             ended: false,
-            is_finished: false,
         }
-    }
-
-    /// The reader, of which the bytes that were read are gone.
-    pub fn reader(&self) -> &R
-        ensures { ⟦<Reading<R> as Source>⟧.has_ended self.now ≡ false
-            → R.remaining result.now ≡ ⟦<Reading<R> as Source>⟧.remaining self.now }
-    {
-        &self.reader
-    }
-
-    /// Ends the source. Nothing more is read of it.
-    pub(crate) fn end(&mut self)
-        ensures { self.new ≡ record self.old { is_finished = true } }
-    {
-        self.is_finished = true;
     }
 }
 
 impl<R: Read> Source for Reading<R> {
-    ghost use Rattle.std.specs.Prelude.{◌||◌};
-    ghost use Rattle.htl_device.specs.Devices.{left_of};
-
-    ghost remaining = { λ s. left_of s.is_finished (R.remaining s.reader) };
+    ghost remaining = { λ s. R.remaining s.reader };
 
     ghost has_failed = { λ s. s.failed };
 
     ghost good_reads = { λ s. s.reads };
 
-    ghost has_ended = { λ s. s.ended || s.is_finished };
+    ghost has_ended = { λ s. s.ended };
 
     fn ended(&self) -> bool {
-        self.ended || self.is_finished
+        self.ended
     }
 
     fn read(&mut self, buffer: &mut [u8]) -> Result<usize, Failed> {

@@ -74,7 +74,8 @@ always (Err fault) holds = tt
 module _ {R T : Type 0} (has_failed has_ended : R → Bool) (good_reads : R → ℕ) (remaining : R → Option (List ℕ))
     (place : ℕ) (old new : R) where
   -- so it is read as a source of the run, whatever is made of its segments
-  decoded_well : {S : Type 0} (made : S) (value : T) → IsSourceRead MAX_READS has_failed has_ended good_reads remaining old new (made_of made)
+  decoded_well : {S : Type 0} (made : S) (value : T)
+      → IsSourceRead MAX_READS has_failed has_ended good_reads remaining (remaining old) old new (made_of made)
       → IsRead false MAX_READS has_failed has_ended good_reads remaining place old new (well value)
   decoded_well made value is = record {
     ended = is.ended;
@@ -88,7 +89,7 @@ module _ {R T : Type 0} (has_failed has_ended : R → Bool) (good_reads : R → 
 
   -- or as one that ends within a segment and may not
   decoded_early : {S : Type 0} (made : S) (fault : RunFault) → IsSegmentOf place fault
-      → IsSourceRead MAX_READS has_failed has_ended good_reads remaining old new (made_of made)
+      → IsSourceRead MAX_READS has_failed has_ended good_reads remaining (remaining old) old new (made_of made)
       → IsRead false MAX_READS has_failed has_ended good_reads remaining place old new (ill {S = T} fault)
   decoded_early made fault segment is = rw (segment.2) record {
     ended = tt;
@@ -101,13 +102,15 @@ module _ {R T : Type 0} (has_failed has_ended : R → Bool) (good_reads : R → 
   }
 
   pub accepted_read : {S : Type 0} (made : S) (result : Result T RunFault) → IfErr result (IsSegmentOf place)
-      → IsSourceRead MAX_READS has_failed has_ended good_reads remaining old new (made_of made)
+      → IsSourceRead MAX_READS has_failed has_ended good_reads remaining (remaining old) old new (made_of made)
       → IsRead false MAX_READS has_failed has_ended good_reads remaining place old new result
   accepted_read made (Ok value) segment is = decoded_well made value is
   accepted_read made (Err fault) segment is = decoded_early made fault segment is
 
   -- or as one with a fault
-  pub decoded_ill : {S : Type 0} (fault : SourceFault) → IsSourceRead MAX_READS has_failed has_ended good_reads remaining old new (told {S = S} fault)
+  pub decoded_ill : {S : Type 0} (fault : SourceFault)
+      → IsSourceRead MAX_READS has_failed has_ended good_reads remaining (remaining old) old new
+      (told {S = S} fault)
       → IsRead false MAX_READS has_failed has_ended good_reads remaining place old new (ill {S = T} (of_source place fault))
   decoded_ill {S} fault is = record {
     ended = tt;

@@ -9,6 +9,7 @@ ghost use Rattle.htl_main.specs.Folders.{IsFallen, IsNewTo, Keeps, TookFit, fold
 use htl_analyst::{Analyst, TakeFault};
 use htl_case::CaseFault;
 use htl_event::NoMemory;
+use htl_reading::SegmentKeeper;
 use htl_segment::{Keeper, Segment, SegmentBytes, StackCache};
 use std::alloc::Global;
 use std::thread::Threads;
@@ -54,7 +55,7 @@ impl Folder {
     }
 
     /// Takes the next segment, or finds that it is unfit.
-    fn take_segment(&mut self, alloc: Global, segment: Segment) -> Result<(), NoMemory>
+    fn take_next(&mut self, alloc: Global, segment: Segment) -> Result<(), NoMemory>
         requires { self.old.unfit ≡ None }
         ensures { (first : Option State) (given : List Content)
             → Folds first self.old.analyst self.old.unfit self.old.segments given
@@ -115,11 +116,17 @@ impl Keeper for Folder {
     ghost gathers = { folds_of };
 
     fn take(&mut self, alloc: Global, found: &SegmentBytes<'_>) -> Result<(), NoMemory> {
+        let segment = found.to_segment_with(alloc, &mut self.cache)?;
+        self.take_segment(alloc, segment)
+    }
+}
+
+impl SegmentKeeper for Folder {
+    fn take_segment(&mut self, alloc: Global, segment: Segment) -> Result<(), NoMemory> {
         if self.unfit.is_some() {
             return Ok(());
         }
-        let segment = found.to_segment_with(alloc, &mut self.cache)?;
-        self.take_segment(alloc, segment)
+        self.take_next(alloc, segment)
     }
 }
 

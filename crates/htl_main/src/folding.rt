@@ -109,7 +109,7 @@ pub fn load_folded<Rt: Threads + Sync, R: Parted>(
 }
 
 /// Reads sources one after another and folds their segments as they come, after those that were folded
-/// before. One worker reads, and several fold what it read, between its reads.
+/// before. Several workers read and fold in turn, some hundred megabytes at a time.
 ///
 /// Each source is read to its end, also behind a segment that is unfit, whose fault is reported where no
 /// source has one. What was taken before a fault stays and counts: a mended source can be read again,
@@ -314,7 +314,7 @@ fn read_input<Rt: Threads + Sync, R: Parted>(
     let fold = |folder: &mut Folder| -> Result<(), NoMemory>
         ensures { OnOk result (Took folds_of folder.old folder.new []) }
     { folder.fold_if_full(rt, setting.workers) };
-    match take_source(alloc, source, folder, &fold) {
+    match take_source(rt, alloc, setting.workers, source, folder, &fold) {
         Ok(end) => check_end(setting.form, place, end),
         Err(fault) => Err(RunFault::of_source(place, fault)),
     }

@@ -1,18 +1,19 @@
 -- What several workers take of the parts of some bytes: the segments of all bytes, in order.
 use Rattle.std.proofs.Common.{◌≡◌, ◌+◌, ◌<◌, ◌≤◌, ℕ, List, [], ◌∷◌, ◌++◌, length, drop, take, refl, sym, ap, ◌∙◌, append_assoc, append-nil}
-use Rattle.std.proofs.Common.{arith, inl, subst, Bool, Option, option_map, Some, None, IfSome, map, slice_index_or}
+use Rattle.std.proofs.Common.{All, arith, false, subst, Bool, Option, Some, None, IfSome, map, slice_index_or}
 use native.Mathlib.Numerals.{unary_clauses}
 use Rattle.std.proofs.Math.Seq.{take-add}
-use Rattle.std.proofs.lemmas.List.{length-drop, take_all, take-append-drop}
+use Rattle.std.proofs.lemmas.List.{length-append, length-take-le, take-append-drop}
 use Rattle.std.specs.Io.Take.{take_remaining}
 use Rattle.htl_segment.specs.Content.{Content, Fits}
-use Rattle.htl_segment.specs.Bundles.{Splits}
+use Rattle.htl_segment.specs.Bundles.{Splits, bundle}
 use Rattle.htl_segment.proofs.PiecesLaws.{splits_after}
-use Rattle.htl_reading.specs.Keepers.{TookAll, taken}
-use Rattle.htl_reading.specs.Sources.{IsReadToFault, IsReported}
-use Rattle.htl_reading.specs.declared.fault.SourceFault.TheVariants.{NoMemory}
-use Rattle.htl_reading.proofs.FaultLaws.{begins_none, first_begins, read_without_fault}
-use Rattle.htl_reading.proofs.TakenLaws.{nothing_read}
+use Rattle.std.specs.Io.KnownBytes.{Consumes}
+use Rattle.htl_device.specs.Devices.{tail_of}
+use Rattle.htl_reading.specs.Keepers.{IsTakenOf, IsTakenTo, TookAll, taken}
+use Rattle.htl_reading.specs.Sources.{AsksMemory, IsReadToFault}
+use Rattle.htl_reading.proofs.FaultLaws.{begins_none, read_without_fault, taken_next}
+use Rattle.htl_reading.proofs.TakenLaws.{asked}
 use Rattle.std.proofs.lemmas.List.Elements.{All-nil}
 use Rattle.htl_reading.specs.Parts.{ArePartsOf, IsAnother, IsPartOf, TookInOrder}
 use Rattle.htl_reading.specs.declared.parts.Part.{Part}
@@ -44,16 +45,6 @@ module _ {K R : Type 0} (gathers : K → K → List Content → Type 0) (remaini
   part_behind (Some bytes) parts part from len to is are behind =
       rw (is, take-add from len bytes) (parts_more parts part (take from bytes) (take len (drop from bytes)) are behind)
 
-  -- and the last one
-  pub last_part : (given : Option (List ℕ)) (parts : List (Part R K)) (part : Part R K) (from len : ℕ)
-      → IfSome given (λ bytes. ArePartsOf gathers remaining keeper parts (take from bytes))
-      → IfSome given (λ bytes. IsPartOf gathers remaining keeper part (take len (drop from bytes)))
-      → IfSome given (λ bytes. length bytes ≤ len → ArePartsOf gathers remaining keeper (parts ++ part ∷ []) bytes)
-  last_part None parts part from len are behind = tt
-  last_part (Some bytes) parts part from len are behind = λ few.
-      let rest : take len (drop from bytes) ≡ drop from bytes = take_all len (drop from bytes) (omega (arith, few, length-drop from bytes)) in
-      rw (take-append-drop from bytes) at (parts_more parts part (take from bytes) (drop from bytes) are (rw rest at behind))
-
   -- the worker of a part took its segments, or none
   abbrev pub Gathers : Part R K → Option K → Type 0
   Gathers part outcome = IfSome outcome (λ new. IfSome (take_remaining remaining part.bytes) (TookAll gathers part.keeper new))
@@ -80,11 +71,11 @@ module _ {K R : Type 0} (gathers : K → K → List Content → Type 0) (remaini
 
 -- ---- what the keepers took
 
-module _ {K : Type 0} (gathers : K → K → List Content → Type 0) (start : K) where
+module _ {P : Type 0} (gathers : P → P → List Content → Type 0) (part : P) where
   -- all but the last took the bytes before those of the last
-  order_last : (before : List K) (last : K) (bytes : List ℕ) → TookInOrder gathers start (before ++ last ∷ []) bytes
-      → (front : List ℕ) × (piece : List ℕ) × (segments : List Content) × (bytes ≡ front ++ piece) × TookInOrder gathers start before front
-      × Splits piece segments [] × IsAnother gathers start last segments
+  order_last : (before : List P) (last : P) (bytes : List ℕ) → TookInOrder gathers part (before ++ last ∷ []) bytes
+      → (front : List ℕ) × (piece : List ℕ) × (segments : List Content) × (bytes ≡ front ++ piece) × TookInOrder gathers part before front
+      × Splits piece segments [] × IsAnother gathers part last segments
   order_last [] last bytes took =
       ([], took.0, took.2, took.3 ∙ ap (λ (l : List ℕ). took.0 ++ l) took.6 ∙ append-nil took.0, refl, took.4, took.5)
   order_last (first ∷ before) last bytes took =
@@ -98,22 +89,8 @@ module _ {K : Type 0} (gathers : K → K → List Content → Type 0) (start : K
         more.6,
       )
 
-  -- the segments of one more stand behind those before it
-  pub took_last : (mid new : K) (before : List K) (last : K)
-      → ((bytes : List ℕ) → TookInOrder gathers start before bytes → TookAll gathers start mid bytes)
-      → ((kind : K) (segments more : List Content) → gathers kind mid segments → gathers kind last more → gathers kind new (segments ++ more))
-      → (bytes : List ℕ) → TookInOrder gathers start (before ++ last ∷ []) bytes → TookAll gathers start new bytes
-  took_last mid new before last so_far put bytes took =
-      let parts = order_last before last bytes took in
-      let had = so_far parts.0 parts.4 in
-      let all : Splits (parts.0 ++ parts.1) (had.0 ++ parts.2) [] = splits_after parts.0 parts.1 [] had.0 parts.2 had.1 parts.5 in (
-        had.0 ++ parts.2,
-        subst (λ (l : List ℕ). Splits l (had.0 ++ parts.2) []) (sym parts.3) all,
-        λ kind was is. rw (← append_assoc was had.0 parts.2) (put kind (was ++ had.0) parts.2 (had.2 kind was is) (parts.6 kind was is)),
-      )
-
   -- so they took the segments that the bytes are
-  order_splits : (keepers : List K) (bytes : List ℕ) → TookInOrder gathers start keepers bytes
+  pub order_splits : (keepers : List P) (bytes : List ℕ) → TookInOrder gathers part keepers bytes
       → (segments : List Content) × Splits bytes segments []
   order_splits [] bytes took = ([], record { parts = took; fits = All-nil Fits })
   order_splits (first ∷ keepers) bytes took =
@@ -121,22 +98,105 @@ module _ {K : Type 0} (gathers : K → K → List Content → Type 0) (start : K
       let all : Splits (took.0 ++ took.1) (took.2 ++ more.0) [] = splits_after took.0 took.1 [] took.2 more.0 took.4 more.1 in
       (took.2 ++ more.0, subst (λ (l : List ℕ). Splits l (took.2 ++ more.0) []) (sym took.3) all)
 
-  -- and memory to put them together is asked for where the first one begins
-  pub order_asks : (keepers : List K) (given left : Option (List ℕ)) (ended : Bool) → IfSome given (TookInOrder gathers start keepers)
-      → IfSome given (λ bytes. 0 < length bytes) → IfSome given (λ bytes. IsReported left ended bytes NoMemory)
-  order_asks keepers None left ended took some = tt
-  order_asks keepers (Some bytes) left ended took some =
-      let all = order_splits keepers bytes took in
-      inl (0, first_begins bytes [] all.0 all.1 (begun all.0 all.1))
-    where
-      begun : (segments : List Content) → Splits bytes segments [] → 0 < length segments
-      begun [] split = absurd (omega (arith, some, ap length split.parts))
-      begun (s ∷ segments) split = omega arith
+  -- a keeper that takes over the segments of one more has those of all
+  pub took_last : {K : Type 0} (all : K → K → List Content → Type 0) (start mid new : K) (before : List P) (last : P)
+      → ((bytes : List ℕ) → TookInOrder gathers part before bytes → TookAll all start mid bytes)
+      → ((kind : K) (was segments more : List Content) → all kind start was → all kind mid segments → IsAnother gathers part last more
+      → all kind new (segments ++ more))
+      → (bytes : List ℕ) → TookInOrder gathers part (before ++ last ∷ []) bytes → TookAll all start new bytes
+  took_last all start mid new before last so_far put bytes took =
+      let parts = order_last before last bytes took in
+      let had = so_far parts.0 parts.4 in
+      let whole : Splits (parts.0 ++ parts.1) (had.0 ++ parts.2) [] = splits_after parts.0 parts.1 [] had.0 parts.2 had.1 parts.5 in (
+        had.0 ++ parts.2,
+        subst (λ (l : List ℕ). Splits l (had.0 ++ parts.2) []) (sym parts.3) whole,
+        λ kind was is. rw (← append_assoc was had.0 parts.2) (put kind was (was ++ had.0) parts.2 is (had.2 kind was is) parts.6),
+      )
 
-  -- where all were taken, no fault was read
-  pub order_read : (most : ℕ) (keepers : List K) (given left : Option (List ℕ)) → left ≡ option_map (λ _. []) given
-      → IfSome given (TookInOrder gathers start keepers) → IsReadToFault most given left
-  order_read most keepers None left is took = rw is (nothing_read most None)
-  order_read most keepers (Some bytes) left is took =
-      let all = order_splits keepers bytes took in
-      rw is (read_without_fault most (Some bytes) (Some []) all.0 [] all.1.fits begins_none (all.1.parts ∙ sym (append-nil (taken all.0 []))))
+-- ---- passing over segments
+
+-- these are the segments of the bytes that a source gave, passed over to the end of others
+passed_over : (segments more : List Content) (bytes ys : List ℕ) (len : ℕ) → All Fits segments
+    → Consumes (Some bytes) (Some ys) (taken segments []) → len ≤ length ys → Splits (take len ys) more []
+    → Splits (taken segments [] ++ take len ys) (segments ++ more) []
+    × Consumes (Some bytes) (Some (drop len ys)) (taken (segments ++ more) [])
+passed_over segments more bytes ys len fits given few split =
+    taken_next (Some bytes) (Some ys) (Some (drop len ys)) segments more [] [] (take len ys) fits given (sym (take-append-drop len ys)) split
+
+-- so many bytes are left, and are segments
+abbrev pub AreThere : ℕ → Option (List ℕ) → Type 0
+AreThere len left = IfSome left (λ bytes. (len ≤ length bytes) × (segments : List Content) × Splits (take len bytes) segments [])
+
+module _ {S K : Type 0} (gathers : S → K → List Content → Type 0) (start mid : K) (offset len : ℕ) where
+  of_passed : {new : K} {bytes ys : List ℕ} → IsTakenOf gathers start mid bytes (Some ys) [] offset 0 → len ≤ length ys
+      → TookAll gathers mid new (take len ys) → IsTakenOf gathers start new bytes (Some (drop len ys)) [] (offset + len) 0
+  of_passed {bytes = bytes} {ys = ys} at few took =
+      let next = passed_over at.segments took.0 bytes ys len at.fits at.read few took.1 in
+      record {
+        segments = at.segments ++ took.0;
+        fits = next.0.fits;
+        offset_is = omega (
+          arith,
+          few,
+          at.offset_is,
+          ap length next.0.parts,
+          length-append (taken at.segments []) (take len ys),
+          length-append (bundle at.segments) [],
+          length-append (bundle (at.segments ++ took.0)) [],
+          length-take-le len ys few,
+        );
+        is_rest = begins_none;
+        read = next.1;
+        each = omega arith;
+        took = λ kind before was. rw (← append_assoc before at.segments took.0) (took.2 kind (before ++ at.segments)
+            (at.took kind before was));
+      }
+
+  -- what is left of a source that passed over them
+  abbrev pub Passed : K → Option (List ℕ) → Type 0
+  Passed new left = IfSome left (λ bytes. (len ≤ length bytes) × TookAll gathers mid new (take len bytes))
+
+  known_passed : (new : K) (given left : Option (List ℕ))
+      → IfSome given (λ bytes. IsTakenOf gathers start mid bytes left [] offset 0) → Passed new left
+      → IfSome given (λ bytes. IsTakenOf gathers start new bytes (tail_of len left) [] (offset + len) 0)
+  known_passed new None left at took = tt
+  known_passed new (Some bytes) None at took = absurd at.read
+  known_passed new (Some bytes) (Some ys) at took = of_passed at took.0 took.1
+
+  pub taken_passed : (new : K) {given left : Option (List ℕ)} → IsTakenTo gathers start mid given left [] offset 0 → Passed new left
+      → IsTakenTo gathers start new given (tail_of len left) [] (offset + len) 0
+  taken_passed new {given = given} {left = left} at took = record { known = known_passed new given left at.known took }
+
+  -- memory to take them is asked for where the first one begins
+  known_memory : (given left : Option (List ℕ)) (ended : Bool) → 0 < len → ended ≡ false
+      → IfSome given (λ bytes. IsTakenOf gathers start mid bytes left [] offset 0) → AreThere len left
+      → IfSome given (AsksMemory (tail_of len left) ended)
+  known_memory None left ended some not_ended at there = tt
+  known_memory (Some bytes) None ended some not_ended at there = absurd at.read
+  known_memory (Some bytes) (Some ys) ended some not_ended at there =
+      let next = passed_over at.segments there.1 bytes ys len at.fits at.read there.0 there.2 in
+      asked (Some bytes) (Some (drop len ys)) ended (at.segments ++ there.1) [] next.0.fits begins_none next.1 (omega (
+        arith,
+        some,
+        ap length next.0.parts,
+        length-append (taken at.segments []) (take len ys),
+        length-append (bundle (at.segments ++ there.1)) [],
+        length-take-le len ys there.0,
+      )) not_ended
+
+  pub passed_memory : {given left : Option (List ℕ)} (ended : Bool) → 0 < len → ended ≡ false
+      → IsTakenTo gathers start mid given left [] offset 0 → AreThere len left → IfSome given (AsksMemory (tail_of len left) ended)
+  passed_memory {given = given} {left = left} ended some not_ended at there = known_memory given left ended some not_ended at.known there
+
+  -- and no fault was read
+  known_read : (given left : Option (List ℕ)) (most : ℕ) → IfSome given (λ bytes. IsTakenOf gathers start mid bytes left [] offset 0)
+      → AreThere len left → IsReadToFault most given (tail_of len left)
+  known_read None left most at there = read_without_fault most None (tail_of len left) [] [] (All-nil Fits) begins_none tt
+  known_read (Some bytes) None most at there = absurd at.read
+  known_read (Some bytes) (Some ys) most at there =
+      let next = passed_over at.segments there.1 bytes ys len at.fits at.read there.0 there.2 in
+      read_without_fault most (Some bytes) (Some (drop len ys)) (at.segments ++ there.1) [] next.0.fits begins_none next.1
+
+  pub passed_read : {given left : Option (List ℕ)} (most : ℕ) → IsTakenTo gathers start mid given left [] offset 0 → AreThere len left
+      → IsReadToFault most given (tail_of len left)
+  passed_read {given = given} {left = left} most at there = known_read given left most at.known there

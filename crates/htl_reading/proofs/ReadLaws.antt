@@ -1,6 +1,8 @@
--- A source is read as a call says that ends with another value, or with the same fault.
-use Rattle.std.proofs.Common.{◌≡◌, ℕ, Bool, List, Option, Result, Ok, Err, ap}
-use Rattle.htl_reading.specs.Sources.{IsSourceRead}
+-- A source is read as a call says that ends with another value, or with the same fault; and how one is read that hasn't failed.
+use Rattle.std.proofs.Common.{◌≡◌, ◌≢◌, ◌≤◌, ◌+◌, ℕ, Bool, false, true, List, Option, Result, Ok, Err, ap, arith}
+use Rattle.std.specs.Prelude.{OnOk}
+use Rattle.htl_device.specs.declared.source.TheConstants.{MAX_READ_LEN}
+use Rattle.htl_reading.specs.Sources.{IsReadToFault, IsSourceRead}
 use Rattle.htl_reading.specs.declared.fault.SourceFault.{SourceFault}
 use Rattle.htl_reading.specs.declared.fault.SourceFault.TheVariants.{Read}
 
@@ -14,9 +16,9 @@ same_fault : {S T : Type 0} (fault other : SourceFault) → ill {S = S} fault �
 same_fault {S} {T} fault other is = ap (ill {S = T}) (cc is)
 
 module _ {R S T : Type 0} (most : ℕ) (has_failed has_ended : R → Bool) (good_reads : R → ℕ) (remaining : R → Option (List ℕ))
-    (old new : R) where
-  pub read_well : (value : S) (other : T) → IsSourceRead most has_failed has_ended good_reads remaining old new (well value)
-      → IsSourceRead most has_failed has_ended good_reads remaining old new (well other)
+    (given : Option (List ℕ)) (old new : R) where
+  pub read_well : (value : S) (other : T) → IsSourceRead most has_failed has_ended good_reads remaining given old new (well value)
+      → IsSourceRead most has_failed has_ended good_reads remaining given old new (well other)
   read_well value other is = record {
     ended = is.ended;
     reported = λ failed. absurd (cc (is.reported failed));
@@ -26,13 +28,41 @@ module _ {R S T : Type 0} (most : ℕ) (has_failed has_ended : R → Bool) (good
     to_fault = is.to_fault;
   }
 
-  pub read_ill : (fault : SourceFault) → IsSourceRead most has_failed has_ended good_reads remaining old new (ill {S = S} fault)
-      → IsSourceRead most has_failed has_ended good_reads remaining old new (ill {S = T} fault)
+  pub read_ill : (fault : SourceFault) → IsSourceRead most has_failed has_ended good_reads remaining given old new (ill {S = S} fault)
+      → IsSourceRead most has_failed has_ended good_reads remaining given old new (ill {S = T} fault)
   read_ill fault is = record {
     ended = tt;
     reported = λ failed. same_fault {S = S} {T = T} fault Read (is.reported failed);
     read = λ same. is.read (same_fault {S = T} {T = S} fault Read same);
     no_fault = λ same. is.no_fault (same_fault {S = T} {T = S} fault Read same);
     bounded = is.bounded;
+    to_fault = is.to_fault;
+  }
+
+module _ {R S : Type 0} (most : ℕ) (has_failed has_ended : R → Bool) (good_reads : R → ℕ) (remaining : R → Option (List ℕ))
+    (given : Option (List ℕ)) (old new : R) where
+  -- where no read failed
+  pub read_fine : (result : Result S SourceFault) → result ≢ Err Read → has_failed new ≡ false → OnOk result (has_ended new ≡ true)
+      → good_reads new ≤ good_reads old + most → IsReadToFault MAX_READ_LEN given (remaining new)
+      → IsSourceRead most has_failed has_ended good_reads remaining given old new result
+  read_fine result other fine ended bounded to_fault = record {
+    ended = ended;
+    reported = λ failed. absurd (cc (failed, fine));
+    read = λ same. absurd (other same);
+    no_fault = λ same. absurd (other same);
+    bounded = bounded;
+    to_fault = to_fault;
+  }
+
+  -- where a source was passed over before it was read so
+  pub read_later : (mid : R) (result : Result S SourceFault) → good_reads mid ≤ good_reads old
+      → IsSourceRead most has_failed has_ended good_reads remaining given mid new result
+      → IsSourceRead most has_failed has_ended good_reads remaining given old new result
+  read_later mid result fewer is = record {
+    ended = is.ended;
+    reported = is.reported;
+    read = is.read;
+    no_fault = is.no_fault;
+    bounded = (let bounded = is.bounded in omega (arith, bounded, fewer));
     to_fault = is.to_fault;
   }

@@ -5,6 +5,7 @@ use Rattle.std.specs.Prelude.{is_err, OnErr}
 use Rattle.std.proofs.KnownBytes.{Consumes-kept, Consumes-nil, Consumes-trans, Consumes-whole}
 use Rattle.std.proofs.lemmas.List.{drop-append-le, drop-drop, drop-take, length-append, length-drop, length-take-le, nil_from_length}
 use Rattle.std.proofs.lemmas.List.Elements.{All-nil}
+use Rattle.std.proofs.lemmas.Option.{IfSome_then}
 use Rattle.std.proofs.lemmas.Slice.{between_is}
 use Rattle.std.proofs.Math.Seq.{take-append-add}
 use Rattle.std.specs.Io.KnownBytes.{Consumes, IsAtEnd, Keeps, ReadConsumes}
@@ -14,9 +15,9 @@ use Rattle.htl_segment.specs.Keepers.{Took}
 use Rattle.htl_segment.specs.declared.fault.Fault.TheVariants as faults
 use Rattle.htl_reading.specs.declared.fault.SourceFault.{SourceFault}
 use Rattle.htl_reading.specs.declared.fault.SourceFault.TheVariants.{NoMemory, Read}
-use Rattle.htl_reading.specs.Keepers.{IsTakenOff, IsTakenTo, taken}
+use Rattle.htl_reading.specs.Keepers.{IsTakenOf, IsTakenOff, IsTakenTo, taken}
 use Rattle.htl_reading.specs.Blocks.{IsKeptAt, IsReadBehind, IsRefusedAt}
-use Rattle.htl_reading.specs.Sources.{IsLeft, IsReadToFault, IsReported}
+use Rattle.htl_reading.specs.Sources.{AsksMemory, IsLeft, IsReadToFault, IsReported}
 use Rattle.htl_reading.specs.Taking.{TookBefore, TookToEnd}
 use Rattle.htl_reading.specs.declared.outcome.EarlyEnd.{EarlyEnd}
 use Rattle.htl_reading.proofs.FaultLaws.{begins_none, first_begins, given_many, read_more, read_without_fault, refusal_reported}
@@ -59,7 +60,7 @@ first_refused given left piece ended fault read refused =
     refusal_reported given left ended [] piece 0 fault (All-nil Fits) refl read refused
 
 -- memory, while the end isn't found
-asked : (given left : Option (List ℕ)) (ended : Bool) (segments : List Content) (rest : List ℕ) → All Fits segments → IsRest rest
+pub asked : (given left : Option (List ℕ)) (ended : Bool) (segments : List Content) (rest : List ℕ) → All Fits segments → IsRest rest
     → Consumes given left (taken segments rest) → 0 < length (taken segments rest) → ended ≡ false
     → IfSome given (λ bytes. IsReported left ended bytes NoMemory)
 asked None left ended segments rest fits is_rest read some not_ended = tt
@@ -84,33 +85,33 @@ after_rest segments rest piece held is = append_assoc (bundle segments) rest pie
 
 -- ---- the segments that were taken
 
-module _ {S K : Type 0} {gathers : S → K → List Content → Type 0} {old new : K} {given left : Option (List ℕ)} {rest : List ℕ} {offset reads : ℕ}
-    (at : IsTakenTo gathers old new given left rest offset reads) where
+module _ {S K : Type 0} {gathers : S → K → List Content → Type 0} {old new : K} {bytes : List ℕ} {left : Option (List ℕ)} {rest : List ℕ}
+    {offset reads : ℕ} (at : IsTakenOf gathers old new bytes left rest offset reads) where
   -- ---- one read more
 
   read_behind : {last : Option (List ℕ)} {held : List ℕ} {count : ℕ} → IsReadBehind left last rest held count
-      → Consumes given last (taken at.segments held)
+      → Consumes (Some bytes) last (taken at.segments held)
   read_behind {last = last} {held = held} behind =
-      subst (Consumes given last) (after_rest at.segments rest behind.more held behind.held)
-      (Consumes-trans given left last (taken at.segments rest) behind.more at.read behind.read)
+      subst (Consumes (Some bytes) last) (after_rest at.segments rest behind.more held behind.held)
+      (Consumes-trans (Some bytes) left last (taken at.segments rest) behind.more at.read behind.read)
 
   -- that failed
-  pub taken_kept : {E : Type 0} {last : Option (List ℕ)} (result : Result ℕ E) → is_err result ≡ true → OnErr result (Keeps left last)
-      → IsTakenTo gathers old new given last rest offset reads
-  taken_kept (Ok n) failed kept = absurd cc
-  taken_kept {last = last} (Err e) failed kept = record {
+  of_kept : {E : Type 0} {last : Option (List ℕ)} (result : Result ℕ E) → is_err result ≡ true → OnErr result (Keeps left last)
+      → IsTakenOf gathers old new bytes last rest offset reads
+  of_kept (Ok n) failed kept = absurd cc
+  of_kept {last = last} (Err e) failed kept = record {
     segments = at.segments;
     fits = at.fits;
     offset_is = at.offset_is;
     is_rest = at.is_rest;
-    read = Consumes-kept given left last (taken at.segments rest) at.read kept;
+    read = Consumes-kept (Some bytes) left last (taken at.segments rest) at.read kept;
     each = at.each;
     took = at.took;
   }
 
   -- a call of the keeper that takes none
-  pub taken_still : {next : K} → Took gathers new next [] → IsTakenTo gathers old next given left rest offset reads
-  taken_still {next = next} still = record {
+  of_still : {next : K} → Took gathers new next [] → IsTakenOf gathers old next bytes left rest offset reads
+  of_still {next = next} still = record {
     segments = at.segments;
     fits = at.fits;
     offset_is = at.offset_is;
@@ -121,9 +122,9 @@ module _ {S K : Type 0} {gathers : S → K → List Content → Type 0} {old new
   }
 
   -- that found the end
-  pub taken_ended : {last : Option (List ℕ)} {held : List ℕ} → IsReadBehind left last rest held 0
-      → IsTakenTo gathers old new given last held offset reads
-  taken_ended {last = last} {held = held} behind =
+  of_ended : {last : Option (List ℕ)} {held : List ℕ} → IsReadBehind left last rest held 0
+      → IsTakenOf gathers old new bytes last held offset reads
+  of_ended {last = last} {held = held} behind =
       let none : behind.more ≡ [] = nil_from_length behind.more behind.count_is in
       let same : rest ≡ held = sym (behind.held ∙ ap (λ (l : List ℕ). rest ++ l) none ∙ append-nil rest) in
       record {
@@ -137,14 +138,14 @@ module _ {S K : Type 0} {gathers : S → K → List Content → Type 0} {old new
       }
 
   -- that gave some bytes, of which segments were taken
-  pub taken_more : {next : K} {last : Option (List ℕ)} {held : List ℕ} (count len : ℕ) → IsReadBehind left last rest held count → 0 < count
+  of_more : {next : K} {last : Option (List ℕ)} {held : List ℕ} (count len : ℕ) → IsReadBehind left last rest held count → 0 < count
       → IsTakenOff gathers new next held len → len ≤ length held
-      → IsTakenTo gathers old next given last (drop len held) (offset + len) (reads + 1)
-  taken_more {last = last} {held = held} count len behind some off inside =
+      → IsTakenOf gathers old next bytes last (drop len held) (offset + len) (reads + 1)
+  of_more {last = last} {held = held} count len behind some off inside =
       let piece = behind.more in
       let left_of : List ℕ = drop len held in
       let split : Splits (rest ++ piece) off.segments left_of = rw (← behind.held) off.splits in
-      let next = taken_next given left last at.segments off.segments rest left_of piece at.fits at.read behind.read split in
+      let next = taken_next (Some bytes) left last at.segments off.segments rest left_of piece at.fits at.read behind.read split in
       let total : length (taken at.segments rest) + length piece ≡ length (taken (at.segments ++ off.segments) left_of) =
       sym (length-append (taken at.segments rest) piece) ∙ ap length next.0.parts in
       record {
@@ -170,102 +171,165 @@ module _ {S K : Type 0} {gathers : S → K → List Content → Type 0} {old new
 
   -- ---- the end of a source
 
-  pub taken_to_end : (early_end : Option EarlyEnd) → IsAtEnd left
+  of_to_end : (early_end : Option EarlyEnd) → IsAtEnd left
       → ((segments : List Content) → offset ≡ length (bundle segments) → IsRest rest → IsLeft segments rest early_end)
-      → IfSome given (TookToEnd gathers old new early_end)
-  taken_to_end early_end end is_left =
-      Consumes-whole given left (taken at.segments rest) (TookToEnd gathers old new early_end) at.read end
+      → TookToEnd gathers old new early_end bytes
+  of_to_end early_end end is_left =
+      Consumes-whole (Some bytes) left (taken at.segments rest) (TookToEnd gathers old new early_end) at.read end
       (at.segments, rest, taken_splits at.segments rest at.fits, is_left at.segments at.offset_is at.is_rest, at.took)
 
   -- ---- what is reported
 
   -- what was held, and read after it, was refused
-  pub taken_refused : {last : Option (List ℕ)} {held : List ℕ} {count : ℕ} (ended : Bool) (fault : SourceFault)
+  of_refused : {last : Option (List ℕ)} {held : List ℕ} {count : ℕ} (ended : Bool) (fault : SourceFault)
       → IsReadBehind left last rest held count
       → IsRefusedAt offset held fault
-      → IfSome given (λ bytes. IsReported last ended bytes fault)
-  taken_refused {last = last} {held = held} ended fault behind refused =
-      refusal_reported given last ended at.segments held offset fault at.fits at.offset_is (read_behind behind) refused
+      → IsReported last ended bytes fault
+  of_refused {last = last} {held = held} ended fault behind refused =
+      refusal_reported (Some bytes) last ended at.segments held offset fault at.fits at.offset_is (read_behind behind) refused
 
   -- memory is asked for where a segment begins, or to hold what was read last
-  pub taken_memory : (ended : Bool) → 0 < reads → ended ≡ false → IfSome given (λ bytes. IsReported left ended bytes NoMemory)
-  taken_memory ended some not_ended =
-      asked given left ended at.segments rest at.fits at.is_rest at.read (omega (arith, some, at.each)) not_ended
+  of_memory : (ended : Bool) → 0 < reads → ended ≡ false → IsReported left ended bytes NoMemory
+  of_memory ended some not_ended =
+      asked (Some bytes) left ended at.segments rest at.fits at.is_rest at.read (omega (arith, some, at.each)) not_ended
+
+  -- or once some bytes were taken
+  of_offset_memory : (ended : Bool) → 0 < offset → ended ≡ false → AsksMemory left ended bytes
+  of_offset_memory ended some not_ended =
+      asked (Some bytes) left ended at.segments rest at.fits at.is_rest at.read
+      (omega (arith, some, at.offset_is, length-append (bundle at.segments) rest)) not_ended
 
   -- ---- what is kept
 
   -- where a read fails
-  pub taken_before : IfSome given (λ bytes. TookBefore gathers old new left bytes Read)
-  taken_before = kept_read gathers old new given left at.segments rest at.fits at.is_rest at.read at.took
+  of_before : TookBefore gathers old new left bytes Read
+  of_before = kept_read gathers old new (Some bytes) left at.segments rest at.fits at.is_rest at.read at.took
 
   -- where what was held, and read after it, was refused
-  pub taken_before_refused : {next : K} {last : Option (List ℕ)} {held : List ℕ} {count : ℕ} (fault : SourceFault)
+  of_before_refused : {next : K} {last : Option (List ℕ)} {held : List ℕ} {count : ℕ} (fault : SourceFault)
       → IsReadBehind left last rest held count
       → IsKeptAt gathers new next offset held fault
-      → IfSome given (λ bytes. TookBefore gathers old next last bytes fault)
-  taken_before_refused {next = next} {last = last} {held = held} fault behind kept =
-      kept_refused gathers old new next given last at.segments held offset fault at.fits at.offset_is (read_behind behind) at.took kept
+      → TookBefore gathers old next last bytes fault
+  of_before_refused {next = next} {last = last} {held = held} fault behind kept =
+      kept_refused gathers old new next (Some bytes) last at.segments held offset fault at.fits at.offset_is (read_behind behind) at.took kept
 
   -- ---- how many bytes were read
 
   -- each read gave some bytes
-  pub taken_many : (most : ℕ) → most ≤ reads → IfSome given (λ bytes. most ≤ length bytes)
-  taken_many most many = given_many given left (taken at.segments rest) most at.read (omega (arith, at.each, many))
+  of_many : (most : ℕ) → most ≤ reads → most ≤ length bytes
+  of_many most many = given_many (Some bytes) left (taken at.segments rest) most at.read (omega (arith, at.each, many))
 
   -- ---- how far a source is read
 
   -- no further than what was taken
+  of_to_fault : (most : ℕ) → IsReadToFault most (Some bytes) left
+  of_to_fault most = read_without_fault most (Some bytes) left at.segments rest at.fits at.is_rest at.read
+
+  -- or by one read more
+  of_and_more : {last : Option (List ℕ)} {held : List ℕ} {count : ℕ} (most : ℕ) → IsReadBehind left last rest held count
+      → count ≤ most → IsReadToFault most (Some bytes) last
+  of_and_more {last = last} most behind few =
+      read_more most (Some bytes) left last at.segments rest behind.more at.fits at.is_rest at.read behind.read (omega (arith, behind.count_is, few))
+
+-- how far a source is read, whether its bytes are known or not
+known_or_not : (given left : Option (List ℕ)) (most : ℕ) {P : List ℕ → Type 0} → IfSome given P
+    → ((bytes : List ℕ) → P bytes → IsReadToFault most (Some bytes) left) → IsReadToFault most given left
+known_or_not None left most is by = read_without_fault most None left [] [] (All-nil Fits) begins_none tt
+known_or_not (Some bytes) left most is by = by bytes is
+
+-- ---- the same of what is known
+
+module _ {S K : Type 0} {gathers : S → K → List Content → Type 0} {old new : K} {given left : Option (List ℕ)} {rest : List ℕ}
+    {offset reads : ℕ} (at : IsTakenTo gathers old new given left rest offset reads) where
+  -- a read failed
+  pub taken_kept : {E : Type 0} {last : Option (List ℕ)} (result : Result ℕ E) → is_err result ≡ true → OnErr result (Keeps left last)
+      → IsTakenTo gathers old new given last rest offset reads
+  taken_kept result failed kept = record { known = IfSome_then given at.known (λ bytes is. of_kept is result failed kept) }
+
+  -- the keeper was called, and took none
+  pub taken_still : {next : K} → Took gathers new next [] → IsTakenTo gathers old next given left rest offset reads
+  taken_still still = record { known = IfSome_then given at.known (λ bytes is. of_still is still) }
+
+  -- a read found the end
+  pub taken_ended : {last : Option (List ℕ)} {held : List ℕ} → IsReadBehind left last rest held 0
+      → IsTakenTo gathers old new given last held offset reads
+  taken_ended behind = record { known = IfSome_then given at.known (λ bytes is. of_ended is behind) }
+
+  -- a read gave some bytes, of which segments were taken
+  pub taken_more : {next : K} {last : Option (List ℕ)} {held : List ℕ} (count len : ℕ) → IsReadBehind left last rest held count → 0 < count
+      → IsTakenOff gathers new next held len → len ≤ length held
+      → IsTakenTo gathers old next given last (drop len held) (offset + len) (reads + 1)
+  taken_more count len behind some off inside =
+      record { known = IfSome_then given at.known (λ bytes is. of_more is count len behind some off inside) }
+
+  pub taken_to_end : (early_end : Option EarlyEnd) → IsAtEnd left
+      → ((segments : List Content) → offset ≡ length (bundle segments) → IsRest rest → IsLeft segments rest early_end)
+      → IfSome given (TookToEnd gathers old new early_end)
+  taken_to_end early_end end is_left = IfSome_then given at.known (λ bytes is. of_to_end is early_end end is_left)
+
+  pub taken_refused : {last : Option (List ℕ)} {held : List ℕ} {count : ℕ} (ended : Bool) (fault : SourceFault)
+      → IsReadBehind left last rest held count → IsRefusedAt offset held fault
+      → IfSome given (λ bytes. IsReported last ended bytes fault)
+  taken_refused ended fault behind refused = IfSome_then given at.known (λ bytes is. of_refused is ended fault behind refused)
+
+  pub taken_memory : (ended : Bool) → 0 < reads → ended ≡ false → IfSome given (λ bytes. IsReported left ended bytes NoMemory)
+  taken_memory ended some not_ended = IfSome_then given at.known (λ bytes is. of_memory is ended some not_ended)
+
+  pub offset_memory : (ended : Bool) → 0 < offset → ended ≡ false → IfSome given (AsksMemory left ended)
+  offset_memory ended some not_ended = IfSome_then given at.known (λ bytes is. of_offset_memory is ended some not_ended)
+
+  pub taken_before : IfSome given (λ bytes. TookBefore gathers old new left bytes Read)
+  taken_before = IfSome_then given at.known (λ bytes is. of_before is)
+
+  pub taken_before_refused : {next : K} {last : Option (List ℕ)} {held : List ℕ} {count : ℕ} (fault : SourceFault)
+      → IsReadBehind left last rest held count → IsKeptAt gathers new next offset held fault
+      → IfSome given (λ bytes. TookBefore gathers old next last bytes fault)
+  taken_before_refused fault behind kept = IfSome_then given at.known (λ bytes is. of_before_refused is fault behind kept)
+
+  pub taken_many : (most : ℕ) → most ≤ reads → IfSome given (λ bytes. most ≤ length bytes)
+  taken_many most many = IfSome_then given at.known (λ bytes is. of_many is most many)
+
+  -- no further than what was taken
   pub taken_to_fault : (most : ℕ) → IsReadToFault most given left
-  taken_to_fault most = read_without_fault most given left at.segments rest at.fits at.is_rest at.read
+  taken_to_fault most = known_or_not given left most at.known (λ bytes is. of_to_fault is most)
 
   -- or by one read more
   pub taken_and_more : {last : Option (List ℕ)} {held : List ℕ} {count : ℕ} (most : ℕ) → IsReadBehind left last rest held count
       → count ≤ most → IsReadToFault most given last
-  taken_and_more {last = last} most behind few =
-      read_more most given left last at.segments rest behind.more at.fits at.is_rest at.read behind.read (omega (arith, behind.count_is, few))
+  taken_and_more {last = last} most behind few = known_or_not given last most at.known (λ bytes is. of_and_more is most behind few)
 
 -- ---- the first read
 
 -- no segment was taken before it
-taken_none : {S K : Type 0} {gathers : S → K → List Content → Type 0} (old : K) (given : Option (List ℕ))
+pub taken_none : {S K : Type 0} (gathers : S → K → List Content → Type 0) (old : K) (given : Option (List ℕ))
     → IsTakenTo gathers old old given given [] 0 0
-taken_none old given = record {
-  segments = [];
-  fits = All-nil Fits;
-  offset_is = refl;
-  is_rest = begins_none;
-  read = Consumes-nil given;
-  each = omega arith;
-  took = λ kind before was. rw (append-nil before) was;
+taken_none gathers old None = record { known = tt }
+taken_none gathers old (Some bytes) = record {
+  known = record {
+    segments = [];
+    fits = All-nil Fits;
+    offset_is = refl;
+    is_rest = begins_none;
+    read = Consumes-nil (Some bytes);
+    each = omega arith;
+    took = λ kind before was. rw (append-nil before) was;
+  };
 }
 
--- it gave some bytes, of which segments were taken
-pub taken_first : {S K : Type 0} {gathers : S → K → List Content → Type 0} {old new : K} {given left : Option (List ℕ)} (piece : List ℕ) (len : ℕ)
-    → Consumes given left piece → 0 < length piece → IsTakenOff gathers old new piece len → len ≤ length piece
-    → IsTakenTo gathers old new given left (drop len piece) len 1
-taken_first {gathers = gathers} {old = old} {given = given} piece len read some off inside =
-    let same : 0 + len ≡ len = omega arith in
-    rw same at (taken_more (taken_none {gathers = gathers} old given) (length piece) len record {
-      more = piece;
-      read = read;
-      held = refl;
-      count_is = refl;
-      end = λ none. absurd (omega (arith, some, none));
-    } some off inside)
+-- a read behind which no bytes are held
+pub first_behind : {left last : Option (List ℕ)} (buffer : List ℕ) (count : ℕ) → count ≤ length buffer → 0 < length buffer
+    → Consumes left last (take count buffer) × (count ≡ 0 → 0 < length buffer → IsAtEnd last)
+    → IsReadBehind left last [] (take count buffer) count
+first_behind buffer count inside some read = record {
+  more = take count buffer;
+  read = read.0;
+  held = refl;
+  count_is = length-take-le count buffer inside;
+  end = λ none. read.1 none some;
+}
 
--- nothing was read
-pub nothing_read : (most : ℕ) (given : Option (List ℕ)) → IsReadToFault most given given
-nothing_read most given = read_without_fault most given given [] [] (All-nil Fits) begins_none (Consumes-nil given)
-
--- it reads no further than others
-pub first_to_fault : (most : ℕ) (given left : Option (List ℕ)) (piece : List ℕ) → Consumes given left piece → length piece ≤ most
-    → IsReadToFault most given left
-first_to_fault most given left piece read few =
-    read_more most given given left [] [] piece (All-nil Fits) begins_none (Consumes-nil given) read few
-
--- and no bytes where it failed
-pub first_failed : {E : Type 0} (most : ℕ) (given left : Option (List ℕ)) (buffer : List ℕ) (result : Result ℕ E) → is_err result ≡ true
-    → ReadConsumes given left result buffer → IsReadToFault most given left
-first_failed most given left buffer (Ok n) failed kept = absurd cc
-first_failed most given left buffer (Err e) failed kept =
-    read_without_fault most given left [] [] (All-nil Fits) begins_none (Consumes-kept given given left [] (Consumes-nil given) kept)
+-- and one that failed
+pub first_kept : {E : Type 0} (left last : Option (List ℕ)) (buffer : List ℕ) (result : Result ℕ E) → ReadConsumes left last result buffer
+    → OnErr result (Keeps left last)
+first_kept left last buffer (Ok n) kept = tt
+first_kept left last buffer (Err e) kept = kept

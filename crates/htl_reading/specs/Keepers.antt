@@ -1,5 +1,5 @@
 -- For the clauses of private functions: what keepers took.
-use Rattle.std.specs.Prelude.{◌≡◌, ◌≤◌, ℕ, List, ◌++◌, [], length, drop, All, Option}
+use Rattle.std.specs.Prelude.{◌≡◌, ◌≤◌, ℕ, List, ◌++◌, [], length, drop, All, Option, Some, IfSome}
 use Rattle.std.specs.Io.KnownBytes.{Consumes}
 use Rattle.htl_segment.specs.Content.{Content, Fits}
 use Rattle.htl_segment.specs.Bundles.{IsRest, Splits, bundle}
@@ -20,13 +20,18 @@ pub record IsTakenOff {S K : Type 0} (gathers : S → K → List Content → Typ
   pub is_rest : IsRest (drop len bytes)
   pub took : Took gathers old new segments
 
--- it took the segments that a source gave by so many reads, up to an offset, and the bytes after them begin no whole one
-pub record IsTakenTo {S K : Type 0} (gathers : S → K → List Content → Type 0) (old new : K) (given left : Option (List ℕ)) (rest : List ℕ)
-    (offset reads : ℕ) : Type 0 where
+-- it took the segments that a source of these bytes gave by so many reads, up to an offset, and the bytes after them begin no whole one
+pub record IsTakenOf {S K : Type 0} (gathers : S → K → List Content → Type 0) (old new : K) (bytes : List ℕ) (left : Option (List ℕ))
+    (rest : List ℕ) (offset reads : ℕ) : Type 0 where
   pub segments : List Content
   pub fits : All Fits segments
   pub offset_is : offset ≡ length (bundle segments)
   pub is_rest : IsRest rest
-  pub read : Consumes given left (taken segments rest)
+  pub read : Consumes (Some bytes) left (taken segments rest)
   pub each : reads ≤ length (taken segments rest)
   pub took : Took gathers old new segments
+
+-- the same where the bytes of the source are known
+pub record IsTakenTo {S K : Type 0} (gathers : S → K → List Content → Type 0) (old new : K) (given left : Option (List ℕ)) (rest : List ℕ)
+    (offset reads : ℕ) : Type 0 where
+  pub known : IfSome given (λ bytes. IsTakenOf gathers old new bytes left rest offset reads)

@@ -1,8 +1,11 @@
 -- For the clauses of private functions: the parts of a source's bytes, and what the keepers of its workers took.
-use Rattle.std.specs.Prelude.{◌≡◌, ℕ, List, [], ◌∷◌, ◌++◌, Option, Some}
+use Rattle.std.specs.Prelude.{◌≡◌, ◌≤◌, ◌^◌, ℕ, Bool, false, List, [], ◌∷◌, ◌++◌, Option, Some, IfOk, IfSome, OnErr, Result}
 use Rattle.std.specs.Io.Take.{take_remaining}
 use Rattle.htl_segment.specs.Content.{Content}
 use Rattle.htl_segment.specs.Bundles.{Splits}
+use Rattle.htl_device.specs.declared.source.TheConstants.{MAX_READ_LEN}
+use Rattle.htl_reading.specs.Keepers.{IsTakenTo}
+use Rattle.htl_reading.specs.Sources.{AsksMemory, IsReadToFault}
 use Rattle.htl_reading.specs.declared.parts.Part.{Part}
 
 -- it is of another keeper's kind, and took these segments
@@ -28,3 +31,20 @@ ArePartsOf gathers remaining keeper [] bytes = bytes ≡ []
 ArePartsOf gathers remaining keeper (part ∷ parts) bytes =
     (piece : List ℕ) × (rest : List ℕ) × (bytes ≡ piece ++ rest) × IsPartOf gathers remaining keeper part piece
     × ArePartsOf gathers remaining keeper parts rest
+
+-- ---- passing over what workers took
+
+-- A source passes over the segments behind an offset, and a keeper took them, up to the offset that is given. Or memory is refused, which
+-- was asked for where a segment begins.
+pub record PassesOver {S K R E : Type 0} (gathers : S → K → List Content → Type 0) (has_failed has_ended : R → Bool)
+    (good_reads : R → ℕ) (remaining : R → Option (List ℕ)) (old new : R) (before after : K) (offset : ℕ) (result : Result ℕ E) : Type 0 where
+  pub fresh : has_failed new ≡ false
+  pub inside : has_ended new ≡ false
+  pub counts : good_reads new ≤ good_reads old
+  pub few : IfOk result (λ end. (offset ≤ end) × (end ≤ 2 ^ 62))
+  pub taken : (start : K) (given : Option (List ℕ)) → IsTakenTo gathers start before given (remaining old) [] offset 0
+      → IfOk result (λ end. IsTakenTo gathers start after given (remaining new) [] end 0)
+  pub memory : (start : K) (given : Option (List ℕ)) → IsTakenTo gathers start before given (remaining old) [] offset 0
+      → OnErr result (IfSome given (AsksMemory (remaining new) (has_ended new)))
+  pub to_fault : (start : K) (given : Option (List ℕ)) → IsTakenTo gathers start before given (remaining old) [] offset 0
+      → IsReadToFault MAX_READ_LEN given (remaining new)

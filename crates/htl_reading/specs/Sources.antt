@@ -52,16 +52,16 @@ pub record IsReadToFault (most : ℕ) (given left : Option (List ℕ)) : Type 0 
   pub few : length last ≤ most
   pub read : Consumes given left (before ++ last)
 
--- How a source is read by a call that ends with this result, and in which at most so many reads give bytes. Which sources have failed or
--- ended, how many reads of each gave bytes, and which bytes each has left, is said by the functions.
+-- How a source of these bytes is read by a call that ends with this result, and in which at most so many reads give bytes. Which sources
+-- have failed or ended, how many reads of each gave bytes, and which bytes each has left, is said by the functions.
 pub record IsSourceRead {R S : Type 0} (most : ℕ) (has_failed has_ended : R → Bool) (good_reads : R → ℕ) (remaining : R → Option (List ℕ))
-    (old new : R) (result : Result S SourceFault) : Type 0 where
+    (given : Option (List ℕ)) (old new : R) (result : Result S SourceFault) : Type 0 where
   -- A call that ends well has found the end.
   pub ended : OnOk result (has_ended new ≡ true)
   -- A read that failed is reported.
   pub reported : has_failed new ≡ true → result ≡ Err Read
-  pub read : FailsOnly (has_failed new) (good_reads new) (remaining old) most result
+  pub read : FailsOnly (has_failed new) (good_reads new) given most result
   -- A failed read is reported only where what was read has no fault.
-  pub no_fault : result ≡ Err Read → IsReadToFault 0 (remaining old) (remaining new)
+  pub no_fault : result ≡ Err Read → IsReadToFault 0 given (remaining new)
   pub bounded : good_reads new ≤ good_reads old + most
-  pub to_fault : IsReadToFault MAX_READ_LEN (remaining old) (remaining new)
+  pub to_fault : IsReadToFault MAX_READ_LEN given (remaining new)

@@ -1,10 +1,10 @@
 //! What was gathered from a source, and how one worker reads it on.
 
 ghost use Rattle.std.specs.Prelude.{◌≡◌, ◌≢◌, ◌+◌, ◌*◌, ◌<◌, ◌≤◌, ◌^◌, ℕ, List, Option, Err};
-ghost use Rattle.std.specs.Prelude.{IfOk, IfErr, IfSome, OnOk, false, true, length};
+ghost use Rattle.std.specs.Prelude.{IfOk, IfErr, IfSome, OnOk, false, length};
 ghost use Rattle.htl_reading.specs.Blocks.{IsKeptAt, IsRefusedAt, IsTakenIn};
 ghost use Rattle.htl_reading.specs.Keepers.{IsTakenOff, IsTakenTo};
-ghost use Rattle.htl_reading.specs.Sources.{FailsOnly, IsReadToFault, IsReported};
+ghost use Rattle.htl_reading.specs.Sources.{IsReported, IsSourceRead};
 ghost use Rattle.htl_reading.specs.Taking.{LeavesTaken, TookBefore, TookToEnd};
 ghost use Rattle.htl_reading.specs.declared.fault.SourceFault.TheVariants.{Read};
 
@@ -55,9 +55,7 @@ impl Gathered {
         requires fresh { R.has_failed source.old ≡ false }
         requires inside { R.has_ended source.old ≡ false }
         requires some { 0 < most }
-        requires few { most * MAX_READ_LEN < 2 ^ 64 }
-        requires short { self.offset + length self.block.held ≤ MAX_READ_LEN }
-        requires each { 1 ≤ self.offset + length self.block.held }
+        requires few { self.offset + length self.block.held + most * MAX_READ_LEN < 2 ^ 64 }
         requires counted { 1 ≤ R.good_reads source.old }
         requires callable { F.IsAlwaysCallable between.now }
         requires leaves { LeavesTaken K.gathers (F.post between.now) }
@@ -72,18 +70,11 @@ impl Gathered {
             start keeper.old given (R.remaining source.old) self.block.held self.offset 1
             → IfErr result (λ fault. IfSome given (λ bytes.
             TookBefore K.gathers start keeper.new (R.remaining source.new) bytes fault)) }
-        ensures ended { OnOk result (R.has_ended source.new ≡ true) }
-        ensures reported { R.has_failed source.new ≡ true → result ≡ Err Read }
-        ensures read { (start : K) (given : Option (List ℕ)) → IsTakenTo K.gathers
+        ensures reading { (start : K) (given : Option (List ℕ)) → IsTakenTo K.gathers
             start keeper.old given (R.remaining source.old) self.block.held self.offset 1
-            → FailsOnly (R.has_failed source.new) (R.good_reads source.new) given most result }
-        ensures no_fault { (start : K) (given : Option (List ℕ)) → IsTakenTo K.gathers
-            start keeper.old given (R.remaining source.old) self.block.held self.offset 1
-            → result ≡ Err Read → IsReadToFault 0 given (R.remaining source.new) }
+            → IsSourceRead most R.has_failed R.has_ended R.good_reads R.remaining
+            given source.old source.new result }
         ensures bounded { R.good_reads source.new + 1 ≤ R.good_reads source.old + most }
-        ensures to_fault { (start : K) (given : Option (List ℕ)) → IsTakenTo K.gathers
-            start keeper.old given (R.remaining source.old) self.block.held self.offset 1
-            → IsReadToFault MAX_READ_LEN given (R.remaining source.new) }
     {
         for _reads in 1..most {
             between(keeper)?;

@@ -4,8 +4,8 @@
 //! It is lent the keeper, which so has the segments before a fault. Where a source can be read from
 //! several places at once, several workers read a part of its bytes each, with a keeper of its own, and
 //! what the keepers took goes over to the first one in order. A part begins where a segment seems to.
-//! Whatever is wrong with a part, its bytes or its place, one worker then reads the source as if
-//! nothing had been read of it, and so each fault is what it reports.
+//! Then the source passes over these bytes, and one worker reads on. Whatever is wrong with a part, its
+//! bytes or its place, the source stays where it was, and so each fault is what one worker reports.
 //!
 //! A source that ends within a segment gives the whole segments before it, and says where that is. The
 //! crates above decide whether they refuse such an end.
@@ -13,7 +13,7 @@
 //! Files, in reading order: `fault.rt` (why a reading ends before its source does), `outcome.rt` (what
 //! comes of one that doesn't), `reading.rt` (a source to its end), `block.rt` (the bytes that a read
 //! puts behind those that are held), `gathered.rt` (reading on by one worker), `parts.rt` (several
-//! workers), `starts.rt` (where their parts begin).
+//! workers), `ends.rt` (where their parts end), `rounds.rt` (several workers, some bytes at a time).
 //!
 //! `specs/Sources` says what is left at the end, what is reported and how far a source is read, and
 //! `specs/Taking` what a keeper took of it. In `proofs/`, `TakenLaws` shows which segments reads give,
@@ -23,13 +23,15 @@
 #![tactic(auto)]
 
 mod block;
+mod ends;
 mod fault;
 mod gathered;
 mod outcome;
 mod parts;
 mod reading;
-mod starts;
+mod rounds;
 
 pub use fault::SourceFault;
 pub use outcome::{Bundle, EarlyEnd, early_end};
 pub use reading::{gather_bundle, read_bundle, take_source};
+pub use rounds::SegmentKeeper;

@@ -1,19 +1,22 @@
 //! Parts of a source's bytes, each of which a worker reads.
 
-ghost use Rattle.std.specs.Prelude.{◌≡◌, ◌<◌, ◌^◌, ℕ, List, IfSome, OnOk, OnSome, Some, drop, length};
-ghost use Rattle.std.specs.Prelude.{map, take};
+ghost use Rattle.std.specs.Prelude.{◌≡◌, ◌≤◌, ◌<◌, ◌^◌, ℕ, List, IfSome, OnOk, OnSome, Some, drop};
+ghost use Rattle.std.specs.Prelude.{false, length, map, take, true};
 ghost use Rattle.std.specs.Io.Take.{take_remaining};
 ghost use Rattle.htl_reading.specs.Keepers.{TookAll};
-ghost use Rattle.htl_reading.specs.Parts.{ArePartsOf, IsPartOf, TookInOrder};
+ghost use Rattle.htl_reading.specs.Parts.{ArePartsOf, IsPartOf, PassesOver, TookInOrder};
 
+use crate::ends::ends;
 use crate::reading::read_source;
-use crate::starts::starts;
 use htl_device::{MAX_READS, Parted, Reading};
 use htl_event::NoMemory;
 use htl_segment::{JoiningKeeper, Keeper};
 use std::alloc::Global;
 use std::io::{Read, Take};
 use std::thread::{Threads, map_vec};
+
+/// Workers read so many bytes at once at most.
+const MAX_FRONT_LEN: u64 = 1 << 61;
 
 /// A part of a source's bytes, and the keeper that takes its segments.
 #[derive(Drop)]
@@ -38,28 +41,63 @@ impl<R: Read + Drop, K: Keeper + Drop> Part<R, K> {
     }
 }
 
-/// Gathers the segments of a source by several workers, each of which reads a part of its bytes. The
-/// keepers have them in order.
-///
-/// It gives none where one worker has to read the source: where it has no parts or is short, and where
-/// a part can't be read, is no whole segments, or finds no memory.
-pub fn gather_parts<T: Threads + Sync, R: Parted, K: JoiningKeeper + Drop + Send>(
+/// What workers took of the bytes at the front of a source: their keepers have the segments in order.
+#[derive(Drop)]
+pub struct Front<K> {
+    pub keepers: Vec<K>,
+    /// The number of bytes.
+    pub len: u64,
+}
+
+/// Has a keeper take over the segments at the front of a source, of which several workers read a part
+/// each. The source passes over them. Where they are no whole segments it takes none, and the source
+/// stays.
+pub fn take_parts<T: Threads + Sync, R: Parted, K: JoiningKeeper + Drop + Send>(
     rt: &T,
     alloc: Global,
     workers: u32,
+    source: &mut R,
+    keeper: &mut K,
+) -> Result<u64, NoMemory>
+    requires fresh { R.has_failed source.old ≡ false }
+    requires inside { R.has_ended source.old ≡ false }
+    ensures { PassesOver K.gathers R.has_failed R.has_ended R.good_reads R.remaining
+        source.old source.new keeper.old keeper.new 0 result }
+{
+    let Some(front) = gather_front(rt, alloc, workers, u64::MAX, source, keeper) else {
+        return Ok(0);
+    };
+    source.pass(front.len);
+    append_all(keeper, front.keepers)?;
+    Ok(front.len)
+}
+
+/// Gathers the segments at the front of a source by several workers, each of which reads a part of so
+/// many bytes at most.
+///
+/// It gives none where one worker has to read the source: where it has no parts or is short, and where
+/// a part can't be read, is no whole segments, or finds no memory.
+pub fn gather_front<T: Threads + Sync, R: Parted, K: JoiningKeeper + Drop + Send>(
+    rt: &T,
+    alloc: Global,
+    workers: u32,
+    most: u64,
     source: &R,
     keeper: &K,
-) -> Option<Vec<K>>
-    ensures some { OnSome result (IfSome (R.remaining source.now) (λ bytes. 0 < length bytes)) }
-    ensures taken { IfSome result (λ keepers. IfSome (R.remaining source.now)
-        (TookInOrder K.gathers keeper.now keepers.items)) }
+) -> Option<Front<K>>
+    ensures parted { OnSome result (R.is_parted source.now ≡ true) }
+    ensures some { IfSome result (λ front. 0 < front.len) }
+    ensures few { IfSome result (λ front. front.len ≤ 2 ^ 61) }
+    ensures taken { IfSome result (λ front. IfSome (R.remaining source.now) (λ bytes.
+        (front.len ≤ length bytes)
+        × TookInOrder K.gathers keeper.now front.keepers.items (take front.len bytes))) }
 {
-    let len = source.len()?;
-    let starts = starts(alloc, workers, len, source).ok()?;
-    if len == 0 || starts.is_empty() {
+    let len = source.len()?.min(MAX_FRONT_LEN);
+    let ends = ends(alloc, workers, most, len, source).ok()?;
+    let (parts, end) = cut(alloc, source, keeper, &ends)?;
+    if end == 0 || end > len {
         return None;
     }
-    let parts = cut(alloc, source, keeper, &starts)?;
     let gather = |part: Part<R::Tail, K>| -> Option<K>
         ensures { IfSome result (λ new. IfSome
             (take_remaining R.Tail.remaining part.bytes) (TookAll K.gathers part.keeper new)) }
@@ -67,33 +105,33 @@ pub fn gather_parts<T: Threads + Sync, R: Parted, K: JoiningKeeper + Drop + Send
     let Ok(gathered) = map_vec(rt, parts, &gather) else {
         return None;
     };
-    all_of(alloc, gathered)
+    Some(Front {
+        keepers: all_of(alloc, gathered)?,
+        len: end,
+    })
 }
 
-/// The parts of a source's bytes that begin at its front and at these offsets.
+/// The parts of a source's bytes that end at these offsets, and where the last one does.
 fn cut<R: Parted, K: JoiningKeeper + Drop>(
     alloc: Global,
     source: &R,
     keeper: &K,
-    starts: &[u64],
-) -> Option<Vec<Part<R::Tail, K>>>
-    ensures { IfSome result (λ parts. IfSome (R.remaining source.now) (λ bytes.
-        length bytes < 2 ^ 64 → ArePartsOf K.gathers R.Tail.remaining keeper.now parts.items bytes)) }
+    ends: &[u64],
+) -> Option<(Vec<Part<R::Tail, K>>, u64)>
+    ensures { IfSome result (λ cut. IfSome (R.remaining source.now) (λ bytes.
+        ArePartsOf K.gathers R.Tail.remaining keeper.now cut.0.items (take cut.1 bytes))) }
 {
     let mut parts = Vec::new(alloc);
     let mut from = 0;
-    for start in starts {
-        let len = start.checked_sub(from)?;
+    for end in ends {
+        let len = end.checked_sub(from)?;
         parts.push(part_at(alloc, source, keeper, from, len)?).ok()?;
-        from = *start;
+        from = *end;
     }
-    parts
-        .push(part_at(alloc, source, keeper, from, u64::MAX)?)
-        .ok()?;
-    Some(parts)
+    Some((parts, from))
 }
 
-/// The part of so many bytes at an offset of a source, or of all that are there.
+/// The part of so many bytes at an offset of a source.
 fn part_at<R: Parted, K: JoiningKeeper>(
     alloc: Global,
     source: &R,
@@ -122,7 +160,7 @@ fn all_of<K: Drop>(alloc: Global, gathered: Vec<Option<K>>) -> Option<Vec<K>>
 }
 
 /// Has a keeper take over the segments of the parts, in order.
-pub fn append_all<K: JoiningKeeper + Drop>(keeper: &mut K, parts: Vec<K>) -> Result<(), NoMemory>
+fn append_all<K: JoiningKeeper + Drop>(keeper: &mut K, parts: Vec<K>) -> Result<(), NoMemory>
     ensures { (bytes : List ℕ) → TookInOrder K.gathers keeper.old parts.items bytes
         → OnOk result (TookAll K.gathers keeper.old keeper.new bytes) }
 {

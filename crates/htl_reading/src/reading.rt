@@ -1,18 +1,19 @@
 //! A source, read to its end.
 
-ghost use Rattle.std.specs.Prelude.{◌≡◌, ◌*◌, ◌+◌, ◌<◌, ◌^◌, ◌++◌, ℕ, List};
-ghost use Rattle.std.specs.Prelude.{Err, IfOk, IfErr, IfSome, false};
+ghost use Rattle.std.specs.Prelude.{◌≡◌, ◌*◌, ◌+◌, ◌<◌, ◌^◌, ◌++◌, ℕ, List, Option};
+ghost use Rattle.std.specs.Prelude.{[], IfOk, IfErr, IfSome, false};
 ghost use Rattle.htl_segment.specs.Content.{Content};
 ghost use Rattle.htl_segment.specs.Bundles.{Splits};
+ghost use Rattle.htl_reading.specs.Keepers.{IsTakenTo};
 ghost use Rattle.htl_reading.specs.Sources.{IsLeft, IsReported, IsSourceRead};
 ghost use Rattle.htl_reading.specs.Taking.{LeavesTaken, TookBefore, TookToEnd};
-ghost use Rattle.htl_reading.specs.declared.fault.SourceFault.TheVariants.{Read};
 
 use crate::block::Block;
 use crate::fault::SourceFault;
 use crate::gathered::{Gathered, take_front};
 use crate::outcome::{Bundle, EarlyEnd};
-use crate::parts::{append_all, gather_parts};
+use crate::parts::take_parts;
+use crate::rounds::{SegmentKeeper, take_rounds};
 use htl_device::{MAX_READ_LEN, MAX_READS, MIN_READ_LEN, Parted, Source};
 use htl_event::NoMemory;
 use htl_segment::{JoiningKeeper, Keeper, Segment, Segments};
@@ -23,9 +24,9 @@ use std::thread::Threads;
 /// the first, of 4,096, and takes the segments of each read before the next. A source without bytes
 /// needs no memory. One that ends within a segment gives the whole segments before it.
 ///
-/// Several workers read parts of it, where it has some, and end it. Where that isn't all, one worker
-/// reads it as if there were no others: the segments are the same for every number of workers, and so
-/// are an early end and what is reported.
+/// Several workers read parts of it first, where it has some, and one reads on behind these. Where the
+/// parts are no whole segments, one worker reads it as if there were no others: the segments are the
+/// same for every number of workers, and so are an early end and what is reported.
 pub fn gather_bundle<T: Threads + Sync, R: Parted, K: JoiningKeeper + Drop + Send>(
     rt: &T,
     alloc: Global,
@@ -42,19 +43,17 @@ pub fn gather_bundle<T: Threads + Sync, R: Parted, K: JoiningKeeper + Drop + Sen
     ensures err { IfErr result (λ fault. IfSome (R.remaining source.old) (λ bytes.
         IsReported (R.remaining source.new) (R.has_ended source.new) bytes fault)) }
     ensures reading { IsSourceRead MAX_READS R.has_failed R.has_ended R.good_reads R.remaining
-        source.old source.new result }
+        (R.remaining source.old) source.old source.new result }
 {
-    if let Some(parts) = gather_parts(rt, alloc, workers, source, &keeper) {
-        let Ok(()) = append_all(&mut keeper, parts) else {
-            return Err(SourceFault::NoMemory);
-        };
-        source.finish();
-        return Ok(Bundle {
-            segments: keeper,
-            early_end: None,
-        });
-    }
-    read_source(alloc, MAX_READS, source, keeper)
+    let offset = take_parts(rt, alloc, workers, source, &mut keeper)?;
+    let nothing = |keeper: &mut K| -> Result<(), NoMemory>
+        ensures { keeper.new ≡ keeper.old }
+    { Ok(()) };
+    let early_end = take_reads(alloc, MAX_READS, offset, source, &mut keeper, &nothing)?;
+    Ok(Bundle {
+        segments: keeper,
+        early_end,
+    })
 }
 
 /// The segments of a source, as `gather_bundle` gathers them.
@@ -72,7 +71,7 @@ pub fn read_bundle<T: Threads + Sync, R: Parted>(
     ensures err { IfErr result (λ fault. IfSome (R.remaining source.old) (λ bytes.
         IsReported (R.remaining source.new) (R.has_ended source.new) bytes fault)) }
     ensures reading { IsSourceRead MAX_READS R.has_failed R.has_ended R.good_reads R.remaining
-        source.old source.new result }
+        (R.remaining source.old) source.old source.new result }
 {
     let Bundle {
         segments,
@@ -88,11 +87,21 @@ pub fn read_bundle<T: Threads + Sync, R: Parted>(
 /// bytes, but for the first, of 4,096. The segments of each read are taken before the next. It tells
 /// where the source ends within one more.
 ///
+/// Several workers read the front of a source that has parts first, some hundred megabytes at a time,
+/// and one reads on behind it. For the keeper that makes no difference.
+///
 /// After a fault the keeper has the segments before it, unless memory was refused. A source without
-/// bytes needs no memory. Before each read but the first `between` is called, so that the keeper can do
-/// what it does from time to time.
-pub fn take_source<R: Source, K: Keeper, F: Fn(&mut K) -> Result<(), NoMemory>>(
+/// bytes needs no memory. Before each read but the first, and behind the parts of several workers,
+/// `between` is called, so that the keeper can do what it does from time to time.
+pub fn take_source<
+    T: Threads + Sync,
+    R: Parted,
+    K: SegmentKeeper,
+    F: Fn(&mut K) -> Result<(), NoMemory>,
+>(
+    rt: &T,
     alloc: Global,
+    workers: u32,
     source: &mut R,
     keeper: &mut K,
     between: &F,
@@ -108,9 +117,10 @@ pub fn take_source<R: Source, K: Keeper, F: Fn(&mut K) -> Result<(), NoMemory>>(
     ensures kept { IfErr result (λ fault. IfSome (R.remaining source.old) (λ bytes.
         TookBefore K.gathers keeper.old keeper.new (R.remaining source.new) bytes fault)) }
     ensures reading { IsSourceRead MAX_READS R.has_failed R.has_ended R.good_reads R.remaining
-        source.old source.new result }
+        (R.remaining source.old) source.old source.new result }
 {
-    take_reads(alloc, MAX_READS, source, keeper, between)
+    let offset = take_rounds(rt, alloc, workers, source, keeper, between)?;
+    take_reads(alloc, MAX_READS, offset, source, keeper, between)
 }
 
 /// Reads a source to its end by one worker, with a keeper that is given back. At most `most` reads give
@@ -124,30 +134,32 @@ pub(crate) fn read_source<R: Source, K: Keeper + Drop>(
     requires fresh { R.has_failed source.old ≡ false }
     requires inside { R.has_ended source.old ≡ false }
     requires some { 0 < most }
-    requires few { most * MAX_READ_LEN < 2 ^ 64 }
+    requires few { (most + 1) * MAX_READ_LEN < 2 ^ 64 }
     ensures ok { IfOk result (λ bundle. IfSome (R.remaining source.old)
         (TookToEnd K.gathers keeper bundle.segments bundle.early_end)) }
     ensures err { IfErr result (λ fault. IfSome (R.remaining source.old) (λ bytes.
         IsReported (R.remaining source.new) (R.has_ended source.new) bytes fault)) }
     ensures reading { IsSourceRead most R.has_failed R.has_ended R.good_reads R.remaining
-        source.old source.new result }
+        (R.remaining source.old) source.old source.new result }
 {
     let nothing = |keeper: &mut K| -> Result<(), NoMemory>
         ensures { keeper.new ≡ keeper.old }
     { Ok(()) };
-    let early_end = take_reads(alloc, most, source, &mut keeper, &nothing)?;
+    let early_end = take_reads(alloc, most, 0, source, &mut keeper, &nothing)?;
     Ok(Bundle {
         segments: keeper,
         early_end,
     })
 }
 
-/// Has a keeper take the segments of a source, of which at most `most` reads give bytes.
+/// Has a keeper take the segments of a source, of which at most `most` reads give bytes, behind those
+/// of so many bytes that it took before.
 ///
 /// The first read goes into a short buffer. If it gives bytes, a block is made for all other reads.
 fn take_reads<R: Source, K: Keeper, F: Fn(&mut K) -> Result<(), NoMemory>>(
     alloc: Global,
     most: u64,
+    offset: u64,
     source: &mut R,
     keeper: &mut K,
     between: &F,
@@ -155,17 +167,24 @@ fn take_reads<R: Source, K: Keeper, F: Fn(&mut K) -> Result<(), NoMemory>>(
     requires fresh { R.has_failed source.old ≡ false }
     requires inside { R.has_ended source.old ≡ false }
     requires some { 0 < most }
-    requires few { most * MAX_READ_LEN < 2 ^ 64 }
+    requires few { offset + (most + 1) * MAX_READ_LEN < 2 ^ 64 }
     requires callable { F.IsAlwaysCallable between.now }
     requires leaves { LeavesTaken K.gathers (F.post between.now) }
-    ensures ok { IfOk result (λ early_end. IfSome (R.remaining source.old)
-        (TookToEnd K.gathers keeper.old keeper.new early_end)) }
-    ensures err { IfErr result (λ fault. IfSome (R.remaining source.old) (λ bytes.
+    ensures ok { (start : K) (given : Option (List ℕ))
+        → IsTakenTo K.gathers start keeper.old given (R.remaining source.old) [] offset 0
+        → IfOk result (λ early_end. IfSome given (TookToEnd K.gathers start keeper.new early_end)) }
+    ensures err { (start : K) (given : Option (List ℕ))
+        → IsTakenTo K.gathers start keeper.old given (R.remaining source.old) [] offset 0
+        → IfErr result (λ fault. IfSome given (λ bytes.
         IsReported (R.remaining source.new) (R.has_ended source.new) bytes fault)) }
-    ensures kept { IfErr result (λ fault. IfSome (R.remaining source.old) (λ bytes.
-        TookBefore K.gathers keeper.old keeper.new (R.remaining source.new) bytes fault)) }
-    ensures reading { IsSourceRead most R.has_failed R.has_ended R.good_reads R.remaining
-        source.old source.new result }
+    ensures kept { (start : K) (given : Option (List ℕ))
+        → IsTakenTo K.gathers start keeper.old given (R.remaining source.old) [] offset 0
+        → IfErr result (λ fault. IfSome given (λ bytes.
+        TookBefore K.gathers start keeper.new (R.remaining source.new) bytes fault)) }
+    ensures reading { (start : K) (given : Option (List ℕ))
+        → IsTakenTo K.gathers start keeper.old given (R.remaining source.old) [] offset 0
+        → IsSourceRead most R.has_failed R.has_ended R.good_reads R.remaining
+        given source.old source.new result }
 {
     let mut buffer = [0u8; MIN_READ_LEN];
     let Ok(count) = source.read(&mut buffer) else {
@@ -175,9 +194,9 @@ fn take_reads<R: Source, K: Keeper, F: Fn(&mut K) -> Result<(), NoMemory>>(
         return Ok(None);
     }
     let piece = &buffer[..count];
-    let len = take_front(alloc, keeper, 0, piece)?;
+    let len = take_front(alloc, keeper, offset, piece)?;
     let gathered = Gathered {
-        offset: len as u64,
+        offset: offset + len as u64,
         block: Block::new(alloc, &piece[len..])?,
     };
     gathered.read_on(alloc, most, source, keeper, between)

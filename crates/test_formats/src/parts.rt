@@ -1,6 +1,6 @@
 //! Sources that several workers read in parts, beside bytes that one worker decodes.
 
-ghost use Rattle.std.specs.Prelude.{◌≡◌, false};
+ghost use Rattle.std.specs.Prelude.{◌≡◌, false, true};
 
 use crate::rows::assert_row;
 use htl_device::{Failed, Parted, Reading, Source};
@@ -52,7 +52,8 @@ pub fn told(segments: &[Segment]) -> u64 {
 struct Bytes<'a> {
     bytes: &'a [u8],
     reading: Reading<&'a [u8]>,
-    is_finished: bool,
+    /// How many bytes were passed over.
+    passed: u64,
 }
 
 impl<'a> Bytes<'a> {
@@ -63,7 +64,7 @@ impl<'a> Bytes<'a> {
         Bytes {
             bytes,
             reading: Reading::new(bytes),
-            is_finished: false,
+            passed: 0,
         }
     }
 }
@@ -99,6 +100,8 @@ impl Read for Tail<'_> {
 impl<'a> Parted for Bytes<'a> {
     type Tail = Tail<'a>;
 
+    ghost is_parted = { λ _. true };
+
     fn len(&self) -> Option<u64> {
         Some(self.bytes.len() as u64)
     }
@@ -108,9 +111,10 @@ impl<'a> Parted for Bytes<'a> {
         Some(Tail { bytes })
     }
 
-    fn finish(&mut self) {
-        self.reading.finish();
-        self.is_finished = true;
+    fn pass(&mut self, len: u64) {
+        self.bytes = self.bytes.get(len as usize..).unwrap_or(&[]);
+        self.reading = Reading::new(self.bytes);
+        self.passed = self.passed.saturating_add(len);
     }
 }
 
@@ -151,7 +155,12 @@ fn by_all(rt: &(impl Abort + Threads + Sync), alloc: Global, bytes: &[u8], has_f
         let mut source = Bytes::new(bytes);
         let read = read_bundle(rt, alloc, workers, &mut source);
         assert_row(rt, workers, told_of_read(read), alone);
-        assert_row(rt, workers, source.is_finished, workers > 1 && !has_fault);
+        let passed = if workers > 1 && !has_fault {
+            bytes.len() as u64
+        } else {
+            0
+        };
+        assert_row(rt, workers, source.passed, passed);
     }
 }
 

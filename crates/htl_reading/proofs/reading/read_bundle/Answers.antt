@@ -17,9 +17,9 @@ pub returns-in_err-segments-clause-reading : goal.returns-in_err-segments-clause
 returns-in_err-segments-clause-reading g c =
     let p = err_from_is_err_and c.from_residual.result c.from_residual.ensures.1 in
     rw (p.1, p.2) (read_ill MAX_READS g.R.Source.has_failed g.R.Source.has_ended g.R.Source.good_reads g.R.Source.remaining
-    c.args.source.now c.gather_bundle.new.source _ c.in_err-segments.ensures.reading)
+    (g.R.Source.remaining c.args.source.now) c.args.source.now c.gather_bundle.new.source _ c.in_err-segments.ensures.reading)
 
 pub returns-clause-reading : goal.returns-clause-reading
 returns-clause-reading g c =
     read_well MAX_READS g.R.Source.has_failed g.R.Source.has_ended g.R.Source.good_reads g.R.Source.remaining
-    c.args.source.now c.gather_bundle.new.source _ _ c.in_ok-segments.ensures.reading
+    (g.R.Source.remaining c.args.source.now) c.args.source.now c.gather_bundle.new.source _ _ c.in_ok-segments.ensures.reading

@@ -1,11 +1,12 @@
 -- One read more, the end of the source, and that a fault ends the reading.
-use Rattle.std.proofs.Common.{◌≡◌, ◌≤◌, ◌<◌, length, ap, arith, inr, refl, true}
+use Rattle.std.proofs.Common.{◌≡◌, ◌≤◌, ◌<◌, length, ap, arith, false, inr, refl, true}
 use Rattle.std.proofs.lemmas.List.{length-append, length-drop}
 use Rattle.std.proofs.lemmas.Grind.{common_steps}
 use Rattle.std.proofs.lemmas.Result.{err_from_is_err_and}
 use Rattle.std.specs.Prelude.{is_err}
 use Rattle.htl_device.specs.declared.source.TheConstants.{MAX_READ_LEN}
 use Rattle.htl_reading.proofs.KeptLaws.{kept_nothing}
+use Rattle.htl_reading.proofs.ReadLaws.{read_fine}
 use Rattle.htl_reading.proofs.TakenLaws.{taken_and_more, taken_before, taken_before_refused, taken_ended, taken_kept, taken_many, taken_memory}
 use Rattle.htl_reading.proofs.TakenLaws.{taken_more, taken_refused, taken_still, taken_to_end, taken_to_fault}
 use Rattle.htl_reading.proofs.gathered.Gathered.read_on.Goals as goal
@@ -22,8 +23,13 @@ returns-in_err-between-clause-kept g c =
     let p = err_from_is_err_and c.from_residual.result c.from_residual.ensures.1 in
     λ start given at. rw (p.1, p.2) (kept_nothing given)
 
-pub returns-in_err-between-clause-to_fault : goal.returns-in_err-between-clause-to_fault
-returns-in_err-between-clause-to_fault g c = λ start given at. taken_to_fault (c.loop-reads.invariant.taken start given at) _
+pub returns-in_err-between-clause-reading : goal.returns-in_err-between-clause-reading
+returns-in_err-between-clause-reading g c =
+    let p = err_from_is_err_and c.from_residual.result c.from_residual.ensures.1 in
+    let inv = c.loop-reads.invariant in
+    λ start given at. rw (p.1, p.2) (read_fine c.args.most g.R.Source.has_failed g.R.Source.has_ended g.R.Source.good_reads
+    g.R.Source.remaining given c.args.source.now c.loop-reads.source _ (λ is. cc is) inv.fine tt (grind (arith, common_steps))
+    (taken_to_fault (inv.taken start given at) MAX_READ_LEN))
 
 pub returns-in_err-make_room-clause-err : goal.returns-in_err-make_room-clause-err
 returns-in_err-make_room-clause-err g c =
@@ -37,8 +43,13 @@ returns-in_err-make_room-clause-kept g c =
     let p = err_from_is_err_and c.from_residual-in_err-make_room.result c.from_residual-in_err-make_room.ensures.1 in
     λ start given at. rw (p.1, p.2) (kept_nothing given)
 
-pub returns-in_err-make_room-clause-to_fault : goal.returns-in_err-make_room-clause-to_fault
-returns-in_err-make_room-clause-to_fault g c = λ start given at. taken_to_fault (c.loop-reads.invariant.taken start given at) _
+pub returns-in_err-make_room-clause-reading : goal.returns-in_err-make_room-clause-reading
+returns-in_err-make_room-clause-reading g c =
+    let p = err_from_is_err_and c.from_residual-in_err-make_room.result c.from_residual-in_err-make_room.ensures.1 in
+    let inv = c.loop-reads.invariant in
+    λ start given at. rw (p.1, p.2) (read_fine c.args.most g.R.Source.has_failed g.R.Source.has_ended g.R.Source.good_reads
+    g.R.Source.remaining given c.args.source.now c.loop-reads.source _ (λ is. cc is) inv.fine tt (grind (arith, common_steps))
+    (taken_to_fault (inv.taken start given at) MAX_READ_LEN))
 
 pub returns-in_default-clause-kept : goal.returns-in_default-clause-kept
 returns-in_default-clause-kept g c =
@@ -47,17 +58,19 @@ returns-in_default-clause-kept g c =
     λ start given at.
     taken_before (taken_kept (taken_still (c.loop-reads.invariant.taken start given at) still) c.read.result failed c.read.ensures.err)
 
-pub returns-in_default-clause-no_fault : goal.returns-in_default-clause-no_fault
-returns-in_default-clause-no_fault g c =
-    let failed : is_err c.read.result ≡ true = grind (arith, common_steps) in
-    λ start given at is.
-    taken_to_fault (taken_kept (c.loop-reads.invariant.taken start given at) c.read.result failed c.read.ensures.err) 0
-
-pub returns-in_default-clause-to_fault : goal.returns-in_default-clause-to_fault
-returns-in_default-clause-to_fault g c =
+pub returns-in_default-clause-reading : goal.returns-in_default-clause-reading
+returns-in_default-clause-reading g c =
     let failed : is_err c.read.result ≡ true = grind (arith, common_steps) in
     λ start given at.
-    taken_to_fault (taken_kept (c.loop-reads.invariant.taken start given at) c.read.result failed c.read.ensures.err) _
+    let kept = taken_kept (c.loop-reads.invariant.taken start given at) c.read.result failed c.read.ensures.err in
+    record {
+      ended = tt;
+      reported = λ is. refl;
+      read = λ is. grind (arith, common_steps);
+      no_fault = λ is. taken_to_fault kept 0;
+      bounded = grind (arith, common_steps);
+      to_fault = taken_to_fault kept MAX_READ_LEN;
+    }
 
 pub returns-then-count-eq0-clause-ok : goal.returns-then-count-eq0-clause-ok
 returns-then-count-eq0-clause-ok g c =
@@ -68,10 +81,14 @@ returns-then-count-eq0-clause-ok g c =
     taken_to_end (taken_ended (taken_still (c.loop-reads.invariant.taken start given at) still) behind) c.early_end.result (behind.end refl)
     (rw c.held.ensures at c.early_end.ensures)
 
-pub returns-then-count-eq0-clause-to_fault : goal.returns-then-count-eq0-clause-to_fault
-returns-then-count-eq0-clause-to_fault g c =
+pub returns-then-count-eq0-clause-reading : goal.returns-then-count-eq0-clause-reading
+returns-then-count-eq0-clause-reading g c =
     let behind = rw (c.make_room.ensures.held) at c.in-Ok.ensures.ok in
-    λ start given at. taken_and_more (c.loop-reads.invariant.taken start given at) MAX_READ_LEN behind c.in-Ok.ensures.bound
+    let fine : g.R.Source.has_failed c.read.new.source ≡ false = grind (arith, common_steps) in
+    let ended : g.R.Source.has_ended c.read.new.source ≡ true = grind (arith, common_steps) in
+    λ start given at. read_fine c.args.most g.R.Source.has_failed g.R.Source.has_ended g.R.Source.good_reads
+    g.R.Source.remaining given c.args.source.now c.read.new.source _ (λ is. cc is) fine ended (grind (arith, common_steps))
+    (taken_and_more (c.loop-reads.invariant.taken start given at) MAX_READ_LEN behind c.in-Ok.ensures.bound)
 
 pub returns-in_err-take-clause-err : goal.returns-in_err-take-clause-err
 returns-in_err-take-clause-err g c =
@@ -87,10 +104,14 @@ returns-in_err-take-clause-kept g c =
     λ start given at. rw (p.1, p.2)
     (taken_before_refused (taken_still (c.loop-reads.invariant.taken start given at) still) _ behind c.in_err-take.ensures.kept)
 
-pub returns-in_err-take-clause-to_fault : goal.returns-in_err-take-clause-to_fault
-returns-in_err-take-clause-to_fault g c =
+pub returns-in_err-take-clause-reading : goal.returns-in_err-take-clause-reading
+returns-in_err-take-clause-reading g c =
+    let p = err_from_is_err_and c.from_residual-in_err-take.result c.from_residual-in_err-take.ensures.1 in
     let behind = rw (c.make_room.ensures.held) at c.in-Ok.ensures.ok in
-    λ start given at. taken_and_more (c.loop-reads.invariant.taken start given at) MAX_READ_LEN behind c.in-Ok.ensures.bound
+    let fine : g.R.Source.has_failed c.read.new.source ≡ false = grind (arith, common_steps) in
+    λ start given at. rw (p.1, p.2) (read_fine c.args.most g.R.Source.has_failed g.R.Source.has_ended g.R.Source.good_reads
+    g.R.Source.remaining given c.args.source.now c.read.new.source _ (λ is. c.in_err-take.ensures.no_read (cc is)) fine tt (grind (arith, common_steps))
+    (taken_and_more (c.loop-reads.invariant.taken start given at) MAX_READ_LEN behind c.in-Ok.ensures.bound))
 
 pub loop-reads-preserved : goal.loop-reads-preserved
 loop-reads-preserved g c =
@@ -116,18 +137,6 @@ loop-reads-preserved g c =
         length-append c.loop-reads.self.block.held behind.more,
         length-drop found.len c.read.new.self.held,
       );
-      each = omega (
-        arith,
-        inv.each,
-        some,
-        found.inside,
-        found.later_is,
-        behind.count_is,
-        ap length found.rest_is,
-        ap length behind.held,
-        length-append c.loop-reads.self.block.held behind.more,
-        length-drop found.len c.read.new.self.held,
-      );
       counted = grind (arith, common_steps);
       bounded = grind (arith, common_steps);
     }
@@ -135,14 +144,17 @@ loop-reads-preserved g c =
 pub returns-clause-kept : goal.returns-clause-kept
 returns-clause-kept g c = λ start given at. taken_before (c.loop-reads.invariant.taken start given at)
 
-pub returns-clause-read : goal.returns-clause-read
-returns-clause-read g c =
+pub returns-clause-reading : goal.returns-clause-reading
+returns-clause-reading g c =
+    let inv = c.loop-reads.invariant in
     let all : c.args.most ≤ c.loop-reads._reads = grind (arith, common_steps) in
-    λ start given at is.
-    inr (grind (arith, common_steps), taken_many (c.loop-reads.invariant.taken start given at) c.args.most all)
-
-pub returns-clause-no_fault : goal.returns-clause-no_fault
-returns-clause-no_fault g c = λ start given at is. taken_to_fault (c.loop-reads.invariant.taken start given at) 0
-
-pub returns-clause-to_fault : goal.returns-clause-to_fault
-returns-clause-to_fault g c = λ start given at. taken_to_fault (c.loop-reads.invariant.taken start given at) _
+    λ start given at.
+    let taken = inv.taken start given at in
+    record {
+      ended = tt;
+      reported = λ is. refl;
+      read = λ is. inr (grind (arith, common_steps), taken_many taken c.args.most all);
+      no_fault = λ is. taken_to_fault taken 0;
+      bounded = grind (arith, common_steps);
+      to_fault = taken_to_fault taken MAX_READ_LEN;
+    }

@@ -13,8 +13,7 @@ invariant-loop-reads g l = record {
       l._reads;
   fine : g.R.Source.has_failed l.source ≡ false;
   inside : g.R.Source.has_ended l.source ≡ false;
-  short : l.self.offset + length l.self.block.held ≤ l._reads * MAX_READ_LEN;
-  each : l._reads ≤ l.self.offset + length l.self.block.held;
+  short : l.self.offset + length l.self.block.held ≤ l.fn.self.offset + length l.fn.self.block.held + l._reads * MAX_READ_LEN;
   counted : l._reads ≤ g.R.Source.good_reads l.source;
   bounded : g.R.Source.good_reads l.source + 1 ≤ g.R.Source.good_reads l.fn.source + l._reads;
 }

@@ -1,4 +1,4 @@
-//! Where the parts of several workers begin.
+//! Where the parts of several workers end.
 
 use htl_device::{Parted, Reading, read_whole};
 use htl_segment::whole_len;
@@ -12,23 +12,36 @@ const MIN_PART_LEN: u64 = 4_194_304;
 /// stands among them.
 const MAX_SEARCH_LEN: u64 = 4_489_280;
 
-/// The offsets at which the parts of the workers after the first begin. They cut the bytes of a source
-/// into about equal parts. Where no segment is found, there is one part fewer.
-pub fn starts<R: Parted>(
+/// The offsets at which the parts of the workers end, in about equal distances of so many bytes at most.
+/// The last one is the end of the source, where so few bytes are left. At each other one a segment seems
+/// to begin: where none is found, there is one part fewer.
+pub fn ends<R: Parted>(
     alloc: Global,
     workers: u32,
+    most: u64,
     len: u64,
     source: &R,
 ) -> Result<Vec<u64>, AllocError> {
     let parts = u64::from(workers).min(len / MIN_PART_LEN);
-    let mut starts = Vec::new(alloc);
+    let mut ends = Vec::new(alloc);
+    if parts < 2 {
+        return Ok(ends);
+    }
+    let each = (len / parts).min(most);
     for part in 1..parts {
-        let near = (len / parts).saturating_mul(part);
-        if let Some(start) = find_segment(alloc, source, near) {
-            starts.push(start)?;
+        if let Some(end) = find_segment(alloc, source, each.saturating_mul(part)) {
+            ends.push(end)?;
         }
     }
-    Ok(starts)
+    let last = if each < most {
+        Some(len)
+    } else {
+        find_segment(alloc, source, each.saturating_mul(parts))
+    };
+    if let Some(end) = last {
+        ends.push(end)?;
+    }
+    Ok(ends)
 }
 
 /// The first offset at which a whole segment seems to stand, from this one on.

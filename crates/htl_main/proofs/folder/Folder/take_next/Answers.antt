@@ -1,7 +1,7 @@
 -- One segment more was taken, or is unfit.
 use Rattle.std.proofs.Common.{◌∙◌, sym}
 use Rattle.htl_main.proofs.FolderLaws.{fit_next, took_first, unfit_next}
-use Rattle.htl_main.proofs.folder.Folder.take_segment.Goals as goal
+use Rattle.htl_main.proofs.folder.Folder.take_next.Goals as goal
 
 pub returns-in_default : goal.returns-in_default
 returns-in_default c = λ first given so_far.

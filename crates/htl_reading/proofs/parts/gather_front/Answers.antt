@@ -1,0 +1,41 @@
+-- What the workers took is what they took in order.
+use Rattle.std.proofs.Common.{◌≡◌, ◌≤◌, ◌<◌, ℕ, List, IfSome, Some, None, length, map, min, take, ap, arith, Option, slice_index_or}
+use Rattle.std.proofs.lemmas.Grind.{common_steps}
+use Rattle.std.proofs.lemmas.List.{length-map}
+use Rattle.htl_reading.specs.Parts.{ArePartsOf, TookInOrder}
+use Rattle.htl_reading.specs.declared.parts.Part.{Part}
+use Rattle.htl_reading.proofs.PartLaws.{Gathers, gathered_in_order}
+use Rattle.htl_reading.proofs.parts.gather_front.Goals as goal
+
+each : (g : _) (c : goal.After-drop-ends-2 g) (i : ℕ) (part : Part _ _) (outcome : Option _) → i < length c.in_ok-parts.parts.items
+    → Gathers g.K.Keeper.gathers g.R.Tail.Read.remaining c.args.keeper.now (slice_index_or c.in_ok-parts.parts.items i part)
+    (slice_index_or c.in-Ok.gathered.items i outcome)
+each g c i part outcome inside =
+    let job = (c.in-Ok.ensures.each i outcome inside).1 in
+    rw (job.job_is part) (job.call.met)
+
+pub returns-clause-taken : goal.returns-clause-taken
+returns-clause-taken g c = in_order (g.R.Source.remaining c.args.source.now) c.in_ok-len.ensures.len c.in_ok-parts.ensures
+  where
+    inside : c.in_ok-parts.end ≤ min c.in_ok-len.field-0 2305843009213693952
+    inside = grind (arith, common_steps)
+
+    count : length c.in_ok-all_of.field-0.items ≡ length c.in_ok-parts.parts.items
+    count = omega (
+      arith,
+      ap length c.in_ok-all_of.ensures,
+      length-map c.in_ok-all_of.field-0.items (λ (keeper : g.row.K.Denot). Some keeper),
+      c.in-Ok.ensures.len,
+    )
+
+    in_order : (given : Option (List ℕ)) → IfSome given (λ bytes. length bytes ≡ c.in_ok-len.field-0)
+        → IfSome given (λ bytes. ArePartsOf g.K.Keeper.gathers g.R.Tail.Read.remaining c.args.keeper.now c.in_ok-parts.parts.items
+        (take c.in_ok-parts.end bytes))
+        → IfSome given (λ bytes. (c.in_ok-parts.end ≤ length bytes)
+        × TookInOrder g.K.Keeper.gathers c.args.keeper.now c.in_ok-all_of.field-0.items (take c.in_ok-parts.end bytes))
+    in_order None len cut = tt
+    in_order (Some bytes) len cut = (
+      omega (arith, len, inside),
+      gathered_in_order g.K.Keeper.gathers g.R.Tail.Read.remaining c.args.keeper.now c.in_ok-parts.parts.items c.in_ok-all_of.field-0.items
+          (take c.in_ok-parts.end bytes) (λ i part outcome inside. rw (c.in_ok-all_of.ensures) (each g c i part outcome inside)) count cut,
+    )

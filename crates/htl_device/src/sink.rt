@@ -1,7 +1,7 @@
 //! Sinks of bytes.
 
 ghost use Rattle.std.specs.Prelude.{◌≡◌, ◌≤◌, ℕ, Bool, List, Option, None, false, length};
-ghost use Rattle.std.specs.Prelude.{IfOk};
+ghost use Rattle.std.specs.Prelude.{IfOk, true};
 ghost use Rattle.std.specs.Io.KnownBytes.{WriteAppends};
 ghost use Rattle.htl_device.specs.Devices.{write_fails};
 
@@ -46,9 +46,11 @@ impl<W: Write> Writing<W> {
         }
     }
 
-    /// Whether the write that failed did so because nobody reads the pipe any more.
-    pub fn is_pipe_broken(&self) -> bool {
-        self.is_pipe_broken
+    /// Whether a write failed because nobody reads the pipe any more.
+    pub fn is_pipe_broken(&self) -> bool
+        ensures { result ≡ true → ⟦<Writing<W> as Sink>⟧.has_failed self.now ≡ true }
+    {
+        self.failed && self.is_pipe_broken
     }
 }
 

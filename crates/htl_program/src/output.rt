@@ -1,5 +1,7 @@
 //! Where answers go.
 
+ghost use Rattle.std.specs.Prelude.{◌≡◌, true};
+
 use htl_device::{Sink, Writing};
 use std::io::Write;
 
@@ -7,7 +9,8 @@ use std::io::Write;
 pub trait Output: Sink {
     /// Whether a write failed because nobody reads any more, as after `head`. That is no news to
     /// anybody.
-    fn has_lost_reader(&self) -> bool;
+    fn has_lost_reader(&self) -> bool
+        ensures { result ≡ true → Self.has_failed self.now ≡ true };
 }
 
 impl<W: Write> Output for Writing<W> {

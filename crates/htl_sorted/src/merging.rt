@@ -45,7 +45,9 @@ pub fn merge<L: Joined, A: Allocator>(
         ≡ joined_at L.joined (find L.Key.cmp k (entries L.key_of L.value_of left.now))
         (find L.Key.cmp k (entries L.key_of L.value_of right.now))) }
 {
-    let mut rows = Vec::with_capacity(alloc, merged_len::<L>(left, right))?;
+    // Two rows of one key leave room over, which is given back at the end. To count such keys first would
+    // be one more walk over both lists.
+    let mut rows = Vec::with_capacity(alloc, left.len().saturating_add(right.len()))?;
     let mut i = 0;
     let mut j = 0;
     while i < left.len() && j < right.len() {
@@ -68,32 +70,8 @@ pub fn merge<L: Joined, A: Allocator>(
     }
     append::<L, A>(&mut rows, &left[i..])?;
     append::<L, A>(&mut rows, &right[j..])?;
+    rows.shrink_to_fit();
     Ok(rows)
-}
-
-/// How many keys both lists have together, so that the merged list is given its memory at once.
-///
-/// It only sets a capacity, so the contract bounds it and doesn't say that it is exact.
-fn merged_len<L: Keyed>(left: &[L::Row], right: &[L::Row]) -> usize
-    ensures left { length left.now ≤ result }
-    ensures right { length right.now ≤ result }
-    ensures both { result ≤ length left.now + length right.now }
-{
-    let mut shared = 0;
-    let mut i = 0;
-    let mut j = 0;
-    while i < left.len() && j < right.len() {
-        match L::key(&left[i]).cmp(&L::key(&right[j])) {
-            Ordering::Less => i += 1,
-            Ordering::Greater => j += 1,
-            Ordering::Equal => {
-                shared += 1;
-                i += 1;
-                j += 1;
-            }
-        }
-    }
-    (left.len() - shared).saturating_add(right.len())
 }
 
 fn append<L: Joined, A: Allocator>(

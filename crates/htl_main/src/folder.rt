@@ -7,6 +7,7 @@ ghost use Rattle.htl_segment.specs.Keepers.{Took};
 ghost use Rattle.htl_main.specs.Folders.{IsFallen, IsNewTo, Keeps, TookFit, folds_of};
 
 use htl_analyst::{Analyst, TakeFault};
+use htl_answers::Part;
 use htl_case::CaseFault;
 use htl_event::NoMemory;
 use htl_reading::SegmentKeeper;
@@ -14,9 +15,9 @@ use htl_segment::{Keeper, Segment, SegmentBytes, StackCache};
 use std::alloc::Global;
 use std::thread::Threads;
 
-/// How many records are held before they are folded, and what one read brings beside. An event takes 48
-/// bytes beside its stack, which equal ones share.
-const MOST_HELD: u64 = 1 << 20;
+/// How many records are held before they are folded, at the least, and what one read brings beside. An
+/// event takes 48 bytes beside its stack, which equal ones share.
+const FEW_HELD: u64 = 1 << 20;
 
 /// Takes segments into an analyst, up to the first that is unfit, and has it fold what it holds.
 #[derive(Drop)]
@@ -81,7 +82,7 @@ impl Folder {
     pub fn fold_if_full(&mut self, rt: &(impl Threads + Sync), workers: u32) -> Result<(), NoMemory>
         ensures { OnOk result (Took folds_of self.old self.new []) }
     {
-        if self.held < MOST_HELD {
+        if self.held < most_held(&self.analyst) {
             return Ok(());
         }
         self.fold_by(rt, workers)
@@ -128,6 +129,18 @@ impl SegmentKeeper for Folder {
         }
         self.take_next(alloc, segment)
     }
+}
+
+/// How many records are held before they are folded: as many as there are handles whose latest event is
+/// kept, since a fold copies these events.
+fn most_held(analyst: &Option<Analyst<Global>>) -> u64 {
+    let mut latest = 0u64;
+    if let Some(analyst) = analyst {
+        for part in analyst.parts() {
+            latest = latest.saturating_add(part.latest().rows().len() as u64);
+        }
+    }
+    latest.max(FEW_HELD)
 }
 
 /// An analyst that took a segment.

@@ -3,8 +3,8 @@ use Rattle.std.proofs.Common.{append-nil}
 use Rattle.htl_main.proofs.FolderLaws.{whatever}
 use Rattle.htl_main.proofs.folder.Folder.fold_if_full.Goals as goal
 
-pub returns-then-self-lt-MOST_HELD : goal.returns-then-self-lt-MOST_HELD
-returns-then-self-lt-MOST_HELD g c = λ kind before folds. rw (append-nil before) folds
+pub returns-then-self-most_held : goal.returns-then-self-most_held
+returns-then-self-most_held g c = λ kind before folds. rw (append-nil before) folds
 
 pub returns : goal.returns
 returns g c =

@@ -1,9 +1,7 @@
 -- What keepers have after a fault: the segments before it.
-use Rattle.std.proofs.Common.{◌≡◌, ◌≢◌, ◌+◌, ℕ, List, [], ◌++◌, length, All, refl, append-nil, Option, Some, None, IfSome, Result, Ok, Err, true}
-use Rattle.std.specs.Prelude.{⊤, is_err}
-use Rattle.std.proofs.KnownBytes.{Consumes-kept, Consumes-nil}
-use Rattle.std.proofs.lemmas.List.Elements.{All-nil}
-use Rattle.std.specs.Io.KnownBytes.{Consumes, ReadConsumes}
+use Rattle.std.proofs.Common.{◌≡◌, ◌≢◌, ◌+◌, ℕ, List, ◌++◌, length, All, Option, Some, None, IfSome}
+use Rattle.std.specs.Prelude.{⊤}
+use Rattle.std.specs.Io.KnownBytes.{Consumes}
 use Rattle.htl_segment.specs.Content.{Content, Fits}
 use Rattle.htl_segment.specs.Bundles.{bundle, IsRest}
 use Rattle.htl_segment.specs.Keepers.{Took, TookUpTo}
@@ -15,7 +13,7 @@ use Rattle.htl_reading.specs.declared.fault.SourceFault.TheVariants.{Read}
 use Rattle.htl_reading.specs.Keepers.{taken}
 use Rattle.htl_reading.specs.Blocks.{IsKeptAt, of_segment}
 use Rattle.htl_reading.specs.Taking.{TookBefore}
-use Rattle.htl_reading.proofs.FaultLaws.{begins_none, taken_splits}
+use Rattle.htl_reading.proofs.FaultLaws.{taken_splits}
 
 -- nothing is promised of refused memory
 pub kept_nothing : (given : Option (List ℕ)) → IfSome given (λ bytes. ⊤)
@@ -23,10 +21,6 @@ kept_nothing None = tt
 kept_nothing (Some xs) = tt
 
 module _ {S K : Type 0} (gathers : S → K → List Content → Type 0) (old : K) where
-  -- no segment more
-  took_none : Took gathers old old []
-  took_none = λ kind before was. rw (append-nil before) was
-
   -- where a read fails, those that were read
   pub kept_read : (new : K) (given left : Option (List ℕ)) (segments : List Content) (rest : List ℕ) → All Fits segments → IsRest rest
       → Consumes given left (taken segments rest) → Took gathers old new segments
@@ -41,13 +35,6 @@ module _ {S K : Type 0} (gathers : S → K → List Content → Type 0) (old : K
     is_rest = is_rest;
     took = took;
   }
-
-  -- none where the first one does
-  pub kept_first : {E : Type 0} (given left : Option (List ℕ)) (buffer : List ℕ) (result : Result ℕ E) → is_err result ≡ true
-      → ReadConsumes given left result buffer → IfSome given (λ bytes. TookBefore gathers old old left bytes Read)
-  kept_first given left buffer (Ok n) failed kept = absurd cc
-  kept_first given left buffer (Err e) failed kept =
-      kept_read old given left [] [] (All-nil Fits) begins_none (Consumes-kept given given left [] (Consumes-nil given) kept) took_none
 
   kept_of : (new : K) (left : Option (List ℕ)) (bytes : List ℕ) (offset : ℕ) (fault : Fault)
       → (fault ≢ faults.NoMemory → TookUpTo gathers old new bytes offset) → TookBefore gathers old new left bytes (of_segment offset fault)
@@ -64,9 +51,3 @@ module _ {S K : Type 0} (gathers : S → K → List Content → Type 0) (old : K
       rw (given, kept.3, offset_is) (kept_of new (Some ys) (taken segments held ++ ys) (length (bundle segments) + kept.0) kept.1
       (λ other. took_more gathers old new (taken segments held) ys (length (bundle segments) + kept.0)
       (took_after gathers old mid new segments held kept.0 fits took (kept.2 other))))
-
-  -- where the bytes of the first read are refused
-  pub kept_first_refused : (new : K) (given left : Option (List ℕ)) (piece : List ℕ) (fault : SourceFault) → Consumes given left piece
-      → IsKeptAt gathers old new 0 piece fault → IfSome given (λ bytes. TookBefore gathers old new left bytes fault)
-  kept_first_refused new given left piece fault read kept =
-      kept_refused old new given left [] piece 0 fault (All-nil Fits) refl read took_none kept

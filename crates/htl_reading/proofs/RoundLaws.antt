@@ -1,5 +1,5 @@
 -- What a keeper takes of lists of segments, which several workers gathered.
-use Rattle.std.proofs.Common.{◌≡◌, ℕ, List, [], ◌∷◌, ◌++◌, refl}
+use Rattle.std.proofs.Common.{◌≡◌, ℕ, List, [], ◌∷◌, ◌++◌}
 use Rattle.htl_segment.specs.Content.{Content}
 use Rattle.htl_segment.specs.Keepers.{Took}
 use Rattle.htl_segment.specs.declared.keeper.Segments.{Segments}

@@ -37,7 +37,8 @@ ArePartsOf gathers remaining keeper (part ∷ parts) bytes =
 -- A source passes over the segments behind an offset, and a keeper took them, up to the offset that is given. Or memory is refused, which
 -- was asked for where a segment begins.
 pub record PassesOver {S K R E : Type 0} (gathers : S → K → List Content → Type 0) (has_failed has_ended : R → Bool)
-    (good_reads : R → ℕ) (remaining : R → Option (List ℕ)) (old new : R) (before after : K) (offset : ℕ) (result : Result ℕ E) : Type 0 where
+    (good_reads : R → ℕ) (remaining : R → Option (List ℕ)) (old new : R) (before after : K) (offset : ℕ) (result : Result ℕ E)
+    : Type 0 where
   pub fresh : has_failed new ≡ false
   pub inside : has_ended new ≡ false
   pub counts : good_reads new ≤ good_reads old

@@ -45,9 +45,10 @@ pub fn merge<L: Joined, A: Allocator>(
         ≡ joined_at L.joined (find L.Key.cmp k (entries L.key_of L.value_of left.now))
         (find L.Key.cmp k (entries L.key_of L.value_of right.now))) }
 {
-    // Two rows of one key leave room over, which is given back at the end. To count such keys first would
-    // be one more walk over both lists.
-    let mut rows = Vec::with_capacity(alloc, left.len().saturating_add(right.len()))?;
+    // Two rows of one key leave room over, which is given back at the end. To count such keys first
+    // would be one more walk over both lists.
+    let most = left.len().saturating_add(right.len());
+    let mut rows = Vec::with_capacity(alloc, most)?;
     let mut i = 0;
     let mut j = 0;
     while i < left.len() && j < right.len() {

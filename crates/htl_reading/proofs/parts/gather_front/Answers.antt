@@ -1,5 +1,5 @@
 -- What the workers took is what they took in order.
-use Rattle.std.proofs.Common.{◌≡◌, ◌≤◌, ◌<◌, ℕ, List, IfSome, Some, None, length, map, min, take, ap, arith, Option, slice_index_or}
+use Rattle.std.proofs.Common.{◌≡◌, ◌≤◌, ◌<◌, ℕ, List, IfSome, Some, None, length, min, take, ap, arith, Option, slice_index_or}
 use Rattle.std.proofs.lemmas.Grind.{common_steps}
 use Rattle.std.proofs.lemmas.List.{length-map}
 use Rattle.htl_reading.specs.Parts.{ArePartsOf, TookInOrder}

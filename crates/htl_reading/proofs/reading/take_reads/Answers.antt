@@ -1,11 +1,10 @@
 -- The first read, and what is read on after it.
-use Rattle.std.proofs.Common.{◌≡◌, ◌≤◌, ◌<◌, ◌+◌, List, [], ℕ, Option, None, drop, take, arith, false, refl, true}
+use Rattle.std.proofs.Common.{◌≡◌, ◌≤◌, ◌<◌, ◌+◌, List, [], ℕ, Option, None, take, arith, false, refl, true}
 use Rattle.std.proofs.lemmas.Grind.{common_steps}
 use Rattle.std.proofs.lemmas.List.{take_rest}
 use Rattle.std.proofs.lemmas.Result.{err_from_is_err_and}
 use Rattle.std.specs.Prelude.{is_err}
 use Rattle.htl_device.specs.declared.source.TheConstants.{MAX_READ_LEN}
-use Rattle.htl_reading.specs.Blocks.{IsReadBehind}
 use Rattle.htl_reading.specs.Keepers.{IsTakenTo}
 use Rattle.htl_reading.proofs.KeptLaws.{kept_nothing}
 use Rattle.htl_reading.proofs.ReadLaws.{read_fine}
@@ -85,7 +84,8 @@ returns-in_err-new-clause-err g c =
     let p = err_from_is_err_and c.from_residual-in_err-new.result c.from_residual-in_err-new.ensures.1 in
     let inside : g.R.Source.has_ended c.read.new.self ≡ false = grind (arith, common_steps) in
     let got = first_behind c.read.new.buffer c.in-Ok.count c.in-Ok.ensures.bound (grind (arith, common_steps)) c.in-Ok.ensures.bytes in
-    λ start given at. rw (p.1, p.2) (taken_memory (taken_more at c.in-Ok.count c.in_ok-len.len got some c.in_ok-len.ensures.ok c.in_ok-len.ensures.inside) _ (omega arith) inside)
+    λ start given at. rw (p.1, p.2) (taken_memory
+    (taken_more at c.in-Ok.count c.in_ok-len.len got some c.in_ok-len.ensures.ok c.in_ok-len.ensures.inside) _ (omega arith) inside)
 
 pub returns-in_err-new-clause-kept : goal.returns-in_err-new-clause-kept
 returns-in_err-new-clause-kept g c =
@@ -109,7 +109,8 @@ began : (g : _) (c : goal.After-read_on g) (start : _) (given : Option (List ℕ
 began g c start given at =
     let some : 0 < c.in-Ok.count = grind (arith, common_steps) in
     let got = first_behind c.read.new.buffer c.in-Ok.count c.in-Ok.ensures.bound (grind (arith, common_steps)) c.in-Ok.ensures.bytes in
-    rw (c.in_ok-new.ensures, take_rest (take c.in-Ok.count c.read.new.buffer) c.in_ok-len.len) (taken_more at c.in-Ok.count c.in_ok-len.len got some c.in_ok-len.ensures.ok c.in_ok-len.ensures.inside)
+    rw (c.in_ok-new.ensures, take_rest (take c.in-Ok.count c.read.new.buffer) c.in_ok-len.len)
+    (taken_more at c.in-Ok.count c.in_ok-len.len got some c.in_ok-len.ensures.ok c.in_ok-len.ensures.inside)
 
 pub returns-clause-ok : goal.returns-clause-ok
 returns-clause-ok g c = λ start given at. c.read_on.ensures.ok start given (began g c start given at)

@@ -1,5 +1,5 @@
 -- One list more.
-use Rattle.htl_reading.proofs.RoundLaws.{lists_of, took_list}
+use Rattle.htl_reading.proofs.RoundLaws.{took_list}
 use Rattle.htl_reading.proofs.rounds.take_lists.Goals as goal
 
 pub loop-segments-preserved : goal.loop-segments-preserved

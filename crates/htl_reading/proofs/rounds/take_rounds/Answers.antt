@@ -1,6 +1,5 @@
 -- One round more, and where the rounds end.
-use Rattle.std.proofs.Common.{◌≡◌, ◌<◌, arith, sym}
-use Rattle.std.proofs.lemmas.Grind.{common_steps}
+use Rattle.std.proofs.Common.{◌<◌, arith, sym}
 use Rattle.std.proofs.lemmas.Result.{err_from_is_err_and}
 use Rattle.htl_reading.proofs.PassLaws.{next_passed, next_refused, none_passed, some_more, still_passed, still_refused}
 use Rattle.htl_reading.proofs.rounds.take_rounds.Goals as goal

@@ -1,5 +1,5 @@
 -- The source passes over the rounds so far, which are few enough for one more.
-use Rattle.std.proofs.Common.{◌≤◌, ◌^◌, Ok}
+use Rattle.std.proofs.Common.{◌≤◌, ◌^◌}
 use Rattle.htl_event.specs.declared.memory.NoMemory.{NoMemory}
 use Rattle.htl_reading.proofs.PassLaws.{passed}
 use Rattle.htl_reading.specs.Parts.{PassesOver}

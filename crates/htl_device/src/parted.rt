@@ -1,6 +1,6 @@
 //! Sources that several workers may read at once.
 
-ghost use Rattle.std.specs.Prelude.{◌≡◌, ◌≤◌, Bool, IfSome, OnSome, false, length, true};
+ghost use Rattle.std.specs.Prelude.{◌≡◌, ◌≤◌, ◌⊎◌, Bool, IfSome, OnSome, false, length, true};
 ghost use Rattle.htl_device.specs.Devices.{tail_of};
 
 use crate::{Reading, Source};
@@ -26,9 +26,10 @@ pub trait Parted: Source {
         ensures { IfSome result (λ tail.
             Self.Tail.remaining tail ≡ tail_of offset (Self.remaining self.now)) };
 
-    /// Passes over the next bytes, which were read by other readers.
+    /// Passes over the next bytes, which were read by other readers. A source that can't be read from
+    /// several places passes over none.
     fn pass(&mut self, len: u64)
-        requires parted { is_parted self.old ≡ true }
+        requires parted { (len ≡ 0) ⊎ (is_parted self.old ≡ true) }
         requires fresh { Self.has_failed self.old ≡ false }
         requires inside { Self.has_ended self.old ≡ false }
         ensures bytes { Self.remaining self.new ≡ tail_of len (Self.remaining self.old) }
@@ -51,7 +52,5 @@ impl<R: Read> Parted for Reading<R> {
         None
     }
 
-    fn pass(&mut self, _len: u64) {
-        unreachable!()
-    }
+    fn pass(&mut self, _len: u64) {}
 }

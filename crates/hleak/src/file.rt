@@ -23,10 +23,10 @@ pub enum Stage {
 pub struct InputFile {
     rt: HostRuntime,
     name: String,
-    /// How many bytes are left behind those that are passed over, as it was found.
+    /// How many bytes are left behind those that are skipped, as it was found.
     len: Option<u64>,
     /// How many bytes in front aren't read.
-    passed: u64,
+    skipped: u64,
     stage: Stage,
 }
 
@@ -51,12 +51,12 @@ impl InputFile {
             rt: *rt,
             name,
             len,
-            passed: 0,
+            skipped: 0,
             stage,
         })
     }
 
-    /// How many bytes the file had when it was found, but for those passed over, where that is known.
+    /// How many bytes the file had when it was found, but for those skipped, where that is known.
     pub fn len(&self) -> Option<u64>
         ensures { result ≡ self.now.len }
     {
@@ -70,20 +70,20 @@ impl InputFile {
         matches!(self.stage, Stage::Found) && self.len.is_some()
     }
 
-    /// The file from an offset on behind what is passed over, opened once more. No contract knows what
+    /// The file from an offset on behind what is skipped, opened once more. No contract knows what
     /// a file holds, so none says where it is read from.
     pub fn tail(&self, offset: u64) -> io::Result<File> {
         let mut file = File::open(&self.rt, &self.name)?;
-        file.seek(SeekFrom::Start(self.passed.saturating_add(offset)))?;
+        file.seek(SeekFrom::Start(self.skipped.saturating_add(offset)))?;
         Ok(file)
     }
 
-    /// Passes over bytes of a file of which nothing was read: reading begins behind them.
-    pub fn pass(&mut self, len: u64)
+    /// Skips bytes of a file of which nothing was read: reading begins behind them.
+    pub fn skip(&mut self, len: u64)
         ensures stage { self.new.stage ≡ self.old.stage }
         ensures name { self.new.name ≡ self.old.name }
     {
-        self.passed = self.passed.saturating_add(len);
+        self.skipped = self.skipped.saturating_add(len);
         self.len = self.len.map(|left| left.saturating_sub(len));
     }
 

@@ -62,10 +62,10 @@ impl<'a> Input<'a, Device> {
         }
     }
 
-    /// Passes over bytes of a file, which count as read.
-    pub fn pass(&mut self, len: u64) {
+    /// Skips bytes of a file, which count as read.
+    pub fn skip(&mut self, len: u64) {
         if let Device::File(file) = &mut self.device {
-            file.pass(len);
+            file.skip(len);
         }
         if let Some(progress) = self.progress {
             progress.count(len);

@@ -57,7 +57,7 @@ impl Parted for InputSource<'_> {
         self.reading.reader.unread_file()?.tail(offset).ok()
     }
 
-    fn pass(&mut self, len: u64) {
-        self.reading.reader.pass(len);
+    fn skip(&mut self, len: u64) {
+        self.reading.reader.skip(len);
     }
 }

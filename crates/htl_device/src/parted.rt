@@ -26,9 +26,9 @@ pub trait Parted: Source {
         ensures { IfSome result (λ tail.
             Self.Tail.remaining tail ≡ tail_of offset (Self.remaining self.now)) };
 
-    /// Passes over the next bytes, which were read by other readers. A source that can't be read from
-    /// several places passes over none.
-    fn pass(&mut self, len: u64)
+    /// Skips the next bytes, which were read by other readers. A source that can't be read from
+    /// several places skips none.
+    fn skip(&mut self, len: u64)
         requires parted { (len ≡ 0) ⊎ (is_parted self.old ≡ true) }
         requires fresh { Self.has_failed self.old ≡ false }
         requires inside { Self.has_ended self.old ≡ false }
@@ -52,5 +52,5 @@ impl<R: Read> Parted for Reading<R> {
         None
     }
 
-    fn pass(&mut self, _len: u64) {}
+    fn skip(&mut self, _len: u64) {}
 }

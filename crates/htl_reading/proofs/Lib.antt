@@ -3,5 +3,5 @@ pub mod FaultLaws
 pub mod KeptLaws
 pub mod PartLaws
 pub mod ReadLaws
-pub mod PassLaws
+pub mod SkipLaws
 pub mod RoundLaws

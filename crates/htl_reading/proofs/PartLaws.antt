@@ -113,14 +113,14 @@ module _ {P : Type 0} (gathers : P → P → List Content → Type 0) (part : P)
         λ kind was is. rw (← append_assoc was had.0 parts.2) (put kind was (was ++ had.0) parts.2 is (had.2 kind was is) parts.6),
       )
 
--- ---- passing over segments
+-- ---- skipping segments
 
--- these are the segments of the bytes that a source gave, passed over to the end of others
-passed_over : (segments more : List Content) (bytes ys : List ℕ) (len : ℕ) → All Fits segments
+-- these are the segments of the bytes that a source gave, skipped to the end of others
+skipped_all : (segments more : List Content) (bytes ys : List ℕ) (len : ℕ) → All Fits segments
     → Consumes (Some bytes) (Some ys) (taken segments []) → len ≤ length ys → Splits (take len ys) more []
     → Splits (taken segments [] ++ take len ys) (segments ++ more) []
     × Consumes (Some bytes) (Some (drop len ys)) (taken (segments ++ more) [])
-passed_over segments more bytes ys len fits given few split =
+skipped_all segments more bytes ys len fits given few split =
     taken_next (Some bytes) (Some ys) (Some (drop len ys)) segments more [] [] (take len ys) fits given (sym (take-append-drop len ys)) split
 
 -- so many bytes are left, and are segments
@@ -128,10 +128,10 @@ abbrev pub AreThere : ℕ → Option (List ℕ) → Type 0
 AreThere len left = IfSome left (λ bytes. (len ≤ length bytes) × (segments : List Content) × Splits (take len bytes) segments [])
 
 module _ {S K : Type 0} (gathers : S → K → List Content → Type 0) (start mid : K) (offset len : ℕ) where
-  of_passed : {new : K} {bytes ys : List ℕ} → IsTakenOf gathers start mid bytes (Some ys) [] offset 0 → len ≤ length ys
+  of_skipped : {new : K} {bytes ys : List ℕ} → IsTakenOf gathers start mid bytes (Some ys) [] offset 0 → len ≤ length ys
       → TookAll gathers mid new (take len ys) → IsTakenOf gathers start new bytes (Some (drop len ys)) [] (offset + len) 0
-  of_passed {bytes = bytes} {ys = ys} at few took =
-      let next = passed_over at.segments took.0 bytes ys len at.fits at.read few took.1 in
+  of_skipped {bytes = bytes} {ys = ys} at few took =
+      let next = skipped_all at.segments took.0 bytes ys len at.fits at.read few took.1 in
       record {
         segments = at.segments ++ took.0;
         fits = next.0.fits;
@@ -152,20 +152,20 @@ module _ {S K : Type 0} (gathers : S → K → List Content → Type 0) (start m
             (at.took kind before was));
       }
 
-  -- what is left of a source that passed over them
-  abbrev pub Passed : K → Option (List ℕ) → Type 0
-  Passed new left = IfSome left (λ bytes. (len ≤ length bytes) × TookAll gathers mid new (take len bytes))
+  -- what is left of a source that skipped them
+  abbrev pub Skipped : K → Option (List ℕ) → Type 0
+  Skipped new left = IfSome left (λ bytes. (len ≤ length bytes) × TookAll gathers mid new (take len bytes))
 
-  known_passed : (new : K) (given left : Option (List ℕ))
-      → IfSome given (λ bytes. IsTakenOf gathers start mid bytes left [] offset 0) → Passed new left
+  known_skipped : (new : K) (given left : Option (List ℕ))
+      → IfSome given (λ bytes. IsTakenOf gathers start mid bytes left [] offset 0) → Skipped new left
       → IfSome given (λ bytes. IsTakenOf gathers start new bytes (tail_of len left) [] (offset + len) 0)
-  known_passed new None left at took = tt
-  known_passed new (Some bytes) None at took = absurd at.read
-  known_passed new (Some bytes) (Some ys) at took = of_passed at took.0 took.1
+  known_skipped new None left at took = tt
+  known_skipped new (Some bytes) None at took = absurd at.read
+  known_skipped new (Some bytes) (Some ys) at took = of_skipped at took.0 took.1
 
-  pub taken_passed : (new : K) {given left : Option (List ℕ)} → IsTakenTo gathers start mid given left [] offset 0 → Passed new left
+  pub taken_skipped : (new : K) {given left : Option (List ℕ)} → IsTakenTo gathers start mid given left [] offset 0 → Skipped new left
       → IsTakenTo gathers start new given (tail_of len left) [] (offset + len) 0
-  taken_passed new {given = given} {left = left} at took = record { known = known_passed new given left at.known took }
+  taken_skipped new {given = given} {left = left} at took = record { known = known_skipped new given left at.known took }
 
   -- memory to take them is asked for where the first one begins
   known_memory : (given left : Option (List ℕ)) (ended : Bool) → 0 < len → ended ≡ false
@@ -174,7 +174,7 @@ module _ {S K : Type 0} (gathers : S → K → List Content → Type 0) (start m
   known_memory None left ended some not_ended at there = tt
   known_memory (Some bytes) None ended some not_ended at there = absurd at.read
   known_memory (Some bytes) (Some ys) ended some not_ended at there =
-      let next = passed_over at.segments there.1 bytes ys len at.fits at.read there.0 there.2 in
+      let next = skipped_all at.segments there.1 bytes ys len at.fits at.read there.0 there.2 in
       asked (Some bytes) (Some (drop len ys)) ended (at.segments ++ there.1) [] next.0.fits begins_none next.1 (omega (
         arith,
         some,
@@ -184,9 +184,9 @@ module _ {S K : Type 0} (gathers : S → K → List Content → Type 0) (start m
         length-take-le len ys there.0,
       )) not_ended
 
-  pub passed_memory : {given left : Option (List ℕ)} (ended : Bool) → 0 < len → ended ≡ false
+  pub skipped_memory : {given left : Option (List ℕ)} (ended : Bool) → 0 < len → ended ≡ false
       → IsTakenTo gathers start mid given left [] offset 0 → AreThere len left → IfSome given (AsksMemory (tail_of len left) ended)
-  passed_memory {given = given} {left = left} ended some not_ended at there = known_memory given left ended some not_ended at.known there
+  skipped_memory {given = given} {left = left} ended some not_ended at there = known_memory given left ended some not_ended at.known there
 
   -- and no fault was read
   known_read : (given left : Option (List ℕ)) (most : ℕ) → IfSome given (λ bytes. IsTakenOf gathers start mid bytes left [] offset 0)
@@ -194,9 +194,9 @@ module _ {S K : Type 0} (gathers : S → K → List Content → Type 0) (start m
   known_read None left most at there = read_without_fault most None (tail_of len left) [] [] (All-nil Fits) begins_none tt
   known_read (Some bytes) None most at there = absurd at.read
   known_read (Some bytes) (Some ys) most at there =
-      let next = passed_over at.segments there.1 bytes ys len at.fits at.read there.0 there.2 in
+      let next = skipped_all at.segments there.1 bytes ys len at.fits at.read there.0 there.2 in
       read_without_fault most (Some bytes) (Some (drop len ys)) (at.segments ++ there.1) [] next.0.fits begins_none next.1
 
-  pub passed_read : {given left : Option (List ℕ)} (most : ℕ) → IsTakenTo gathers start mid given left [] offset 0 → AreThere len left
+  pub skipped_read : {given left : Option (List ℕ)} (most : ℕ) → IsTakenTo gathers start mid given left [] offset 0 → AreThere len left
       → IsReadToFault most given (tail_of len left)
-  passed_read {given = given} {left = left} most at there = known_read given left most at.known there
+  skipped_read {given = given} {left = left} most at there = known_read given left most at.known there

@@ -54,7 +54,7 @@ module _ {R S : Type 0} (most : ℕ) (has_failed has_ended : R → Bool) (good_r
     to_fault = to_fault;
   }
 
-  -- where a source was passed over before it was read so
+  -- where a source had skipped bytes before it was read so
   pub read_later : (mid : R) (result : Result S SourceFault) → good_reads mid ≤ good_reads old
       → IsSourceRead most has_failed has_ended good_reads remaining given mid new result
       → IsSourceRead most has_failed has_ended good_reads remaining given old new result

@@ -1,6 +1,7 @@
 -- What a keeper takes of lists of segments, which several workers gathered.
-use Rattle.std.proofs.Common.{◌≡◌, ℕ, List, [], ◌∷◌, ◌++◌}
-use Rattle.htl_segment.specs.Content.{Content}
+use Rattle.std.proofs.Common.{◌≡◌, ℕ, List, [], ◌∷◌, ◌++◌, append-nil, refl}
+use Rattle.std.proofs.lemmas.List.Elements.{All-nil}
+use Rattle.htl_segment.specs.Content.{Content, Fits}
 use Rattle.htl_segment.specs.Keepers.{Took}
 use Rattle.htl_segment.specs.declared.keeper.Segments.{Segments}
 use Rattle.htl_reading.specs.Keepers.{TookAll}
@@ -19,3 +20,8 @@ pub took_list : {K : Type 0} (gathers : K → K → List Content → Type 0) (st
 took_list gathers start mid new none empty before last so_far took bytes all =
     took_last lists_of none gathers start mid new before last so_far
     (λ kind was segments more began had is. rw (← is none [] empty) (took kind segments had)) bytes all
+
+-- no list has no segment
+pub took_nothing : {K : Type 0} (gathers : K → K → List Content → Type 0) (keeper : K) (bytes : List ℕ) → bytes ≡ []
+    → TookAll gathers keeper keeper bytes
+took_nothing gathers keeper bytes none = rw none ([], record { parts = refl; fits = All-nil Fits }, λ kind was is. rw (append-nil was) is)

@@ -1,8 +1,9 @@
 -- For the clauses of private functions: the parts of a source's bytes, and what the keepers of its workers took.
-use Rattle.std.specs.Prelude.{◌≡◌, ◌≤◌, ◌^◌, ℕ, Bool, false, List, [], ◌∷◌, ◌++◌, Option, Some, IfOk, IfSome, OnErr, Result}
+use Rattle.std.specs.Prelude.{◌≡◌, ◌≤◌, ◌^◌, ℕ, Bool, false, List, [], ◌∷◌, ◌++◌, All, Option, Some, IfOk, IfSome, OnErr, Result}
 use Rattle.std.specs.Io.Take.{take_remaining}
 use Rattle.htl_segment.specs.Content.{Content}
 use Rattle.htl_segment.specs.Bundles.{Splits}
+use Rattle.htl_segment.specs.declared.keeper.Segments.{Segments}
 use Rattle.htl_device.specs.declared.source.TheConstants.{MAX_READ_LEN}
 use Rattle.htl_reading.specs.Keepers.{IsTakenTo}
 use Rattle.htl_reading.specs.Sources.{AsksMemory, IsReadToFault}
@@ -19,6 +20,10 @@ TookInOrder gathers keeper (new ∷ more) bytes =
     (piece : List ℕ) × (rest : List ℕ) × (segments : List Content) × (bytes ≡ piece ++ rest) × Splits piece segments []
     × IsAnother gathers keeper new segments × TookInOrder gathers keeper more rest
 
+-- keepers that took no segment
+abbrev pub AreEmpty : List Segments → Type 0
+AreEmpty keepers = All (λ keeper. keeper.list.items ≡ []) keepers
+
 -- the part has these bytes, and a keeper that took no segment
 pub record IsPartOf {K R : Type 0} (gathers : K → K → List Content → Type 0) (remaining : R → Option (List ℕ)) (keeper : K)
     (part : Part R K) (piece : List ℕ) : Type 0 where
@@ -32,11 +37,11 @@ ArePartsOf gathers remaining keeper (part ∷ parts) bytes =
     (piece : List ℕ) × (rest : List ℕ) × (bytes ≡ piece ++ rest) × IsPartOf gathers remaining keeper part piece
     × ArePartsOf gathers remaining keeper parts rest
 
--- ---- passing over what workers took
+-- ---- skipping what workers took
 
--- A source passes over the segments behind an offset, and a keeper took them, up to the offset that is given. Or memory is refused, which
+-- a source skips the segments behind an offset, and a keeper took them, up to the offset that is given. Or memory is refused, which
 -- was asked for where a segment begins.
-pub record PassesOver {S K R E : Type 0} (gathers : S → K → List Content → Type 0) (has_failed has_ended : R → Bool)
+pub record Skips {S K R E : Type 0} (gathers : S → K → List Content → Type 0) (has_failed has_ended : R → Bool)
     (good_reads : R → ℕ) (remaining : R → Option (List ℕ)) (old new : R) (before after : K) (offset : ℕ) (result : Result ℕ E)
     : Type 0 where
   pub fresh : has_failed new ≡ false

@@ -8,12 +8,14 @@ use std::io::Read;
 /// Fewer bytes are no part.
 const MIN_PART_LEN: u64 = 4_194_304;
 
-/// So many bytes are searched for a segment: twice as many as the longest has, so that a whole one
-/// stands among them.
+/// Twice the length of the longest segment: among this number of bytes a whole one stands.
 const MAX_SEARCH_LEN: u64 = 4_489_280;
 
-/// The offsets at which the parts of the workers end, in about equal distances of so many bytes at most.
-/// The last one is the end of the source, where so few bytes are left. At each other one a segment seems
+/// Twice the length of most segments, and more: a search begins with this number of bytes.
+const SHORT_SEARCH_LEN: u64 = 2_097_152;
+
+/// The offsets at which the parts of the workers end, in about equal distances of at most `most` bytes.
+/// The last one is the end of the source, where the parts reach it. At each other one a segment seems
 /// to begin: where none is found, there is one part fewer.
 pub fn ends<R: Parted>(
     alloc: Global,
@@ -46,8 +48,16 @@ pub fn ends<R: Parted>(
 
 /// The first offset at which a whole segment seems to stand, from this one on.
 fn find_segment<R: Parted>(alloc: Global, source: &R, near: u64) -> Option<u64> {
+    match find_within(alloc, source, near, SHORT_SEARCH_LEN) {
+        Some(place) => Some(place),
+        None => find_within(alloc, source, near, MAX_SEARCH_LEN),
+    }
+}
+
+/// The first offset at which a whole segment seems to stand, among this number of bytes.
+fn find_within<R: Parted>(alloc: Global, source: &R, near: u64, len: u64) -> Option<u64> {
     let tail = source.tail(near)?;
-    let bytes = read_whole(alloc, &mut Reading::new(tail.take(MAX_SEARCH_LEN))).ok()?;
+    let bytes = read_whole(alloc, &mut Reading::new(tail.take(len))).ok()?;
     near.checked_add(first_whole(&bytes)? as u64)
 }
 

@@ -4,7 +4,7 @@
 //! It is lent the keeper, which so has the segments before a fault. Where a source can be read from
 //! several places at once, several workers read a part of its bytes each, with a keeper of its own, and
 //! what the keepers took goes over to the first one in order. A part begins where a segment seems to.
-//! Then the source passes over these bytes, and one worker reads on. Whatever is wrong with a part, its
+//! Then the source skips these bytes, and one worker reads on. Whatever is wrong with a part, its
 //! bytes or its place, the source stays where it was, and so each fault is what one worker reports.
 //!
 //! A source that ends within a segment gives the whole segments before it, and says where that is. The

@@ -1,10 +1,10 @@
 //! Parts of a source's bytes, each of which a worker reads.
 
-ghost use Rattle.std.specs.Prelude.{◌≡◌, ◌≤◌, ◌<◌, ◌^◌, ℕ, List, IfSome, OnOk, OnSome, Some, drop};
+ghost use Rattle.std.specs.Prelude.{◌≡◌, ◌≤◌, ◌<◌, ◌^◌, ℕ, List, [], All, IfSome, OnOk, OnSome, Some, drop};
 ghost use Rattle.std.specs.Prelude.{false, length, map, take, true};
 ghost use Rattle.std.specs.Io.Take.{take_remaining};
 ghost use Rattle.htl_reading.specs.Keepers.{TookAll};
-ghost use Rattle.htl_reading.specs.Parts.{ArePartsOf, IsPartOf, PassesOver, TookInOrder};
+ghost use Rattle.htl_reading.specs.Parts.{ArePartsOf, IsAnother, IsPartOf, Skips, TookInOrder};
 
 use crate::ends::ends;
 use crate::reading::read_source;
@@ -15,8 +15,8 @@ use std::alloc::Global;
 use std::io::{Read, Take};
 use std::thread::{Threads, map_vec};
 
-/// Workers read so many bytes at once at most.
-const MAX_FRONT_LEN: u64 = 1 << 61;
+/// Several workers read at most this number of bytes of a source. No source has more.
+pub const MAX_LEN: u64 = 1 << 61;
 
 /// A part of a source's bytes, and the keeper that takes its segments.
 #[derive(Drop)]
@@ -50,7 +50,7 @@ pub struct Front<K> {
 }
 
 /// Has a keeper take over the segments at the front of a source, of which several workers read a part
-/// each. The source passes over them. Where they are no whole segments it takes none, and the source
+/// each. The source skips them. Where they are no whole segments it takes none, and the source
 /// stays.
 pub fn take_parts<T: Threads + Sync, R: Parted, K: JoiningKeeper + Drop + Send>(
     rt: &T,
@@ -61,19 +61,20 @@ pub fn take_parts<T: Threads + Sync, R: Parted, K: JoiningKeeper + Drop + Send>(
 ) -> Result<u64, NoMemory>
     requires fresh { R.has_failed source.old ≡ false }
     requires inside { R.has_ended source.old ≡ false }
-    ensures { PassesOver K.gathers R.has_failed R.has_ended R.good_reads R.remaining
+    ensures { Skips K.gathers R.has_failed R.has_ended R.good_reads R.remaining
         source.old source.new keeper.old keeper.new 0 result }
 {
-    let Some(front) = gather_front(rt, alloc, workers, u64::MAX, source, keeper) else {
+    let spare = Vec::new(alloc);
+    let Some(front) = gather_front(rt, alloc, workers, u64::MAX, source, keeper, spare) else {
         return Ok(0);
     };
-    source.pass(front.len);
+    source.skip(front.len);
     append_all(keeper, front.keepers)?;
     Ok(front.len)
 }
 
 /// Gathers the segments at the front of a source by several workers, each of which reads a part of so
-/// many bytes at most.
+/// many bytes at most. Their keepers are spare ones, and others of the keeper's kind.
 ///
 /// It gives none where one worker has to read the source: where it has no parts or is short, and where
 /// a part can't be read, is no whole segments, or finds no memory.
@@ -84,7 +85,9 @@ pub fn gather_front<T: Threads + Sync, R: Parted, K: JoiningKeeper + Drop + Send
     most: u64,
     source: &R,
     keeper: &K,
+    spare: Vec<K>,
 ) -> Option<Front<K>>
+    requires fresh { All (λ spare. IsAnother K.gathers keeper.now spare []) spare.items }
     ensures parted { OnSome result (R.is_parted source.now ≡ true) }
     ensures some { IfSome result (λ front. 0 < front.len) }
     ensures few { IfSome result (λ front. front.len ≤ 2 ^ 61) }
@@ -92,9 +95,9 @@ pub fn gather_front<T: Threads + Sync, R: Parted, K: JoiningKeeper + Drop + Send
         (front.len ≤ length bytes)
         × TookInOrder K.gathers keeper.now front.keepers.items (take front.len bytes))) }
 {
-    let len = source.len()?.min(MAX_FRONT_LEN);
+    let len = source.len()?.min(MAX_LEN);
     let ends = ends(alloc, workers, most, len, source).ok()?;
-    let (parts, end) = cut(alloc, source, keeper, &ends)?;
+    let (parts, end) = cut(alloc, source, keeper, spare, &ends)?;
     if end == 0 || end > len {
         return None;
     }
@@ -116,8 +119,10 @@ fn cut<R: Parted, K: JoiningKeeper + Drop>(
     alloc: Global,
     source: &R,
     keeper: &K,
+    mut spare: Vec<K>,
     ends: &[u64],
 ) -> Option<(Vec<Part<R::Tail, K>>, u64)>
+    requires { All (λ spare. IsAnother K.gathers keeper.now spare []) spare.items }
     ensures { IfSome result (λ cut. IfSome (R.remaining source.now) (λ bytes.
         ArePartsOf K.gathers R.Tail.remaining keeper.now cut.0.items (take cut.1 bytes))) }
 {
@@ -125,27 +130,42 @@ fn cut<R: Parted, K: JoiningKeeper + Drop>(
     let mut from = 0;
     for end in ends {
         let len = end.checked_sub(from)?;
-        parts.push(part_at(alloc, source, keeper, from, len)?).ok()?;
+        parts.push(part_at(alloc, source, keeper, &mut spare, from, len)?).ok()?;
         from = *end;
     }
     Some((parts, from))
 }
 
-/// The part of so many bytes at an offset of a source.
-fn part_at<R: Parted, K: JoiningKeeper>(
+/// The part of this number of bytes at an offset of a source.
+fn part_at<R: Parted, K: JoiningKeeper + Drop>(
     alloc: Global,
     source: &R,
     keeper: &K,
+    spare: &mut Vec<K>,
     from: u64,
     len: u64,
 ) -> Option<Part<R::Tail, K>>
-    ensures { IfSome result (λ part. IfSome (R.remaining source.now) (λ bytes.
+    requires { All (λ spare. IsAnother K.gathers keeper.now spare []) spare.old.items }
+    ensures part { IfSome result (λ part. IfSome (R.remaining source.now) (λ bytes.
         IsPartOf K.gathers R.Tail.remaining keeper.now part (take len (drop from bytes)))) }
+    ensures spare { All (λ spare. IsAnother K.gathers keeper.now spare []) spare.new.items }
 {
     Some(Part {
         bytes: source.tail(from)?.take(len),
-        keeper: keeper.another(alloc),
+        keeper: fresh_keeper(alloc, keeper, spare),
     })
+}
+
+/// A spare keeper, or where none is left another one of this kind.
+fn fresh_keeper<K: JoiningKeeper + Drop>(alloc: Global, keeper: &K, spare: &mut Vec<K>) -> K
+    requires { All (λ spare. IsAnother K.gathers keeper.now spare []) spare.old.items }
+    ensures fresh { IsAnother K.gathers keeper.now result [] }
+    ensures spare { All (λ spare. IsAnother K.gathers keeper.now spare []) spare.new.items }
+{
+    match spare.pop() {
+        Some(keeper) => keeper,
+        None => keeper.another(alloc),
+    }
 }
 
 /// All keepers, where each part gave one.

@@ -1,23 +1,21 @@
 //! Rounds: several workers read the front of a source, some hundred megabytes at a time.
 
-ghost use Rattle.std.specs.Prelude.{◌≡◌, ◌≤◌, ◌^◌, [], ℕ, List, OnOk, false};
+ghost use Rattle.std.specs.Prelude.{◌≡◌, ◌≤◌, ◌^◌, [], ℕ, List, IfOk, OnOk, false};
 ghost use Rattle.htl_segment.specs.Keepers.{Took};
 ghost use Rattle.htl_reading.specs.Keepers.{TookAll};
-ghost use Rattle.htl_reading.specs.Parts.{PassesOver, TookInOrder};
+ghost use Rattle.htl_reading.specs.Parts.{AreEmpty, Skips, TookInOrder};
 ghost use Rattle.htl_reading.specs.Taking.{LeavesTaken};
 
-use crate::parts::gather_front;
+use crate::parts::{MAX_LEN, gather_front};
 use htl_device::Parted;
 use htl_event::NoMemory;
 use htl_segment::{Keeper, Segment, Segments};
 use std::alloc::Global;
+use std::mem;
 use std::thread::Threads;
 
 /// In one round a worker reads so many bytes at most. Their events take a third of that.
 const PART_LEN: u64 = 33_554_432;
-
-/// Behind so many bytes one worker reads on. No source has them.
-const MAX_LEN: u64 = 1 << 61;
 
 /// A keeper that also takes segments that others have read.
 pub trait SegmentKeeper: Keeper {
@@ -31,7 +29,7 @@ pub trait SegmentKeeper: Keeper {
 }
 
 /// Has a keeper take the segments at the front of a source, which several workers read round by round,
-/// and gives their number of bytes. The source passes over them. A round ends where its bytes are no
+/// and gives their number of bytes. The source skips them. A round ends where its bytes are no
 /// whole segments. After each one `between` is called.
 pub fn take_rounds<
     T: Threads + Sync,
@@ -50,12 +48,13 @@ pub fn take_rounds<
     requires inside { R.has_ended source.old ≡ false }
     requires callable { F.IsAlwaysCallable between.now }
     requires leaves { LeavesTaken K.gathers (F.post between.now) }
-    ensures { PassesOver K.gathers R.has_failed R.has_ended R.good_reads R.remaining
+    ensures { Skips K.gathers R.has_failed R.has_ended R.good_reads R.remaining
         source.old source.new keeper.old keeper.new 0 result }
 {
+    let mut spare = Vec::new(alloc);
     let mut offset = 0;
     for _ in 0..u32::MAX {
-        let end = take_round(rt, alloc, workers, offset, source, keeper)?;
+        let end = take_round(rt, alloc, workers, offset, source, keeper, &mut spare)?;
         if end == offset {
             break;
         }
@@ -69,7 +68,8 @@ pub fn take_rounds<
 }
 
 /// Has a keeper take the next round of segments, which stand at an offset, and says where they end.
-/// That is the same offset where one worker has to read on.
+/// That is the same offset where one worker has to read on. The workers' keepers know the stacks of the
+/// last round.
 fn take_round<T: Threads + Sync, R: Parted, K: SegmentKeeper>(
     rt: &T,
     alloc: Global,
@@ -77,36 +77,47 @@ fn take_round<T: Threads + Sync, R: Parted, K: SegmentKeeper>(
     offset: u64,
     source: &mut R,
     keeper: &mut K,
+    spare: &mut Vec<Segments>,
 ) -> Result<u64, NoMemory>
     requires fresh { R.has_failed source.old ≡ false }
     requires inside { R.has_ended source.old ≡ false }
     requires few { offset ≤ 2 ^ 61 }
-    ensures { PassesOver K.gathers R.has_failed R.has_ended R.good_reads R.remaining
+    requires spare { AreEmpty spare.old.items }
+    ensures skips { Skips K.gathers R.has_failed R.has_ended R.good_reads R.remaining
         source.old source.new keeper.old keeper.new offset result }
+    ensures spare { OnOk result (AreEmpty spare.new.items) }
 {
     let none = Segments::new(alloc);
-    let Some(front) = gather_front(rt, alloc, workers, PART_LEN, source, &none) else {
+    let last = mem::replace(spare, Vec::new(alloc));
+    let Some(front) = gather_front(rt, alloc, workers, PART_LEN, source, &none, last) else {
         return Ok(offset);
     };
-    source.pass(front.len);
-    take_lists(alloc, keeper, front.keepers)?;
+    source.skip(front.len);
+    *spare = take_lists(alloc, keeper, front.keepers)?;
     Ok(offset + front.len)
 }
 
-/// Has a keeper take the segments of several workers, in order.
+/// Has a keeper take the segments of several workers, in order. Gives the workers' keepers back without
+/// segments.
 fn take_lists<K: SegmentKeeper>(
     alloc: Global,
     keeper: &mut K,
     lists: Vec<Segments>,
-) -> Result<(), NoMemory>
-    ensures { (none : Segments) (bytes : List ℕ) → none.list.items ≡ []
+) -> Result<Vec<Segments>, NoMemory>
+    ensures taken { (none : Segments) (bytes : List ℕ) → none.list.items ≡ []
         → TookInOrder ⟦<Segments as Keeper>⟧.gathers none lists.items bytes
         → OnOk result (TookAll K.gathers keeper.old keeper.new bytes) }
+    ensures emptied { IfOk result (λ emptied. AreEmpty emptied.items) }
 {
+    let mut emptied = Vec::with_capacity(alloc, lists.len())?;
     for segments in lists {
         take_list(alloc, keeper, segments.list)?;
+        emptied.push(Segments {
+            cache: segments.cache,
+            list: Vec::new(alloc),
+        })?;
     }
-    Ok(())
+    Ok(emptied)
 }
 
 /// Has a keeper take segments, one after the other.

@@ -52,8 +52,8 @@ pub fn told(segments: &[Segment]) -> u64 {
 struct Bytes<'a> {
     bytes: &'a [u8],
     reading: Reading<&'a [u8]>,
-    /// How many bytes were passed over.
-    passed: u64,
+    /// How many bytes were skipped.
+    skipped: u64,
 }
 
 impl<'a> Bytes<'a> {
@@ -64,7 +64,7 @@ impl<'a> Bytes<'a> {
         Bytes {
             bytes,
             reading: Reading::new(bytes),
-            passed: 0,
+            skipped: 0,
         }
     }
 }
@@ -111,10 +111,10 @@ impl<'a> Parted for Bytes<'a> {
         Some(Tail { bytes })
     }
 
-    fn pass(&mut self, len: u64) {
+    fn skip(&mut self, len: u64) {
         self.bytes = self.bytes.get(len as usize..).unwrap_or(&[]);
         self.reading = Reading::new(self.bytes);
-        self.passed = self.passed.saturating_add(len);
+        self.skipped = self.skipped.saturating_add(len);
     }
 }
 
@@ -155,12 +155,12 @@ fn by_all(rt: &(impl Abort + Threads + Sync), alloc: Global, bytes: &[u8], has_f
         let mut source = Bytes::new(bytes);
         let read = read_bundle(rt, alloc, workers, &mut source);
         assert_row(rt, workers, told_of_read(read), alone);
-        let passed = if workers > 1 && !has_fault {
+        let skipped = if workers > 1 && !has_fault {
             bytes.len() as u64
         } else {
             0
         };
-        assert_row(rt, workers, source.passed, passed);
+        assert_row(rt, workers, source.skipped, skipped);
     }
 }
 

@@ -1,31 +1,31 @@
--- The keeper took the segments of the bytes that the source passes over, or memory was refused to take them over.
+-- The keeper took the segments of the bytes that the source skips, or memory was refused to take them over.
 use Rattle.std.proofs.Common.{arith, take}
 use Rattle.std.proofs.lemmas.Option.{IfSome_then}
 use Rattle.std.proofs.lemmas.Result.{err_from_is_err_and}
-use Rattle.htl_reading.proofs.PassLaws.{front_passed, front_refused, front_there, none_passed}
+use Rattle.htl_reading.proofs.SkipLaws.{front_skipped, front_refused, front_there, none_skipped}
 use Rattle.htl_reading.proofs.parts.take_parts.Goals as goal
 
 pub returns-in_default : goal.returns-in_default
 returns-in_default g c =
-    none_passed g.K.Keeper.gathers g.R.Source.has_failed g.R.Source.has_ended g.R.Source.good_reads g.R.Source.remaining c.args.source.now
+    none_skipped g.K.Keeper.gathers g.R.Source.has_failed g.R.Source.has_ended g.R.Source.good_reads g.R.Source.remaining c.args.source.now
     c.args.keeper.now 0 (omega arith) c.requires.fresh c.requires.inside
 
 pub returns-in_err-append_all : goal.returns-in_err-append_all
 returns-in_err-append_all g c =
     let p = err_from_is_err_and c.from_residual.result c.from_residual.ensures.1 in
-    let passed = c.pass.ensures in
+    let skipped = c.skip.ensures in
     rw (p.1, p.2) (front_refused g.K.Keeper.gathers g.R.Source.has_failed g.R.Source.has_ended g.R.Source.good_reads g.R.Source.remaining
-    c.args.source.now c.args.keeper.now 0 (omega arith) c.pass.new.self c.in-Some.front.len c.in-Some.ensures.few passed.fresh passed.inside
-    passed.counts passed.bytes
+    c.args.source.now c.args.keeper.now 0 (omega arith) c.skip.new.self c.in-Some.front.len c.in-Some.ensures.few skipped.fresh skipped.inside
+    skipped.counts skipped.bytes
     (front_there g.K.Keeper.gathers c.args.keeper.now c.in-Some.front.keepers.items c.in-Some.front.len (g.R.Source.remaining c.args.source.now)
     c.in-Some.ensures.taken) _ _ c.in-Some.ensures.some)
 
 pub returns : goal.returns
 returns g c =
-    let passed = c.pass.ensures in
-    front_passed g.K.Keeper.gathers g.R.Source.has_failed g.R.Source.has_ended g.R.Source.good_reads g.R.Source.remaining
-    c.args.source.now c.args.keeper.now 0 (omega arith) c.pass.new.self c.in-Some.front.len c.in-Some.ensures.few passed.fresh passed.inside
-    passed.counts passed.bytes
+    let skipped = c.skip.ensures in
+    front_skipped g.K.Keeper.gathers g.R.Source.has_failed g.R.Source.has_ended g.R.Source.good_reads g.R.Source.remaining
+    c.args.source.now c.args.keeper.now 0 (omega arith) c.skip.new.self c.in-Some.front.len c.in-Some.ensures.few skipped.fresh skipped.inside
+    skipped.counts skipped.bytes
     (front_there g.K.Keeper.gathers c.args.keeper.now c.in-Some.front.keepers.items c.in-Some.front.len (g.R.Source.remaining c.args.source.now)
     c.in-Some.ensures.taken) _ c.in-Some.front.len (omega arith)
     (IfSome_then (g.R.Source.remaining c.args.source.now) c.in-Some.ensures.taken

@@ -16,10 +16,10 @@ pub returns-in_err-offset-clause-reading : goal.returns-in_err-offset-clause-rea
 returns-in_err-offset-clause-reading g c =
     let p = err_from_is_err_and c.from_residual.result c.from_residual.ensures.1 in
     let given = g.R.Source.remaining c.args.source.now in
-    let passes = c.in_err-offset.ensures in
+    let skips = c.in_err-offset.ensures in
     rw (p.1, p.2) (read_fine MAX_READS g.R.Source.has_failed g.R.Source.has_ended g.R.Source.good_reads g.R.Source.remaining given
-    c.args.source.now c.take_parts.new.source _ (λ is. cc is) passes.fresh tt (omega (arith, passes.counts))
-    (passes.to_fault c.args.keeper given (taken_none g.K.Keeper.gathers c.args.keeper given)))
+    c.args.source.now c.take_parts.new.source _ (λ is. cc is) skips.fresh tt (omega (arith, skips.counts))
+    (skips.to_fault c.args.keeper given (taken_none g.K.Keeper.gathers c.args.keeper given)))
 
 pub returns-in_err-early_end-clause-err : goal.returns-in_err-early_end-clause-err
 returns-in_err-early_end-clause-err g c =
@@ -32,13 +32,13 @@ pub returns-in_err-early_end-clause-reading : goal.returns-in_err-early_end-clau
 returns-in_err-early_end-clause-reading g c =
     let p = err_from_is_err_and c.from_residual-in_err-early_end.result c.from_residual-in_err-early_end.ensures.1 in
     let given = g.R.Source.remaining c.args.source.now in
-    let passes = c.in_ok-offset.ensures in
+    let skips = c.in_ok-offset.ensures in
     rw (p.1, p.2) (read_ill MAX_READS g.R.Source.has_failed g.R.Source.has_ended g.R.Source.good_reads g.R.Source.remaining given
     c.args.source.now c.take_reads.new.source _
     (read_later MAX_READS g.R.Source.has_failed g.R.Source.has_ended g.R.Source.good_reads g.R.Source.remaining given
-    c.args.source.now c.take_reads.new.source c.take_parts.new.source _ passes.counts
+    c.args.source.now c.take_reads.new.source c.take_parts.new.source _ skips.counts
     (c.in_err-early_end.ensures.reading c.args.keeper given
-    (passes.taken c.args.keeper given (taken_none g.K.Keeper.gathers c.args.keeper given)))))
+    (skips.taken c.args.keeper given (taken_none g.K.Keeper.gathers c.args.keeper given)))))
 
 pub returns-clause-ok : goal.returns-clause-ok
 returns-clause-ok g c =
@@ -49,10 +49,10 @@ returns-clause-ok g c =
 pub returns-clause-reading : goal.returns-clause-reading
 returns-clause-reading g c =
     let given = g.R.Source.remaining c.args.source.now in
-    let passes = c.in_ok-offset.ensures in
+    let skips = c.in_ok-offset.ensures in
     read_well MAX_READS g.R.Source.has_failed g.R.Source.has_ended g.R.Source.good_reads g.R.Source.remaining given
     c.args.source.now c.take_reads.new.source _ _
     (read_later MAX_READS g.R.Source.has_failed g.R.Source.has_ended g.R.Source.good_reads g.R.Source.remaining given
-    c.args.source.now c.take_reads.new.source c.take_parts.new.source _ passes.counts
+    c.args.source.now c.take_reads.new.source c.take_parts.new.source _ skips.counts
     (c.in_ok-early_end.ensures.reading c.args.keeper given
-    (passes.taken c.args.keeper given (taken_none g.K.Keeper.gathers c.args.keeper given))))
+    (skips.taken c.args.keeper given (taken_none g.K.Keeper.gathers c.args.keeper given))))

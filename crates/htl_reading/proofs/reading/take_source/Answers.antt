@@ -16,10 +16,10 @@ pub returns-in_err-offset-clause-reading : goal.returns-in_err-offset-clause-rea
 returns-in_err-offset-clause-reading g c =
     let p = err_from_is_err_and c.from_residual.result c.from_residual.ensures.1 in
     let given = g.R.Source.remaining c.args.source.now in
-    let passes = c.in_err-offset.ensures in
+    let skips = c.in_err-offset.ensures in
     rw (p.1, p.2) (read_fine MAX_READS g.R.Source.has_failed g.R.Source.has_ended g.R.Source.good_reads g.R.Source.remaining given
-    c.args.source.now c.take_rounds.new.source _ (λ is. cc is) passes.fresh tt (omega (arith, passes.counts))
-    (passes.to_fault c.args.keeper.now given (taken_none g.K.Keeper.gathers c.args.keeper.now given)))
+    c.args.source.now c.take_rounds.new.source _ (λ is. cc is) skips.fresh tt (omega (arith, skips.counts))
+    (skips.to_fault c.args.keeper.now given (taken_none g.K.Keeper.gathers c.args.keeper.now given)))
 
 pub returns-clause-ok : goal.returns-clause-ok
 returns-clause-ok g c =
@@ -42,8 +42,8 @@ returns-clause-kept g c =
 pub returns-clause-reading : goal.returns-clause-reading
 returns-clause-reading g c =
     let given = g.R.Source.remaining c.args.source.now in
-    let passes = c.in_ok-offset.ensures in
+    let skips = c.in_ok-offset.ensures in
     read_later MAX_READS g.R.Source.has_failed g.R.Source.has_ended g.R.Source.good_reads g.R.Source.remaining given
-    c.args.source.now c.take_reads.new.source c.take_rounds.new.source c.take_reads.result passes.counts
+    c.args.source.now c.take_reads.new.source c.take_rounds.new.source c.take_reads.result skips.counts
     (c.take_reads.ensures.reading c.args.keeper.now given
-    (passes.taken c.args.keeper.now given (taken_none g.K.Keeper.gathers c.args.keeper.now given)))
+    (skips.taken c.args.keeper.now given (taken_none g.K.Keeper.gathers c.args.keeper.now given)))

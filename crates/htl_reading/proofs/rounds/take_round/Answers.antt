@@ -1,32 +1,32 @@
--- The keeper took the segments of the bytes that the source passes over, or memory was refused to take them over.
+-- The keeper took the segments of the bytes that the source skips, or memory was refused to take them over.
 use Rattle.std.proofs.Common.{refl, take}
 use Rattle.std.proofs.lemmas.Option.{IfSome_then}
 use Rattle.std.proofs.lemmas.Result.{err_from_is_err_and}
-use Rattle.htl_reading.proofs.PassLaws.{front_passed, front_refused, front_there, none_passed}
+use Rattle.htl_reading.proofs.SkipLaws.{front_skipped, front_refused, front_there, none_skipped}
 use Rattle.htl_reading.proofs.RoundLaws.{lists_of}
 use Rattle.htl_reading.proofs.rounds.take_round.Goals as goal
 
 pub returns-in_default : goal.returns-in_default
 returns-in_default g c =
-    none_passed g.K.Keeper.gathers g.R.Source.has_failed g.R.Source.has_ended g.R.Source.good_reads g.R.Source.remaining c.args.source.now
+    none_skipped g.K.Keeper.gathers g.R.Source.has_failed g.R.Source.has_ended g.R.Source.good_reads g.R.Source.remaining c.args.source.now
     c.args.keeper.now c.args.offset c.requires.few c.requires.fresh c.requires.inside
 
 pub returns-in_err-take_lists : goal.returns-in_err-take_lists
 returns-in_err-take_lists g c =
     let p = err_from_is_err_and c.from_residual.result c.from_residual.ensures.1 in
-    let passed = c.pass.ensures in
+    let skipped = c.skip.ensures in
     rw (p.1, p.2) (front_refused g.K.Keeper.gathers g.R.Source.has_failed g.R.Source.has_ended g.R.Source.good_reads g.R.Source.remaining
-    c.args.source.now c.args.keeper.now c.args.offset c.requires.few c.pass.new.self c.in-Some.front.len c.in-Some.ensures.few passed.fresh
-    passed.inside passed.counts passed.bytes
+    c.args.source.now c.args.keeper.now c.args.offset c.requires.few c.skip.new.self c.in-Some.front.len c.in-Some.ensures.few skipped.fresh
+    skipped.inside skipped.counts skipped.bytes
     (front_there lists_of c.new-none.result c.in-Some.front.keepers.items c.in-Some.front.len (g.R.Source.remaining c.args.source.now)
     c.in-Some.ensures.taken) _ _ c.in-Some.ensures.some)
 
 pub returns : goal.returns
 returns g c =
-    let passed = c.pass.ensures in
-    front_passed g.K.Keeper.gathers g.R.Source.has_failed g.R.Source.has_ended g.R.Source.good_reads g.R.Source.remaining
-    c.args.source.now c.args.keeper.now c.args.offset c.requires.few c.pass.new.self c.in-Some.front.len c.in-Some.ensures.few passed.fresh
-    passed.inside passed.counts passed.bytes
+    let skipped = c.skip.ensures in
+    front_skipped g.K.Keeper.gathers g.R.Source.has_failed g.R.Source.has_ended g.R.Source.good_reads g.R.Source.remaining
+    c.args.source.now c.args.keeper.now c.args.offset c.requires.few c.skip.new.self c.in-Some.front.len c.in-Some.ensures.few skipped.fresh
+    skipped.inside skipped.counts skipped.bytes
     (front_there lists_of c.new-none.result c.in-Some.front.keepers.items c.in-Some.front.len (g.R.Source.remaining c.args.source.now)
     c.in-Some.ensures.taken) _ _ refl
     (IfSome_then (g.R.Source.remaining c.args.source.now) c.in-Some.ensures.taken

@@ -1,4 +1,4 @@
--- What a keeper took of a source that passes over its front: all that stands there, or nothing.
+-- What a keeper took of a source that skips its front: all that stands there, or nothing.
 use Rattle.std.proofs.Common.{◌≡◌, ◌+◌, ◌<◌, ◌≤◌, ◌^◌, ℕ, Bool, false, List, [], length, take, arith, Option, IfSome, Result, Ok, Err}
 use Rattle.std.specs.Prelude.{IfOk}
 use Rattle.std.proofs.lemmas.Option.{IfSome_then}
@@ -7,12 +7,12 @@ use Rattle.htl_device.specs.declared.source.TheConstants.{MAX_READ_LEN}
 use Rattle.htl_segment.specs.Content.{Content}
 use Rattle.htl_segment.specs.Keepers.{Took}
 use Rattle.htl_reading.specs.Keepers.{TookAll}
-use Rattle.htl_reading.specs.Parts.{PassesOver, TookInOrder}
-use Rattle.htl_reading.proofs.PartLaws.{AreThere, order_splits, passed_memory, passed_read, taken_passed}
+use Rattle.htl_reading.specs.Parts.{Skips, TookInOrder}
+use Rattle.htl_reading.proofs.PartLaws.{AreThere, order_splits, skipped_memory, skipped_read, taken_skipped}
 use Rattle.htl_reading.proofs.TakenLaws.{offset_memory, taken_still, taken_to_fault}
 
-abbrev pub passed : {E : Type 0} → ℕ → Result ℕ E
-passed end = Ok end
+abbrev pub skipped : {E : Type 0} → ℕ → Result ℕ E
+skipped end = Ok end
 
 abbrev pub refused : {E : Type 0} → E → Result ℕ E
 refused fault = Err fault
@@ -30,9 +30,9 @@ front_there gathers part keepers len left front =
 
 module _ {K R E : Type 0} (gathers : K → K → List Content → Type 0) (has_failed has_ended : R → Bool) (good_reads : R → ℕ)
     (remaining : R → Option (List ℕ)) (old : R) (before : K) (offset : ℕ) (few : offset ≤ 2 ^ 61) where
-  pub none_passed : has_failed old ≡ false → has_ended old ≡ false
-      → PassesOver {E = E} gathers has_failed has_ended good_reads remaining old old before before offset (passed offset)
-  none_passed fresh inside = record {
+  pub none_skipped : has_failed old ≡ false → has_ended old ≡ false
+      → Skips {E = E} gathers has_failed has_ended good_reads remaining old old before before offset (skipped offset)
+  none_skipped fresh inside = record {
     fresh = fresh;
     inside = inside;
     counts = omega arith;
@@ -45,39 +45,39 @@ module _ {K R E : Type 0} (gathers : K → K → List Content → Type 0) (has_f
   module _ (new : R) (len : ℕ) (short : len ≤ 2 ^ 61) (fresh : has_failed new ≡ false) (inside : has_ended new ≡ false)
       (counts : good_reads new ≤ good_reads old) (bytes : remaining new ≡ tail_of len (remaining old)) (there : AreThere len (remaining old))
       (after : K) where
-    pub front_passed : (end : ℕ) → end ≡ offset + len → IfSome (remaining old) (λ bytes. (len ≤ length bytes) × TookAll gathers before after (take len bytes))
-        → PassesOver {E = E} gathers has_failed has_ended good_reads remaining old new before after offset (passed end)
-    front_passed end is took = rw is (record {
+    pub front_skipped : (end : ℕ) → end ≡ offset + len → IfSome (remaining old) (λ bytes. (len ≤ length bytes) × TookAll gathers before after (take len bytes))
+        → Skips {E = E} gathers has_failed has_ended good_reads remaining old new before after offset (skipped end)
+    front_skipped end is took = rw is (record {
       fresh = fresh;
       inside = inside;
       counts = counts;
       few = (omega arith, omega (arith, few, short));
-      taken = λ start given at. rw bytes (taken_passed gathers start before offset len after at took);
+      taken = λ start given at. rw bytes (taken_skipped gathers start before offset len after at took);
       memory = λ start given at. tt;
-      to_fault = λ start given at. rw bytes (passed_read gathers start before offset len MAX_READ_LEN at there);
+      to_fault = λ start given at. rw bytes (skipped_read gathers start before offset len MAX_READ_LEN at there);
     })
 
     pub front_refused : (fault : E) → 0 < len
-        → PassesOver {E = E} gathers has_failed has_ended good_reads remaining old new before after offset (refused fault)
+        → Skips {E = E} gathers has_failed has_ended good_reads remaining old new before after offset (refused fault)
     front_refused fault some = record {
       fresh = fresh;
       inside = inside;
       counts = counts;
       few = tt;
       taken = λ start given at. tt;
-      memory = λ start given at. rw bytes (passed_memory gathers start before offset len (has_ended new) some inside at there);
-      to_fault = λ start given at. rw bytes (passed_read gathers start before offset len MAX_READ_LEN at there);
+      memory = λ start given at. rw bytes (skipped_memory gathers start before offset len (has_ended new) some inside at there);
+      to_fault = λ start given at. rw bytes (skipped_read gathers start before offset len MAX_READ_LEN at there);
     }
 
 -- ---- one round after another
 
 module _ {K R E : Type 0} (gathers : K → K → List Content → Type 0) (has_failed has_ended : R → Bool) (good_reads : R → ℕ)
     (remaining : R → Option (List ℕ)) (old mid : R) (before between : K) (offset : ℕ)
-    (first : PassesOver {E = E} gathers has_failed has_ended good_reads remaining old mid before between 0 (passed offset)) where
+    (first : Skips {E = E} gathers has_failed has_ended good_reads remaining old mid before between 0 (skipped offset)) where
   -- the keeper was called, and took none
-  pub still_passed : (next : K) → Took gathers between next []
-      → PassesOver {E = E} gathers has_failed has_ended good_reads remaining old mid before next 0 (passed offset)
-  still_passed next still = record {
+  pub still_skipped : (next : K) → Took gathers between next []
+      → Skips {E = E} gathers has_failed has_ended good_reads remaining old mid before next 0 (skipped offset)
+  still_skipped next still = record {
     fresh = first.fresh;
     inside = first.inside;
     counts = first.counts;
@@ -89,7 +89,7 @@ module _ {K R E : Type 0} (gathers : K → K → List Content → Type 0) (has_f
 
   -- memory for that was refused
   pub still_refused : (next : K) (fault : E) → 0 < offset
-      → PassesOver {E = E} gathers has_failed has_ended good_reads remaining old mid before next 0 (refused fault)
+      → Skips {E = E} gathers has_failed has_ended good_reads remaining old mid before next 0 (refused fault)
   still_refused next fault some = record {
     fresh = first.fresh;
     inside = first.inside;
@@ -100,11 +100,11 @@ module _ {K R E : Type 0} (gathers : K → K → List Content → Type 0) (has_f
     to_fault = first.to_fault;
   }
 
-  both_passed : (new : R) (after : K) (result : Result ℕ E)
-      → PassesOver {E = E} gathers has_failed has_ended good_reads remaining mid new between after offset result
+  both_skipped : (new : R) (after : K) (result : Result ℕ E)
+      → Skips {E = E} gathers has_failed has_ended good_reads remaining mid new between after offset result
       → IfOk result (λ end. (0 ≤ end) × (end ≤ 2 ^ 62))
-      → PassesOver {E = E} gathers has_failed has_ended good_reads remaining old new before after 0 result
-  both_passed new after result second few = record {
+      → Skips {E = E} gathers has_failed has_ended good_reads remaining old new before after 0 result
+  both_skipped new after result second few = record {
     fresh = second.fresh;
     inside = second.inside;
     counts = (let one = first.counts in let other = second.counts in omega (arith, one, other));
@@ -114,15 +114,15 @@ module _ {K R E : Type 0} (gathers : K → K → List Content → Type 0) (has_f
     to_fault = λ start given at. second.to_fault start given (first.taken start given at);
   }
 
-  pub next_passed : (new : R) (after : K) (end : ℕ)
-      → PassesOver {E = E} gathers has_failed has_ended good_reads remaining mid new between after offset (passed end)
-      → PassesOver {E = E} gathers has_failed has_ended good_reads remaining old new before after 0 (passed end)
-  next_passed new after end second = both_passed new after (passed end) second (omega arith, second.few.1)
+  pub next_skipped : (new : R) (after : K) (end : ℕ)
+      → Skips {E = E} gathers has_failed has_ended good_reads remaining mid new between after offset (skipped end)
+      → Skips {E = E} gathers has_failed has_ended good_reads remaining old new before after 0 (skipped end)
+  next_skipped new after end second = both_skipped new after (skipped end) second (omega arith, second.few.1)
 
   pub next_refused : (new : R) (after : K) (fault : E)
-      → PassesOver {E = E} gathers has_failed has_ended good_reads remaining mid new between after offset (refused fault)
-      → PassesOver {E = E} gathers has_failed has_ended good_reads remaining old new before after 0 (refused fault)
-  next_refused new after fault second = both_passed new after (refused fault) second tt
+      → Skips {E = E} gathers has_failed has_ended good_reads remaining mid new between after offset (refused fault)
+      → Skips {E = E} gathers has_failed has_ended good_reads remaining old new before after 0 (refused fault)
+  next_refused new after fault second = both_skipped new after (refused fault) second tt
 
 -- where a round took some bytes
 pub some_more : (offset end : ℕ) → offset ≤ end → (end ≡ offset → ⊥) → 0 < end

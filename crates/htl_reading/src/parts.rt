@@ -1,7 +1,7 @@
 //! Parts of a source's bytes, each of which a worker reads.
 
-ghost use Rattle.std.specs.Prelude.{◌≡◌, ◌≤◌, ◌<◌, ◌^◌, ℕ, List, [], All, IfSome, OnOk, OnSome, Some, drop};
-ghost use Rattle.std.specs.Prelude.{false, length, map, take, true};
+ghost use Rattle.std.specs.Prelude.{◌≡◌, ◌≤◌, ◌<◌, ◌^◌, ℕ, All, IfSome, List, OnOk, OnSome, Some, []};
+ghost use Rattle.std.specs.Prelude.{drop, false, length, map, take, true};
 ghost use Rattle.std.specs.Io.Take.{take_remaining};
 ghost use Rattle.htl_reading.specs.Keepers.{TookAll};
 ghost use Rattle.htl_reading.specs.Parts.{ArePartsOf, IsAnother, IsPartOf, Skips, TookInOrder};

@@ -1,6 +1,5 @@
 -- One list more.
-use Rattle.std.proofs.Common.{◌≡◌, ◌++◌, ◌∷◌, [], append-nil, arith, refl}
-use Rattle.std.proofs.lemmas.Grind.{common_steps}
+use Rattle.std.proofs.Common.{◌≡◌, []}
 use Rattle.std.proofs.lemmas.List.Elements.{All-nil, All-push}
 use Rattle.htl_segment.specs.declared.keeper.Segments.{Segments}
 use Rattle.htl_reading.proofs.RoundLaws.{took_list, took_nothing}
@@ -13,11 +12,10 @@ loop-segments-init g c = record {
 }
 
 pub loop-segments-preserved : goal.loop-segments-preserved
-loop-segments-preserved g c =
-    let empty : (Segments of { cache = c.in-Some.segments.cache; list = c.new.result }).list.items ≡ [] = c.new.ensures.items in
-    record {
-      taken = λ none bytes empty took.
-          took_list g.K.Keeper.gathers c.args.keeper.now c.loop-segments.keeper c.take_list.new.keeper none empty c.loop-segments.yielded
-          c.in-Some.segments (λ bytes took. c.loop-segments.invariant.taken none bytes empty took) c.in_ok-take_list.ensures bytes took;
-      emptied = grind (arith, common_steps);
-    }
+loop-segments-preserved g c = record {
+  taken = λ none bytes empty took.
+      took_list g.K.Keeper.gathers c.args.keeper.now c.loop-segments.keeper c.take_list.new.keeper none empty c.loop-segments.yielded
+      c.in-Some.segments (λ bytes took. c.loop-segments.invariant.taken none bytes empty took) c.in_ok-take_list.ensures bytes took;
+  emptied = rw (c.in_ok-push.ensures.items) (All-push (λ (keeper : Segments). keeper.list.items ≡ []) c.loop-segments.emptied.items _
+      c.loop-segments.invariant.emptied c.new.ensures.items);
+}

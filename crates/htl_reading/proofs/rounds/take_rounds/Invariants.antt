@@ -1,8 +1,8 @@
--- The source skips the rounds so far, which are few enough for one more.
+-- The source skips the rounds so far, which are few enough for one more, and the spare keepers have no segment.
 use Rattle.std.proofs.Common.{◌≤◌, ◌^◌}
 use Rattle.htl_event.specs.declared.memory.NoMemory.{NoMemory}
 use Rattle.htl_reading.proofs.SkipLaws.{skipped}
-use Rattle.htl_reading.specs.Parts.{Skips}
+use Rattle.htl_reading.specs.Parts.{AreEmpty, Skips}
 use Rattle.htl_reading.proofs.rounds.take_rounds.Given as goal
 
 abbrev pub invariant-loop : goal.invariant-loop
@@ -10,4 +10,5 @@ invariant-loop g l = record {
   skips : Skips {E = NoMemory} g.K.Keeper.gathers g.R.Source.has_failed g.R.Source.has_ended g.R.Source.good_reads g.R.Source.remaining
       l.fn.source l.source l.fn.keeper l.keeper 0 (skipped l.offset);
   few : l.offset ≤ 2 ^ 61;
+  spare : AreEmpty l.spare.items;
 }

@@ -1,11 +1,11 @@
 -- What a keeper took of one source: all that it gives, or what stands before a fault (this project's own).
-use Rattle.std.specs.Prelude.{⊤, ℕ, List, [], OnOk, Option, Result, Some}
+use Rattle.std.specs.Prelude.{⊤, ℕ, Bool, List, [], IfErr, IfOk, IfSome, OnOk, Option, Result, Some}
 use Rattle.std.specs.Borrow.{MutBor}
 use Rattle.std.specs.Io.KnownBytes.{Consumes}
 use Rattle.htl_segment.specs.Content.{Content}
 use Rattle.htl_segment.specs.Bundles.{IsRest, Splits}
 use Rattle.htl_segment.specs.Keepers.{Took, TookUpTo}
-use Rattle.htl_reading.specs.Sources.{IsLeft}
+use Rattle.htl_reading.specs.Sources.{IsLeft, IsReported, IsSourceRead}
 use Rattle.htl_reading.specs.declared.fault.SourceFault.{SourceFault}
 use Rattle.htl_reading.specs.declared.fault.SourceFault.TheVariants.{Segment, Read, NoMemory}
 use Rattle.htl_reading.specs.declared.outcome.EarlyEnd.{EarlyEnd}
@@ -34,6 +34,16 @@ abbrev pub TookBefore : {S K : Type 0} → (S → K → List Content → Type 0)
 TookBefore gathers old new left bytes (Segment offset fault) = TookUpTo gathers old new bytes offset
 TookBefore gathers old new left bytes Read = TookRead gathers old new left bytes
 TookBefore gathers old new left bytes NoMemory = ⊤
+
+-- How a keeper takes the segments of a source of these bytes, which is read by at most so many reads that give bytes: what it has after a
+-- call that ends well, and after each fault; which fault is reported; and how the source is read.
+pub record TakesSource {S K R : Type 0} (most : ℕ) (gathers : S → K → List Content → Type 0) (has_failed has_ended : R → Bool)
+    (good_reads : R → ℕ) (remaining : R → Option (List ℕ)) (given : Option (List ℕ)) (start after : K) (old new : R)
+    (result : Result (Option EarlyEnd) SourceFault) : Type 0 where
+  pub ok : IfOk result (λ early_end. IfSome given (TookToEnd gathers start after early_end))
+  pub err : IfErr result (λ fault. IfSome given (λ bytes. IsReported (remaining new) (has_ended new) bytes fault))
+  pub kept : IfErr result (λ fault. IfSome given (λ bytes. TookBefore gathers start after (remaining new) bytes fault))
+  pub reading : IsSourceRead most has_failed has_ended good_reads remaining given old new result
 
 -- What is done to a keeper between two reads leaves it what it took, unless memory is refused. It is given by what may come of a call.
 abbrev pub LeavesTaken : {S K T E : Type 0} → (S → K → List Content → Type 0) → (MutBor K → Result T E → MutBor K → Type 0) → Type 0

@@ -4,8 +4,7 @@ ghost use Rattle.std.specs.Prelude.{◌≡◌, ◌≢◌, ◌+◌, ◌*◌, ◌<
 ghost use Rattle.std.specs.Prelude.{IfOk, IfErr, IfSome, OnOk, false, length};
 ghost use Rattle.htl_reading.specs.Blocks.{IsKeptAt, IsRefusedAt, IsTakenIn};
 ghost use Rattle.htl_reading.specs.Keepers.{IsTakenOff, IsTakenTo};
-ghost use Rattle.htl_reading.specs.Sources.{IsReported, IsSourceRead};
-ghost use Rattle.htl_reading.specs.Taking.{LeavesTaken, TookBefore, TookToEnd};
+ghost use Rattle.htl_reading.specs.Taking.{LeavesTaken, TakesSource};
 ghost use Rattle.htl_reading.specs.declared.fault.SourceFault.TheVariants.{Read};
 
 use crate::block::Block;
@@ -59,21 +58,10 @@ impl Gathered {
         requires counted { 1 ≤ R.good_reads source.old }
         requires callable { F.IsAlwaysCallable between.now }
         requires leaves { LeavesTaken K.gathers (F.post between.now) }
-        ensures ok { (start : K) (given : Option (List ℕ)) → IsTakenTo K.gathers
+        ensures taken { (start : K) (given : Option (List ℕ)) → IsTakenTo K.gathers
             start keeper.old given (R.remaining source.old) self.block.held self.offset 1
-            → IfOk result (λ early_end. IfSome given (TookToEnd K.gathers start keeper.new early_end)) }
-        ensures err { (start : K) (given : Option (List ℕ)) → IsTakenTo K.gathers
-            start keeper.old given (R.remaining source.old) self.block.held self.offset 1
-            → IfErr result (λ fault. IfSome given (λ bytes.
-            IsReported (R.remaining source.new) (R.has_ended source.new) bytes fault)) }
-        ensures kept { (start : K) (given : Option (List ℕ)) → IsTakenTo K.gathers
-            start keeper.old given (R.remaining source.old) self.block.held self.offset 1
-            → IfErr result (λ fault. IfSome given (λ bytes.
-            TookBefore K.gathers start keeper.new (R.remaining source.new) bytes fault)) }
-        ensures reading { (start : K) (given : Option (List ℕ)) → IsTakenTo K.gathers
-            start keeper.old given (R.remaining source.old) self.block.held self.offset 1
-            → IsSourceRead most R.has_failed R.has_ended R.good_reads R.remaining
-            given source.old source.new result }
+            → TakesSource most K.gathers R.has_failed R.has_ended R.good_reads R.remaining
+            given start keeper.new source.old source.new result }
         ensures bounded { R.good_reads source.new + 1 ≤ R.good_reads source.old + most }
     {
         for _reads in 1..most {

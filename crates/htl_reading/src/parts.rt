@@ -130,7 +130,9 @@ fn cut<R: Parted, K: JoiningKeeper + Drop>(
     let mut from = 0;
     for end in ends {
         let len = end.checked_sub(from)?;
-        parts.push(part_at(alloc, source, keeper, &mut spare, from, len)?).ok()?;
+        parts
+            .push(part_at(alloc, source, keeper, &mut spare, from, len)?)
+            .ok()?;
         from = *end;
     }
     Some((parts, from))

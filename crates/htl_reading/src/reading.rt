@@ -6,7 +6,7 @@ ghost use Rattle.htl_segment.specs.Content.{Content};
 ghost use Rattle.htl_segment.specs.Bundles.{Splits};
 ghost use Rattle.htl_reading.specs.Keepers.{IsTakenTo};
 ghost use Rattle.htl_reading.specs.Sources.{IsLeft, IsReported, IsSourceRead};
-ghost use Rattle.htl_reading.specs.Taking.{LeavesTaken, TookBefore, TookToEnd};
+ghost use Rattle.htl_reading.specs.Taking.{LeavesTaken, TakesSource, TookToEnd};
 
 use crate::block::Block;
 use crate::fault::SourceFault;
@@ -110,14 +110,8 @@ pub fn take_source<
     requires inside { R.has_ended source.old ≡ false }
     requires callable { F.IsAlwaysCallable between.now }
     requires leaves { LeavesTaken K.gathers (F.post between.now) }
-    ensures ok { IfOk result (λ early_end. IfSome (R.remaining source.old)
-        (TookToEnd K.gathers keeper.old keeper.new early_end)) }
-    ensures err { IfErr result (λ fault. IfSome (R.remaining source.old) (λ bytes.
-        IsReported (R.remaining source.new) (R.has_ended source.new) bytes fault)) }
-    ensures kept { IfErr result (λ fault. IfSome (R.remaining source.old) (λ bytes.
-        TookBefore K.gathers keeper.old keeper.new (R.remaining source.new) bytes fault)) }
-    ensures reading { IsSourceRead MAX_READS R.has_failed R.has_ended R.good_reads R.remaining
-        (R.remaining source.old) source.old source.new result }
+    ensures { TakesSource MAX_READS K.gathers R.has_failed R.has_ended R.good_reads R.remaining
+        (R.remaining source.old) keeper.old keeper.new source.old source.new result }
 {
     let offset = take_rounds(rt, alloc, workers, source, keeper, between)?;
     take_reads(alloc, MAX_READS, offset, source, keeper, between)
@@ -170,21 +164,10 @@ fn take_reads<R: Source, K: Keeper, F: Fn(&mut K) -> Result<(), NoMemory>>(
     requires few { offset + (most + 1) * MAX_READ_LEN < 2 ^ 64 }
     requires callable { F.IsAlwaysCallable between.now }
     requires leaves { LeavesTaken K.gathers (F.post between.now) }
-    ensures ok { (start : K) (given : Option (List ℕ))
+    ensures { (start : K) (given : Option (List ℕ))
         → IsTakenTo K.gathers start keeper.old given (R.remaining source.old) [] offset 0
-        → IfOk result (λ early_end. IfSome given (TookToEnd K.gathers start keeper.new early_end)) }
-    ensures err { (start : K) (given : Option (List ℕ))
-        → IsTakenTo K.gathers start keeper.old given (R.remaining source.old) [] offset 0
-        → IfErr result (λ fault. IfSome given (λ bytes.
-        IsReported (R.remaining source.new) (R.has_ended source.new) bytes fault)) }
-    ensures kept { (start : K) (given : Option (List ℕ))
-        → IsTakenTo K.gathers start keeper.old given (R.remaining source.old) [] offset 0
-        → IfErr result (λ fault. IfSome given (λ bytes.
-        TookBefore K.gathers start keeper.new (R.remaining source.new) bytes fault)) }
-    ensures reading { (start : K) (given : Option (List ℕ))
-        → IsTakenTo K.gathers start keeper.old given (R.remaining source.old) [] offset 0
-        → IsSourceRead most R.has_failed R.has_ended R.good_reads R.remaining
-        given source.old source.new result }
+        → TakesSource most K.gathers R.has_failed R.has_ended R.good_reads R.remaining
+        given start keeper.new source.old source.new result }
 {
     let mut buffer = [0u8; MIN_READ_LEN];
     let Ok(count) = source.read(&mut buffer) else {

@@ -14,93 +14,80 @@ use Rattle.htl_reading.proofs.reading.take_reads.Goals as goal
 
 -- ---- the first read failed
 
-pub returns-in_default-clause-kept : goal.returns-in_default-clause-kept
-returns-in_default-clause-kept g c =
-    let failed : is_err c.read.result ≡ true = grind (arith, common_steps) in
-    λ start given at. taken_before (taken_kept at c.read.result failed (first_kept _ _ c.read.new.buffer c.read.result c.read.ensures.bytes))
-
-pub returns-in_default-clause-reading : goal.returns-in_default-clause-reading
-returns-in_default-clause-reading g c =
+pub returns-in_default : goal.returns-in_default
+returns-in_default g c =
     let failed : is_err c.read.result ≡ true = grind (arith, common_steps) in
     λ start given at.
     let kept = taken_kept at c.read.result failed (first_kept _ _ c.read.new.buffer c.read.result c.read.ensures.bytes) in
     record {
-      ended = tt;
-      reported = λ is. refl;
-      read = λ is. grind (arith, common_steps);
-      no_fault = λ is. taken_to_fault kept 0;
-      bounded = grind (arith, common_steps);
-      to_fault = taken_to_fault kept MAX_READ_LEN;
+      ok = tt;
+      err = kept_nothing given;
+      kept = taken_before kept;
+      reading = record {
+        ended = tt;
+        reported = λ is. refl;
+        read = λ is. grind (arith, common_steps);
+        no_fault = λ is. taken_to_fault kept 0;
+        bounded = grind (arith, common_steps);
+        to_fault = taken_to_fault kept MAX_READ_LEN;
+      };
     }
 
 -- ---- it gave bytes, or found the end
 
-pub returns-then-count-eq0-clause-ok : goal.returns-then-count-eq0-clause-ok
-returns-then-count-eq0-clause-ok g c =
+pub returns-then-count-eq0 : goal.returns-then-count-eq0
+returns-then-count-eq0 g c =
     let zero : c.in-Ok.count ≡ 0 = grind (arith, common_steps) in
-    let got = first_behind c.read.new.buffer c.in-Ok.count c.in-Ok.ensures.bound (grind (arith, common_steps)) c.in-Ok.ensures.bytes in
-    let end = rw zero at got in
-    λ start given at. taken_to_end (taken_ended at end) None (end.end refl) (λ segments is rest. refl)
-
-pub returns-then-count-eq0-clause-reading : goal.returns-then-count-eq0-clause-reading
-returns-then-count-eq0-clause-reading g c =
     let few : c.in-Ok.count ≤ MAX_READ_LEN = grind (arith, common_steps) in
     let fine : g.R.Source.has_failed c.read.new.self ≡ false = grind (arith, common_steps) in
     let ended : g.R.Source.has_ended c.read.new.self ≡ true = grind (arith, common_steps) in
     let got = first_behind c.read.new.buffer c.in-Ok.count c.in-Ok.ensures.bound (grind (arith, common_steps)) c.in-Ok.ensures.bytes in
-    λ start given at. read_fine c.args.most g.R.Source.has_failed g.R.Source.has_ended g.R.Source.good_reads
-    g.R.Source.remaining given c.args.source.now c.read.new.self _ (λ is. cc is) fine ended (grind (arith, common_steps))
-    (taken_and_more at MAX_READ_LEN got few)
+    let end = rw zero at got in
+    λ start given at. record {
+      ok = taken_to_end (taken_ended at end) None (end.end refl) (λ segments is rest. refl);
+      err = tt;
+      kept = tt;
+      reading = read_fine c.args.most g.R.Source.has_failed g.R.Source.has_ended g.R.Source.good_reads
+          g.R.Source.remaining given c.args.source.now c.read.new.self _ (λ is. cc is) fine ended (grind (arith, common_steps))
+          (taken_and_more at MAX_READ_LEN got few);
+    }
 
 -- ---- its bytes were refused
 
-pub returns-in_err-len-clause-err : goal.returns-in_err-len-clause-err
-returns-in_err-len-clause-err g c =
-    let got = first_behind c.read.new.buffer c.in-Ok.count c.in-Ok.ensures.bound (grind (arith, common_steps)) c.in-Ok.ensures.bytes in
-    let p = err_from_is_err_and c.from_residual.result c.from_residual.ensures.1 in
-    λ start given at. rw (p.1, p.2) (taken_refused at _ _ got c.in_err-len.ensures.err)
-
-pub returns-in_err-len-clause-kept : goal.returns-in_err-len-clause-kept
-returns-in_err-len-clause-kept g c =
-    let got = first_behind c.read.new.buffer c.in-Ok.count c.in-Ok.ensures.bound (grind (arith, common_steps)) c.in-Ok.ensures.bytes in
-    let p = err_from_is_err_and c.from_residual.result c.from_residual.ensures.1 in
-    λ start given at. rw (p.1, p.2) (taken_before_refused at _ got c.in_err-len.ensures.kept)
-
-pub returns-in_err-len-clause-reading : goal.returns-in_err-len-clause-reading
-returns-in_err-len-clause-reading g c =
+pub returns-in_err-len : goal.returns-in_err-len
+returns-in_err-len g c =
     let p = err_from_is_err_and c.from_residual.result c.from_residual.ensures.1 in
     let few : c.in-Ok.count ≤ MAX_READ_LEN = grind (arith, common_steps) in
     let fine : g.R.Source.has_failed c.read.new.self ≡ false = grind (arith, common_steps) in
     let got = first_behind c.read.new.buffer c.in-Ok.count c.in-Ok.ensures.bound (grind (arith, common_steps)) c.in-Ok.ensures.bytes in
-    λ start given at. rw (p.1, p.2) (read_fine c.args.most g.R.Source.has_failed g.R.Source.has_ended g.R.Source.good_reads
-    g.R.Source.remaining given c.args.source.now c.read.new.self _ (λ is. c.in_err-len.ensures.no_read (cc is)) fine tt
-    (grind (arith, common_steps)) (taken_and_more at MAX_READ_LEN got few))
+    λ start given at. rw (p.1, p.2) (record {
+      ok = tt;
+      err = taken_refused at _ _ got c.in_err-len.ensures.err;
+      kept = taken_before_refused at _ got c.in_err-len.ensures.kept;
+      reading = read_fine c.args.most g.R.Source.has_failed g.R.Source.has_ended g.R.Source.good_reads
+          g.R.Source.remaining given c.args.source.now c.read.new.self _ (λ is. c.in_err-len.ensures.no_read (cc is)) fine tt (grind (arith, common_steps))
+          (taken_and_more at MAX_READ_LEN got few);
+    })
 
 -- ---- they were taken
 
-pub returns-in_err-new-clause-err : goal.returns-in_err-new-clause-err
-returns-in_err-new-clause-err g c =
+pub returns-in_err-new : goal.returns-in_err-new
+returns-in_err-new g c =
     let some : 0 < c.in-Ok.count = grind (arith, common_steps) in
     let p = err_from_is_err_and c.from_residual-in_err-new.result c.from_residual-in_err-new.ensures.1 in
     let inside : g.R.Source.has_ended c.read.new.self ≡ false = grind (arith, common_steps) in
-    let got = first_behind c.read.new.buffer c.in-Ok.count c.in-Ok.ensures.bound (grind (arith, common_steps)) c.in-Ok.ensures.bytes in
-    λ start given at. rw (p.1, p.2) (taken_memory
-    (taken_more at c.in-Ok.count c.in_ok-len.len got some c.in_ok-len.ensures.ok c.in_ok-len.ensures.inside) _ (omega arith) inside)
-
-pub returns-in_err-new-clause-kept : goal.returns-in_err-new-clause-kept
-returns-in_err-new-clause-kept g c =
-    let p = err_from_is_err_and c.from_residual-in_err-new.result c.from_residual-in_err-new.ensures.1 in
-    λ start given at. rw (p.1, p.2) (kept_nothing given)
-
-pub returns-in_err-new-clause-reading : goal.returns-in_err-new-clause-reading
-returns-in_err-new-clause-reading g c =
-    let some : 0 < c.in-Ok.count = grind (arith, common_steps) in
-    let p = err_from_is_err_and c.from_residual-in_err-new.result c.from_residual-in_err-new.ensures.1 in
     let fine : g.R.Source.has_failed c.read.new.self ≡ false = grind (arith, common_steps) in
     let got = first_behind c.read.new.buffer c.in-Ok.count c.in-Ok.ensures.bound (grind (arith, common_steps)) c.in-Ok.ensures.bytes in
-    λ start given at. rw (p.1, p.2) (read_fine c.args.most g.R.Source.has_failed g.R.Source.has_ended g.R.Source.good_reads
-    g.R.Source.remaining given c.args.source.now c.read.new.self _ (λ is. cc is) fine tt (grind (arith, common_steps))
-    (taken_to_fault (taken_more at c.in-Ok.count c.in_ok-len.len got some c.in_ok-len.ensures.ok c.in_ok-len.ensures.inside) MAX_READ_LEN))
+    λ start given at.
+    let taken = taken_more at c.in-Ok.count c.in_ok-len.len got some c.in_ok-len.ensures.ok c.in_ok-len.ensures.inside in
+    rw (p.1, p.2) (record {
+      ok = tt;
+      err = taken_memory taken _ (omega arith) inside;
+      kept = kept_nothing given;
+      reading = read_fine c.args.most g.R.Source.has_failed g.R.Source.has_ended g.R.Source.good_reads
+          g.R.Source.remaining given c.args.source.now c.read.new.self _ (λ is. cc is) fine tt (grind (arith, common_steps))
+          (taken_to_fault taken MAX_READ_LEN);
+    })
 
 began : (g : _) (c : goal.After-read_on g) (start : _) (given : Option (List ℕ))
     → IsTakenTo g.K.Keeper.gathers start c.args.keeper.now given (g.R.Source.remaining c.args.source.now) [] c.args.offset 0
@@ -112,23 +99,19 @@ began g c start given at =
     rw (c.in_ok-new.ensures, take_rest (take c.in-Ok.count c.read.new.buffer) c.in_ok-len.len)
     (taken_more at c.in-Ok.count c.in_ok-len.len got some c.in_ok-len.ensures.ok c.in_ok-len.ensures.inside)
 
-pub returns-clause-ok : goal.returns-clause-ok
-returns-clause-ok g c = λ start given at. c.read_on.ensures.ok start given (began g c start given at)
-
-pub returns-clause-err : goal.returns-clause-err
-returns-clause-err g c = λ start given at. c.read_on.ensures.err start given (began g c start given at)
-
-pub returns-clause-kept : goal.returns-clause-kept
-returns-clause-kept g c = λ start given at. c.read_on.ensures.kept start given (began g c start given at)
-
-pub returns-clause-reading : goal.returns-clause-reading
-returns-clause-reading g c = λ start given at.
-    let on = c.read_on.ensures.reading start given (began g c start given at) in
+pub returns : goal.returns
+returns g c = λ start given at.
+    let on = c.read_on.ensures.taken start given (began g c start given at) in
     record {
-      ended = on.ended;
-      reported = on.reported;
-      read = on.read;
-      no_fault = on.no_fault;
-      bounded = grind (arith, common_steps);
-      to_fault = on.to_fault;
+      ok = on.ok;
+      err = on.err;
+      kept = on.kept;
+      reading = record {
+        ended = on.reading.ended;
+        reported = on.reading.reported;
+        read = on.reading.read;
+        no_fault = on.reading.no_fault;
+        bounded = grind (arith, common_steps);
+        to_fault = on.reading.to_fault;
+      };
     }

@@ -54,7 +54,7 @@ loop-preserved g c =
 
 pub returns : goal.returns
 returns g c = elim c.loop-test.branch [
-  else-loop-test w ↦ rw (w.source-is, w.keeper-is, w.offset-is) c.loop.invariant.skips
+  | else-loop-test w ↦ rw (w.source-is, w.keeper-is, w.offset-is) c.loop.invariant.skips
   | then-loop-test+in_ok-end+then-end-offset w ↦
       let next = next_skipped g.K.Keeper.gathers g.R.Source.has_failed g.R.Source.has_ended g.R.Source.good_reads g.R.Source.remaining
       c.args.source.now c.loop.source c.args.keeper.now c.loop.keeper c.loop.offset c.loop.invariant.skips w.take_round.new.source

@@ -11,107 +11,86 @@ use Rattle.htl_reading.proofs.TakenLaws.{taken_and_more, taken_before, taken_bef
 use Rattle.htl_reading.proofs.TakenLaws.{taken_more, taken_refused, taken_still, taken_to_end, taken_to_fault}
 use Rattle.htl_reading.proofs.gathered.Gathered.read_on.Goals as goal
 
-pub returns-in_err-between-clause-err : goal.returns-in_err-between-clause-err
-returns-in_err-between-clause-err g c =
+pub returns-in_err-between-clause-taken : goal.returns-in_err-between-clause-taken
+returns-in_err-between-clause-taken g c =
     let p = err_from_is_err_and c.from_residual.result c.from_residual.ensures.1 in
     let inv = c.loop-reads.invariant in
     let some : 0 < c.loop-reads._reads = grind (arith, common_steps) in
-    λ start given at. rw (p.1, p.2) (taken_memory (inv.taken start given at) _ some inv.inside)
+    λ start given at. rw (p.1, p.2) (record {
+      ok = tt;
+      err = taken_memory (inv.taken start given at) _ some inv.inside;
+      kept = kept_nothing given;
+      reading = read_fine c.args.most g.R.Source.has_failed g.R.Source.has_ended g.R.Source.good_reads
+          g.R.Source.remaining given c.args.source.now c.loop-reads.source _ (λ is. cc is) inv.fine tt (grind (arith, common_steps))
+          (taken_to_fault (inv.taken start given at) MAX_READ_LEN);
+    })
 
-pub returns-in_err-between-clause-kept : goal.returns-in_err-between-clause-kept
-returns-in_err-between-clause-kept g c =
-    let p = err_from_is_err_and c.from_residual.result c.from_residual.ensures.1 in
-    λ start given at. rw (p.1, p.2) (kept_nothing given)
-
-pub returns-in_err-between-clause-reading : goal.returns-in_err-between-clause-reading
-returns-in_err-between-clause-reading g c =
-    let p = err_from_is_err_and c.from_residual.result c.from_residual.ensures.1 in
-    let inv = c.loop-reads.invariant in
-    λ start given at. rw (p.1, p.2) (read_fine c.args.most g.R.Source.has_failed g.R.Source.has_ended g.R.Source.good_reads
-    g.R.Source.remaining given c.args.source.now c.loop-reads.source _ (λ is. cc is) inv.fine tt (grind (arith, common_steps))
-    (taken_to_fault (inv.taken start given at) MAX_READ_LEN))
-
-pub returns-in_err-make_room-clause-err : goal.returns-in_err-make_room-clause-err
-returns-in_err-make_room-clause-err g c =
+pub returns-in_err-make_room-clause-taken : goal.returns-in_err-make_room-clause-taken
+returns-in_err-make_room-clause-taken g c =
     let p = err_from_is_err_and c.from_residual-in_err-make_room.result c.from_residual-in_err-make_room.ensures.1 in
     let inv = c.loop-reads.invariant in
     let some : 0 < c.loop-reads._reads = grind (arith, common_steps) in
-    λ start given at. rw (p.1, p.2) (taken_memory (inv.taken start given at) _ some inv.inside)
+    λ start given at. rw (p.1, p.2) (record {
+      ok = tt;
+      err = taken_memory (inv.taken start given at) _ some inv.inside;
+      kept = kept_nothing given;
+      reading = read_fine c.args.most g.R.Source.has_failed g.R.Source.has_ended g.R.Source.good_reads
+          g.R.Source.remaining given c.args.source.now c.loop-reads.source _ (λ is. cc is) inv.fine tt (grind (arith, common_steps))
+          (taken_to_fault (inv.taken start given at) MAX_READ_LEN);
+    })
 
-pub returns-in_err-make_room-clause-kept : goal.returns-in_err-make_room-clause-kept
-returns-in_err-make_room-clause-kept g c =
-    let p = err_from_is_err_and c.from_residual-in_err-make_room.result c.from_residual-in_err-make_room.ensures.1 in
-    λ start given at. rw (p.1, p.2) (kept_nothing given)
-
-pub returns-in_err-make_room-clause-reading : goal.returns-in_err-make_room-clause-reading
-returns-in_err-make_room-clause-reading g c =
-    let p = err_from_is_err_and c.from_residual-in_err-make_room.result c.from_residual-in_err-make_room.ensures.1 in
-    let inv = c.loop-reads.invariant in
-    λ start given at. rw (p.1, p.2) (read_fine c.args.most g.R.Source.has_failed g.R.Source.has_ended g.R.Source.good_reads
-    g.R.Source.remaining given c.args.source.now c.loop-reads.source _ (λ is. cc is) inv.fine tt (grind (arith, common_steps))
-    (taken_to_fault (inv.taken start given at) MAX_READ_LEN))
-
-pub returns-in_default-clause-kept : goal.returns-in_default-clause-kept
-returns-in_default-clause-kept g c =
+pub returns-in_default-clause-taken : goal.returns-in_default-clause-taken
+returns-in_default-clause-taken g c =
     let still = c.requires.leaves _ _ _ c.in_ok-between.ensures in
-    let failed : is_err c.read.result ≡ true = grind (arith, common_steps) in
-    λ start given at.
-    taken_before (taken_kept (taken_still (c.loop-reads.invariant.taken start given at) still) c.read.result failed c.read.ensures.err)
-
-pub returns-in_default-clause-reading : goal.returns-in_default-clause-reading
-returns-in_default-clause-reading g c =
     let failed : is_err c.read.result ≡ true = grind (arith, common_steps) in
     λ start given at.
     let kept = taken_kept (c.loop-reads.invariant.taken start given at) c.read.result failed c.read.ensures.err in
     record {
-      ended = tt;
-      reported = λ is. refl;
-      read = λ is. grind (arith, common_steps);
-      no_fault = λ is. taken_to_fault kept 0;
-      bounded = grind (arith, common_steps);
-      to_fault = taken_to_fault kept MAX_READ_LEN;
+      ok = tt;
+      err = kept_nothing given;
+      kept = taken_before (taken_kept (taken_still (c.loop-reads.invariant.taken start given at) still) c.read.result failed c.read.ensures.err);
+      reading = record {
+        ended = tt;
+        reported = λ is. refl;
+        read = λ is. grind (arith, common_steps);
+        no_fault = λ is. taken_to_fault kept 0;
+        bounded = grind (arith, common_steps);
+        to_fault = taken_to_fault kept MAX_READ_LEN;
+      };
     }
 
-pub returns-then-count-eq0-clause-ok : goal.returns-then-count-eq0-clause-ok
-returns-then-count-eq0-clause-ok g c =
+pub returns-then-count-eq0-clause-taken : goal.returns-then-count-eq0-clause-taken
+returns-then-count-eq0-clause-taken g c =
     let still = c.requires.leaves _ _ _ c.in_ok-between.ensures in
     let zero : c.in-Ok.count ≡ 0 = grind (arith, common_steps) in
-    let behind = rw (c.make_room.ensures.held, zero) at c.in-Ok.ensures.ok in
-    λ start given at.
-    taken_to_end (taken_ended (taken_still (c.loop-reads.invariant.taken start given at) still) behind) c.early_end.result (behind.end refl)
-    (rw c.held.ensures at c.early_end.ensures)
-
-pub returns-then-count-eq0-clause-reading : goal.returns-then-count-eq0-clause-reading
-returns-then-count-eq0-clause-reading g c =
     let behind = rw (c.make_room.ensures.held) at c.in-Ok.ensures.ok in
+    let end = rw zero at behind in
     let fine : g.R.Source.has_failed c.read.new.source ≡ false = grind (arith, common_steps) in
     let ended : g.R.Source.has_ended c.read.new.source ≡ true = grind (arith, common_steps) in
-    λ start given at. read_fine c.args.most g.R.Source.has_failed g.R.Source.has_ended g.R.Source.good_reads
-    g.R.Source.remaining given c.args.source.now c.read.new.source _ (λ is. cc is) fine ended (grind (arith, common_steps))
-    (taken_and_more (c.loop-reads.invariant.taken start given at) MAX_READ_LEN behind c.in-Ok.ensures.bound)
+    λ start given at. record {
+      ok = taken_to_end (taken_ended (taken_still (c.loop-reads.invariant.taken start given at) still) end) c.early_end.result (end.end refl)
+          (rw c.held.ensures at c.early_end.ensures);
+      err = tt;
+      kept = tt;
+      reading = read_fine c.args.most g.R.Source.has_failed g.R.Source.has_ended g.R.Source.good_reads
+          g.R.Source.remaining given c.args.source.now c.read.new.source _ (λ is. cc is) fine ended (grind (arith, common_steps))
+          (taken_and_more (c.loop-reads.invariant.taken start given at) MAX_READ_LEN behind c.in-Ok.ensures.bound);
+    }
 
-pub returns-in_err-take-clause-err : goal.returns-in_err-take-clause-err
-returns-in_err-take-clause-err g c =
-    let p = err_from_is_err_and c.from_residual-in_err-take.result c.from_residual-in_err-take.ensures.1 in
-    let behind = rw (c.make_room.ensures.held) at c.in-Ok.ensures.ok in
-    λ start given at. rw (p.1, p.2) (taken_refused (c.loop-reads.invariant.taken start given at) _ _ behind c.in_err-take.ensures.err)
-
-pub returns-in_err-take-clause-kept : goal.returns-in_err-take-clause-kept
-returns-in_err-take-clause-kept g c =
+pub returns-in_err-take-clause-taken : goal.returns-in_err-take-clause-taken
+returns-in_err-take-clause-taken g c =
     let still = c.requires.leaves _ _ _ c.in_ok-between.ensures in
     let p = err_from_is_err_and c.from_residual-in_err-take.result c.from_residual-in_err-take.ensures.1 in
     let behind = rw (c.make_room.ensures.held) at c.in-Ok.ensures.ok in
-    λ start given at. rw (p.1, p.2)
-    (taken_before_refused (taken_still (c.loop-reads.invariant.taken start given at) still) _ behind c.in_err-take.ensures.kept)
-
-pub returns-in_err-take-clause-reading : goal.returns-in_err-take-clause-reading
-returns-in_err-take-clause-reading g c =
-    let p = err_from_is_err_and c.from_residual-in_err-take.result c.from_residual-in_err-take.ensures.1 in
-    let behind = rw (c.make_room.ensures.held) at c.in-Ok.ensures.ok in
     let fine : g.R.Source.has_failed c.read.new.source ≡ false = grind (arith, common_steps) in
-    λ start given at. rw (p.1, p.2) (read_fine c.args.most g.R.Source.has_failed g.R.Source.has_ended g.R.Source.good_reads
-    g.R.Source.remaining given c.args.source.now c.read.new.source _ (λ is. c.in_err-take.ensures.no_read (cc is)) fine tt (grind (arith, common_steps))
-    (taken_and_more (c.loop-reads.invariant.taken start given at) MAX_READ_LEN behind c.in-Ok.ensures.bound))
+    λ start given at. rw (p.1, p.2) (record {
+      ok = tt;
+      err = taken_refused (c.loop-reads.invariant.taken start given at) _ _ behind c.in_err-take.ensures.err;
+      kept = taken_before_refused (taken_still (c.loop-reads.invariant.taken start given at) still) _ behind c.in_err-take.ensures.kept;
+      reading = read_fine c.args.most g.R.Source.has_failed g.R.Source.has_ended g.R.Source.good_reads
+          g.R.Source.remaining given c.args.source.now c.read.new.source _ (λ is. c.in_err-take.ensures.no_read (cc is)) fine tt (grind (arith, common_steps))
+          (taken_and_more (c.loop-reads.invariant.taken start given at) MAX_READ_LEN behind c.in-Ok.ensures.bound);
+    })
 
 pub loop-reads-preserved : goal.loop-reads-preserved
 loop-reads-preserved g c =
@@ -141,20 +120,22 @@ loop-reads-preserved g c =
       bounded = grind (arith, common_steps);
     }
 
-pub returns-clause-kept : goal.returns-clause-kept
-returns-clause-kept g c = λ start given at. taken_before (c.loop-reads.invariant.taken start given at)
-
-pub returns-clause-reading : goal.returns-clause-reading
-returns-clause-reading g c =
+pub returns-clause-taken : goal.returns-clause-taken
+returns-clause-taken g c =
     let inv = c.loop-reads.invariant in
     let all : c.args.most ≤ c.loop-reads._reads = grind (arith, common_steps) in
     λ start given at.
     let taken = inv.taken start given at in
     record {
-      ended = tt;
-      reported = λ is. refl;
-      read = λ is. inr (grind (arith, common_steps), taken_many taken c.args.most all);
-      no_fault = λ is. taken_to_fault taken 0;
-      bounded = grind (arith, common_steps);
-      to_fault = taken_to_fault taken MAX_READ_LEN;
+      ok = tt;
+      err = kept_nothing given;
+      kept = taken_before taken;
+      reading = record {
+        ended = tt;
+        reported = λ is. refl;
+        read = λ is. inr (grind (arith, common_steps), taken_many taken c.args.most all);
+        no_fault = λ is. taken_to_fault taken 0;
+        bounded = grind (arith, common_steps);
+        to_fault = taken_to_fault taken MAX_READ_LEN;
+      };
     }

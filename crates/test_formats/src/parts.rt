@@ -9,6 +9,7 @@ use htl_reading::{Bundle, EarlyEnd, SourceFault, gather_bundle, read_bundle};
 use htl_samples::{RandomTrace, SMALL};
 use htl_segment::{Fault, Picks, Segment, decode_bundle};
 use std::alloc::Global;
+use std::cell::Cell;
 use std::io;
 use std::io::Read;
 use std::process::Abort;
@@ -52,8 +53,10 @@ pub fn told(segments: &[Segment]) -> u64 {
 struct Bytes<'a> {
     bytes: &'a [u8],
     reading: Reading<&'a [u8]>,
-    /// How many bytes were skipped.
+    /// The number of bytes that were skipped.
     skipped: u64,
+    /// The number of other readers that were asked for.
+    tails: Cell<u64>,
 }
 
 impl<'a> Bytes<'a> {
@@ -65,6 +68,7 @@ impl<'a> Bytes<'a> {
             bytes,
             reading: Reading::new(bytes),
             skipped: 0,
+            tails: Cell::new(0),
         }
     }
 }
@@ -107,6 +111,7 @@ impl<'a> Parted for Bytes<'a> {
     }
 
     fn tail(&self, offset: u64) -> Option<Tail<'a>> {
+        self.tails.set(self.tails.get().saturating_add(1));
         let bytes = self.bytes.get(offset as usize..)?;
         Some(Tail { bytes })
     }
@@ -161,6 +166,18 @@ fn by_all(rt: &(impl Abort + Threads + Sync), alloc: Global, bytes: &[u8], has_f
             0
         };
         assert_row(rt, workers, source.skipped, skipped);
+        assert_tails(rt, workers, &source);
+    }
+}
+
+/// One worker asks for no other reader. Several ask for one each, and for at most two at each place
+/// between two of them, where a segment is searched for.
+fn assert_tails(rt: &impl Abort, workers: u32, source: &Bytes) {
+    let tails = source.tails.get();
+    if workers == 1 {
+        assert_row(rt, workers, tails, 0);
+    } else {
+        assert!(rt; 0 < tails && tails < 3 * u64::from(workers));
     }
 }
 

@@ -6,23 +6,29 @@ use Rattle.htl_program.specs.Words.{free_memory}
 use Rattle.hleak.specs.declared.explaining.task.Task.{Task}
 use Rattle.hleak.specs.declared.explaining.task.Task.TheVariants as tasks
 
--- A summary takes more memory than other questions do, and more with more workers.
+-- A summary takes more memory than other questions do, and several workers take more than one.
 abbrev pub question_advice : Question → ℕ → List ℕ
 question_advice Summary workers =
     if nat_le workers 1
     then codes "free some, raise its limit, or ask about one process or object, which takes less"
     else codes "free some, raise its limit, ask for fewer workers, or about one process or object"
-question_advice other workers = free_memory
+question_advice other workers =
+    if nat_le workers 1
+    then free_memory
+    else codes "free some, raise its limit, or ask for fewer workers"
 
 -- A dialogue keeps more than a run of one question does.
-abbrev pub alone_advice : List ℕ
-alone_advice = codes "free some, raise its limit, or ask each question alone, which takes less"
+abbrev pub dialogue_advice : ℕ → List ℕ
+dialogue_advice workers =
+    if nat_le workers 1
+    then codes "free some, raise its limit, or ask each question alone, which takes less"
+    else codes "free some, raise its limit, ask for fewer workers, or each question alone"
 
 abbrev pub memory_advice : Task → List ℕ
 memory_advice (tasks.Question run) = question_advice run.now.job.question run.now.job.workers
 memory_advice (tasks.Convert of) = free_memory
-memory_advice (tasks.Ask of) = alone_advice
-memory_advice (tasks.Read of) = alone_advice
+memory_advice (tasks.Ask of) = dialogue_advice of.now.setting.workers
+memory_advice (tasks.Read of) = dialogue_advice 1
 
 -- where a run can do with fewer
 abbrev pub workers_of : Task → ℕ

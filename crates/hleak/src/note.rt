@@ -66,7 +66,7 @@ hleak: note: {gaps} {word}: segments are missing; answers are complete to {compl
     }
 }
 
-/// What so many gaps are called.
+/// The word for this number of gaps.
 fn gap_word(gaps: u64) -> &'static str
     ensures { result.now ≡ word_of gaps }
 {

@@ -34,7 +34,7 @@ struct Meter {
     total: Option<u64>,
     /// How many inputs have not ended.
     inputs: u64,
-    /// When the line that stands there was written, since reading began.
+    /// When the line that is shown was written, as the time since reading began.
     shown: Option<Duration>,
 }
 
@@ -54,7 +54,7 @@ impl Meter {
         }
     }
 
-    /// One more input, of so many bytes where they are known.
+    /// One more input, with its number of bytes where that is known.
     fn open(&mut self, len: Option<u64>)
         ensures inputs { self.new.inputs ≡ min (self.old.inputs + 1) (2 ^ 64 - 1) }
         ensures unknown { IfNone len (self.new.total ≡ None) }
@@ -70,7 +70,7 @@ impl Meter {
         };
     }
 
-    /// So many bytes of an input were read.
+    /// More bytes of an input were read: this number of them.
     fn count(&mut self, bytes: u64)
         ensures { self.new ≡ record self.old { read = min (self.old.read + bytes) (2 ^ 64 - 1) } }
     {
@@ -122,8 +122,7 @@ enum Unit {
 }
 
 impl Unit {
-    /// The least one of which so many bytes are less than 1,000. No number of 64 bits has as many
-    /// exabytes.
+    /// The smallest unit in which the amount is below 1,000. In exabytes each number of 64 bits is.
     fn for_bytes(bytes: u64) -> Unit {
         match bytes / 1_000_000_000 {
             0 => Unit::Megabyte,
@@ -199,14 +198,14 @@ impl Progress {
         self.is_hidden.set(true);
     }
 
-    /// One more input will be read, of so many bytes where they are known.
+    /// One more input will be read, with its number of bytes where that is known.
     pub fn open(&self, len: Option<u64>) {
         let mut meter = self.meter.get();
         meter.open(len);
         self.meter.set(meter);
     }
 
-    /// So many bytes of an input were read.
+    /// More bytes of an input were read: this number of them.
     pub fn count(&self, bytes: u64) {
         let mut meter = self.meter.get();
         meter.count(bytes);

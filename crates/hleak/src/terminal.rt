@@ -50,7 +50,7 @@ impl Person for Terminal<'_> {
         self.is_watched
     }
 
-    /// How much was read isn't shown where a terminal gets the text of segments meanwhile.
+    /// The progress is hidden while the text of segments is written to a terminal.
     fn begins(&mut self, command: &Command) {
         match command {
             Command::Question(run) if run.files.is_empty() => self.await_typing("segments are"),

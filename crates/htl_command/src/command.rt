@@ -71,8 +71,8 @@ pub struct Run {
 #[derive(Debug, PartialEq, Eq, Drop)]
 pub struct Dialogue {
     pub setting: Setting,
-    /// Whether what was read is folded and forgotten: memory is that of the state then, and `trace`,
-    /// `growth` and `--until` aren't answered.
+    /// Whether what was read is folded and forgotten. Then only the state is kept in memory, and
+    /// `trace`, `growth` and `--until` aren't answered.
     pub folds: bool,
     /// The names of the inputs, in order. There is at least one.
     pub files: Vec<String>,
@@ -159,9 +159,9 @@ pub(crate) fn matches<'a>(
     }
 }
 
-/// What helps where a value that begins with `-` stands apart from its option, since `clap` takes
-/// it for another option: nothing where the option has no such value, or where a dialogue has no
-/// file that it could be. None where no value stands so.
+/// The tip in the place of `clap`'s, which takes a value that begins with `-` for another option or a
+/// file. It is empty where the value can't begin so, and where no file can be given. There is
+/// none where `clap`'s own tip may help.
 fn tip(arguments: &[String], place: Place) -> Option<&'static str> {
     if has_separated(arguments) {
         Some("\n\n  tip: a value that begins with '-' follows '=', as in '--tag=-abc'")

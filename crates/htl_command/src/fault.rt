@@ -133,7 +133,8 @@ fn of_mistake(alloc: Global, why: &str, tip: Option<&str>) -> ParseFault
     }
 }
 
-/// What stands before and after the tip of `clap`'s, where it is wrong.
+/// The text before `clap`'s tip and the text after it, where the tip would mislead. Else the whole
+/// text is the first, and the second is empty.
 fn around_tip(why: &str, is_known: bool) -> (&str, &str) {
     match why.split_once("\n\n  tip: ") {
         Some((before, tip)) if is_file_tip(tip, is_known) || is_fold_tip(before, tip) => {

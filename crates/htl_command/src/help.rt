@@ -15,7 +15,7 @@ Options of every question, from summary to growth:
                         18446744073709551615, or 'complete' for the one up to
                         which no segment is missing
       --symbols <FILE>  Names for addresses: CSV of start,end,module,name
-      --workers <N>     How many threads decode segments: 1 to 8 [default: 1]
+      --workers <N>     How many threads share the work: 1 to 8 [default: 1]
       --json            One JSON object a line, for other programs
       --complete        Refuse segments of which one is missing (C8)
       --hex             The files hold hexadecimal digits, not bytes
@@ -233,7 +233,7 @@ The handle: 1 to 16 hexadecimal digits, with or without
             CommandOption::Points => "At most N moments: decimal, 2 to 1000 [default: 20]",
             CommandOption::Top => "At most N rows: decimal, 1 to 4294967295",
             CommandOption::Symbols => "Names for addresses: CSV of start,end,module,name",
-            CommandOption::Workers => "How many threads decode segments: 1 to 8 [default: 1]",
+            CommandOption::Workers => "How many threads share the work: 1 to 8 [default: 1]",
             CommandOption::Until => {
                 "\
 Only events up to this sequence count: decimal, at most

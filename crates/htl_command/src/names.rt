@@ -205,7 +205,7 @@ impl CommandOption {
         }
     }
 
-    /// Whether a command that has the option wants it given.
+    /// Whether a command that has the option requires it.
     pub(crate) fn is_required(self) -> bool
         ensures { result ≡ is_required self }
     {

@@ -23,8 +23,9 @@ pub enum Question {
     Bad {
         process: u32,
     },
-    /// The stacks that opened handles of a process which are still open: each that opened so many
-    /// of them, 1 or more. Where there is a `since`, only handles that were opened since then count.
+    /// The stacks that opened handles of a process which are still open: each that opened at least
+    /// `at_least` of them, 1 or more. Where there is a `since`, only handles that were opened since
+    /// then count.
     Leaks {
         process: u32,
         since: Option<Since>,
@@ -41,7 +42,7 @@ pub enum Question {
         process: u32,
         handle: u32,
     },
-    /// How many handles of a process are open as of each of so many moments, 2 to 1000.
+    /// How many handles of a process are open as of each of several moments, 2 to 1000 of them.
     Growth {
         process: u32,
         points: u32,
@@ -87,12 +88,12 @@ pub struct InputForm {
     pub partial: bool,
 }
 
-/// How the segments are read of which many questions are asked.
+/// How the segments of a dialogue are read.
 #[derive(Clone, Copy, Debug, PartialEq, Eq)]
 pub struct Setting {
     /// How the inputs hold segments.
     pub form: InputForm,
-    /// How many threads decode segments, 1 to 8.
+    /// The number of threads that share the work, 1 to 8.
     pub workers: u32,
     /// Whether segments of which one is missing are refused.
     pub complete: bool,
@@ -116,7 +117,7 @@ pub struct Job {
     pub question: Question,
     /// How the inputs hold segments.
     pub form: InputForm,
-    /// How many threads decode segments, 1 to 8.
+    /// The number of threads that share the work, 1 to 8.
     pub workers: u32,
     /// Up to when events count. `None` stands for all of them.
     pub until: Option<Moment>,

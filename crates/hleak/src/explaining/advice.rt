@@ -1,7 +1,8 @@
 //! What helps where the system refuses memory or a thread.
 
 ghost use Rattle.std.specs.Prelude.{◌≡◌};
-ghost use Rattle.hleak.specs.Advice.{memory_advice, question_advice, thread_advice, workers_of};
+ghost use Rattle.hleak.specs.Advice.{dialogue_advice, memory_advice, question_advice};
+ghost use Rattle.hleak.specs.Advice.{thread_advice, workers_of};
 
 use crate::explaining::task::Task;
 use htl_main::Question;
@@ -14,14 +15,13 @@ pub fn memory_advice(task: Task) -> &'static str
     match task {
         Task::Question(run) => question_advice(run.job.question, run.job.workers),
         Task::Convert(_) => FREE_MEMORY,
-        Task::Ask(_) | Task::Read(_) => {
-            "free some, raise its limit, or ask each question alone, which takes less"
-        }
+        Task::Ask(of) => dialogue_advice(of.setting.workers),
+        Task::Read(_) => dialogue_advice(1),
     }
 }
 
-/// What helps where memory is refused to the answer to one question. A summary takes more of it than
-/// other questions do, and alone has workers.
+/// Advice when memory for one question is refused. A summary takes more memory than other questions
+/// do, and several workers take more than one.
 fn question_advice(question: Question, workers: u32) -> &'static str
     ensures { result.now ≡ question_advice question workers }
 {
@@ -32,7 +32,18 @@ fn question_advice(question: Question, workers: u32) -> &'static str
         (Question::Summary, _) => {
             "free some, raise its limit, ask for fewer workers, or about one process or object"
         }
-        _ => FREE_MEMORY,
+        (_, 0..=1) => FREE_MEMORY,
+        _ => "free some, raise its limit, or ask for fewer workers",
+    }
+}
+
+/// Advice when memory for a dialogue is refused.
+fn dialogue_advice(workers: u32) -> &'static str
+    ensures { result.now ≡ dialogue_advice workers }
+{
+    match workers {
+        0..=1 => "free some, raise its limit, or ask each question alone, which takes less",
+        _ => "free some, raise its limit, ask for fewer workers, or each question alone",
     }
 }
 

@@ -33,7 +33,7 @@ impl Meaning {
         }
     }
 
-    /// A file can't be read, or what stands on standard input.
+    /// A file or standard input can't be read.
     pub fn unread() -> Meaning
         ensures { text_of result ≡ unread }
     {
@@ -53,7 +53,7 @@ impl Meaning {
         )
     }
 
-    /// Memory is refused, where this helps.
+    /// The system refused memory. The advice says what helps.
     pub fn no_memory(advice: &'static str) -> Meaning
         ensures { text_of result ≡ no_memory advice.now }
     {

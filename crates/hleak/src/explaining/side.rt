@@ -19,7 +19,7 @@ pub enum Sign {
 }
 
 impl Sign {
-    /// What tells the segment from the other one, by what the fault says of both.
+    /// The sign of the segment for this fault: its trace, its number of processors, or else its key.
     fn of(fault: CaseFault, origin: Origin) -> Sign
         ensures { result ≡ sign_of fault origin }
     {
@@ -52,7 +52,7 @@ impl fmt::Display for Sign {
     }
 }
 
-/// What so many processors are called.
+/// The word for this number of processors.
 fn processor_word(count: u16) -> &'static str
     ensures { result.now ≡ processor_word count }
 {

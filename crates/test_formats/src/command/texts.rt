@@ -37,7 +37,7 @@ Options of every question, from summary to growth:
                         18446744073709551615, or 'complete' for the one up to
                         which no segment is missing
       --symbols <FILE>  Names for addresses: CSV of start,end,module,name
-      --workers <N>     How many threads decode segments: 1 to 8 [default: 1]
+      --workers <N>     How many threads share the work: 1 to 8 [default: 1]
       --json            One JSON object a line, for other programs
       --complete        Refuse segments of which one is missing (C8)
       --hex             The files hold hexadecimal digits, not bytes
@@ -79,7 +79,7 @@ Options:
                         18446744073709551615, or 'complete' for the one up to
                         which no segment is missing
       --symbols <FILE>  Names for addresses: CSV of start,end,module,name
-      --workers <N>     How many threads decode segments: 1 to 8 [default: 1]
+      --workers <N>     How many threads share the work: 1 to 8 [default: 1]
       --json            One JSON object a line, for other programs
       --complete        Refuse segments of which one is missing (C8)
       --hex             The files hold hexadecimal digits, not bytes
@@ -107,7 +107,7 @@ Options:
                         18446744073709551615, or 'complete' for the one up to
                         which no segment is missing
       --symbols <FILE>  Names for addresses: CSV of start,end,module,name
-      --workers <N>     How many threads decode segments: 1 to 8 [default: 1]
+      --workers <N>     How many threads share the work: 1 to 8 [default: 1]
       --json            One JSON object a line, for other programs
       --complete        Refuse segments of which one is missing (C8)
       --hex             The files hold hexadecimal digits, not bytes
@@ -138,7 +138,7 @@ Options:
                         18446744073709551615, or 'complete' for the one up to
                         which no segment is missing
       --symbols <FILE>  Names for addresses: CSV of start,end,module,name
-      --workers <N>     How many threads decode segments: 1 to 8 [default: 1]
+      --workers <N>     How many threads share the work: 1 to 8 [default: 1]
       --json            One JSON object a line, for other programs
       --complete        Refuse segments of which one is missing (C8)
       --hex             The files hold hexadecimal digits, not bytes
@@ -166,7 +166,7 @@ Options:
                         18446744073709551615, or 'complete' for the one up to
                         which no segment is missing
       --symbols <FILE>  Names for addresses: CSV of start,end,module,name
-      --workers <N>     How many threads decode segments: 1 to 8 [default: 1]
+      --workers <N>     How many threads share the work: 1 to 8 [default: 1]
       --json            One JSON object a line, for other programs
       --complete        Refuse segments of which one is missing (C8)
       --hex             The files hold hexadecimal digits, not bytes
@@ -194,7 +194,7 @@ Options:
                         18446744073709551615, or 'complete' for the one up to
                         which no segment is missing
       --symbols <FILE>  Names for addresses: CSV of start,end,module,name
-      --workers <N>     How many threads decode segments: 1 to 8 [default: 1]
+      --workers <N>     How many threads share the work: 1 to 8 [default: 1]
       --json            One JSON object a line, for other programs
       --complete        Refuse segments of which one is missing (C8)
       --hex             The files hold hexadecimal digits, not bytes
@@ -228,7 +228,7 @@ Options:
                         18446744073709551615, or 'complete' for the one up to
                         which no segment is missing
       --symbols <FILE>  Names for addresses: CSV of start,end,module,name
-      --workers <N>     How many threads decode segments: 1 to 8 [default: 1]
+      --workers <N>     How many threads share the work: 1 to 8 [default: 1]
       --json            One JSON object a line, for other programs
       --complete        Refuse segments of which one is missing (C8)
       --hex             The files hold hexadecimal digits, not bytes
@@ -258,7 +258,7 @@ Options:
                         18446744073709551615, or 'complete' for the one up to
                         which no segment is missing
       --symbols <FILE>  Names for addresses: CSV of start,end,module,name
-      --workers <N>     How many threads decode segments: 1 to 8 [default: 1]
+      --workers <N>     How many threads share the work: 1 to 8 [default: 1]
       --json            One JSON object a line, for other programs
       --complete        Refuse segments of which one is missing (C8)
       --hex             The files hold hexadecimal digits, not bytes
@@ -287,7 +287,7 @@ Options:
                         18446744073709551615, or 'complete' for the one up to
                         which no segment is missing
       --symbols <FILE>  Names for addresses: CSV of start,end,module,name
-      --workers <N>     How many threads decode segments: 1 to 8 [default: 1]
+      --workers <N>     How many threads share the work: 1 to 8 [default: 1]
       --json            One JSON object a line, for other programs
       --complete        Refuse segments of which one is missing (C8)
       --hex             The files hold hexadecimal digits, not bytes
@@ -314,7 +314,7 @@ Options:
                         18446744073709551615, or 'complete' for the one up to
                         which no segment is missing
       --symbols <FILE>  Names for addresses: CSV of start,end,module,name
-      --workers <N>     How many threads decode segments: 1 to 8 [default: 1]
+      --workers <N>     How many threads share the work: 1 to 8 [default: 1]
       --json            One JSON object a line, for other programs
       --complete        Refuse segments of which one is missing (C8)
       --hex             The files hold hexadecimal digits, not bytes
@@ -336,7 +336,7 @@ Arguments:
 
 Options:
       --symbols <FILE>  Names for addresses: CSV of start,end,module,name
-      --workers <N>     How many threads decode segments: 1 to 8 [default: 1]
+      --workers <N>     How many threads share the work: 1 to 8 [default: 1]
       --fold            Keep what the events come to, not the events: trace,
                         growth and --until are not answered then
       --complete        Refuse segments of which one is missing (C8)

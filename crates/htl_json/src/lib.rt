@@ -6,7 +6,7 @@
 //! Files, in reading order: `answer.rt` (the lines of each answer); `heads.rt` (their first
 //! lines); a file for the rows of each kind of answer: `events.rt`, `bad.rt`, `counts.rt`,
 //! `growths.rt`, `summary.rt`; what several of them have: `frames.rt`; how a line is written:
-//! `lines.rt`; and that a line has one value (`laws.rt`).
+//! `lines.rt`; and that a line is of one value, and a value of one row (`laws.rt`).
 #![tactic(auto)]
 
 mod answer;

@@ -64,7 +64,7 @@ first_below C p (suc n) =
 
 -- ---- the greatest sequence
 
-greatest_one : (e : Event) → IsGreatestSequence (Contains (e ∷ [])) e.sequence
+pub greatest_one : (e : Event) → IsGreatestSequence (Contains (e ∷ [])) e.sequence
 greatest_one e = record {
   bound = λ x h. elim (Contains-cases e [] x h) [
     | inl is ↦ (let same : e.sequence ≡ x.sequence = ap (λ (y : Event). y.sequence) is in omega (arith, same))

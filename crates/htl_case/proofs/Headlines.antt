@@ -80,7 +80,7 @@ not_both b t f = let e : true ≡ false = sym t ∙ f in cc
 not_new : Repeat ≡ New → ⊥
 not_new e = cc
 
-some_segment : (T : Trace) (place : ℕ) → place < length T.segments → (s : Content) × (slice_get T.segments place ≡ Some s)
+pub some_segment : (T : Trace) (place : ℕ) → place < length T.segments → (s : Content) × (slice_get T.segments place ≡ Some s)
 some_segment T place lt =
     elim (slice_get_cases T.segments place).1 [
       | inl s ↦ (s.0, s.2)
@@ -88,7 +88,7 @@ some_segment T place lt =
     ]
 
 -- in any state
-taken_there : (T : Trace) (place : ℕ) (old : State) (segment : Content) → slice_get T.segments place ≡ Some segment
+pub taken_there : (T : Trace) (place : ℕ) (old : State) (segment : Content) → slice_get T.segments place ≡ Some segment
     → (new : State) × IsTake T place old new
 taken_there T place old segment here =
     elim (cases_Bool (keys old segment.processor segment.number)) [

@@ -22,3 +22,5 @@ pub mod Sizes
 pub mod Determined
 pub mod Headlines
 pub mod FinalAnswers
+pub mod Mergeable
+pub mod TakenCases

@@ -24,13 +24,13 @@ use Rattle.htl_case.proofs.FirstFaults.{one_least}
 
 -- ---- one case
 
-in_order_strict : IsStrictOrder IsBefore
+pub in_order_strict : IsStrictOrder IsBefore
 in_order_strict = record {
   irreflexive = λ s. not_itself (key_of s);
   transitive = λ s t u. before_before (key_of s) (key_of t) (key_of u);
 }
 
-in_order_rises : (ss : List Content) → AreInOrder ss → IsRising IsBefore ss
+pub in_order_rises : (ss : List Content) → AreInOrder ss → IsRising IsBefore ss
 in_order_rises [] ordered = tt
 in_order_rises (s ∷ ss) ordered = (ordered.0, in_order_rises ss ordered.1)
 

@@ -5,7 +5,7 @@ use Rattle.std.specs.List.{AllByRecursion}
 use Rattle.htl_segment.specs.Traces.{Trace, IsTrace, HasKey}
 use Rattle.htl_analyst.specs.States.{State}
 use Rattle.htl_analyst.specs.Keys.{keys}
-use Rattle.htl_analyst.specs.Right.{IsBelow}
+use Rattle.htl_analyst.specs.Right.{IsRight, IsBelow}
 use Rattle.htl_analyst.specs.Steps.{IsMerge}
 use Rattle.htl_analyst.specs.Same.{IsSame}
 use Rattle.htl_case.specs.declared.question.AnalystQuestion.{AnalystQuestion}
@@ -19,10 +19,11 @@ pub record Headline : Type 0 where
   pub taken : (T : Trace) (S : ℕ → ℕ → Bool) (a : State) → IsReachedBy T S a → (p n : ℕ) → keys a p n ≡ S p n
   -- 2. Each answer is the definition's over the events of S.
   pub answers : (T : Trace) (S : ℕ → ℕ → Bool) (a : State) → IsReachedBy T S a
-      → (q : AnalystQuestion) (x : AnalystAnswer) → AnalystAnswers a q x → IsAnswer T S q x
+      → (question : AnalystQuestion) (answer : AnalystAnswer) → AnalystAnswers a question answer → IsAnswer T S question answer
   -- 3. So analysts with one S answer alike, however the segments came.
   pub alike : (T : Trace) (S : ℕ → ℕ → Bool) (a b : State) → IsReachedBy T S a → IsReachedBy T S b
-      → (q : AnalystQuestion) (x y : AnalystAnswer) → AnalystAnswers a q x → AnalystAnswers b q y → IsSameAnswer x y
+      → (question : AnalystQuestion) (one other : AnalystAnswer) → AnalystAnswers a question one → AnalystAnswers b question other
+      → IsSameAnswer one other
   -- 4. Once compacted they are equal.
   pub equal : (T : Trace) (S : ℕ → ℕ → Bool) (a b : State) (ra : IsReachedBy T S a) (rb : IsReachedBy T S b)
       → IsCompacted ra.history → IsCompacted rb.history → IsSame a b
@@ -46,11 +47,14 @@ pub record Headline : Type 0 where
 abbrev pub takes : List ℕ → History
 takes places = fold took begun places
 
--- Any segments can be taken, in any order and with repeats. (That a merge and a compaction of any states leave one is shown by
--- tests alone.)
+-- Any segments can be taken, in any order and with repeats.
 abbrev pub AnySegmentsCanBeTaken : Type 0
 AnySegmentsCanBeTaken = (T : Trace) → IsTrace T → 0 < T.processors → T.processors ≤ 256
     → (places : List ℕ) → AllByRecursion (λ place. place < length T.segments) places → (a : State) × Leaves T (takes places) a
+
+-- Any two analysts can be merged. (That any can be compacted is shown by tests alone.)
+abbrev pub AnyCanBeMerged : Type 0
+AnyCanBeMerged = (T : Trace) (a b : State) → IsRight a T → IsRight b T → (c : State) × IsMerge a b c
 
 -- ---- what follows where all is known
 

@@ -11,6 +11,7 @@ pub mod Asked
 pub mod Histories
 pub mod Headline
 pub mod Final
+pub mod TakenCases
 -- cited by private contracts alone
 pub mod Ordered
 pub mod Outlined

@@ -34,8 +34,8 @@ pub fn answer_after(
     asked: u32,
     question: &AnalystQuestion,
 ) -> Result<AnalystAnswer, PlayFault>
-    ensures answer { IfOk result
-        (IsAnswer case.now (reached case.now steps.now asked) question.now) }
+    ensures answer { IfOk result (λ answer.
+        IsAnswer case.now (reached case.now steps.now asked) question.now answer) }
     ensures accepted { OnOk result
         (NoneIsFaulty analysts (length case.now.segments) steps.now × (asked < analysts)) }
     ensures refused { IfErr result
@@ -58,7 +58,7 @@ pub fn ask<A: Allocator + Clone>(
     analyst: &Analyst<A>,
     question: &AnalystQuestion,
 ) -> Result<AnalystAnswer, NoMemory>
-    ensures { IfOk result (AnalystAnswers analyst.now question.now) }
+    ensures { IfOk result (λ answer. AnalystAnswers analyst.now question.now answer) }
 {
     Ok(match question {
         AnalystQuestion::Has { processor, number } => {

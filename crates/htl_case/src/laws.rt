@@ -1,9 +1,11 @@
-//! The law that this project is about, its premise, and when an answer is final. Each function does
-//! nothing when it runs.
+//! The law that this project is about, its premise, when an answer is final, and what it is over a
+//! case. Each function does nothing when it runs.
 
 ghost use Rattle.htl_case.specs.Answers.{AnswersAreDetermined};
 ghost use Rattle.htl_case.specs.Final.{AnswersAreFinal};
 ghost use Rattle.htl_case.specs.Headline.{Headline, AnySegmentsCanBeTaken, AreSameOnceWhole};
+ghost use Rattle.htl_case.specs.TakenCases.{TakenCasesAnswer};
+ghost use Rattle.htl_case.specs.Headline.{AnyCanBeMerged};
 
 /// Take a trace, and any number of analysts that begin with nothing. They take its segments, merge
 /// one another or themselves, and compact, as often and in whatever order they like. S is the set
@@ -21,6 +23,11 @@ pub fn headline()
 /// There are such analysts: any segments of a trace can be taken.
 pub fn any_segments_can_be_taken()
     ensures { AnySegmentsCanBeTaken }
+{}
+
+/// Any two analysts of one trace can be merged.
+pub fn any_can_be_merged()
+    ensures { AnyCanBeMerged }
 {}
 
 /// Analysts that every segment of a trace reached are the same once compacted, whatever they went
@@ -42,4 +49,12 @@ pub fn answers_are_determined()
 /// many come later.
 pub fn answers_are_final()
     ensures { AnswersAreFinal }
+{}
+
+/// An analyst that took exactly the segments of a case answers over the case. Its answers about events
+/// are the answers over all events of the case, and the other way round. It has taken the segments of
+/// the case and no others, and the gaps that it reports are the gaps of the case. So what is promised
+/// over the case of the segments that were read is what the headline promises over their keys.
+pub fn answers_are_of_the_case()
+    ensures { TakenCasesAnswer }
 {}

@@ -7,8 +7,8 @@
 //! an object, unless only whole segments tell. `answer_after` does a list of takes, merges and
 //! compactions over a case, and asks one of the analysts: its answer is the definition's over
 //! exactly the segments that reached it. `play` hands out the analysts. `laws` has the headline,
-//! which says the same of every trace, the laws of merge, and when an answer as of a moment is
-//! final.
+//! which says the same of every trace, the laws of merge, when an answer as of a moment is final,
+//! and that an analyst's answers are those over the case of the segments that it took.
 //!
 //! Files, in reading order: `case.rt` (a case), `fault.rt` (why a list is refused), `picked.rt` (a
 //! case of which only what is asked about is in hand), `ordering.rt`, `sequences.rt`, `outlines.rt`
@@ -22,14 +22,16 @@
 //! sequence), `Complete` (up to which moment no segment is missing); `Reached` (which keys a list
 //! of steps brings to an analyst), `Answers` (the answers to its questions) and `Plays` (why steps
 //! aren't played), which are all that `answer_after` says; `Asked`, `Histories` and `Headline`,
-//! which speak of states; `Final` (when an answer is final). `Ordered`, `Outlined`, `Listed` and
-//! `Changes` serve private clauses alone. In `proofs/`, `KeyOrder` shows what a sort by key leaves,
+//! which speak of states; `Final` (when an answer is final) and `TakenCases` (what an analyst answers
+//! that took the segments of a case). `Ordered`, `Outlined`, `Listed` and `Changes` serve private
+//! clauses alone. In `proofs/`, `KeyOrder` shows what a sort by key leaves,
 //! `Repeats` what is left without equal repeats, `Twice` which sequences come twice, `Scanned`
 //! where they fall, `Outcomes` that a list is one case or breaks one rule first, `Outlined` which
 //! keys come twice, `Moved` what stays where elements change places, `Counted` which events there
 //! are until a moment, `SpanLaws` what their span is, `Pickings` what was picked of segments,
 //! `Stepped` what a step leaves of each analyst, `Histories` what a history does, `Determined` that
-//! a question has one answer, `Headlines` the headline, and `FinalAnswers` which answers are final.
+//! a question has one answer, `Headlines` the headline, `Mergeable` that any two analysts have a
+//! merge, `FinalAnswers` which answers are final, and `TakenCases` which are those over a case.
 #![tactic(auto)]
 
 mod asking;

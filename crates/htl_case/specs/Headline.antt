@@ -52,7 +52,7 @@ abbrev pub AnySegmentsCanBeTaken : Type 0
 AnySegmentsCanBeTaken = (T : Trace) → IsTrace T → 0 < T.processors → T.processors ≤ 256
     → (places : List ℕ) → AllByRecursion (λ place. place < length T.segments) places → (a : State) × Leaves T (takes places) a
 
--- Any two analysts can be merged. (That any can be compacted is shown by tests alone.)
+-- Any two analysts can be merged. (`Histories` of `htl_main` says so of a compaction, and of any history.)
 abbrev pub AnyCanBeMerged : Type 0
 AnyCanBeMerged = (T : Trace) (a b : State) → IsRight a T → IsRight b T → (c : State) × IsMerge a b c
 

@@ -31,3 +31,5 @@ pub mod PickLaws
 pub mod AfterPicking
 pub mod MomentLaws
 pub mod UntilLaws
+pub mod SummaryAnswers
+pub mod Foldable

@@ -19,6 +19,8 @@ pub mod Adding
 pub mod Folding
 pub mod Picked
 pub mod Statuses
+pub mod Analysts
+pub mod Histories
 -- What only private contracts cite.
 pub mod Ends
 pub mod Folders

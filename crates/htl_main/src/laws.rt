@@ -5,10 +5,13 @@ ghost use Rattle.std.specs.Prelude.{◌≡◌, ◌↔◌, ℕ, Bool, List, Optio
 ghost use Rattle.std.specs.Global.{Vec};
 ghost use Rattle.htl_event.specs.Events.{Event};
 ghost use Rattle.htl_event.specs.declared.slot.Count.{Count};
+ghost use Rattle.htl_event.specs.declared.summary.ObjectRow.{ObjectRow};
+ghost use Rattle.htl_event.specs.declared.summary.ProcessRow.{ProcessRow};
 ghost use Rattle.htl_segment.specs.Traces.{Trace, HasKey};
 ghost use Rattle.htl_taken.specs.Gaps.{IsGaps};
 ghost use Rattle.htl_taken.specs.declared.gap.Gap.{Gap};
 ghost use Rattle.htl_case.specs.Answers.{IsAnswerOver as IsAnalystsOver};
+ghost use Rattle.htl_case.specs.TakenCases.{IsTakenCase};
 ghost use Rattle.htl_case.specs.declared.question.AnalystAnswer.TheVariants as found;
 ghost use Rattle.htl_case.specs.declared.question.AnalystQuestion.TheVariants as analysts;
 ghost use Rattle.htl_report.specs.declared.answer.Answer.TheVariants as answers;
@@ -17,10 +20,12 @@ ghost use Rattle.htl_command.specs.declared.question.InputForm.{InputForm};
 ghost use Rattle.htl_command.specs.declared.question.Job.{Job};
 ghost use Rattle.htl_command.specs.declared.question.Question.TheVariants as questions;
 ghost use Rattle.htl_command.specs.declared.question.Since.TheVariants.{Sequence};
+ghost use Rattle.htl_main.specs.Analysts.{AreAnswers};
 ghost use Rattle.htl_main.specs.Answers.{Finds, IsAnswerOver};
 ghost use Rattle.htl_main.specs.Coverages.{Covers, IsCoverage};
+ghost use Rattle.htl_main.specs.Histories.{AnyCanBeCompacted, AnyHistoryLeavesAState};
 ghost use Rattle.htl_main.specs.Printed.{Printed, WorkersFit};
-ghost use Rattle.htl_main.specs.Summaries.{AreTotals};
+ghost use Rattle.htl_main.specs.Summaries.{AreTotals, IsSummary};
 ghost use Rattle.htl_main.specs.declared.coverage.Coverage.{Coverage};
 ghost use Rattle.htl_main.specs.declared.fault.RunFault.{RunFault};
 
@@ -67,6 +72,28 @@ pub fn analysts_agree()
         (rows : Vec (List ℕ × Count))
         → IsAnswerOver events (questions.Stacks object tag) (answers.Stacks object tag rows)
         ↔ IsAnalystsOver events (analysts.Stacks object tag) (found.Stacks rows) }
+{}
+
+/// A summary of a case says exactly what an analyst answers that took the segments of the case: how
+/// many segments and events there are, which segments are missing, and which processes and objects
+/// there are. Beside these it says of the case how many processors there are and up to which sequence
+/// no segment is missing, which are no questions to an analyst.
+pub fn summaries_agree()
+    ensures { (T : Trace) (S : ℕ → ℕ → Bool) (C : Trace) (totals : Totals) (gaps : Vec Gap)
+        (processes : Vec ProcessRow) (objects : Vec ObjectRow) → IsTakenCase T S C
+        → IsSummary C None totals gaps.items processes.items objects.items
+        ↔ AreAnswers T S C totals gaps processes objects }
+{}
+
+/// Any analyst of a trace can be compacted: there is a state that a compaction may leave.
+pub fn any_can_be_compacted()
+    ensures { AnyCanBeCompacted }
+{}
+
+/// There are analysts of every history: whatever segments of a trace an analyst takes, and however it
+/// and others are merged and compacted, there is a state that this leaves.
+pub fn any_history_leaves_a_state()
+    ensures { AnyHistoryLeavesAState }
 {}
 
 /// Inputs have one coverage, and a summary reports the same.

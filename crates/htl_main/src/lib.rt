@@ -18,10 +18,12 @@
 //! within a segment), `answering.rt` (the answer over a case), `unfolded.rt` (segments as they are,
 //! over which a run answers), `summarizing.rt` (the summary of a case), `completed.rt` (what a run
 //! reports beside its answer), `picked_run.rt`, `picking.rt` and `picked.rt` (the run that keeps only
-//! what its question asks about), `dumping.rt` and `encoding.rt` (the runs of `dump` and `encode`),
-//! `fault.rt` (the faults, their lines and statuses), `refused.rt` (a fault and the two segments it is
-//! about), `laws.rt` (a run has one outcome, inputs have one coverage, and runs and analysts give the
-//! same answers).
+//! what its question asks about), `folding.rt` (sources that are read and forgotten), `folder.rt` (how
+//! their segments are taken and folded), `folded_answers.rt` (answers over what was folded),
+//! `dumping.rt` and `encoding.rt` (the runs of `dump` and `encode`), `fault.rt` (the faults, their
+//! lines and statuses), `refused.rt` (a fault and the two segments it is about), `laws.rt` (a run has
+//! one outcome, inputs have one coverage, runs and analysts give the same answers and summaries, and
+//! there are analysts of every history).
 //!
 //! `specs/` is read in this order: `Inputs` (which segments the inputs encode, and which input is
 //! refused first), `CutInputs` (which of them end within a segment), `Summaries` (what a summary says
@@ -31,8 +33,9 @@
 //! ends for out of memory or by a failing device), `Readings` (how any run reads its sources, in one
 //! record), `Dumps` and `Encodings` (what the runs of `dump` and `encode` write, and why they end),
 //! `Loading` (what is loaded before a question is answered), `Adding` (what more sources add to it),
-//! `Picked` (what a run that keeps only what its question asks about reports, and when only whole
-//! segments tell).
+//! `Folding` (what a reading that forgets folds of its sources), `Picked` (what a run that keeps only
+//! what its question asks about reports, and when only whole segments tell), `Analysts` (what an
+//! analyst answers of a summary) and `Histories` (that an analyst can go through any history).
 #![tactic(auto)]
 
 mod adding;

@@ -115,8 +115,8 @@ pub fn add<Rt: Threads + Sync, R: Parted>(
     })
 }
 
-/// What is loaded of decoded segments and, behind them, of copies of a case's, which count as those of
-/// one more input, the one at a place. Symbols are left out.
+/// Loads the decoded segments and, as those of the input `place`, copies of the old case's segments. It
+/// loads no symbols.
 fn load_with(
     alloc: Global,
     complete: bool,

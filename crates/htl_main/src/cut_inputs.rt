@@ -19,7 +19,7 @@ pub struct CutInputs {
     pub others: u64,
 }
 
-/// The inputs that are cut, with one more, the one at a place, if it is.
+/// The inputs that are cut, with the input at this place where it is cut.
 pub(crate) fn with_input(cut: Option<CutInputs>, place: u64, is_cut: bool) -> Option<CutInputs>
     requires { OthersFit cut place }
     ensures { result ≡ with_input is_cut place cut }
@@ -44,7 +44,7 @@ pub(crate) fn with_input(cut: Option<CutInputs>, place: u64, is_cut: bool) -> Op
 pub(crate) struct Accepted<T> {
     /// Its segments, in the form in which they are kept.
     pub segments: T,
-    /// Whether it ends within one more.
+    /// Whether the input ends within another segment.
     pub is_cut: bool,
 }
 
@@ -70,8 +70,8 @@ pub(crate) fn accept<T: Drop>(
     })
 }
 
-/// Whether the input at a place ends within a segment, by where it does. It is refused where it may
-/// not.
+/// Whether the input at this place ends within a segment, by where that segment begins. Such an end is
+/// refused where inputs may not be partial.
 pub(crate) fn check_end(
     form: InputForm,
     place: u64,

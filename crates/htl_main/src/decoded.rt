@@ -19,8 +19,8 @@ pub(crate) struct Part {
     pub end: usize,
 }
 
-/// The segments of inputs, those of the first input first, which part of them each input has, and
-/// which inputs end within one more.
+/// All segments, in the order of the inputs, which part of them each input has, and which inputs end
+/// within a segment.
 #[derive(Drop)]
 pub(crate) struct Decoded {
     pub segments: Vec<Segment>,
@@ -44,7 +44,7 @@ impl Decoded {
         }
     }
 
-    /// Adds one more input, the one at a place.
+    /// Adds the input at this place.
     pub fn add(&mut self, place: u64, more: Accepted<Vec<Segment>>) -> Result<(), NoMemory>
         requires few { OthersFit self.old.cut place }
         ensures segments { OnOk result
@@ -61,7 +61,7 @@ impl Decoded {
         Ok(())
     }
 
-    /// Adds the segments of one more input.
+    /// Adds the segments of another input.
     pub fn add_segments(&mut self, input: u64, mut more: Vec<Segment>) -> Result<(), NoMemory>
         ensures segments { OnOk result
             (self.new.segments.items ≡ self.old.segments.items ++ more.items) }

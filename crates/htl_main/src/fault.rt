@@ -26,7 +26,7 @@ pub enum RunFault {
         offset: u64,
         fault: Fault,
     },
-    /// The text of an input is no bytes in hexadecimal.
+    /// An input is not valid hexadecimal.
     #[error("hleak: input {input}: {fault}")]
     Hex {
         input: u64,
@@ -80,10 +80,10 @@ impl RunFault {
     ghost use Rattle.htl_main.specs.Faults.{of_hex, of_read, of_segment, of_source, of_text};
     ghost use Rattle.htl_main.specs.Statuses.{status_of};
 
-    /// The exit status of the program: 2 for a wrong command, 3 where an input says something else
-    /// than the format lets it, 4 where the inputs belong to no one case or have nothing that is asked
-    /// about, 5 where a device failed, 6 where memory or a thread was refused, and 7 for the symbols.
-    /// Status 0 is that of a run without a fault.
+    /// The exit status of the program: 2 for a wrong command, 3 for malformed input, 4 where the inputs
+    /// are no case, or not the complete one that is asked for, or have no event of what is asked about,
+    /// 5 where a device failed, 6 where memory or a thread was refused, and 7 for malformed symbols. A
+    /// run without a fault has status 0.
     pub fn status(&self) -> u8
         ensures { result ≡ status_of self.now }
     {

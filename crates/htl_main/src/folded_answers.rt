@@ -67,7 +67,7 @@ fn summary(alloc: Global, analyst: &Analyst<Global>) -> Result<Answer, NoMemory>
     })
 }
 
-/// The totals of what an analyst took, which has so many objects.
+/// The totals of what an analyst took, with this number of objects.
 fn totals(analyst: &Analyst<Global>, objects: u64) -> Totals
     ensures { (segments : List Content) (T : Trace) → AreFolded (Some analyst.now) segments
         → IsCaseOf segments T → IsNumberOfObjects (all_events T.segments) objects

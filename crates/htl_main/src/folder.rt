@@ -15,7 +15,7 @@ use htl_segment::{Keeper, Segment, SegmentBytes, StackCache};
 use std::alloc::Global;
 use std::thread::Threads;
 
-/// How many records are held before they are folded, at the least, and what one read brings beside. An
+/// The least number of held records that starts a fold. What one read brings is held beside them. An
 /// event takes 48 bytes beside its stack, which equal ones share.
 const FEW_HELD: u64 = 1 << 20;
 
@@ -78,7 +78,7 @@ impl Folder {
         Ok(())
     }
 
-    /// Folds by so many workers where many records are held.
+    /// Folds with this number of workers where many records are held.
     pub fn fold_if_full(&mut self, rt: &(impl Threads + Sync), workers: u32) -> Result<(), NoMemory>
         ensures { OnOk result (Took folds_of self.old self.new []) }
     {
@@ -88,8 +88,8 @@ impl Folder {
         self.fold_by(rt, workers)
     }
 
-    /// Folds all that can be folded of what is held, by so many workers. Memory is asked for only where
-    /// a segment was taken.
+    /// Folds all held segments that can be folded, with this number of workers. It asks for memory only
+    /// where a segment was taken.
     pub fn fold_by(&mut self, rt: &(impl Threads + Sync), workers: u32) -> Result<(), NoMemory>
         ensures kept { (first : Option State) (given : List Content)
             → Folds first self.old.analyst self.old.unfit self.old.segments given
@@ -131,8 +131,8 @@ impl SegmentKeeper for Folder {
     }
 }
 
-/// How many records are held before they are folded: as many as there are handles whose latest event is
-/// kept, since a fold copies these events.
+/// The number of held records that starts a fold: it is the number of handles whose latest event is
+/// kept, since a fold copies these events, and `FEW_HELD` where they are fewer.
 fn most_held(analyst: &Option<Analyst<Global>>) -> u64 {
     let mut latest = 0u64;
     if let Some(analyst) = analyst {
@@ -156,7 +156,8 @@ fn begun_by(alloc: Global, segment: Segment) -> Result<Analyst<Global>, NoMemory
     }
 }
 
-/// Has an analyst take a segment, or says why it is unfit. So many were taken before.
+/// Has an analyst take a segment, or says why the segment is unfit. `place` is the number of segments
+/// before it.
 fn take(
     analyst: &mut Analyst<Global>,
     segment: Segment,

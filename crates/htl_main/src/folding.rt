@@ -151,8 +151,8 @@ pub fn fold<Rt: Threads + Sync, R: Parted>(
     Ok(added)
 }
 
-/// What was added to what was folded, which was of so many segments before. That there is no segment at
-/// all is a fault (C1).
+/// What a reading added, where `before` segments were folded before it. It is a fault (C1) that there is
+/// no segment at all.
 fn added_to(
     alloc: Global,
     complete: bool,
@@ -189,7 +189,7 @@ fn symbols_of(alloc: Global, symbols: Option<&[u8]>) -> Result<Symbols, RunFault
 struct Taken {
     /// How many segments they have, up to the greatest number.
     segments: u64,
-    /// Which of them end within one more.
+    /// Which of them end within another segment.
     cut: Option<CutInputs>,
 }
 
@@ -279,8 +279,8 @@ fn read_all<Rt: Threads + Sync, R: Parted>(
     Ok(cut)
 }
 
-/// Has a folder take the segments of the source at a place, and says whether it ends within one more.
-/// What it holds is folded between reads.
+/// Has a folder take the segments of the source at a place, and says whether the source ends within
+/// another segment. What the folder holds is folded between reads.
 fn read_input<Rt: Threads + Sync, R: Parted>(
     rt: &Rt,
     alloc: Global,
@@ -374,8 +374,8 @@ fn take_bytes(
     check_end(form, place, early_end(offset, rest))
 }
 
-/// Why a segment is unfit, as the fault of a reading. Of the two segments that it is about the one may
-/// be forgotten, so none is named.
+/// The fault of a reading that came upon an unfit segment. It names neither of the two segments that it
+/// is about, since one of them may be forgotten.
 fn half_known(fault: CaseFault) -> Refused
     ensures fault { result.fault ≡ of_case fault }
     ensures between { IsHalfKnown result.fault result.between }

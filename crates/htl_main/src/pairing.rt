@@ -66,7 +66,7 @@ fn has_sequence(segment: &Segment, sequence: u64) -> bool
         .any(|event| event.sequence == sequence)
 }
 
-/// The places of the first two different segments that have it in common.
+/// The places of two different segments that have it in common.
 #[tactic(auto, using(crate::proofs::PairLaws::are_one))]
 fn two_of(segments: &[Segment], shared: Shared) -> Option<(usize, usize)>
     ensures { MatchOption result (AreOne shared segments.now)
@@ -85,7 +85,7 @@ fn first_with(segments: &[Segment], shared: Shared) -> Option<usize>
     segments.iter().position(|segment| shared.is_of(segment))
 }
 
-/// The place of the first segment that has it too and differs from this one.
+/// The place of a segment that has it too and differs from this one.
 fn other_with(segments: &[Segment], shared: Shared, one: &Segment) -> Option<usize>
     ensures { MatchOption result (HaveOne shared segments.now one.now)
         (IsOtherAt shared segments.now one.now) }
@@ -98,8 +98,8 @@ fn other_with(segments: &[Segment], shared: Shared, one: &Segment) -> Option<usi
     None
 }
 
-/// The places of the segment of this key, and of the first one of a lower number with an event that
-/// isn't below all events of that segment.
+/// The places of the segment of this key, and of one with a lower number that has an event which isn't
+/// below all events of that segment.
 #[tactic(auto, using(crate::proofs::PairLaws::no_key))]
 fn falling(segments: &[Segment], processor: u16, number: u32) -> Option<(usize, usize)>
     requires { HaveOneContent segments.now }
@@ -121,8 +121,8 @@ fn least_sequence(segment: &Segment) -> Option<u64>
     Some(first.sequence)
 }
 
-/// The place of the first segment of the processor with a number below this one and an event whose
-/// sequence is the floor or above.
+/// The place of a segment of the processor with a number below this one and an event whose sequence is
+/// the floor or above.
 #[tactic(auto, using(crate::proofs::PairLaws::first_passing))]
 fn lower_reaching(segments: &[Segment], processor: u16, number: u32, floor: u64) -> Option<usize>
     ensures { MatchOption result (NonePasses (reaches processor number floor) segments.now)

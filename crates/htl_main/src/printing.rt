@@ -188,8 +188,8 @@ pub(crate) fn lines(
     }
 }
 
-/// Refuses the case that misses this where it has a gap below the moment and a complete one is asked
-/// for.
+/// Refuses a case where a complete one is asked for and a segment is missing up to the moment. `missed`
+/// says what the case misses.
 #[tactic(auto, using(crate::proofs::MomentLaws::complete_until, crate::proofs::MomentLaws::not_above))]
 pub(crate) fn check_gaps(
     complete: bool,

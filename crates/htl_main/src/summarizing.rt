@@ -48,7 +48,7 @@ fn summary_of_lists<E: EventList>(alloc: Global, lists: &[E]) -> Result<Summary,
     summarize(alloc, &alloc, &[part])
 }
 
-/// The totals of a case that is complete to a sequence, and has so many events and objects.
+/// The totals of a case that is complete to this sequence, with these numbers of events and objects.
 fn totals(case: &Case, events: u64, complete_to: u64, objects: u64) -> Totals
     requires complete_to { IsCompleteTo case.now complete_to }
     ensures { (until : Option ℕ)

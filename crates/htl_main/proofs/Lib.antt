@@ -31,5 +31,5 @@ pub mod PickLaws
 pub mod AfterPicking
 pub mod MomentLaws
 pub mod UntilLaws
-pub mod SummaryAnswers
+pub mod AnalystAnswers
 pub mod Foldable

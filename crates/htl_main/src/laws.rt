@@ -1,16 +1,22 @@
 //! Laws of what a run comes to. Each function's contract is the law; none does anything when it
 //! runs.
 
-ghost use Rattle.std.specs.Prelude.{◌≡◌, ◌↔◌, ℕ, Bool, List, Option, None, Result, length};
+ghost use Rattle.std.specs.Prelude.{◌≡◌, ◌↔◌, ℕ, Bool, Contains, List, Option, None, Some};
+ghost use Rattle.std.specs.Prelude.{Result, length};
 ghost use Rattle.std.specs.Global.{Vec};
 ghost use Rattle.htl_event.specs.Events.{Event};
 ghost use Rattle.htl_event.specs.declared.slot.Count.{Count};
 ghost use Rattle.htl_event.specs.declared.summary.ObjectRow.{ObjectRow};
 ghost use Rattle.htl_event.specs.declared.summary.ProcessRow.{ProcessRow};
-ghost use Rattle.htl_segment.specs.Traces.{Trace, HasKey};
+ghost use Rattle.htl_segment.specs.Content.{Content};
+ghost use Rattle.htl_segment.specs.Traces.{Trace, IsTrace, HasKey};
 ghost use Rattle.htl_taken.specs.Gaps.{IsGaps};
 ghost use Rattle.htl_taken.specs.declared.gap.Gap.{Gap};
+ghost use Rattle.htl_analyst.specs.Keys.{keys};
+ghost use Rattle.htl_analyst.specs.Right.{IsRight};
+ghost use Rattle.htl_analyst.specs.States.{State};
 ghost use Rattle.htl_case.specs.Answers.{IsAnswerOver as IsAnalystsOver};
+ghost use Rattle.htl_case.specs.Cases.{IsCaseOf};
 ghost use Rattle.htl_case.specs.TakenCases.{IsTakenCase};
 ghost use Rattle.htl_case.specs.declared.question.AnalystAnswer.TheVariants as found;
 ghost use Rattle.htl_case.specs.declared.question.AnalystQuestion.TheVariants as analysts;
@@ -23,6 +29,7 @@ ghost use Rattle.htl_command.specs.declared.question.Since.TheVariants.{Sequence
 ghost use Rattle.htl_main.specs.Analysts.{AreAnswers};
 ghost use Rattle.htl_main.specs.Answers.{Finds, IsAnswerOver};
 ghost use Rattle.htl_main.specs.Coverages.{Covers, IsCoverage};
+ghost use Rattle.htl_main.specs.Folding.{AreFolded};
 ghost use Rattle.htl_main.specs.Histories.{AnyCanBeCompacted, AnyHistoryLeavesAState};
 ghost use Rattle.htl_main.specs.Printed.{Printed, WorkersFit};
 ghost use Rattle.htl_main.specs.Summaries.{AreTotals, IsSummary};
@@ -83,6 +90,15 @@ pub fn summaries_agree()
         (processes : Vec ProcessRow) (objects : Vec ObjectRow) → IsTakenCase T S C
         → IsSummary C None totals gaps.items processes.items objects.items
         ↔ AreAnswers T S C totals gaps processes objects }
+{}
+
+/// What was folded of segments of a trace is an analyst as the headline of `htl_case` has them: it is
+/// right about the trace, and its keys are exactly the keys of the case of these segments. So its
+/// answers over its keys are those over the case (`answers_are_of_the_case` of `htl_case`).
+pub fn folded_analysts_agree()
+    ensures { (T : Trace) (segments : List Content) (a : State) (C : Trace) → IsTrace T
+        → ((s : Content) → Contains segments s → Contains T.segments s)
+        → AreFolded (Some a) segments → IsCaseOf segments C → IsRight a T × IsTakenCase T (keys a) C }
 {}
 
 /// Any analyst of a trace can be compacted: there is a state that a compaction may leave.

@@ -1,17 +1,27 @@
--- A summary of a case is an analyst's answers over the keys of the case.
-use Rattle.std.proofs.Common.{ℕ, Bool, Vec, Global}
-use Rattle.std.specs.Prelude.{None, ◌↔◌}
+-- An analyst's answers over the keys of a case: they are what a summary says, and a folded analyst has these keys.
+use Rattle.std.proofs.Common.{◌≡◌, ℕ, Bool, List, Vec, Global, Some, sym, ◌∙◌}
+use Rattle.std.specs.Prelude.{None, Contains, ◌↔◌}
 use Rattle.htl_event.specs.declared.summary.ObjectRow.{ObjectRow}
 use Rattle.htl_event.specs.declared.summary.ProcessRow.{ProcessRow}
-use Rattle.htl_segment.specs.Traces.{Trace}
+use Rattle.htl_event.proofs.Members.{at_member, some_member}
+use Rattle.htl_segment.specs.Content.{Content}
+use Rattle.htl_segment.specs.Traces.{Trace, IsTrace}
 use Rattle.htl_taken.specs.declared.gap.Gap.{Gap}
+use Rattle.htl_analyst.specs.Keys.{keys}
+use Rattle.htl_analyst.specs.Right.{IsRight}
+use Rattle.htl_analyst.specs.States.{State}
+use Rattle.htl_analyst.proofs.Held.{collection_of}
+use Rattle.htl_analyst.proofs.KeyEvents.{keys_taken, taken_keys}
+use Rattle.htl_case.specs.Cases.{IsCaseOf}
 use Rattle.htl_case.specs.TakenCases.{IsTakenCase}
 use Rattle.htl_case.specs.declared.question.AnalystAnswer.TheVariants as found
 use Rattle.htl_case.specs.declared.question.AnalystQuestion.TheVariants as analysts
 use Rattle.htl_case.proofs.TakenCases.{taken_cases_answer}
 use Rattle.htl_report.specs.declared.summary.Totals.{Totals}
 use Rattle.htl_main.specs.Analysts.{AreAnswers}
+use Rattle.htl_main.specs.Folding.{AreFolded}
 use Rattle.htl_main.specs.Summaries.{IsSummary}
+use Rattle.htl_main.proofs.FoldLaws.{all_keys, all_of_case, is_right}
 
 pub summaries_agree : (T : Trace) (S : ℕ → ℕ → Bool) (C : Trace) (totals : Totals) (gaps : Vec Gap Global)
     (processes : Vec ProcessRow Global) (objects : Vec ObjectRow Global) → IsTakenCase T S C
@@ -44,4 +54,30 @@ summaries_agree T S C totals gaps processes objects is =
             processes_are = rows.0 answers.processes_are;
             objects_are = both.1;
           },
+    )
+
+-- what was folded is an analyst of each trace that the segments are of, with exactly the keys of their case
+pub folded_analysts_agree : (T : Trace) (segments : List Content) (a : State) (C : Trace) → IsTrace T
+    → ((s : Content) → Contains segments s → Contains T.segments s) → AreFolded (Some a) segments → IsCaseOf segments C
+    → IsRight a T × IsTakenCase T (keys a) C
+folded_analysts_agree T segments a C trace each folded case =
+    let some = folded.taken.0 in
+    let took = folded.taken.1 in
+    let one = some_member C.segments case.is_case.some in
+    let of_C = at_member (λ s. (s.trace_id ≡ C.id) × (s.processors ≡ C.processors)) C.segments one.0 case.is_case.trace.same one.1 in
+    let of_T = at_member (λ s. (s.trace_id ≡ T.id) × (s.processors ≡ T.processors)) T.segments one.0 trace.same
+    (each one.0 ((case.members one.0).0 one.1)) in (
+      is_right segments a T took some (collection_of T trace) each,
+      record {
+        trace = trace;
+        is_case = case.is_case.trace;
+        part = record {
+          id = sym of_C.0 ∙ of_T.0;
+          processors = sym of_C.1 ∙ of_T.1;
+          segments = λ s h. each s ((case.members s).0 h);
+        };
+        keys = λ p n.
+            let both = all_keys segments a C took some (all_of_case segments a C took some case) p n in
+            (λ t. both.0 (keys_taken a p n t), λ key. taken_keys a p n (both.1 key));
+      },
     )

@@ -1,0 +1,6 @@
+-- It took the segments of the case and no others.
+use Rattle.htl_main.proofs.AnalystAnswers.{folded_analysts_agree}
+use Rattle.htl_main.proofs.laws.folded_analysts_agree.Goals as goal
+
+pub returns : goal.returns
+returns c = folded_analysts_agree

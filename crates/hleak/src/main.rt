@@ -31,7 +31,7 @@ mod terminal;
 use host::Host;
 use htl_command::ParseFault;
 use htl_main::Writing;
-use htl_program::{Inputs, program, refuse};
+use htl_program::{Console, Inputs, program, refuse};
 use listener::Listener;
 use progress::Progress;
 use std::alloc::AllocError;
@@ -49,13 +49,15 @@ fn main(rt: HostRuntime) -> ExitCode {
     };
     let progress = progress.as_ref();
     let world = Host { rt, progress };
-    let mut terminal = Terminal {
-        rt,
-        progress,
-        is_watched,
-        sees_output: rt.stdout().is_terminal(),
+    let mut console = Console {
+        out: Writing::new(io::writer(&rt)),
+        person: Terminal {
+            rt,
+            progress,
+            is_watched,
+            sees_output: rt.stdout().is_terminal(),
+        },
     };
-    let mut out = Writing::new(io::writer(&rt));
     let status = match arguments(&rt) {
         Ok(arguments) => program(
             &rt,
@@ -63,11 +65,10 @@ fn main(rt: HostRuntime) -> ExitCode {
             &world,
             arguments,
             &mut Inputs::new(rt.alloc()),
-            &mut out,
-            &mut terminal,
+            &mut console,
             &mut Listener::new(rt),
         ),
-        Err(fault) => refuse(&fault, &mut out, &mut terminal),
+        Err(fault) => refuse(&fault, &mut console),
     };
     ExitCode::from(status)
 }

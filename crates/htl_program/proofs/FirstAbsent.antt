@@ -5,7 +5,8 @@ use Rattle.std.proofs.lemmas.Option.{get_or_from_slice_get, none-some, same_Some
 use mathlib.Core.Bool.{true≢false}
 use Rattle.htl_main.specs.declared.fault.RunFault.{RunFault}
 use Rattle.htl_main.specs.declared.fault.RunFault.TheVariants.{Memory, Read}
-use Rattle.htl_program.specs.Worlds.{IsFirstAbsent, IsFirstRefused, of_each, of_inputs}
+use Rattle.htl_program.specs.Openings.{IsUnopenedFor}
+use Rattle.htl_program.specs.Worlds.{IsFirstAbsent, of_each, of_inputs}
 
 -- known bytes are no unknown ones
 known : {X : Type 0} (texts : List X) (place : ℕ) → slice_get (map (λ x. Some x) texts) place ≡ Some None → ⊥
@@ -45,11 +46,6 @@ pub none_absent : (holds : List (Option (List ℕ))) (absences : List Bool) (pla
 none_absent holds absences place all a =
     true≢false (sym (get_or_from_slice_get absences place true true a.here)
     ∙ all place true (slice_get_within absences place true a.here))
-
--- why inputs could not be opened
-abbrev pub IsUnopenedFor : List (Option (List ℕ)) → List Bool → RunFault → Type 0
-IsUnopenedFor holds absences fault =
-    (fault ≡ Memory) ⊎ ((place : ℕ) × (fault ≡ Read place) × IsFirstRefused holds absences place)
 
 pub only_memory : {A : Type 0} (of : List ℕ → Option (List ℕ)) (standard : Option (List ℕ)) (names : List (String A)) (texts : List (List ℕ))
     (absences : List Bool) (fault : RunFault) → of_inputs of standard names ≡ map (λ x. Some x) texts

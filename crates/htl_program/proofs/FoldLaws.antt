@@ -1,6 +1,6 @@
 -- What is said of what was folded is said of the segments that were taken, also once more files are folded.
-use Rattle.std.proofs.Common.{◌≡◌, ◌≢◌, ◌∙◌, ℕ, Bool, List, [], ◌++◌, Option, Some, All, false, map, refl, inl, inr}
-use Rattle.std.specs.Prelude.{IfErr, IfOk, Result, Ok, Err}
+use Rattle.std.proofs.Common.{◌≡◌, ◌≢◌, ◌∙◌, ℕ, Bool, List, [], ◌++◌, Option, Some, map, refl, inl, inr}
+use Rattle.std.specs.Prelude.{IfErr, IfOk, Result, Ok, Err, Vec}
 use Rattle.htl_segment.specs.Content.{Content}
 use Rattle.htl_command.specs.declared.question.Setting.{Setting}
 use Rattle.htl_main.specs.Folding.{AreFolded, AreReadToFold, IsFolded, IsFoldedUpTo, IsFoldingRefused, IsHalfKnown}
@@ -13,10 +13,10 @@ use Rattle.htl_main.specs.declared.folding.Folded.{Folded}
 use Rattle.htl_main.specs.declared.refused.Refused.{Refused}
 use Rattle.htl_program.specs.Asking.{GoesOn, IsFolding}
 use Rattle.htl_program.specs.Loads.{FoldsFiles}
+use Rattle.htl_program.specs.Openings.{IsUnopenedFor}
 use Rattle.htl_program.specs.Opened.{Known, Opened}
-use Rattle.htl_program.specs.Readings.{AreFresh}
-use Rattle.htl_program.proofs.FirstAbsent.{IsUnopenedFor, held_memory}
-use Rattle.htl_program.proofs.NamesRead.{all_read, none_read}
+use Rattle.htl_program.proofs.FirstAbsent.{held_memory}
+use Rattle.htl_program.proofs.NamesRead.{AreOpenedBy, all_read, none_read}
 
 -- What holds of all that were taken holds of a list that these are.
 module _ (setting : Setting) (before : List Content) (texts : List (List ℕ)) (Keeps : List Content → Type 0) where
@@ -94,30 +94,29 @@ module _ {R : Type 0} (world : Known) (ways : Opened R) (setting : Setting) (bef
   }
 
   -- Files were opened, and what was folded is what came of them.
-  pub opened_and_folded : (after : Folded) (sources now : List R) (ended : Result Added Refused)
-      → AreFresh ways.has_failed ways.has_ended sources → map ways.remaining sources ≡ map world.holds names
-      → All (λ absent. absent ≡ false) (map world.is_absent names)
+  pub opened_and_folded : {A : Type 0} (after : Folded) (sources : Vec R A) (now : List R) (ended : Result Added Refused)
+      → AreOpenedBy world ways names (Ok sources)
       → ((taken : List Content) (texts : List (List ℕ)) → AreFolded before.analyst taken
-      → map ways.remaining sources ≡ map (λ t. Some t) texts
+      → map ways.remaining sources.items ≡ map (λ t. Some t) texts
       → IfOk ended (IsFolded setting taken texts (AreFolded after.analyst)))
       → ((taken : List Content) (texts : List (List ℕ)) → AreFolded before.analyst taken
-      → map ways.remaining sources ≡ map (λ t. Some t) texts
+      → map ways.remaining sources.items ≡ map (λ t. Some t) texts
       → IfErr ended (λ refused. IsFoldingRefused setting taken texts (map ways.remaining now) (map ways.has_ended now)
       (AreFolded after.analyst) refused.fault))
       → IfErr ended (λ refused. IsHalfKnown refused.fault refused.between) → after.symbols ≡ before.symbols
-      → AreReadToFold setting.form.hex ways.has_failed ways.has_ended ways.good_reads ways.remaining sources now (by_fault ended)
+      → AreReadToFold setting.form.hex ways.has_failed ways.has_ended ways.good_reads ways.remaining sources.items now (by_fault ended)
       → FoldsFiles world ways setting before names after ended
-  opened_and_folded after sources now ended fresh hold there ok err between symbols read = record {
+  opened_and_folded after sources now ended are ok err between symbols read = record {
     sources = now;
-    reads = λ known. all_read world ways setting.form.hex names sources now (by_fault ended) fresh hold there (as_a_run ended known read);
-    folds = λ known taken texts folded held. folding ended taken texts (ok taken texts folded (hold ∙ held))
-        (err taken texts folded (hold ∙ held)) between;
+    reads = λ known. all_read world ways setting.form.hex names sources now (by_fault ended) are (as_a_run ended known read);
+    folds = λ known taken texts folded held. folding ended taken texts (ok taken texts folded (are.bytes ∙ held))
+        (err taken texts folded (are.bytes ∙ held)) between;
     symbols = symbols;
   }
     where
       as_a_run : (ended : Result Added Refused) → GoesOn ended
-          → AreReadToFold setting.form.hex ways.has_failed ways.has_ended ways.good_reads ways.remaining sources now (by_fault ended)
-          → AreRead setting.form.hex ways.has_failed ways.has_ended ways.good_reads ways.remaining sources now (by_fault ended)
+          → AreReadToFold setting.form.hex ways.has_failed ways.has_ended ways.good_reads ways.remaining sources.items now (by_fault ended)
+          → AreRead setting.form.hex ways.has_failed ways.has_ended ways.good_reads ways.remaining sources.items now (by_fault ended)
       as_a_run ended known (inl read) = read
       as_a_run (Ok added) known (inr refused) = absurd (cc refused.0)
       as_a_run (Err refused) known (inr memory) = absurd (known (cc memory.0))

@@ -1,7 +1,7 @@
 -- What is said of what was loaded is said of runs of their own over all inputs, also once files are added.
 use Rattle.std.proofs.Common.{◌≡◌, ◌⊎◌, ◌∙◌, ℕ, Bool, List, [], ◌∷◌, ◌++◌, Option, None, Some, map, refl, sym, ap, subst, inl, inr}
-use Rattle.std.proofs.Common.{All, append_assoc, false}
-use Rattle.std.specs.Prelude.{IfErr, IfOk, Result, Ok, Err}
+use Rattle.std.proofs.Common.{append_assoc}
+use Rattle.std.specs.Prelude.{IfErr, IfOk, Result, Ok, Err, Vec}
 use Rattle.std.proofs.lemmas.List.Elements.{Contains-append_cases, Contains-append_left, Contains-append_right}
 use Rattle.htl_case.specs.Cases.{IsCaseOf}
 use Rattle.htl_segment.specs.Content.{Content}
@@ -28,11 +28,11 @@ use Rattle.htl_main.specs.declared.refused.Refused.{Refused}
 use Rattle.htl_main.proofs.AfterLoading.{as_of, runs_subject, runs_text}
 use Rattle.htl_program.specs.Asking.{AddsTo, IsAdding, IsRunsSubject, IsRunsText, Opens, own_run}
 use Rattle.htl_program.specs.Endings.{RunsOut}
+use Rattle.htl_program.specs.Openings.{IsUnopenedFor}
 use Rattle.htl_program.specs.Opened.{Known, Opened, ends, lefts}
 use Rattle.htl_program.specs.Loads.{AddsFiles}
-use Rattle.htl_program.specs.Readings.{AreFresh}
-use Rattle.htl_program.proofs.FirstAbsent.{IsUnopenedFor, held_memory}
-use Rattle.htl_program.proofs.NamesRead.{all_read, none_read}
+use Rattle.htl_program.proofs.FirstAbsent.{held_memory}
+use Rattle.htl_program.proofs.NamesRead.{AreOpenedBy, all_read, none_read}
 
 module _ (setting : Setting) (inputs : List (List ℕ)) (symbols : Option (List ℕ)) (T : Trace) (table : List Range)
     (loaded : AreLoadedOf inputs symbols setting None T table) where
@@ -137,21 +137,20 @@ module _ {R : Type 0} (world : Known) (ways : Opened R) (setting : Setting) (bef
   }
 
   -- Files were opened, and what was added is what came of them.
-  pub opened_and_added : (after : Loaded) (sources now : List R) (ended : Result Added Refused)
-      → AreFresh ways.has_failed ways.has_ended sources → map ways.remaining sources ≡ map world.holds names
-      → All (λ absent. absent ≡ false) (map world.is_absent names)
-      → ((texts : List (List ℕ)) → map ways.remaining sources ≡ map (λ t. Some t) texts
+  pub opened_and_added : {A : Type 0} (after : Loaded) (sources : Vec R A) (now : List R) (ended : Result Added Refused)
+      → AreOpenedBy world ways names (Ok sources)
+      → ((texts : List (List ℕ)) → map ways.remaining sources.items ≡ map (λ t. Some t) texts
       → IfOk ended (IsAdded setting.form setting.complete before.case.segments texts after.case))
-      → ((texts : List (List ℕ)) → map ways.remaining sources ≡ map (λ t. Some t) texts
+      → ((texts : List (List ℕ)) → map ways.remaining sources.items ≡ map (λ t. Some t) texts
       → IfErr ended (IsAddingRefused setting before.case.segments texts (map ways.remaining now) (map ways.has_ended now)))
       → IfOk ended (λ added. (after.coverage ≡ added.coverage) × IsCoverage after.case after.coverage)
       → IfErr ended (λ refused. after ≡ before) → after.symbols ≡ before.symbols
-      → AreRead setting.form.hex ways.has_failed ways.has_ended ways.good_reads ways.remaining sources now (by_fault ended)
+      → AreRead setting.form.hex ways.has_failed ways.has_ended ways.good_reads ways.remaining sources.items now (by_fault ended)
       → AddsFiles world ways setting before names after ended
-  opened_and_added after sources now ended fresh hold there ok err covered same symbols read = record {
+  opened_and_added after sources now ended are ok err covered same symbols read = record {
     sources = now;
-    reads = all_read world ways setting.form.hex names sources now (by_fault ended) fresh hold there read;
-    adds = λ texts held. inl (adding ended texts (ok texts (hold ∙ held)) (err texts (hold ∙ held)));
+    reads = all_read world ways setting.form.hex names sources now (by_fault ended) are read;
+    adds = λ texts held. inl (adding ended texts (ok texts (are.bytes ∙ held)) (err texts (are.bytes ∙ held)));
     coverage = known_coverage ended covered;
     symbols = symbols;
     same = same;

@@ -1,19 +1,24 @@
 -- How names are read: not at all where one could not be opened, and otherwise as any run reads its sources.
 use Rattle.std.proofs.Common.{◌≡◌, ◌∙◌, ℕ, Bool, List, [], ◌∷◌, All, ap, false, inl, inr, map, refl, sym}
-use Rattle.std.specs.Prelude.{Result, Err, String, string_bytes}
+use Rattle.std.specs.Prelude.{Result, Ok, Err, String, Vec, string_bytes}
 use Rattle.std.proofs.lemmas.List.Elements.{All-nil}
 use Rattle.htl_main.specs.Readings.{AreRead}
 use Rattle.htl_main.specs.declared.fault.RunFault.{RunFault}
 use Rattle.htl_main.specs.declared.fault.RunFault.TheVariants.{Read}
 use Rattle.htl_program.specs.Asking.{ReadsNames}
 use Rattle.htl_program.specs.Opened.{Known, Opened}
-use Rattle.htl_program.specs.Readings.{AreFresh}
+use Rattle.htl_program.specs.Openings.{AreOpened, IsUnopenedFor}
 use Rattle.htl_program.specs.Worlds.{IsFirstRefused, of_each}
 use Rattle.htl_program.proofs.Lent.{same_fault}
-use Rattle.htl_program.proofs.FirstAbsent.{IsUnopenedFor, first_or_memory, none_absent}
+use Rattle.htl_program.proofs.FirstAbsent.{first_or_memory, none_absent}
 
 same_place : (one other : ℕ) → Read one ≡ Read other → one ≡ other
 same_place one other is = cc is
+
+-- what is opened of names that are given by their bytes
+abbrev pub AreOpenedBy : {R A : Type 0} → Known → Opened R → List (List ℕ) → Result (Vec R A) RunFault → Type 0
+AreOpenedBy world ways names =
+    AreOpened ways.remaining ways.has_ended ways.has_failed (map world.holds names) (map world.holds names) (map world.is_absent names)
 
 -- names in their order, each by its bytes
 pub by_bytes : {X A : Type 0} (of : List ℕ → X) (names : List (String A)) → of_each of names ≡ map of (map string_bytes names)
@@ -34,12 +39,16 @@ module _ {R S : Type 0} (world : Known) (ways : Opened R) (is_text : Bool) (name
       first place told (inl memory) = absurd (cc (memory, told))
       first place told (inr (at, is, unopened)) = rw (← same_place at place (sym is ∙ told)) unopened
 
-  pub all_read : (sources now : List R) (result : Result S RunFault) → AreFresh ways.has_failed ways.has_ended sources
-      → map ways.remaining sources ≡ map world.holds names → All (λ absent. absent ≡ false) (map world.is_absent names)
-      → AreRead is_text ways.has_failed ways.has_ended ways.good_reads ways.remaining sources now result
+  pub all_read : {A : Type 0} (sources : Vec R A) (now : List R) (result : Result S RunFault) → AreOpenedBy world ways names (Ok sources)
+      → AreRead is_text ways.has_failed ways.has_ended ways.good_reads ways.remaining sources.items now result
       → ReadsNames world is_text names (record ways { files = now }) result
-  all_read sources now result fresh hold there read = record {
-    absent = λ place absent. absurd (none_absent (map world.holds names) (map world.is_absent names) place there absent);
-    reading = inl (record { opened = sources; are = fresh; hold = hold; read = read });
-    read = λ place told. inr (rw hold at read.read place told);
+  all_read sources now result are read = record {
+    absent = λ place absent. absurd (none_absent (map world.holds names) (map world.is_absent names) place are.there absent);
+    reading = inl (record {
+      opened = sources.items;
+      are = record { fresh = are.fresh; inside = are.inside };
+      hold = are.bytes;
+      read = read;
+    });
+    read = λ place told. inr (rw are.bytes at read.read place told);
   }

@@ -37,7 +37,7 @@ RunsOut (Ok done) = ⊥
 RunsOut (Err refused) = (refused.fault ≡ Memory) × (refused.between ≡ Nothing)
 
 -- The texts of the segments were written, of inputs of which these were cut; or there is a reason why not, which may be that memory was
--- refused before any was read.
+-- refused and nothing was written.
 abbrev pub EndsDump : InputForm → List (List ℕ) → List (Option (List ℕ)) → List Bool → Option (List ℕ) → Option (List ℕ)
     → Result (Option CutInputs) RunFault → Type 0
 EndsDump form texts lefts ends old new (Ok cut) = Dumps form texts old new × AreCut form.hex texts cut

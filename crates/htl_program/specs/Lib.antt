@@ -11,5 +11,6 @@ pub mod Sayings
 pub mod Words
 pub mod Programs
 -- What only private contracts cite.
+pub mod Openings
 pub mod Runs
 pub mod Loads

@@ -37,6 +37,7 @@ use Rattle.htl_program.specs.Words.{explained}
 use Rattle.htl_program.specs.Worlds.{IsFirstAbsent, IsTable, IsTableAbsent, of_each, of_inputs}
 use Rattle.htl_program.specs.declared.ask_fault.AskFault.{AskFault}
 use Rattle.htl_program.specs.declared.ask_fault.AskFault.TheVariants as asks
+use Rattle.htl_program.specs.declared.console.Console.{Console}
 
 -- what was written and said: which bytes the output holds, whether a write to it failed, and what a person heard
 pub record Told : Type 0 where
@@ -44,8 +45,12 @@ pub record Told : Type 0 where
   pub is_full : Bool
   pub heard : Option (List Saying)
 
-abbrev pub told : {O P : Type 0} → (O → Option (List ℕ)) → (O → Bool) → (P → Option (List Saying)) → O → P → Told
-told contents has_failed heard out person = record { out = contents out; is_full = has_failed out; heard = heard person }
+abbrev pub told : {O P : Type 0} → (O → Option (List ℕ)) → (O → Bool) → (P → Option (List Saying)) → Console O P → Told
+told contents has_failed heard console = record {
+  out = contents console.out;
+  is_full = has_failed console.out;
+  heard = heard console.person;
+}
 
 -- the inputs of the names have these texts
 abbrev pub HaveTexts : {A : Type 0} → Known → List (String A) → List (List ℕ) → Type 0

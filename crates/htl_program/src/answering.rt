@@ -21,7 +21,7 @@ use std::thread::Threads;
 /// Answers what is asked from the files and the table of symbols that it names, or from standard input
 /// where it names no file.
 ///
-/// Every file is opened before any is read, and then the table of symbols is read. Of files that can
+/// The first file that is refused is reported, and else a table of symbols that is. Of files that can
 /// be read again a question about a process or an object reads only what it asks about; where that
 /// doesn't tell what comes of them, they are opened once more and read whole.
 ///

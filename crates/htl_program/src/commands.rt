@@ -8,6 +8,7 @@ ghost use Rattle.htl_program.specs.Programs.{spoken, told, with_notes};
 ghost use Rattle.htl_program.specs.Words.{explained};
 
 use crate::answering::answer;
+use crate::console::Console;
 use crate::conversing::converse;
 use crate::converting::{dump, encode};
 use crate::ending::{status_after, status_of_answer, status_of_conversion};
@@ -33,99 +34,87 @@ pub fn program<Rt: Threads + Sync, W: World, O: Output, P: Person, S: Speaker>(
     world: &W,
     arguments: Vec<String>,
     inputs: &mut Inputs<W::Input>,
-    out: &mut O,
-    person: &mut P,
+    console: &mut Console<O, P>,
     speaker: &mut S,
 ) -> u8
-    requires { O.has_failed out.old ≡ false }
-    ensures { Obeys (P.sees_output person.old) (P.is_watching person.old)
+    requires { O.has_failed console.old.out ≡ false }
+    ensures { Obeys (P.sees_output console.old.person) (P.is_watching console.old.person)
         (spoken S.told S.noted S.left S.wants_absence S.counts speaker.old speaker.new)
         (known W.holds W.is_absent W.standard world.now)
         (opened W.Input.remaining W.Input.has_ended W.Input.has_failed W.Input.good_reads
         inputs.new)
-        (told O.contents O.has_failed P.heard out.old person.old)
-        (told O.contents O.has_failed P.heard out.new person.new)
+        (told O.contents O.has_failed P.heard console.old)
+        (told O.contents O.has_failed P.heard console.new)
         (map string_bytes arguments.items) result }
 {
     match parse(alloc, arguments) {
-        Ok(line) => obey(rt, alloc, world, &line, inputs, out, person, speaker),
-        Err(fault) => refuse(&fault, out, person),
+        Ok(line) => obey(rt, alloc, world, &line, inputs, console, speaker),
+        Err(fault) => refuse(&fault, console),
     }
 }
 
 /// Ends the program where the arguments give no command: help goes to the output, and all else is
 /// said. Help alone is an answer; the status of every other fault stands whether it can be said or not.
-pub fn refuse<O: Sink, P: Person>(refused: &ParseFault, out: &mut O, person: &mut P) -> u8
-    requires { O.has_failed out.old ≡ false }
-    ensures { Refuses (told O.contents O.has_failed P.heard out.old person.old)
-        (told O.contents O.has_failed P.heard out.new person.new) refused.now result }
+pub fn refuse<O: Sink, P: Person>(refused: &ParseFault, console: &mut Console<O, P>) -> u8
+    requires { O.has_failed console.old.out ≡ false }
+    ensures { Refuses (told O.contents O.has_failed P.heard console.old)
+        (told O.contents O.has_failed P.heard console.new) refused.now result }
 {
     match refused {
-        ParseFault::Help(text) => print(text, out, person),
+        ParseFault::Help(text) => print(text, console),
         ParseFault::Usage(_) | ParseFault::Memory => {
-            person.refuses(refused);
+            console.person.refuses(refused);
             refused.status()
         }
     }
 }
 
 /// Writes a text that was asked for, and says where that fails.
-fn print<O: Sink, P: Person>(text: &str, out: &mut O, person: &mut P) -> u8
-    requires { O.has_failed out.old ≡ false }
-    ensures { IsPrinted text.now (told O.contents O.has_failed P.heard out.old person.old)
-        (told O.contents O.has_failed P.heard out.new person.new) result }
+fn print<O: Sink, P: Person>(text: &str, console: &mut Console<O, P>) -> u8
+    requires { O.has_failed console.old.out ≡ false }
+    ensures { IsPrinted text.now (told O.contents O.has_failed P.heard console.old)
+        (told O.contents O.has_failed P.heard console.new) result }
 {
-    match write_whole(out, text.as_bytes()) {
+    match write_whole(&mut console.out, text.as_bytes()) {
         Ok(()) => 0,
         Err(_) => {
-            person.misses();
+            console.person.misses();
             RunFault::Write.status()
         }
     }
 }
 
-/// Does what the command line asks for. The words beside the lines of faults are for a person who
-/// watches, and for whoever asks for notes.
+/// Does what the command line asks for.
 fn obey<Rt: Threads + Sync, W: World, O: Output, P: Person, S: Speaker>(
     rt: &Rt,
     alloc: Global,
     world: &W,
     line: &CommandLine,
     inputs: &mut Inputs<W::Input>,
-    out: &mut O,
-    person: &mut P,
+    console: &mut Console<O, P>,
     speaker: &mut S,
 ) -> u8
-    requires { O.has_failed out.old ≡ false }
-    ensures { Does (P.sees_output person.old) (P.is_watching person.old || line.now.notes)
+    requires { O.has_failed console.old.out ≡ false }
+    ensures { Does (P.sees_output console.old.person)
+        (P.is_watching console.old.person || line.now.notes)
         (with_notes line.now.notes
         (spoken S.told S.noted S.left S.wants_absence S.counts speaker.old speaker.new))
         (known W.holds W.is_absent W.standard world.now)
         (opened W.Input.remaining W.Input.has_ended W.Input.has_failed W.Input.good_reads
         inputs.new)
-        (told O.contents O.has_failed P.heard out.old person.old)
-        (told O.contents O.has_failed P.heard out.new person.new) line.now.command result }
+        (told O.contents O.has_failed P.heard console.old)
+        (told O.contents O.has_failed P.heard console.new) line.now.command result }
 {
-    let in_words = person.is_watching() || line.notes;
-    let command = &line.command;
-    match command {
-        Command::Question(run) => {
-            do_answer(
-                rt, alloc, world, command, run, in_words, inputs, out, person,
-            )
+    match &line.command {
+        Command::Question(run) => do_answer(rt, alloc, world, line, run, inputs, console),
+        Command::Explain(fault) => do_explain(alloc, *fault, console),
+        Command::Dump { form, files } => do_dump(alloc, world, line, *form, files, inputs, console),
+        Command::Encode { hex, files } => {
+            do_encode(alloc, world, line, *hex, files, inputs, console)
         }
-        Command::Explain(fault) => do_explain(alloc, *fault, out, person),
-        Command::Dump { form, files } => do_dump(
-            alloc, world, command, *form, files, in_words, inputs, out, person,
-        ),
-        Command::Encode { hex, files } => do_encode(
-            alloc, world, command, *hex, files, in_words, inputs, out, person,
-        ),
         Command::Ask(of) => {
             speaker.takes_notes(line.notes);
-            do_converse(
-                rt, alloc, world, command, of, in_words, inputs, out, person, speaker,
-            )
+            do_converse(rt, alloc, world, line, of, inputs, console, speaker)
         }
     }
 }
@@ -135,24 +124,31 @@ fn do_answer<Rt: Threads + Sync, W: World, O: Output, P: Person>(
     rt: &Rt,
     alloc: Global,
     world: &W,
-    command: &Command,
+    line: &CommandLine,
     run: &Run,
-    in_words: bool,
     inputs: &mut Inputs<W::Input>,
-    out: &mut O,
-    person: &mut P,
+    console: &mut Console<O, P>,
 ) -> u8
-    requires { O.has_failed out.old ≡ false }
-    ensures { DoesAnswer in_words (known W.holds W.is_absent W.standard world.now)
+    requires { O.has_failed console.old.out ≡ false }
+    ensures { DoesAnswer (P.is_watching console.old.person || line.now.notes)
+        (known W.holds W.is_absent W.standard world.now)
         (opened W.Input.remaining W.Input.has_ended W.Input.has_failed W.Input.good_reads
         inputs.new)
-        (told O.contents O.has_failed P.heard out.old person.old)
-        (told O.contents O.has_failed P.heard out.new person.new) command.now run.now result }
+        (told O.contents O.has_failed P.heard console.old)
+        (told O.contents O.has_failed P.heard console.new) line.now.command run.now result }
 {
-    person.begins(command);
-    let ended = answer(rt, alloc, world, run, &mut inputs.files, out);
-    person.ends();
-    say_answer(command, run, in_words, ended, out, person);
+    let in_words = console.says_words(line);
+    console.person.begins(&line.command);
+    let ended = answer(rt, alloc, world, run, &mut inputs.files, &mut console.out);
+    console.person.ends();
+    say_answer(
+        &line.command,
+        run,
+        in_words,
+        ended,
+        &console.out,
+        &mut console.person,
+    );
     status_of_answer(run.job.exit_code, ended)
 }
 
@@ -160,18 +156,17 @@ fn do_answer<Rt: Threads + Sync, W: World, O: Output, P: Person>(
 fn do_explain<O: Output, P: Person>(
     alloc: Global,
     fault: PrintedFault,
-    out: &mut O,
-    person: &mut P,
+    console: &mut Console<O, P>,
 ) -> u8
-    requires { O.has_failed out.old ≡ false }
-    ensures { Explains (told O.contents O.has_failed P.heard out.old person.old)
-        (told O.contents O.has_failed P.heard out.new person.new) (explained fault) result }
+    requires { O.has_failed console.old.out ≡ false }
+    ensures { Explains (told O.contents O.has_failed P.heard console.old)
+        (told O.contents O.has_failed P.heard console.new) (explained fault) result }
 {
     let explained = Explained { fault };
     match format!(in alloc; "{explained}") {
-        Ok(text) => print(&text, out, person),
+        Ok(text) => print(&text, console),
         Err(_) => {
-            person.reports(alone(RunFault::Memory));
+            console.person.reports(alone(RunFault::Memory));
             RunFault::Memory.status()
         }
     }
@@ -181,25 +176,38 @@ fn do_explain<O: Output, P: Person>(
 fn do_dump<W: World, O: Output, P: Person>(
     alloc: Global,
     world: &W,
-    command: &Command,
+    line: &CommandLine,
     form: InputForm,
     files: &[String],
-    in_words: bool,
     inputs: &mut Inputs<W::Input>,
-    out: &mut O,
-    person: &mut P,
+    console: &mut Console<O, P>,
 ) -> u8
-    requires { O.has_failed out.old ≡ false }
-    ensures { DoesDump in_words (known W.holds W.is_absent W.standard world.now)
+    requires { O.has_failed console.old.out ≡ false }
+    ensures { DoesDump (P.is_watching console.old.person || line.now.notes)
+        (known W.holds W.is_absent W.standard world.now)
         (opened W.Input.remaining W.Input.has_ended W.Input.has_failed W.Input.good_reads
         inputs.new)
-        (told O.contents O.has_failed P.heard out.old person.old)
-        (told O.contents O.has_failed P.heard out.new person.new) command.now form files.now result }
+        (told O.contents O.has_failed P.heard console.old)
+        (told O.contents O.has_failed P.heard console.new) line.now.command form files.now result }
 {
-    person.begins(command);
-    let ended = dump(alloc, world, form, files, &mut inputs.files, out);
-    person.ends();
-    say_dump(command, in_words, ended, out, person);
+    let in_words = console.says_words(line);
+    console.person.begins(&line.command);
+    let ended = dump(
+        alloc,
+        world,
+        form,
+        files,
+        &mut inputs.files,
+        &mut console.out,
+    );
+    console.person.ends();
+    say_dump(
+        &line.command,
+        in_words,
+        ended,
+        &console.out,
+        &mut console.person,
+    );
     status_of_conversion(ended)
 }
 
@@ -207,53 +215,63 @@ fn do_dump<W: World, O: Output, P: Person>(
 fn do_encode<W: World, O: Output, P: Person>(
     alloc: Global,
     world: &W,
-    command: &Command,
+    line: &CommandLine,
     hex: bool,
     files: &[String],
-    in_words: bool,
     inputs: &mut Inputs<W::Input>,
-    out: &mut O,
-    person: &mut P,
+    console: &mut Console<O, P>,
 ) -> u8
-    requires { O.has_failed out.old ≡ false }
-    ensures { Encodes (not hex && P.sees_output person.old) in_words
+    requires { O.has_failed console.old.out ≡ false }
+    ensures { Encodes (not hex && P.sees_output console.old.person)
+        (P.is_watching console.old.person || line.now.notes)
         (known W.holds W.is_absent W.standard world.now)
         (opened W.Input.remaining W.Input.has_ended W.Input.has_failed W.Input.good_reads
         inputs.new)
-        (told O.contents O.has_failed P.heard out.old person.old)
-        (told O.contents O.has_failed P.heard out.new person.new) command.now hex files.now result }
+        (told O.contents O.has_failed P.heard console.old)
+        (told O.contents O.has_failed P.heard console.new) line.now.command hex files.now result }
 {
-    if !hex && person.sees_output() {
-        return refuse(&ParseFault::bytes_at_terminal(alloc), out, person);
+    if !hex && console.person.sees_output() {
+        return refuse(&ParseFault::bytes_at_terminal(alloc), console);
     }
-    encode_into(
-        alloc, world, command, hex, files, in_words, inputs, out, person,
-    )
+    encode_into(alloc, world, line, hex, files, inputs, console)
 }
 
 /// Makes segments of text for whoever takes their bytes.
 fn encode_into<W: World, O: Output, P: Person>(
     alloc: Global,
     world: &W,
-    command: &Command,
+    line: &CommandLine,
     hex: bool,
     files: &[String],
-    in_words: bool,
     inputs: &mut Inputs<W::Input>,
-    out: &mut O,
-    person: &mut P,
+    console: &mut Console<O, P>,
 ) -> u8
-    requires { O.has_failed out.old ≡ false }
-    ensures { DoesEncode in_words (known W.holds W.is_absent W.standard world.now)
+    requires { O.has_failed console.old.out ≡ false }
+    ensures { DoesEncode (P.is_watching console.old.person || line.now.notes)
+        (known W.holds W.is_absent W.standard world.now)
         (opened W.Input.remaining W.Input.has_ended W.Input.has_failed W.Input.good_reads
         inputs.new)
-        (told O.contents O.has_failed P.heard out.old person.old)
-        (told O.contents O.has_failed P.heard out.new person.new) command.now hex files.now result }
+        (told O.contents O.has_failed P.heard console.old)
+        (told O.contents O.has_failed P.heard console.new) line.now.command hex files.now result }
 {
-    person.begins(command);
-    let ended = encode(alloc, world, hex, files, &mut inputs.files, out);
-    person.ends();
-    say_encoding(command, in_words, ended, out, person);
+    let in_words = console.says_words(line);
+    console.person.begins(&line.command);
+    let ended = encode(
+        alloc,
+        world,
+        hex,
+        files,
+        &mut inputs.files,
+        &mut console.out,
+    );
+    console.person.ends();
+    say_encoding(
+        &line.command,
+        in_words,
+        ended,
+        &console.out,
+        &mut console.person,
+    );
     status_of_conversion(ended)
 }
 
@@ -262,24 +280,23 @@ fn do_converse<Rt: Threads + Sync, W: World, O: Output, P: Person, S: Speaker>(
     rt: &Rt,
     alloc: Global,
     world: &W,
-    command: &Command,
+    line: &CommandLine,
     of: &Dialogue,
-    in_words: bool,
     inputs: &mut Inputs<W::Input>,
-    out: &mut O,
-    person: &mut P,
+    console: &mut Console<O, P>,
     speaker: &mut S,
 ) -> u8
-    requires { O.has_failed out.old ≡ false }
-    ensures { DoesConverse in_words
+    requires { O.has_failed console.old.out ≡ false }
+    ensures { DoesConverse (P.is_watching console.old.person || line.now.notes)
         (spoken S.told S.noted S.left S.wants_absence S.counts speaker.old speaker.new)
         (known W.holds W.is_absent W.standard world.now)
         (opened W.Input.remaining W.Input.has_ended W.Input.has_failed W.Input.good_reads
         inputs.new)
-        (told O.contents O.has_failed P.heard out.old person.old)
-        (told O.contents O.has_failed P.heard out.new person.new) command.now of.now result }
+        (told O.contents O.has_failed P.heard console.old)
+        (told O.contents O.has_failed P.heard console.new) line.now.command of.now result }
 {
-    person.begins(command);
+    let in_words = console.says_words(line);
+    console.person.begins(&line.command);
     let mut questions = world.questions();
     let ended = converse(
         rt,
@@ -288,12 +305,18 @@ fn do_converse<Rt: Threads + Sync, W: World, O: Output, P: Person, S: Speaker>(
         of,
         &mut inputs.files,
         &mut questions,
-        out,
+        &mut console.out,
         speaker,
     );
     speaker.leaves(questions.ended());
     inputs.questions = Some(questions);
-    person.ends();
-    say_dialogue(command, in_words, ended, out, person);
+    console.person.ends();
+    say_dialogue(
+        &line.command,
+        in_words,
+        ended,
+        &console.out,
+        &mut console.person,
+    );
     status_after(speaker.counts_wrong(), ended)
 }

@@ -23,7 +23,7 @@ use crate::kept::{Begun, begin};
 use crate::opening::{as_bytes, open_inputs, read_table};
 use crate::speaker::Speaker;
 use crate::world::World;
-use htl_command::{Dialogue, Setting};
+use htl_command::Dialogue;
 use htl_device::{Sink, Source};
 use htl_dialogue::Conversed;
 use htl_main::{Between, Refused, RunFault};
@@ -31,7 +31,7 @@ use std::alloc::Global;
 use std::thread::Threads;
 
 /// Replies to the lines of the questions, which are asked of the files and the table of symbols that
-/// are named. Every file is opened before any is read, then the table of symbols is read, and no
+/// are named. The first file that is refused is reported, and else a table of symbols that is; no
 /// question is read before.
 ///
 /// `inputs` has then what was opened, as far as it was read.
@@ -106,18 +106,23 @@ pub fn converse<Rt: Threads + Sync, W: World, Q: Source, O: Sink, H: Speaker>(
         × (speaker.new ≡ speaker.old)) }
 {
     match open_all(alloc, world, of, inputs) {
-        Ok(table) => ask_opened(
-            rt,
-            alloc,
-            world,
-            of.folds,
-            of.setting,
-            inputs,
-            as_bytes(&table),
-            questions,
-            out,
-            speaker,
-        ),
+        Ok(table) => {
+            let files = Files {
+                rt,
+                world,
+                setting: of.setting,
+            };
+            ask_opened(
+                alloc,
+                &files,
+                of.folds,
+                inputs,
+                as_bytes(&table),
+                questions,
+                out,
+                speaker,
+            )
+        }
         Err(fault) => Err(AskFault::Run(Refused {
             fault,
             between: Between::Nothing,
@@ -161,11 +166,9 @@ fn open_all<W: World>(
 
 /// Replies to the lines over opened inputs.
 fn ask_opened<Rt: Threads + Sync, W: World, Q: Source, O: Sink, H: Speaker>(
-    rt: &Rt,
     alloc: Global,
-    world: &W,
+    files: &Files<Rt, W>,
     folds: bool,
-    setting: Setting,
     inputs: &mut Vec<W::Input>,
     symbols: Option<&[u8]>,
     questions: &mut Q,
@@ -181,34 +184,37 @@ fn ask_opened<Rt: Threads + Sync, W: World, Q: Source, O: Sink, H: Speaker>(
         → map W.Input.remaining inputs.old.items ≡ map Some texts
         → Q.remaining questions.old ≡ Some lines
         → IfOk result (λ conversed. (read : Taken) × (opening : Opening)
-        × Begins folds setting texts read opening
-        × Converses (answers_over (known W.holds W.is_absent W.standard world.now)
+        × Begins folds files.now.setting texts read opening
+        × Converses (answers_over (known W.holds W.is_absent W.standard files.now.world.now)
         (ways W.Input.remaining W.Input.has_ended W.Input.has_failed W.Input.good_reads)
-        setting folds (option_copied symbols.entry)) (H.wants_absence speaker.old) (Some read) lines
+        files.now.setting folds (option_copied symbols.entry)) (H.wants_absence speaker.old)
+        (Some read) lines
         (BeginsAndGets (O.contents out.old) (O.contents out.new) H.told speaker.old speaker.new
         opening) conversed) }
     ensures stops { (texts : List (List ℕ)) → (lines : List ℕ) → (stopped : DialogueFault)
         → map W.Input.remaining inputs.old.items ≡ map Some texts
         → Q.remaining questions.old ≡ Some lines
         → result ≡ Err (AskFault.Dialogue stopped)
-        → (read : Taken) × (opening : Opening) × Begins folds setting texts read opening
-        × StopsAt (answers_over (known W.holds W.is_absent W.standard world.now)
+        → (read : Taken) × (opening : Opening) × Begins folds files.now.setting texts read opening
+        × StopsAt (answers_over (known W.holds W.is_absent W.standard files.now.world.now)
         (ways W.Input.remaining W.Input.has_ended W.Input.has_failed W.Input.good_reads)
-        setting folds (option_copied symbols.entry)) (H.wants_absence speaker.old) (Some read) lines
+        files.now.setting folds (option_copied symbols.entry)) (H.wants_absence speaker.old)
+        (Some read) lines
         (Q.remaining questions.new) (Q.has_failed questions.new)
         (BeginsAndGets (O.contents out.old) (O.contents out.new) H.told speaker.old speaker.new
         opening) stopped }
     ensures devices { ReportsDevices (Q.has_failed questions.new) (Q.remaining questions.old)
         (O.has_failed out.new) result }
     ensures cause { (texts : List (List ℕ)) → map W.Input.remaining inputs.old.items ≡ map Some texts
-        → IfErr (by_fault (before_dialogue result)) (IsBeginsCause folds setting texts
+        → IfErr (by_fault (before_dialogue result)) (IsBeginsCause folds files.now.setting texts
         (map W.Input.remaining inputs.new.items) (map W.Input.has_ended inputs.new.items)
         (option_copied symbols.entry)) }
     ensures between { (texts : List (List ℕ)) → map W.Input.remaining inputs.old.items ≡ map Some texts
         → IfErr (before_dialogue result) (λ refused.
-        IsBeginsBetween folds setting texts refused.fault refused.between) }
-    ensures reading { AreRead setting.form.hex W.Input.has_failed W.Input.has_ended W.Input.good_reads
-        W.Input.remaining inputs.old.items inputs.new.items (by_fault (before_dialogue result)) }
+        IsBeginsBetween folds files.now.setting texts refused.fault refused.between) }
+    ensures reading { AreRead files.now.setting.form.hex W.Input.has_failed W.Input.has_ended
+        W.Input.good_reads W.Input.remaining inputs.old.items inputs.new.items
+        (by_fault (before_dialogue result)) }
     ensures untouched { IfErr (before_dialogue result)
         (λ _. (questions.new ≡ questions.old) × (out.new ≡ out.old)
         × (speaker.new ≡ speaker.old)) }
@@ -217,9 +223,8 @@ fn ask_opened<Rt: Threads + Sync, W: World, Q: Source, O: Sink, H: Speaker>(
         mut kept,
         coverage,
         cut,
-    } = begin(rt, alloc, folds, setting, inputs, symbols)?;
+    } = begin(files.rt, alloc, folds, files.setting, inputs, symbols)?;
     speaker.begins(coverage, cut);
-    let files = Files { rt, world, setting };
-    let conversed = converse_lines(alloc, &files, &mut kept, questions, out, speaker)?;
+    let conversed = converse_lines(alloc, files, &mut kept, questions, out, speaker)?;
     Ok(conversed)
 }

@@ -3,6 +3,7 @@
 ghost use Rattle.std.specs.Prelude.{map, string_bytes, IfOk};
 ghost use Rattle.htl_program.specs.Loads.{AddsFiles, FoldsFiles, ReadsFiles};
 ghost use Rattle.htl_program.specs.Opened.{known, ways};
+ghost use Rattle.htl_program.specs.Openings.{AreOpened};
 
 use crate::kept::Kept;
 use crate::opening::open_files;
@@ -22,8 +23,8 @@ pub(crate) struct Files<'a, Rt, W> {
 }
 
 impl<Rt: Threads + Sync, W: World> Files<'_, Rt, W> {
-    /// Opens files, each before any is read, and adds their segments to what is kept. Where memory is
-    /// refused while a state takes them, it isn't known what it took, and nothing can be asked of it.
+    /// Opens files and adds their segments to what is kept. Where memory is refused while a state takes
+    /// them, it isn't known what it took, and nothing can be asked of it.
     pub fn read(
         &self,
         alloc: Global,
@@ -48,13 +49,23 @@ impl<Rt: Threads + Sync, W: World> Files<'_, Rt, W> {
         }
     }
 
+    /// The files of the names. The first that is refused is reported.
+    fn opened(&self, alloc: Global, names: &[String]) -> Result<Vec<W::Input>, RunFault>
+        ensures { AreOpened W.Input.remaining W.Input.has_ended W.Input.has_failed
+            (map (W.holds self.now.world.now) (map string_bytes names.now))
+            (map (W.holds self.now.world.now) (map string_bytes names.now))
+            (map (W.is_absent self.now.world.now) (map string_bytes names.now)) result }
+    {
+        open_files(alloc, self.world, names)
+    }
+
     /// Opens files and adds their segments to what was loaded.
     fn add(&self, alloc: Global, loaded: &mut Loaded, names: &[String]) -> Result<Added, Refused>
         ensures { AddsFiles (known W.holds W.is_absent W.standard self.now.world.now)
             (ways W.Input.remaining W.Input.has_ended W.Input.has_failed W.Input.good_reads)
             self.now.setting loaded.old (map string_bytes names.now) loaded.new result }
     {
-        let mut inputs = open_files(alloc, self.world, names)?;
+        let mut inputs = self.opened(alloc, names)?;
         add(self.rt, alloc, self.setting, loaded, &mut inputs)
     }
 
@@ -64,7 +75,7 @@ impl<Rt: Threads + Sync, W: World> Files<'_, Rt, W> {
             (ways W.Input.remaining W.Input.has_ended W.Input.has_failed W.Input.good_reads)
             self.now.setting folded.old (map string_bytes names.now) folded.new result }
     {
-        let mut inputs = open_files(alloc, self.world, names)?;
+        let mut inputs = self.opened(alloc, names)?;
         fold(self.rt, alloc, self.setting, folded, &mut inputs)
     }
 }

@@ -5,21 +5,22 @@
 //! memory, and that there is nothing for a name. The functions here are proved for every world.
 //!
 //! `program` does what the arguments of a command line ask for. Files, in reading order:
-//! `commands.rt`, `output.rt` (where answers go), `person.rt` (who reads what is said beside the
-//! output), `saying.rt` (what is said of how a run ended), `speaker.rt` (who types the lines of a
-//! dialogue), `ending.rt` (the statuses), `world.rt` (what is opened), `inputs.rt` (what was),
-//! `opening.rt` (how: each file before any is read, and the table of symbols), `answering.rt` and
-//! `running.rt` (a question, from the names that it is asked of to its end), `converting.rt` (`dump`
-//! and `encode`), `conversing.rt`, `dialogue.rt` and `files.rt` (a dialogue: each line is answered as by
-//! a run over all that was read so far), `kept.rt` (what is kept of that: all segments, or what they
-//! come to), `ask_fault.rt` (why it ends before its lines do), `explained.rt` and `words.rt` (what a
-//! fault means), `part.rt` (the part of the inputs that it names), `subject.rt` (what a question is
-//! about).
+//! `commands.rt`, `console.rt` (where the program writes and speaks), `output.rt` (where answers go),
+//! `person.rt` (who reads what is said beside the output), `saying.rt` (what is said of how a run
+//! ended), `speaker.rt` (who types the lines of a dialogue), `ending.rt` (the statuses), `world.rt`
+//! (what is opened), `inputs.rt` (what was), `opening.rt` (how, and the table of symbols),
+//! `answering.rt` and `running.rt` (a question, from the names that it is asked of to its end),
+//! `converting.rt` (`dump` and `encode`), `conversing.rt`, `dialogue.rt` and `files.rt` (a dialogue:
+//! each line is answered as by a run over all that was read so far), `kept.rt` (what is kept of that:
+//! all segments, or what they come to), `ask_fault.rt` (why it ends before its lines do),
+//! `explained.rt` and `words.rt` (what a fault means), `part.rt` (the part of the inputs that it
+//! names), `subject.rt` (what a question is about).
 #![tactic(auto)]
 
 mod answering;
 mod ask_fault;
 mod commands;
+mod console;
 mod conversing;
 mod converting;
 mod dialogue;
@@ -42,6 +43,7 @@ mod world;
 pub use answering::answer;
 pub use ask_fault::AskFault;
 pub use commands::{program, refuse};
+pub use console::Console;
 pub use conversing::converse;
 pub use converting::{dump, encode};
 pub use inputs::Inputs;

@@ -1,33 +1,25 @@
-//! The inputs of a run, each opened before any is read, and the table of symbols.
+//! The inputs of a run, which are opened, and the table of symbols.
 
-ghost use Rattle.std.specs.Prelude.{◌≡◌, ◌⊎◌, ℕ, All, IfErr, IfOk, List, OnOk, Option, false, map};
-ghost use Rattle.std.specs.Prelude.{option_copied, option_map};
-ghost use Rattle.htl_program.specs.Worlds.{IsFirstRefused, IsTable, IsTableAbsent, IsTableUnknown};
+ghost use Rattle.std.specs.Prelude.{◌≡◌, ◌⊎◌, ℕ, IfErr, IfOk, List, OnOk, Option, option_copied};
+ghost use Rattle.std.specs.Prelude.{option_map};
+ghost use Rattle.htl_program.specs.Openings.{AreOpened};
+ghost use Rattle.htl_program.specs.Worlds.{IsTable, IsTableAbsent, IsTableUnknown};
 ghost use Rattle.htl_program.specs.Worlds.{of_each, of_inputs};
 
 use crate::world::{OpenFault, World};
 use htl_main::RunFault;
 use std::alloc::Global;
 
-/// Opens the files of the names in order, or standard input where there is none. None is read, and the
-/// first that is refused is reported.
+/// Opens the files of the names in order, or standard input where there is none. The first that is
+/// refused is reported.
 pub(crate) fn open_inputs<W: World>(
     alloc: Global,
     world: &W,
     names: &[String],
 ) -> Result<Vec<W::Input>, RunFault>
-    ensures fresh { IfOk result (λ inputs. All
-        (λ input. W.Input.has_failed input ≡ false) inputs.items) }
-    ensures inside { IfOk result (λ inputs. All
-        (λ input. W.Input.has_ended input ≡ false) inputs.items) }
-    ensures bytes { IfOk result (λ inputs. map W.Input.remaining inputs.items
-        ≡ of_inputs (W.holds world.now) (W.standard world.now) names.now) }
-    ensures there { OnOk result (All (λ absent. absent ≡ false)
-        (of_each (W.is_absent world.now) names.now)) }
-    ensures refused { IfErr result (λ fault. (fault ≡ RunFault.Memory)
-        ⊎ ((place : ℕ) × (fault ≡ RunFault.Read place)
-        × IsFirstRefused (of_each (W.holds world.now) names.now)
-        (of_each (W.is_absent world.now) names.now) place)) }
+    ensures { AreOpened W.Input.remaining W.Input.has_ended W.Input.has_failed
+        (of_inputs (W.holds world.now) (W.standard world.now) names.now)
+        (of_each (W.holds world.now) names.now) (of_each (W.is_absent world.now) names.now) result }
 {
     if names.is_empty() {
         let mut inputs = Vec::new(alloc);
@@ -37,24 +29,15 @@ pub(crate) fn open_inputs<W: World>(
     open_files(alloc, world, names)
 }
 
-/// Opens the files of the names in order. None is read, and the first that is refused is reported.
+/// Opens the files of the names in order. The first that is refused is reported.
 pub(crate) fn open_files<W: World>(
     alloc: Global,
     world: &W,
     names: &[String],
 ) -> Result<Vec<W::Input>, RunFault>
-    ensures fresh { IfOk result (λ inputs. All
-        (λ input. W.Input.has_failed input ≡ false) inputs.items) }
-    ensures inside { IfOk result (λ inputs. All
-        (λ input. W.Input.has_ended input ≡ false) inputs.items) }
-    ensures bytes { IfOk result (λ inputs. map W.Input.remaining inputs.items
-        ≡ of_each (W.holds world.now) names.now) }
-    ensures there { OnOk result (All (λ absent. absent ≡ false)
-        (of_each (W.is_absent world.now) names.now)) }
-    ensures refused { IfErr result (λ fault. (fault ≡ RunFault.Memory)
-        ⊎ ((place : ℕ) × (fault ≡ RunFault.Read place)
-        × IsFirstRefused (of_each (W.holds world.now) names.now)
-        (of_each (W.is_absent world.now) names.now) place)) }
+    ensures { AreOpened W.Input.remaining W.Input.has_ended W.Input.has_failed
+        (of_each (W.holds world.now) names.now) (of_each (W.holds world.now) names.now)
+        (of_each (W.is_absent world.now) names.now) result }
 {
     let mut inputs = Vec::new(alloc);
     for (place, name) in names.iter().enumerate() {

@@ -6,7 +6,7 @@ use crate::devices::Narrow;
 use crate::texts::TEXTS;
 use crate::worlds::{Memory, Named, Said, Silent, Witness};
 use htl_main::{RunFault, Writing};
-use htl_program::{Inputs, Subject, program};
+use htl_program::{Console, Inputs, Subject, program};
 use std::alloc::Global;
 use std::process::Abort;
 use std::thread::Threads;
@@ -78,17 +78,20 @@ fn is_obeyed(rt: &(impl Threads + Sync + Abort), alloc: Global, line: &Line) {
         piece: 65_536,
         most: line.most,
     };
-    let mut witness = Witness::new();
+    let mut console = Console {
+        out: Writing::new(&mut held),
+        person: Witness::new(),
+    };
     let status = program(
         rt,
         alloc,
         &world,
         arguments,
         &mut Inputs::new(alloc),
-        &mut Writing::new(&mut held),
-        &mut witness,
+        &mut console,
         &mut Silent { wants_notes: false },
     );
+    let witness = console.person;
     let found = (status, held.held.as_slice(), witness.last);
     let wanted = (line.status, line.printed.as_bytes(), line.last);
     assert_row(rt, *line, found, wanted);

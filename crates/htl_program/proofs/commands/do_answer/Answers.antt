@@ -9,6 +9,6 @@ returns g c = record {
   is = search rules;
   status_is = search rules;
   after_run = g.P.Person.heard c.ends.new.self;
-  hears_run = run_told _ _ _ c.args.command.now c.begins.ensures c.ends.ensures;
-  said = c.say_answer.ensures;
+  hears_run = run_told _ _ _ c.args.line.now.command c.begins.ensures c.ends.ensures;
+  said = rw c.says_words-in_words.ensures at c.say_answer.ensures;
 }

@@ -24,6 +24,6 @@ returns g c = record {
   after = search rules;
   status_is = search rules;
   after_run = g.P.Person.heard c.ends.new.self;
-  hears_run = run_told _ _ _ c.args.command.now c.begins.ensures c.ends.ensures;
+  hears_run = run_told _ _ _ c.args.line.now.command c.begins.ensures c.ends.ensures;
   said = search rules;
 }

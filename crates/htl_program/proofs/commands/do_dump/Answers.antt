@@ -16,6 +16,6 @@ returns g c = record {
   failed = c.dump-ended.ensures.failed;
   status_is = c.status_of_conversion.ensures;
   after_run = g.P.Person.heard c.ends.new.self;
-  hears_run = run_told _ _ _ c.args.command.now c.begins.ensures c.ends.ensures;
-  said = c.say_dump.ensures;
+  hears_run = run_told _ _ _ c.args.line.now.command c.begins.ensures c.ends.ensures;
+  said = rw c.says_words-in_words.ensures at c.say_dump.ensures;
 }

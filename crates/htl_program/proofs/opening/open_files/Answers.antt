@@ -7,19 +7,25 @@ use Rattle.htl_program.specs.Worlds.{of_each}
 use Rattle.htl_program.proofs.Names.{at_place, one_more, all_taken}
 use Rattle.htl_program.proofs.opening.open_files.Goals as goal
 
-pub returns-in-Err-Refused-clause-refused : goal.returns-in-Err-Refused-clause-refused
-returns-in-Err-Refused-clause-refused g c =
+pub returns-in-Err-Refused : goal.returns-in-Err-Refused
+returns-in-Err-Refused g c =
     let same : c.deref.result.now ≡ string_bytes c.index-names-place.result = search rules in
     let none : g.W.World.holds c.args.world.now c.deref.result.now ≡ None = search rules in
-    inr (
-      c.loop-place.place,
-      refl,
-      record {
-        here = at_place (g.W.World.holds c.args.world.now) c.args.names.now c.loop-place.place c.index-names-place.result
-            c.deref.result.now c.loop-place-test.true c.index-names-place.is same ∙ ap Some none;
-        before = c.loop-place.invariant.there;
-      },
-    )
+    record {
+      fresh = tt;
+      inside = tt;
+      bytes = tt;
+      there = tt;
+      refused = inr (
+        c.loop-place.place,
+        refl,
+        record {
+          here = at_place (g.W.World.holds c.args.world.now) c.args.names.now c.loop-place.place c.index-names-place.result
+              c.deref.result.now c.loop-place-test.true c.index-names-place.is same ∙ ap Some none;
+          before = c.loop-place.invariant.there;
+        },
+      );
+    }
 
 pub loop-place-preserved : goal.loop-place-preserved
 loop-place-preserved g c =
@@ -49,9 +55,15 @@ loop-place-preserved g c =
           (g.W.World.is_absent c.args.world.now c.deref.result.now) c.loop-place.invariant.there there);
     }
 
-pub returns-clause-there : goal.returns-clause-there
-returns-clause-there g c =
-    subst (λ l. All (λ absent. absent ≡ false) l)
-    (all_taken (g.W.World.is_absent c.args.world.now) c.args.names.now c.loop-place.place c.loop-place-test.false
-    c.loop-place.auto.place-end)
-    c.loop-place.invariant.there
+pub returns : goal.returns
+returns g c = record {
+  fresh = c.loop-place.invariant.fresh;
+  inside = c.loop-place.invariant.inside;
+  bytes = c.loop-place.invariant.bytes
+      ∙ all_taken (g.W.World.holds c.args.world.now) c.args.names.now c.loop-place.place c.loop-place-test.false c.loop-place.auto.place-end;
+  there = subst (λ l. All (λ absent. absent ≡ false) l)
+      (all_taken (g.W.World.is_absent c.args.world.now) c.args.names.now c.loop-place.place c.loop-place-test.false
+      c.loop-place.auto.place-end)
+      c.loop-place.invariant.there;
+  refused = tt;
+}

@@ -1,9 +1,8 @@
 -- Files are folded as they were read; where one could not be opened, nothing was.
-use Rattle.std.proofs.Common.{◌≡◌, ◌∙◌, All, false, map, string_bytes, subst}
+use Rattle.std.proofs.Common.{map, string_bytes}
 use Rattle.std.proofs.lemmas.Result.{err_from_is_err_and}
 use Rattle.htl_program.specs.Opened.{known, ways}
 use Rattle.htl_program.proofs.FoldLaws.{none_folded, opened_and_folded}
-use Rattle.htl_program.proofs.NamesRead.{by_bytes}
 use Rattle.htl_program.proofs.files.Files.fold.Goals as goal
 
 pub returns-in_err-inputs : goal.returns-in_err-inputs
@@ -13,16 +12,14 @@ returns-in_err-inputs g c =
     let names = map string_bytes c.args.names.now in
     rw p.1 (none_folded world (ways g.W.Input.Source.remaining g.W.Input.Source.has_ended g.W.Input.Source.has_failed g.W.Input.Source.good_reads)
     c.args.self.now.setting c.args.folded.now names p.0
-    (rw (p.2.0, ← by_bytes world.holds c.args.names.now, ← by_bytes world.is_absent c.args.names.now) c.in_err-inputs.ensures.refused))
+    (rw p.2.0 c.in_err-inputs.ensures.refused))
 
 pub returns : goal.returns
 returns g c =
     let world = known g.W.World.holds g.W.World.is_absent g.W.World.standard c.args.self.now.world.now in
     let names = map string_bytes c.args.names.now in
     opened_and_folded world (ways g.W.Input.Source.remaining g.W.Input.Source.has_ended g.W.Input.Source.has_failed g.W.Input.Source.good_reads)
-    c.args.self.now.setting c.args.folded.now names c.fold.new.folded c.in_ok-inputs.inputs.items c.fold.new.inputs c.fold.result
-    (record { fresh = c.in_ok-inputs.ensures.fresh; inside = c.in_ok-inputs.ensures.inside })
-    (c.in_ok-inputs.ensures.bytes ∙ by_bytes world.holds c.args.names.now)
-    (subst (λ l. All (λ absent. absent ≡ false) l) (by_bytes world.is_absent c.args.names.now) c.in_ok-inputs.ensures.there)
+    c.args.self.now.setting c.args.folded.now names c.fold.new.folded c.in_ok-inputs.inputs c.fold.new.inputs c.fold.result
+    c.in_ok-inputs.ensures
     (rw c.deref_mut.ensures.value at c.fold.ensures.ok) (rw c.deref_mut.ensures.value at c.fold.ensures.err) c.fold.ensures.between
     c.fold.ensures.symbols (rw c.deref_mut.ensures.value at c.fold.ensures.reading)

@@ -70,7 +70,7 @@ impl Meter {
         };
     }
 
-    /// More bytes of an input were read: this number of them.
+    /// Counts bytes that were read of an input.
     fn count(&mut self, bytes: u64)
         ensures { self.new ≡ record self.old { read = min (self.old.read + bytes) (2 ^ 64 - 1) } }
     {
@@ -205,7 +205,7 @@ impl Progress {
         self.meter.set(meter);
     }
 
-    /// More bytes of an input were read: this number of them.
+    /// Counts bytes that were read of an input.
     pub fn count(&self, bytes: u64) {
         let mut meter = self.meter.get();
         meter.count(bytes);

@@ -160,8 +160,8 @@ pub(crate) fn matches<'a>(
 }
 
 /// The tip in the place of `clap`'s, which takes a value that begins with `-` for another option or a
-/// file. It is empty where the value can't begin so, and where no file can be given. There is
-/// none where `clap`'s own tip may help.
+/// file. It is empty where the value can't begin so, and where no file can be given. There is none
+/// where `clap`'s own tip may help.
 fn tip(arguments: &[String], place: Place) -> Option<&'static str> {
     if has_separated(arguments) {
         Some("\n\n  tip: a value that begins with '-' follows '=', as in '--tag=-abc'")

@@ -203,13 +203,15 @@ fn parts_of_empty_segments(rt: HostRuntime) {
 /// What is picked of a process by workers: numbers that tell the outlines and the events apart, and
 /// whether a sequence came twice.
 fn picked(
-    rt: &(impl Threads + Sync),
+    rt: &(impl Abort + Threads + Sync),
     alloc: Global,
     workers: u32,
     bytes: &[u8],
 ) -> Result<(u64, u64, bool), SourceFault> {
     let picks = Picks::new(alloc, Interest::Process(1));
-    let Bundle { segments, .. } = gather_bundle(rt, alloc, workers, &mut Bytes::new(bytes), picks)?;
+    let mut source = Bytes::new(bytes);
+    let Bundle { segments, .. } = gather_bundle(rt, alloc, workers, &mut source, picks)?;
+    assert_tails(rt, workers, &source);
     let Picks {
         outlines,
         events,

@@ -3,9 +3,9 @@
 
 ghost use Rattle.htl_case.specs.Answers.{AnswersAreDetermined};
 ghost use Rattle.htl_case.specs.Final.{AnswersAreFinal};
-ghost use Rattle.htl_case.specs.Headline.{Headline, AnySegmentsCanBeTaken, AreSameOnceWhole};
+ghost use Rattle.htl_case.specs.Headline.{AnyCanBeMerged, AnySegmentsCanBeTaken, AreSameOnceWhole};
+ghost use Rattle.htl_case.specs.Headline.{Headline};
 ghost use Rattle.htl_case.specs.TakenCases.{TakenCasesAnswer};
-ghost use Rattle.htl_case.specs.Headline.{AnyCanBeMerged};
 
 /// Take a trace, and any number of analysts that begin with nothing. They take its segments, merge
 /// one another or themselves, and compact, as often and in whatever order they like. S is the set

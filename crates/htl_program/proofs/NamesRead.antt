@@ -1,5 +1,5 @@
 -- How names are read: not at all where one could not be opened, and otherwise as any run reads its sources.
-use Rattle.std.proofs.Common.{◌≡◌, ◌∙◌, ℕ, Bool, List, [], ◌∷◌, All, ap, false, inl, inr, map, refl, sym}
+use Rattle.std.proofs.Common.{◌≡◌, ◌∙◌, ℕ, Bool, List, [], ◌∷◌, ap, inl, inr, map, refl, sym}
 use Rattle.std.specs.Prelude.{Result, Ok, Err, String, Vec, string_bytes}
 use Rattle.std.proofs.lemmas.List.Elements.{All-nil}
 use Rattle.htl_main.specs.Readings.{AreRead}

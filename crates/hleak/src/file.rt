@@ -23,7 +23,7 @@ pub enum Stage {
 pub struct InputFile {
     rt: HostRuntime,
     name: String,
-    /// How many bytes are left behind those that are skipped, as it was found.
+    /// The length of the file as it was found, less the skipped bytes.
     len: Option<u64>,
     /// How many bytes in front aren't read.
     skipped: u64,
@@ -56,7 +56,7 @@ impl InputFile {
         })
     }
 
-    /// How many bytes the file had when it was found, but for those skipped, where that is known.
+    /// The length of the file as it was found, less the skipped bytes, if it is known.
     pub fn len(&self) -> Option<u64>
         ensures { result ≡ self.now.len }
     {

@@ -31,7 +31,7 @@ pub fn write_whole<W: Sink>(out: &mut W, text: &[u8]) -> Result<(), Failed>
 /// Why a source could not be read whole.
 #[derive(Clone, Copy, Debug, PartialEq, Eq)]
 pub enum ReadFault {
-    /// A read failed, or more than `MAX_READS` of them gave bytes.
+    /// A read failed, or `MAX_READS` of them gave bytes.
     Failed,
     /// An allocation was refused.
     NoMemory,

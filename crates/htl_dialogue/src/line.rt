@@ -5,7 +5,7 @@ use std::alloc::AllocError;
 /// How many bytes a line has at most.
 pub const MAX_LINE_LEN: usize = 65_536;
 
-/// A line, of which no more than so many bytes are kept.
+/// A line of at most `MAX_LINE_LEN` bytes, or that it was longer.
 #[derive(Debug, PartialEq, Eq, Drop)]
 pub enum Line {
     /// The bytes of a line.

@@ -65,7 +65,7 @@ abbrev pub ReportsOpened : {A R S : Type 0} → Known → Opened R → List (Str
 ReportsOpened world inputs names result =
     ReportsRead world.holds world.is_absent world.standard inputs.has_failed inputs.good_reads names inputs.files result
 
--- the question was run so over its files and its table of symbols
+-- how the question was run over its files and its table of symbols
 pub record IsAnswered {R : Type 0} (world : Known) (inputs : Opened R) (old new : Told) (run : Run) (ended : Result Completed Refused)
     : Type 0 where
   pub ends : (texts : List (List ℕ)) → (table : Option (List ℕ)) → HaveTexts world run.files.items texts
@@ -81,7 +81,7 @@ pub record IsAnswered {R : Type 0} (world : Known) (inputs : Opened R) (old new 
   pub failed : by_fault ended ≡ Err faults.Write → new.is_full ≡ true
   pub fine : OnOk ended (new.is_full ≡ false)
 
--- The fault that ended a run is said, once, and in words where these are wanted. A failed write is not where nobody reads any more.
+-- The fault that ended a run is said, once, and in words where these are wanted. A failed write may go unsaid.
 abbrev pub SaysFault : Bool → Option (List Saying) → Option (List Saying) → Command → Refused → Type 0
 SaysFault in_words old new command refused =
     HearsAll old new (fault_said in_words command refused) ⊎ ((refused.fault ≡ faults.Write) × (new ≡ old))
@@ -172,9 +172,8 @@ SaysDialogue in_words old new command (Err (asks.Run refused)) = SaysFault in_wo
 SaysDialogue in_words old new command (Err (asks.Dialogue stopped)) =
     HearsAll old new (stop_said in_words stopped) ⊎ ((stopped ≡ dialogues.Write) × (new ≡ old))
 
--- who types the lines of a dialogue, before it and after: what each note makes of them, what they are once it is known whether notes are
--- asked for, and once there are no more replies, whether they want to know what has no event, and whether in the end their wrong lines
--- count
+-- The speaker of a dialogue, before it and after. `told`, `noted` and `left` say how a note, the wish for notes, and the end of the replies
+-- change the speaker. Whether the speaker wants to know what has no event is said before, and whether wrong lines count after.
 pub record Spoken (S : Type 0) : Type 0 where
   pub told : S → Note → S
   pub noted : S → Bool → S
@@ -195,14 +194,14 @@ spoken told noted left wants_absence counts_wrong before after = record {
   after = after;
 }
 
--- They were told whether notes are asked for, and want them where they are.
+-- the speaker once it is known whether notes are asked for; where they are, they are wanted
 abbrev pub with_notes : {S : Type 0} → Bool → Spoken S → Spoken S
 with_notes notes speaker = record speaker {
   before = speaker.noted speaker.before notes;
   wants_absence = speaker.wants_absence || notes;
 }
 
--- the output got these replies, and who types the lines these notes, after they were told this
+-- after the opening the output got these replies, and the speaker these notes
 abbrev pub HasGot : {S : Type 0} → Spoken S → S → Told → Told → Opening → List ℕ → List Note → Type 0
 HasGot speaker listening old new opening = BeginsAndGets old.out new.out speaker.told speaker.before listening opening
 

@@ -15,8 +15,7 @@ pub struct Console<O, P> {
 }
 
 impl<O, P: Person> Console<O, P> {
-    /// Whether more is said than the lines of faults: to a person who watches, and to whoever asks for
-    /// notes.
+    /// Whether words are said beside the lines of faults: a person watches, or notes are asked for.
     pub(crate) fn says_words(&self, line: &CommandLine) -> bool
         ensures { result ≡ (P.is_watching self.now.person || line.now.notes) }
     {

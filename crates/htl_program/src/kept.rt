@@ -38,7 +38,7 @@ impl Kept {
         matches!(self, Kept::State(_))
     }
 
-    /// The text of the answer to a job, which is that of a run.
+    /// The text of the answer to a job, as a run prints it.
     pub fn answer(&self, alloc: Global, job: &Job) -> Result<Vec<u8>, NoMemory>
         requires { is_state self.now ≡ true → needs_events job.now ≡ false }
         ensures { IfOk result (λ text. HasTextIn self.now job.now text.items) }

@@ -1,4 +1,4 @@
-//! The inputs of a run, which are opened, and the table of symbols.
+//! Opens the inputs of a run, and reads its table of symbols.
 
 ghost use Rattle.std.specs.Prelude.{◌≡◌, ◌⊎◌, ℕ, IfErr, IfOk, List, OnOk, Option, option_copied};
 ghost use Rattle.std.specs.Prelude.{option_map};

@@ -1,4 +1,4 @@
-//! What a person is told of how a run ended.
+//! What is said to a person of how a run ended.
 
 ghost use Rattle.std.specs.Prelude.{◌≡◌};
 ghost use Rattle.htl_program.specs.Programs.{SaysAnswer, SaysConversion, SaysDialogue, SaysDump};

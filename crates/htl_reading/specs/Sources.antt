@@ -22,7 +22,7 @@ abbrev pub IsLeft : List Content → List ℕ → Option EarlyEnd → Type 0
 IsLeft segments rest None = rest ≡ []
 IsLeft segments rest (Some end) = EndsWithin segments rest end
 
--- Memory is asked for where a segment begins; and while the end isn't found, to keep what was read last, of which more may make one.
+-- Memory may be asked for where a segment begins, or to keep the last bytes that were read while the end isn't found.
 abbrev pub AsksMemory : Option (List ℕ) → Bool → List ℕ → Type 0
 AsksMemory left ended bytes =
     ((offset : ℕ) × SegmentAt bytes offset)

@@ -5,7 +5,7 @@ use htl_segment::whole_len;
 use std::alloc::{AllocError, Global};
 use std::io::Read;
 
-/// Fewer bytes are no part.
+/// The least number of bytes of a part.
 const MIN_PART_LEN: u64 = 4_194_304;
 
 /// Twice the length of the longest segment: among this number of bytes a whole one stands.
@@ -61,7 +61,7 @@ fn find_within<R: Parted>(alloc: Global, source: &R, near: u64, len: u64) -> Opt
     near.checked_add(first_whole(&bytes)? as u64)
 }
 
-/// The first place at which the header of a segment stands, and as many bytes as it says.
+/// The first place of a header that is followed by as many bytes as it announces.
 fn first_whole(bytes: &[u8]) -> Option<usize> {
     for place in 0..bytes.len() {
         if whole_len(&bytes[place..]).is_some() {

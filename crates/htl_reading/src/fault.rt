@@ -9,7 +9,7 @@ use std::alloc::{AllocError, AllocFailed};
 pub enum SourceFault {
     /// The bytes at this offset are no segment.
     Segment { offset: u64, fault: Fault },
-    /// A read failed, or more than `MAX_READS` of them gave bytes.
+    /// A read failed, or `MAX_READS` of them gave bytes.
     Read,
     /// Memory was refused.
     NoMemory,

@@ -42,7 +42,7 @@ impl Gathered {
     }
 
     /// Reads a source on to its end, after one read that gave bytes, and has a keeper take its
-    /// segments. At most `most` reads give bytes, and each of them comes after a call of `between`.
+    /// segments. At most `most` reads give bytes, and `between` is called before each but the first.
     pub fn read_on<R: Source, K: Keeper, F: Fn(&mut K) -> Result<(), NoMemory>>(
         mut self,
         alloc: Global,

@@ -1,11 +1,11 @@
 //! The segments that a source gives, by one worker or by several.
 //!
 //! One worker reads into a block in which it checks the segments, and a keeper takes them from there.
-//! It is lent the keeper, which so has the segments before a fault. Where a source can be read from
-//! several places at once, several workers read a part of its bytes each, with a keeper of its own, and
-//! what the keepers took goes over to the first one in order. A part begins where a segment seems to.
-//! Then the source skips these bytes, and one worker reads on. Whatever is wrong with a part, its
-//! bytes or its place, the source stays where it was, and so each fault is what one worker reports.
+//! The keeper is only borrowed, so after a fault it has the segments before it. If a source can be read
+//! from several places at once, several workers read a part of its bytes each, with a keeper of its
+//! own, and what the keepers took goes over to the first one in order. A part begins where a segment
+//! seems to. Then the source skips these bytes, and one worker reads on. Whatever is wrong with a part,
+//! its bytes or its place, the source stays where it was, and so each fault is what one worker reports.
 //!
 //! A source that ends within a segment gives the whole segments before it, and says where that is. The
 //! crates above decide whether they refuse such an end.
@@ -18,8 +18,8 @@
 //! `specs/Sources` says what is left at the end, what is reported and how far a source is read, and
 //! `specs/Taking` what a keeper took of it. In `proofs/`, `TakenLaws` shows which segments reads give,
 //! `FaultLaws` which faults are reported, `KeptLaws` which segments a keeper has after one, `ReadLaws`
-//! that a reading is told as well by another value, and `PartLaws` that the parts of several workers
-//! give the segments of all bytes.
+//! that how a source is read doesn't depend on the value that is returned, `PartLaws` that the parts of
+//! several workers give the segments of all bytes, and `SkipLaws` and `RoundLaws` that their rounds do.
 #![tactic(auto)]
 
 mod block;

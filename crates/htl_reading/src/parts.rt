@@ -50,8 +50,8 @@ pub struct Front<K> {
 }
 
 /// Has a keeper take over the segments at the front of a source, of which several workers read a part
-/// each. The source skips them. Where they are no whole segments it takes none, and the source
-/// stays.
+/// each. The source skips them. If they aren't whole segments, the keeper takes none and the source
+/// stays where it was.
 pub fn take_parts<T: Threads + Sync, R: Parted, K: JoiningKeeper + Drop + Send>(
     rt: &T,
     alloc: Global,
@@ -73,11 +73,11 @@ pub fn take_parts<T: Threads + Sync, R: Parted, K: JoiningKeeper + Drop + Send>(
     Ok(front.len)
 }
 
-/// Gathers the segments at the front of a source by several workers, each of which reads a part of so
-/// many bytes at most. Their keepers are spare ones, and others of the keeper's kind.
+/// Gathers the segments at the front of a source by several workers, each of which reads a part of at
+/// most `most` bytes. Spare keepers are used first, and then new ones of the keeper's kind.
 ///
-/// It gives none where one worker has to read the source: where it has no parts or is short, and where
-/// a part can't be read, is no whole segments, or finds no memory.
+/// It gives none if one worker has to read the source: if it has no parts or is short, or if a part
+/// can't be read, isn't whole segments, or finds no memory.
 pub fn gather_front<T: Threads + Sync, R: Parted, K: JoiningKeeper + Drop + Send>(
     rt: &T,
     alloc: Global,

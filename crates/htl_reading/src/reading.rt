@@ -146,8 +146,8 @@ pub(crate) fn read_source<R: Source, K: Keeper + Drop>(
     })
 }
 
-/// Has a keeper take the segments of a source, of which at most `most` reads give bytes, behind those
-/// of so many bytes that it took before.
+/// Has a keeper take the segments of a source from an offset on: it took those before. At most `most`
+/// reads give bytes.
 ///
 /// The first read goes into a short buffer. If it gives bytes, a block is made for all other reads.
 fn take_reads<R: Source, K: Keeper, F: Fn(&mut K) -> Result<(), NoMemory>>(

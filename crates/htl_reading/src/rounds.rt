@@ -14,7 +14,7 @@ use std::alloc::Global;
 use std::mem;
 use std::thread::Threads;
 
-/// In one round a worker reads so many bytes at most. Their events take a third of that.
+/// The greatest number of bytes that a worker reads in one round. Their events take a third of that.
 const PART_LEN: u64 = 33_554_432;
 
 /// A keeper that also takes segments that others have read.
@@ -68,8 +68,8 @@ pub fn take_rounds<
 }
 
 /// Has a keeper take the next round of segments, which stand at an offset, and says where they end.
-/// That is the same offset where one worker has to read on. The workers' keepers know the stacks of the
-/// last round.
+/// That is the same offset if one worker has to read on. The workers' keepers keep the stack caches of
+/// the last round.
 fn take_round<T: Threads + Sync, R: Parted, K: SegmentKeeper>(
     rt: &T,
     alloc: Global,

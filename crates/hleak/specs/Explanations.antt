@@ -13,7 +13,7 @@ use Rattle.hleak.specs.Advice.{memory_advice, thread_advice}
 use Rattle.hleak.specs.Meanings.{absent_text, case_text, hex_text, line_text, missing_text, no_memory, said, segment_text, symbols_text}
 use Rattle.hleak.specs.Meanings.{unread, untaken}
 use Rattle.hleak.specs.Shown.{shown_name, shown_text}
-use Rattle.hleak.specs.Sides.{side_text, sign_of}
+use Rattle.hleak.specs.Sides.{side_text, label_of}
 use Rattle.hleak.specs.Subjects.{asked_about, event_line_of, input_name, subject_of}
 use Rattle.hleak.specs.declared.explaining.explanation.About as declared
 use Rattle.hleak.specs.declared.explaining.explanation.About.TheVariants as abouts
@@ -38,14 +38,14 @@ meaning_text task NoThread = said None (codes "the system started no thread") (t
 -- what a fault is about: two segments where it sets one against the other, and else a file, a device or the program
 abbrev pub about : Task → RunFault → Between → List ℕ
 about task (Case fault) (Two first second) =
-    side_text (input_name task first.input) (sign_of fault first)
-    ++ (codes " and " ++ side_text (input_name task second.input) (sign_of fault second))
+    side_text (input_name task first.input) (label_of fault first)
+    ++ (codes " and " ++ side_text (input_name task second.input) (label_of fault second))
 about task fault between = shown_name (subject_of task fault)
 
 abbrev pub about_text : declared.About → List ℕ
 about_text (abouts.One name) = shown_text name.has_lines name.text.now
 about_text (abouts.Two first second) =
-    side_text first.file.now first.sign ++ (codes " and " ++ side_text second.file.now second.sign)
+    side_text first.file.now first.label ++ (codes " and " ++ side_text second.file.now second.label)
 
 -- after the line of the event, where the fault is about one
 abbrev pub at_line : Option ℕ → List ℕ → List ℕ

@@ -10,8 +10,8 @@ use Rattle.htl_command.specs.declared.code.Code.TheVariants.{Y1, Y2, Y3, Y4, Y5,
 use Rattle.htl_command.specs.declared.code.Code.TheVariants.{E1, E2}
 use Rattle.htl_program.specs.Parts.{part_text}
 use Rattle.htl_program.specs.Words.{advice_of, form_wrong_of, part_of, with_part, wrong_of}
-use Rattle.htl_program.specs.declared.part.Part.{Part}
-use Rattle.htl_program.specs.declared.part.Part.TheVariants as parts
+use Rattle.htl_program.specs.declared.named_part.NamedPart.{NamedPart}
+use Rattle.htl_program.specs.declared.named_part.NamedPart.TheVariants as parts
 use Rattle.htl_program.specs.declared.subject.Subject.{Subject}
 use Rattle.htl_segment.specs.declared.fault.Fault.{Fault}
 use Rattle.htl_segment.specs.declared.fault.Fault.TheVariants as segments
@@ -28,14 +28,14 @@ use Rattle.htl_text.specs.declared.field.Field.{Field}
 use Rattle.hleak.specs.declared.explaining.meaning.Meaning.{Meaning}
 
 -- what is wrong with a part, or by itself, and what to do
-abbrev pub said : Option Part → List ℕ → List ℕ → List ℕ
+abbrev pub said : Option NamedPart → List ℕ → List ℕ → List ℕ
 said part wrong advice = with_part (option_map part_text part) wrong ++ (codes ": " ++ advice)
 
 abbrev pub text_of : Meaning → List ℕ
 text_of meaning = said meaning.part meaning.wrong.now meaning.advice.now
 
 -- the words on a code, of a part that the fault names
-unfoldable pub coded : Code → Option Part → List ℕ
+unfoldable pub coded : Code → Option NamedPart → List ℕ
 coded code part = said part (wrong_of code) (advice_of code)
 
 abbrev pub segment_text : Fault → List ℕ

@@ -1,5 +1,5 @@
 -- Texts of a caller as a terminal is given them (this project's own).
-use Rattle.std.specs.Prelude.{◌&&◌, ◌||◌, ◌==◌, ◌++◌, ◌∷◌, [], not, ℕ, Bool, false, List, codes, flat_map, if◌then◌else◌, nat_le}
+use Rattle.std.specs.Prelude.{◌&&◌, ◌||◌, ◌==◌, ◌++◌, ◌∷◌, [], not, ℕ, Bool, false, List, flat_map, if◌then◌else◌, nat_le}
 use Rattle.std.specs.Char.{encode_utf8, is_control}
 use Rattle.std.specs.Str.{chars}
 use Rattle.htl_program.specs.AskedAbout.{hex}

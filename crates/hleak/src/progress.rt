@@ -8,7 +8,7 @@
 //! into narrow ones: it has `WIDTH` characters, whatever it says, and as many blanks are written over
 //! it.
 
-ghost use Rattle.std.specs.Prelude.{◌≡◌, ◌+◌, ◌-◌, ◌*◌, ◌^◌, ◌<◌, ◌≤◌, ◌↔◌, ℕ, None, Some};
+ghost use Rattle.std.specs.Prelude.{◌≡◌, ◌+◌, ◌-◌, ◌*◌, ◌^◌, ◌<◌, ◌≤◌, ◌↔◌, None, Some};
 ghost use Rattle.std.specs.Prelude.{IsTrue, IfSome, IfNone, min};
 ghost use Rattle.std.specs.Duration.{as_nanos};
 

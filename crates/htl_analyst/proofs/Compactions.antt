@@ -1,5 +1,5 @@
 -- What the steps of a compaction keep is kept by the whole, also after another that keeps it.
-use Rattle.std.proofs.Common.{◌≡◌, ◌≤◌, ◌∙◌, ℕ, Result, Ok, Err, arith}
+use Rattle.std.proofs.Common.{◌≤◌, ◌∙◌, ℕ, Result, Ok, Err, arith}
 use Rattle.std.specs.Prelude.{OnOk}
 use Rattle.htl_segment.specs.Traces.{Trace}
 use Rattle.htl_taken.specs.Numbers.{front_at}

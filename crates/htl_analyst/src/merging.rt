@@ -74,9 +74,8 @@ impl<A: Allocator> Analyst<A> {
 }
 
 impl<A: Allocator + Clone> Analyst<A> {
-    ghost use Rattle.std.specs.Prelude.{◌≡◌, ◌↔◌, ◌⊎◌, ◌<◌, ℕ, map, length, IfOk, IfErr, OnOk};
+    ghost use Rattle.std.specs.Prelude.{◌≡◌, ◌↔◌, ◌⊎◌, ◌<◌, ℕ, length, IfOk, IfErr, OnOk};
     ghost use Rattle.std.specs.Prelude.{OnErr, Contains};
-    ghost use Rattle.std.specs.List.{AllByRecursion};
     ghost use Rattle.htl_segment.specs.Traces.{Trace};
     ghost use Rattle.htl_taken.specs.Numbers.{numbers_at, front_at, loose_at, IsUnion};
     ghost use Rattle.htl_analyst.specs.States.{part_at, held_at, folded_at};

@@ -8,8 +8,8 @@ use htl_segment::Segment;
 use std::alloc::Allocator;
 
 impl<A: Allocator> Analyst<A> {
-    ghost use Rattle.std.specs.Prelude.{◌≡◌, ◌≢◌, ◌↔◌, ◌⊎◌, ◌<◌, ◌+◌, ℕ, IsTrue, IfOk, IfErr};
-    ghost use Rattle.std.specs.Prelude.{IfSome, IfNone, OnOk, OnErr, Contains};
+    ghost use Rattle.std.specs.Prelude.{◌≡◌, ◌≢◌, ◌↔◌, ◌⊎◌, ◌<◌, ◌+◌, ℕ, IfOk, IfErr};
+    ghost use Rattle.std.specs.Prelude.{IfSome, IfNone, OnOk, Contains};
     ghost use Rattle.htl_segment.specs.Content.{Content, Fits};
     ghost use Rattle.htl_segment.specs.Traces.{Trace};
     ghost use Rattle.htl_taken.specs.Numbers.{front_at, loose_at};

@@ -23,7 +23,7 @@ use Rattle.htl_event.specs.OrderLaws.{stack_ties}
 use Rattle.htl_event.specs.Stacks.{stack_cmp}
 use Rattle.htl_event.specs.Tallies.{zero_count, times, count_where, has_stack, tally, total_of}
 use Rattle.htl_tree.specs.declared.slots.Slots.{Slots}
-use Rattle.htl_tree.specs.Asked.{has_slot}
+use Rattle.htl_tree.specs.HasSlot.{has_slot}
 use Rattle.htl_tree.proofs.Under.{same_slot_Decides, same_slot_tied}
 use Rattle.htl_answers.specs.Counts.{one_count}
 use Rattle.htl_answers.specs.RowOrder.{row_cmp}

@@ -17,7 +17,7 @@ use Rattle.htl_event.specs.OrderLaws.{slot_total, slot_same, stack_total}
 use Rattle.htl_event.specs.Stacks.{stack_cmp}
 use Rattle.htl_event.specs.Tallies.{zero_count, plus_count, total_of}
 use Rattle.htl_tree.specs.declared.slots.Slots.{Slots}
-use Rattle.htl_tree.specs.Asked.{has_slot}
+use Rattle.htl_tree.specs.HasSlot.{has_slot}
 use Rattle.htl_tree.specs.Trees.{Tree, IsTree, HasTally, BySlot, ByStackAndSlot, ListsSums, ListsRowsOf, key_cmp, count_at, count_under, total_count}
 use Rattle.htl_tree.proofs.Events.{under_events}
 use Rattle.htl_tree.proofs.TreesAsLists.{key_total}

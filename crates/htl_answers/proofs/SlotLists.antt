@@ -16,7 +16,7 @@ use Rattle.htl_event.specs.Tallies.{tally, IsPositive, ByStack, IsStacks}
 use Rattle.htl_event.proofs.Members.{Contains-here, Contains-there, Contains-map, Contains-from_map, at_member, each_member}
 use Rattle.htl_tree.specs.declared.slots.Slots.{Slots}
 use Rattle.htl_tree.specs.declared.slots.Slots.TheVariants.{All, One}
-use Rattle.htl_tree.specs.Asked.{has_slot}
+use Rattle.htl_tree.specs.HasSlot.{has_slot}
 use Rattle.htl_tree.proofs.Under.{same_slot_Decides}
 use Rattle.htl_answers.specs.RowOrder.{row_cmp, row_same}
 use Rattle.htl_answers.specs.Rows.{count_of, rows_of, ByKey, EachPositive}

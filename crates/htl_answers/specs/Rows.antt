@@ -13,7 +13,7 @@ use Rattle.htl_event.specs.Slots.{slot_of}
 use Rattle.htl_event.specs.Members.{IsRising}
 use Rattle.htl_event.specs.Tallies.{total_of, IsPositive}
 use Rattle.htl_tree.specs.declared.slots.Slots.{Slots}
-use Rattle.htl_tree.specs.Asked.{has_slot}
+use Rattle.htl_tree.specs.HasSlot.{has_slot}
 use Rattle.htl_answers.specs.Counts.{one_count}
 
 -- a number of the row's count, where the row has the key

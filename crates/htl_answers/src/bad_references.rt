@@ -10,9 +10,9 @@ ghost use Rattle.htl_event.specs.Tallies.{IsBad};
 ghost use Rattle.htl_answers.specs.Parts.{AreEventsOf, size_of_all};
 ghost use Rattle.htl_answers.specs.Bad.{bad_row};
 
-use crate::asked::counts_of_slots;
 use crate::counted_by::BySlotAndStack;
 use crate::part::Part;
+use crate::slot_counts::counts_of_slots;
 use htl_event::{Count, NoMemory, SharedStack, Slot};
 use htl_tree::Slots;
 use std::alloc::Global;

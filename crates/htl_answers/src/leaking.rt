@@ -9,10 +9,10 @@ ghost use Rattle.htl_event.specs.Tallies.{IsLeaksSince, AreOpenSince};
 ghost use Rattle.htl_answers.specs.Parts.{AreEventsOf};
 ghost use Rattle.htl_answers.specs.Leaks.{opens_many, counted_first, stack_before_number};
 
-use crate::asked::counts_of_events;
 use crate::counted_by::BySlotAndStack;
 use crate::open::{diff, outstanding};
 use crate::part::Part;
+use crate::slot_counts::counts_of_events;
 use htl_event::{Count, NoMemory, SharedEvent, SharedStack, Slot};
 use htl_tree::Slots;
 use std::alloc::Global;

@@ -14,14 +14,13 @@
 //! Files, in reading order: `part.rt` (what the answers are made of), `held.rt` and `handles.rt`
 //! (answers over held events, and those that take no memory), `open.rt` (outstanding handles and
 //! differences), `counts.rt` (the prefix tally), `counted_by.rt`, `hints.rt`, `adding.rt` and
-//! `asked.rt` (the rows of the slots that are asked for), `leaking.rt`, `tagging.rt` and
+//! `slot_counts.rt` (the rows of the slots that are asked for), `leaking.rt`, `tagging.rt` and
 //! `bad_references.rt` (the answers made of these),
 //! `sums.rt` (how often each slot came), `whole.rt` (the one tree of all parts), `lives.rt` (when
 //! handles were opened and ceased to be open), `growing.rt` (how many were open as of moments).
 #![tactic(auto)]
 
 mod adding;
-mod asked;
 mod bad_references;
 mod counted_by;
 mod counts;
@@ -33,6 +32,7 @@ mod leaking;
 mod lives;
 mod open;
 mod part;
+mod slot_counts;
 mod sums;
 mod tagging;
 mod whole;

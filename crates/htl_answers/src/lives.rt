@@ -3,14 +3,13 @@
 //! A handle that was opened is open until the next open or close of its base handle, or until the
 //! next exit of its process, whichever comes first.
 
-ghost use Rattle.std.specs.Prelude.{◌≡◌, ◌↔◌, ◌++◌, [], ◌∷◌, ℕ, Contains, flat_map, IfOk, OnOk};
+ghost use Rattle.std.specs.Prelude.{◌≡◌, ◌++◌, [], ◌∷◌, ℕ, flat_map, IfOk, OnOk};
 ghost use Rattle.std.specs.List.{filter_map};
 ghost use Rattle.std.specs.List.Sorted.{IsNonDecreasing};
-ghost use Rattle.std.specs.Prelude.{slice_get};
 ghost use Rattle.htl_event.specs.Handles.{HaveOwnSequences};
 ghost use Rattle.htl_event.specs.Moments.{events_until};
 ghost use Rattle.htl_event.specs.Summaries.{HasOutstanding};
-ghost use Rattle.htl_answers.specs.Lives.{change_of, changes_of, exits_of, start_of};
+ghost use Rattle.htl_answers.specs.Lives.{changes_of, exits_of, start_of};
 ghost use Rattle.htl_answers.specs.Lives.{next_of, earlier_of, first_after, end_of, ends_of};
 ghost use Rattle.htl_answers.specs.Lives.{number_to, number_at, AreInOrder};
 

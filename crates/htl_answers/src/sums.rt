@@ -9,9 +9,9 @@ ghost use Rattle.htl_event.specs.Tallies.{total_of, IsPositive};
 ghost use Rattle.htl_answers.specs.Parts.{AreEventsOf, size_of_all};
 ghost use Rattle.htl_answers.specs.Sums.{ListsSlotSums};
 
-use crate::asked::counts_of_slots;
 use crate::counted_by::BySlot;
 use crate::part::Part;
+use crate::slot_counts::counts_of_slots;
 use htl_event::{Count, NoMemory, Slot};
 use htl_tree::Slots;
 use std::alloc::Global;

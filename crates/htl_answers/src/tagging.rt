@@ -9,9 +9,9 @@ ghost use Rattle.htl_event.specs.Tallies.{IsTags, IsStacks};
 ghost use Rattle.htl_answers.specs.Parts.{AreEventsOf, size_of_all};
 ghost use Rattle.htl_answers.specs.Tags.{tag_row};
 
-use crate::asked::counts_of_slots;
 use crate::counted_by::{BySlot, BySlotAndStack};
 use crate::part::Part;
+use crate::slot_counts::counts_of_slots;
 use htl_event::{Count, NoMemory, SharedStack, Slot};
 use htl_tree::Slots;
 use std::alloc::Global;

@@ -1,6 +1,6 @@
 //! The one tree of all parts.
 
-ghost use Rattle.std.specs.Prelude.{◌≡◌, ◌<◌, ◌≤◌, ◌^◌, ◌++◌, List, map, IfOk};
+ghost use Rattle.std.specs.Prelude.{◌<◌, ◌≤◌, ◌^◌, ◌++◌, List, map, IfOk};
 ghost use Rattle.htl_event.specs.Events.{Event};
 ghost use Rattle.htl_tree.specs.Trees.{HasTally, total_count};
 ghost use Rattle.htl_answers.specs.Parts.{AreEventsOf, size_of, size_of_all};

@@ -26,7 +26,7 @@ use Rattle.htl_case.specs.declared.question.AnalystQuestion.TheVariants as quest
 use Rattle.htl_case.specs.declared.question.AnalystAnswer.{AnalystAnswer}
 use Rattle.htl_case.specs.declared.question.AnalystAnswer.TheVariants as answers
 use Rattle.htl_case.specs.Answers.{AnswersAreDetermined, IsAnswer, IsSameAnswer}
-use Rattle.htl_case.specs.Asked.{IsStated}
+use Rattle.htl_case.specs.Questions.{IsStated}
 
 -- of a trace the answer to each question is stated
 pub stated : (q : AnalystQuestion) (T : Trace) → IsTrace T → IsStated q T

@@ -18,7 +18,7 @@ use Rattle.htl_analyst.proofs.MergeLaws as laws
 use Rattle.htl_case.specs.declared.question.AnalystQuestion.{AnalystQuestion}
 use Rattle.htl_case.specs.declared.question.AnalystAnswer.{AnalystAnswer}
 use Rattle.htl_case.specs.Answers.{IsAnswer}
-use Rattle.htl_case.specs.Asked.{AnalystAnswers}
+use Rattle.htl_case.specs.Questions.{AnalystAnswers}
 use Rattle.htl_case.specs.Histories.{History, begun, took, IsTake, Leaves, IsReachedBy, IsCompacted}
 use Rattle.htl_case.specs.Headline.{Headline, AnySegmentsCanBeTaken, HasAll, AreSameOnceWhole}
 use Rattle.htl_case.proofs.Stepped.{merge_keys}

@@ -11,7 +11,7 @@ use Rattle.htl_analyst.specs.Same.{IsSame}
 use Rattle.htl_case.specs.declared.question.AnalystQuestion.{AnalystQuestion}
 use Rattle.htl_case.specs.declared.question.AnalystAnswer.{AnalystAnswer}
 use Rattle.htl_case.specs.Answers.{IsAnswer, IsSameAnswer}
-use Rattle.htl_case.specs.Asked.{AnalystAnswers}
+use Rattle.htl_case.specs.Questions.{AnalystAnswers}
 use Rattle.htl_case.specs.Histories.{History, begun, took, Leaves, IsReachedBy, IsCompacted}
 
 pub record Headline : Type 0 where

@@ -7,7 +7,7 @@ pub mod Complete
 pub mod Plays
 pub mod Reached
 pub mod Answers
-pub mod Asked
+pub mod Questions
 pub mod Histories
 pub mod Headline
 pub mod Final

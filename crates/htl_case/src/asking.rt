@@ -9,7 +9,7 @@ ghost use Rattle.htl_analyst.specs.TakenEvents.{taken_events};
 ghost use Rattle.htl_case.specs.Plays.{NoneIsFaulty, IsAnswerRefusal};
 ghost use Rattle.htl_case.specs.Reached.{reached};
 ghost use Rattle.htl_case.specs.Answers.{IsAnswer};
-ghost use Rattle.htl_case.specs.Asked.{AnalystAnswers};
+ghost use Rattle.htl_case.specs.Questions.{AnalystAnswers};
 
 use crate::case::Case;
 use crate::fault::PlayFault;

@@ -21,7 +21,7 @@
 //! segments may break), `Picked` (what is picked of a case), `Spans` (the first and the last
 //! sequence), `Complete` (up to which moment no segment is missing); `Reached` (which keys a list
 //! of steps brings to an analyst), `Answers` (the answers to its questions) and `Plays` (why steps
-//! aren't played), which are all that `answer_after` says; `Asked`, `Histories` and `Headline`,
+//! aren't played), which are all that `answer_after` says; `Questions`, `Histories` and `Headline`,
 //! which speak of states; `Final` (when an answer is final) and `TakenCases` (what an analyst answers
 //! that took the segments of a case). `Ordered`, `Outlined`, `Listed` and `Changes` serve private
 //! clauses alone. In `proofs/`, `KeyOrder` shows what a sort by key leaves,

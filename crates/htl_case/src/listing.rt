@@ -1,9 +1,7 @@
 //! The listing of one handle.
 
 ghost use Rattle.std.specs.Prelude.{◌≡◌, ◌++◌, filter, IfOk, OnOk, Contains};
-ghost use Rattle.std.specs.List.Sorted.{IsPermutation, IsNonDecreasingBy};
-ghost use Rattle.htl_event.specs.Events.{Event};
-ghost use Rattle.htl_event.specs.Handles.{NewestFirst};
+ghost use Rattle.std.specs.List.Sorted.{IsPermutation};
 ghost use Rattle.htl_case.specs.Listed.{is_of_handle, IsNewestFirst};
 
 use crate::case::Case;

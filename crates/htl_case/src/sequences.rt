@@ -2,7 +2,6 @@
 
 ghost use Rattle.std.specs.Prelude.{◌≡◌, ℕ, ◌<◌, ◌≤◌, ◌++◌, false, List, map, All, IfOk, OnOk};
 ghost use Rattle.std.specs.Prelude.{MatchOption};
-ghost use Rattle.std.specs.List.Sorted.{IsNonDecreasing};
 ghost use Rattle.htl_event.specs.Handles.{HaveOwnSequences};
 ghost use Rattle.htl_segment.specs.Content.{Fits};
 ghost use Rattle.htl_segment.specs.Traces.{AreInOrder, all_events};

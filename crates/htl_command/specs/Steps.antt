@@ -24,7 +24,7 @@ use Rattle.htl_command.specs.declared.names.QuestionName.TheVariants as name
 use Rattle.htl_command.specs.declared.printed.PrintedFault.{PrintedFault}
 use Rattle.htl_command.specs.declared.reading.NoJob.{NoJob}
 use Rattle.htl_command.specs.declared.reading.NoJob.TheVariants.{Value, Formats}
-use Rattle.htl_command.specs.declared.reading.Refused.{Refused}
+use Rattle.htl_command.specs.declared.reading.InvalidValue.{InvalidValue}
 use Rattle.htl_command.specs.declared.fault.ParseFault.{ParseFault}
 use Rattle.htl_command.specs.declared.fault.ParseFault.TheVariants.{Help, Usage, Memory}
 
@@ -56,7 +56,7 @@ pub record AreFault (name tail : List ℕ) (fault : PrintedFault) : Type 0 where
   pub parts : Follow (form_of fault.code) fault.parts tail
 
 -- the refusal of a value names its option and the text that was given for it
-pub record Names (wanted : CommandOption) (rows : List Row) (refused : Refused) : Type 0 where
+pub record Names (wanted : CommandOption) (rows : List Row) (refused : InvalidValue) : Type 0 where
   pub option : refused.option ≡ wanted
   pub given : refused.given.now ≡ unwrap_or (given_in wanted rows) []
 
@@ -87,7 +87,7 @@ question_options name.Trace = Process ∷ Handle ∷ []
 question_options name.Growth = Process ∷ Points ∷ []
 
 -- of these options this is the first whose value breaks its rule
-abbrev pub IsFirstBroken : List Row → List CommandOption → Refused → Type 0
+abbrev pub IsFirstBroken : List Row → List CommandOption → InvalidValue → Type 0
 IsFirstBroken rows options refused = Names refused.option rows refused × (find (breaks_rule rows) options ≡ Some refused.option)
 
 -- two forms of an answer are asked for

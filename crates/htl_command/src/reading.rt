@@ -29,7 +29,7 @@ const DEFAULT_POINTS: u32 = 20;
 
 /// A value that breaks the rule of its option.
 #[derive(Clone, Copy)]
-pub(crate) struct Refused<'a> {
+pub(crate) struct InvalidValue<'a> {
     pub option: CommandOption,
     /// The text that was given; empty where there is none.
     pub given: &'a str,
@@ -39,18 +39,18 @@ pub(crate) struct Refused<'a> {
 #[derive(Clone, Copy)]
 pub(crate) enum NoJob<'a> {
     /// A value breaks the rule of its option.
-    Value(Refused<'a>),
+    Value(InvalidValue<'a>),
     /// Two forms of an answer are asked for.
     Formats,
 }
 
-impl<'a> From<Refused<'a>> for NoJob<'a> {
+impl<'a> From<InvalidValue<'a>> for NoJob<'a> {
     ghost use Rattle.std.specs.Prelude.{◌≡◌};
     ghost use Rattle.htl_command.specs.declared.reading.NoJob.TheVariants.{Value};
 
     ghost from_gives = { λ refused why. why ≡ Value refused };
 
-    fn from(refused: Refused<'a>) -> NoJob<'a> {
+    fn from(refused: InvalidValue<'a>) -> NoJob<'a> {
         NoJob::Value(refused)
     }
 }
@@ -64,7 +64,7 @@ impl fmt::Display for NoJob<'_> {
     }
 }
 
-impl fmt::Display for Refused<'_> {
+impl fmt::Display for InvalidValue<'_> {
     fn fmt<W: fmt::Write>(&self, f: &mut fmt::Formatter<W>) -> fmt::Result {
         write!(
             f,
@@ -78,7 +78,7 @@ impl fmt::Display for Refused<'_> {
     }
 }
 
-impl Refused<'_> {
+impl InvalidValue<'_> {
     /// What was meant, where a number is written as a debugger shows it.
     fn write_tip<W: fmt::Write>(&self, f: &mut fmt::Formatter<W>) -> fmt::Result {
         let given = self.given;
@@ -128,24 +128,27 @@ fn given<'a>(entries: &ArgMatches<'a>, option: CommandOption) -> Option<&'a str>
     entry(entries, option.as_str())
 }
 
-fn required<'a>(entries: &ArgMatches<'a>, option: CommandOption) -> Result<&'a str, Refused<'a>>
+fn required<'a>(
+    entries: &ArgMatches<'a>,
+    option: CommandOption,
+) -> Result<&'a str, InvalidValue<'a>>
     ensures ok { option_map (λ text. text.now) (result_ok result)
         ≡ given_in option (entries_of entries.now) }
     ensures err { IfErr result (Names option (entries_of entries.now)) }
 {
-    given(entries, option).ok_or(Refused { option, given: "" })
+    given(entries, option).ok_or(InvalidValue { option, given: "" })
 }
 
-fn process<'a>(entries: &ArgMatches<'a>) -> Result<u32, Refused<'a>>
+fn process<'a>(entries: &ArgMatches<'a>) -> Result<u32, InvalidValue<'a>>
     ensures ok { result_ok result ≡ value process_in option.Process (entries_of entries.now) }
     ensures err { IfErr result (Names option.Process (entries_of entries.now)) }
 {
     let option = CommandOption::Process;
     let given = required(entries, option)?;
-    values::process(given).ok_or(Refused { option, given })
+    values::process(given).ok_or(InvalidValue { option, given })
 }
 
-fn since<'a>(entries: &ArgMatches<'a>) -> Result<Option<Since>, Refused<'a>>
+fn since<'a>(entries: &ArgMatches<'a>) -> Result<Option<Since>, InvalidValue<'a>>
     ensures ok { result_ok result ≡ optional since_in option.Since (entries_of entries.now) }
     ensures err { IfErr result (Names option.Since (entries_of entries.now)) }
 {
@@ -154,61 +157,61 @@ fn since<'a>(entries: &ArgMatches<'a>) -> Result<Option<Since>, Refused<'a>>
         None => Ok(None),
         Some(given) => match values::since(given) {
             Some(since) => Ok(Some(since)),
-            None => Err(Refused { option, given }),
+            None => Err(InvalidValue { option, given }),
         },
     }
 }
 
-fn at_least<'a>(entries: &ArgMatches<'a>) -> Result<u32, Refused<'a>>
+fn at_least<'a>(entries: &ArgMatches<'a>) -> Result<u32, InvalidValue<'a>>
     ensures ok { result_ok result ≡ defaulted count_in option.AtLeast 1 (entries_of entries.now) }
     ensures err { IfErr result (Names option.AtLeast (entries_of entries.now)) }
 {
     let option = CommandOption::AtLeast;
     match given(entries, option) {
         None => Ok(1),
-        Some(given) => values::count(given).ok_or(Refused { option, given }),
+        Some(given) => values::count(given).ok_or(InvalidValue { option, given }),
     }
 }
 
-fn points<'a>(entries: &ArgMatches<'a>) -> Result<u32, Refused<'a>>
+fn points<'a>(entries: &ArgMatches<'a>) -> Result<u32, InvalidValue<'a>>
     ensures ok { result_ok result ≡ defaulted points_in option.Points 20 (entries_of entries.now) }
     ensures err { IfErr result (Names option.Points (entries_of entries.now)) }
 {
     let option = CommandOption::Points;
     match given(entries, option) {
         None => Ok(DEFAULT_POINTS),
-        Some(given) => values::points(given).ok_or(Refused { option, given }),
+        Some(given) => values::points(given).ok_or(InvalidValue { option, given }),
     }
 }
 
-fn object<'a>(entries: &ArgMatches<'a>) -> Result<u64, Refused<'a>>
+fn object<'a>(entries: &ArgMatches<'a>) -> Result<u64, InvalidValue<'a>>
     ensures ok { result_ok result ≡ value object_in option.Object (entries_of entries.now) }
     ensures err { IfErr result (Names option.Object (entries_of entries.now)) }
 {
     let option = CommandOption::Object;
     let given = required(entries, option)?;
-    values::object(given).ok_or(Refused { option, given })
+    values::object(given).ok_or(InvalidValue { option, given })
 }
 
-fn tag<'a>(entries: &ArgMatches<'a>) -> Result<[u8; 4], Refused<'a>>
+fn tag<'a>(entries: &ArgMatches<'a>) -> Result<[u8; 4], InvalidValue<'a>>
     ensures ok { result_ok result ≡ value tag_in option.Tag (entries_of entries.now) }
     ensures err { IfErr result (Names option.Tag (entries_of entries.now)) }
 {
     let option = CommandOption::Tag;
     let given = required(entries, option)?;
-    values::tag(given).ok_or(Refused { option, given })
+    values::tag(given).ok_or(InvalidValue { option, given })
 }
 
-fn handle<'a>(entries: &ArgMatches<'a>) -> Result<u32, Refused<'a>>
+fn handle<'a>(entries: &ArgMatches<'a>) -> Result<u32, InvalidValue<'a>>
     ensures ok { result_ok result ≡ value handle_in option.Handle (entries_of entries.now) }
     ensures err { IfErr result (Names option.Handle (entries_of entries.now)) }
 {
     let option = CommandOption::Handle;
     let given = required(entries, option)?;
-    values::handle(given).ok_or(Refused { option, given })
+    values::handle(given).ok_or(InvalidValue { option, given })
 }
 
-fn top<'a>(entries: &ArgMatches<'a>) -> Result<Option<u32>, Refused<'a>>
+fn top<'a>(entries: &ArgMatches<'a>) -> Result<Option<u32>, InvalidValue<'a>>
     ensures ok { result_ok result ≡ optional count_in option.Top (entries_of entries.now) }
     ensures err { IfErr result (Names option.Top (entries_of entries.now)) }
 {
@@ -217,12 +220,12 @@ fn top<'a>(entries: &ArgMatches<'a>) -> Result<Option<u32>, Refused<'a>>
         None => Ok(None),
         Some(given) => match values::count(given) {
             Some(top) => Ok(Some(top)),
-            None => Err(Refused { option, given }),
+            None => Err(InvalidValue { option, given }),
         },
     }
 }
 
-fn until<'a>(entries: &ArgMatches<'a>) -> Result<Option<Moment>, Refused<'a>>
+fn until<'a>(entries: &ArgMatches<'a>) -> Result<Option<Moment>, InvalidValue<'a>>
     ensures ok { result_ok result ≡ optional moment_in option.Until (entries_of entries.now) }
     ensures err { IfErr result (Names option.Until (entries_of entries.now)) }
 {
@@ -231,24 +234,24 @@ fn until<'a>(entries: &ArgMatches<'a>) -> Result<Option<Moment>, Refused<'a>>
         None => Ok(None),
         Some(given) => match values::moment(given) {
             Some(moment) => Ok(Some(moment)),
-            None => Err(Refused { option, given }),
+            None => Err(InvalidValue { option, given }),
         },
     }
 }
 
-fn workers<'a>(entries: &ArgMatches<'a>) -> Result<u32, Refused<'a>>
+fn workers<'a>(entries: &ArgMatches<'a>) -> Result<u32, InvalidValue<'a>>
     ensures ok { result_ok result ≡ workers_given (entries_of entries.now) }
     ensures err { IfErr result (Names option.Workers (entries_of entries.now)) }
 {
     let option = CommandOption::Workers;
     match given(entries, option) {
         None => Ok(1),
-        Some(given) => values::workers(given).ok_or(Refused { option, given }),
+        Some(given) => values::workers(given).ok_or(InvalidValue { option, given }),
     }
 }
 
 #[tactic(auto, unfolding(crate::specs::Requests::question_of))]
-fn question<'a>(name: QuestionName, entries: &ArgMatches<'a>) -> Result<Question, Refused<'a>>
+fn question<'a>(name: QuestionName, entries: &ArgMatches<'a>) -> Result<Question, InvalidValue<'a>>
     ensures ok { result_ok result ≡ question_of name (entries_of entries.now) }
     ensures err { IfErr result (IsFirstBroken (entries_of entries.now) (question_options name)) }
     ensures none { IfOk result (λ _.
@@ -321,7 +324,7 @@ fn has_files(entries: &ArgMatches) -> bool
 }
 
 /// How the segments of a dialogue are read.
-pub(crate) fn setting<'a>(entries: &ArgMatches<'a>) -> Result<Setting, Refused<'a>>
+pub(crate) fn setting<'a>(entries: &ArgMatches<'a>) -> Result<Setting, InvalidValue<'a>>
     ensures ok { result_ok result ≡ setting_of (entries_of entries.now) }
     ensures err { IfErr result (Names option.Workers (entries_of entries.now)) }
 {

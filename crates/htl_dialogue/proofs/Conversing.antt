@@ -5,7 +5,7 @@ use Rattle.std.specs.Prelude.{Option, if◌then◌else◌}
 use Rattle.std.specs.List.{list_any}
 use Rattle.std.proofs.lemmas.List.{append-nil}
 use Rattle.htl_dialogue.specs.Dialogues.{Answers, Converses, Gets, asked_lines, before_end, is_end, last_wait}
-use Rattle.htl_dialogue.specs.Lines.{lines_of}
+use Rattle.htl_dialogue.specs.Lines.{lines_of_dialogue}
 use Rattle.htl_dialogue.specs.Notes.{Note, awaits}
 use Rattle.htl_dialogue.specs.Reading.{IsLine, IsNext}
 use Rattle.htl_dialogue.specs.Replying.{KeepsFault}
@@ -30,7 +30,7 @@ pub record Progress {S Host : Type 0} (answers : Answers S) (wanted : Bool) (tol
   pub left_is : left ≡ Some rest
   pub is : text ≡ read ++ rest
   pub lines : List (List ℕ)
-  pub reads : (more : List ℕ) → lines_of (read ++ more) ≡ lines ++ lines_of more
+  pub reads : (more : List ℕ) → lines_of_dialogue (read ++ more) ≡ lines ++ lines_of_dialogue more
   pub asks : (more : List (List ℕ)) → before_end (lines ++ more) ≡ lines ++ before_end more
   pub goes_on : (more : List (List ℕ)) → list_any line_is_end (lines ++ more) ≡ list_any line_is_end more
   pub are : AreReplied answers wanted told initial old host lines state new now conversed
@@ -49,7 +49,7 @@ asked_none line more ends = rw ends refl
 pub asked_one : (line : List ℕ) (more : List (List ℕ)) → line_is_end line ≡ false → before_end (line ∷ more) ≡ line ∷ before_end more
 asked_one line more goes_on = rw goes_on refl
 
-waits : (text : List ℕ) (b : Bool) (wait : List Note) → list_any line_is_end (lines_of text) ≡ b
+waits : (text : List ℕ) (b : Bool) (wait : List Note) → list_any line_is_end (lines_of_dialogue text) ≡ b
     → (if b then awaits ∷ [] else []) ≡ wait → last_wait text ≡ wait
 waits text b wait is of = rw is of
 
@@ -87,7 +87,7 @@ module _ {S Host : Type 0} {answers : Answers S} {wanted : Bool} {told : Host �
       let first = first_line so_far.rest left after next so_far.left_is line.found in
       let same = line.says first.bytes first.is in
       let is : line_is_end first.bytes ≡ true = end_of_line answers.forgets first.bytes of same ∙ ends in
-      let lines : lines_of text ≡ so_far.lines ++ first.bytes ∷ first.others = ap lines_of so_far.is ∙ so_far.reads so_far.rest
+      let lines : lines_of_dialogue text ≡ so_far.lines ++ first.bytes ∷ first.others = ap lines_of_dialogue so_far.is ∙ so_far.reads so_far.rest
       ∙ ap (λ l. so_far.lines ++ l) first.lines in
       let all : asked_lines text ≡ so_far.lines = ap before_end lines ∙ so_far.asks (first.bytes ∷ first.others)
       ∙ ap (λ l. so_far.lines ++ l) (asked_none first.bytes first.others is) ∙ append-nil so_far.lines in
@@ -115,7 +115,7 @@ module _ {S Host : Type 0} {answers : Answers S} {wanted : Bool} {told : Host �
       let first = first_line so_far.rest left rest next so_far.left_is line.found in
       let same = line.says first.bytes first.is in
       let not_end : line_is_end first.bytes ≡ false = end_of_line answers.forgets first.bytes of same ∙ goes_on in
-      let lines : lines_of text ≡ so_far.lines ++ first.bytes ∷ [] = ap lines_of so_far.is ∙ so_far.reads so_far.rest
+      let lines : lines_of_dialogue text ≡ so_far.lines ++ first.bytes ∷ [] = ap lines_of_dialogue so_far.is ∙ so_far.reads so_far.rest
       ∙ ap (λ l. so_far.lines ++ l) first.lines ∙ ap (λ l. so_far.lines ++ first.bytes ∷ l) (first.last last) in
       let all : asked_lines text ≡ so_far.lines ++ first.bytes ∷ [] = ap before_end lines ∙ so_far.asks (first.bytes ∷ [])
       ∙ ap (λ l. so_far.lines ++ l) (asked_one first.bytes [] not_end) in
@@ -151,10 +151,10 @@ module _ {S Host : Type 0} {answers : Answers S} {wanted : Bool} {told : Host �
         is = so_far.is ∙ ap (λ l. so_far.read ++ l) (later.1 ∙ sym (append_assoc first.bytes (10 ∷ []) first.later))
             ∙ sym (append_assoc so_far.read (first.bytes ++ 10 ∷ []) first.later);
         lines = so_far.lines ++ first.bytes ∷ [];
-        reads = λ text. ap lines_of (append_assoc so_far.read (first.bytes ++ 10 ∷ []) text
+        reads = λ text. ap lines_of_dialogue (append_assoc so_far.read (first.bytes ++ 10 ∷ []) text
             ∙ ap (λ l. so_far.read ++ l) (append_assoc first.bytes (10 ∷ []) text)) ∙ so_far.reads (first.bytes ++ 10 ∷ text)
             ∙ ap (λ l. so_far.lines ++ l) (line_first first.bytes text first.no_feed)
-            ∙ sym (append_assoc so_far.lines (first.bytes ∷ []) (lines_of text));
+            ∙ sym (append_assoc so_far.lines (first.bytes ∷ []) (lines_of_dialogue text));
         asks = λ lines. ap before_end (append_assoc so_far.lines (first.bytes ∷ []) lines) ∙ so_far.asks (first.bytes ∷ lines)
             ∙ ap (λ l. so_far.lines ++ l) (asked_one first.bytes lines not_end)
             ∙ sym (append_assoc so_far.lines (first.bytes ∷ []) (before_end lines));

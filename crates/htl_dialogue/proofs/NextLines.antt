@@ -5,19 +5,19 @@ use Rattle.std.specs.Prelude.{Option}
 use Rattle.std.specs.Io.KnownBytes.{Consumes, IsAtEnd}
 use Rattle.std.proofs.lemmas.List.{append-nil}
 use Rattle.std.proofs.lemmas.List.Splits.{slice_split_at, slice_split_none}
-use Rattle.htl_dialogue.specs.Lines.{is_feed, lines_of}
+use Rattle.htl_dialogue.specs.Lines.{is_feed, lines_of_dialogue}
 use Rattle.htl_dialogue.specs.Reading.{HasNoFeed, IsLine, IsNext, taken_of}
 use Rattle.htl_dialogue.specs.declared.line.Line.{Line}
 use Rattle.htl_dialogue.specs.declared.reading.NextLine.{NextLine}
 
 -- a line feed ends a line
-pub line_first : (bytes later : List ℕ) → HasNoFeed bytes → lines_of (bytes ++ 10 ∷ later) ≡ bytes ∷ lines_of later
-unfolding lines_of
+pub line_first : (bytes later : List ℕ) → HasNoFeed bytes → lines_of_dialogue (bytes ++ 10 ∷ later) ≡ bytes ∷ lines_of_dialogue later
+unfolding lines_of_dialogue
 line_first bytes later none = slice_split_at is_feed bytes 10 later none refl
 
 -- a text without one is a line
-pub one_line : (bytes : List ℕ) → HasNoFeed bytes → lines_of bytes ≡ bytes ∷ []
-unfolding lines_of
+pub one_line : (bytes : List ℕ) → HasNoFeed bytes → lines_of_dialogue bytes ≡ bytes ∷ []
+unfolding lines_of_dialogue
 one_line bytes none = slice_split_none is_feed bytes none
 
 -- the first of the lines that are left, and those that follow it
@@ -28,9 +28,9 @@ pub record FirstLine (rest : List ℕ) (left : Option (List ℕ)) (next : NextLi
   pub later : List ℕ
   pub left_is : left ≡ Some later
   pub others : List (List ℕ)
-  pub lines : lines_of rest ≡ bytes ∷ others
+  pub lines : lines_of_dialogue rest ≡ bytes ∷ others
   pub last : next.is_last ≡ true → others ≡ []
-  pub more : next.is_last ≡ false → (others ≡ lines_of later) × (rest ≡ bytes ++ 10 ∷ later) × (length later < length rest)
+  pub more : next.is_last ≡ false → (others ≡ lines_of_dialogue later) × (rest ≡ bytes ++ 10 ∷ later) × (length later < length rest)
 
 first_of : (rest bytes : List ℕ) (left : Option (List ℕ)) (line : Line) (is_last : Bool) → HasNoFeed bytes → IsLine bytes line
     → Consumes (Some rest) left (taken_of is_last bytes) → (is_last ≡ true → IsAtEnd left)
@@ -45,7 +45,7 @@ first_of rest bytes (Some later) line true none is taken ended =
       later = later;
       left_is = refl;
       others = [];
-      lines = ap lines_of all ∙ one_line bytes none;
+      lines = ap lines_of_dialogue all ∙ one_line bytes none;
       last = λ _. refl;
       more = λ bad. cc;
     }
@@ -57,8 +57,8 @@ first_of rest bytes (Some later) line false none is taken ended =
       is = is;
       later = later;
       left_is = refl;
-      others = lines_of later;
-      lines = ap lines_of all ∙ line_first bytes later none;
+      others = lines_of_dialogue later;
+      lines = ap lines_of_dialogue all ∙ line_first bytes later none;
       last = λ bad. cc;
       more = λ _. (refl, all, omega (arith, ap length all, length-append bytes (10 ∷ later)));
     }

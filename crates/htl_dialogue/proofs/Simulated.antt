@@ -3,7 +3,7 @@ use Rattle.std.proofs.Common.{◌≡◌, ℕ, Bool, true, false, List, [], ◌�
 use Rattle.std.specs.Prelude.{Option, Result}
 use Rattle.htl_command.specs.declared.fault.ParseFault.{ParseFault}
 use Rattle.htl_command.specs.declared.question.Job.{Job}
-use Rattle.htl_dialogue.specs.Dialogues.{Answers, AreExchanges, Converses, GotAt, IsReplied, StopsAt, asked_lines}
+use Rattle.htl_dialogue.specs.Dialogues.{Answers, AreExchanges, Converses, GotAt, IsReplied, DialogueStops, asked_lines}
 use Rattle.htl_dialogue.specs.Notes.{IsAbsence, IsAbsenceOf, IsFaultOf, Note}
 use Rattle.htl_dialogue.specs.Sayings.{Saying, asks, nothing, quits, reads, saying_in, wrong}
 use Rattle.htl_dialogue.specs.declared.dialogue.Conversed.{Conversed}
@@ -103,7 +103,7 @@ module _ {A B : Type 0} (one : Answers A) (other : Answers B) (alike : one.forge
   -- So is one that a fault ends.
   pub stops_too : (wanted : Bool) (a : A) (b : B) (text : List ℕ) (left : Option (List ℕ)) (failed : Bool)
       (Got : List ℕ → List Note → Type 0) (fault : DialogueFault) → Follows a b
-      → StopsAt one wanted a text left failed Got fault → StopsAt other wanted b text left failed Got fault
+      → DialogueStops one wanted a text left failed Got fault → DialogueStops other wanted b text left failed Got fault
   stops_too wanted a b text left failed Got fault follows is =
       let all = exchanges_too wanted a b is.earlier is.state is.replies is.notes follows is.exchanged in
       record {

@@ -6,8 +6,8 @@ use Rattle.std.specs.Io.KnownBytes.{Consumes}
 use Rattle.std.proofs.KnownBytes.{Appends-trans}
 use Rattle.htl_device.specs.declared.whole.ReadFault.{ReadFault}
 use Rattle.htl_device.specs.declared.whole.ReadFault.TheVariants as reads
-use Rattle.htl_dialogue.specs.Dialogues.{Answers, AreRead, Gets, GotAt, StopsAt, asked_lines, before_end, is_end}
-use Rattle.htl_dialogue.specs.Lines.{lines_of}
+use Rattle.htl_dialogue.specs.Dialogues.{Answers, AreRead, Gets, GotAt, DialogueStops, asked_lines, before_end, is_end}
+use Rattle.htl_dialogue.specs.Lines.{lines_of_dialogue}
 use Rattle.htl_dialogue.specs.Notes.{Note, awaits}
 use Rattle.htl_dialogue.specs.Reading.{IsBegun}
 use Rattle.htl_dialogue.specs.Replying.{IsRefusedReply, of_read}
@@ -43,7 +43,7 @@ module _ {S Host : Type 0} {answers : Answers S} {wanted : Bool} {told : Host �
   where
     -- the lines that are left
     cut_at : asked_lines text ≡ so_far.lines ++ asked_lines so_far.rest
-    cut_at = ap before_end (ap lines_of so_far.is ∙ so_far.reads so_far.rest) ∙ so_far.asks (lines_of so_far.rest)
+    cut_at = ap before_end (ap lines_of_dialogue so_far.is ∙ so_far.reads so_far.rest) ∙ so_far.asks (lines_of_dialogue so_far.rest)
 
     -- where a line was begun, all lines before it were read
     pub all_read : (after : Option (List ℕ)) → IsBegun left after → AreRead text after so_far.lines
@@ -63,7 +63,7 @@ module _ {S Host : Type 0} {answers : Answers S} {wanted : Bool} {told : Host �
     stops_here : (after : Option (List ℕ)) (mid : Host) (failed : Bool) (fault : DialogueFault)
         → GotAt answers state failed (Gets old new told host mid) fault (asked_lines so_far.rest) so_far.are.replies so_far.are.notes
         → (failed ≡ true → AreRead text after so_far.lines)
-        → StopsAt answers wanted initial text after failed (Gets old new told host mid) fault
+        → DialogueStops answers wanted initial text after failed (Gets old new told host mid) fault
     stops_here after mid failed fault got in_time = record {
       earlier = so_far.lines;
       later = asked_lines so_far.rest;
@@ -79,7 +79,7 @@ module _ {S Host : Type 0} {answers : Answers S} {wanted : Bool} {told : Host �
     -- a line was awaited
     pub stopped : (after : Option (List ℕ)) (mid : Host) (failed : Bool) (fault : DialogueFault) → mid ≡ told now awaits
         → IsBeforeReply fault → (failed ≡ true → AreRead text after so_far.lines)
-        → StopsAt answers wanted initial text after failed (Gets old new told host mid) fault
+        → DialogueStops answers wanted initial text after failed (Gets old new told host mid) fault
     stopped after mid failed fault waited is in_time = stops_here after mid failed fault (went fault is) in_time
       where
         gets : Gets old new told host mid so_far.are.replies (so_far.are.notes ++ awaits ∷ [])
@@ -93,7 +93,7 @@ module _ {S Host : Type 0} {answers : Answers S} {wanted : Bool} {told : Host �
 
     -- or none was
     pub stopped_between : (after : Option (List ℕ)) (failed : Bool) (fault : DialogueFault) → IsBeforeReply fault → failed ≡ false
-        → StopsAt answers wanted initial text after failed (Gets old new told host now) fault
+        → DialogueStops answers wanted initial text after failed (Gets old new told host now) fault
     stopped_between after failed fault is fine = stops_here after now failed fault (went fault is) (λ bad. cc)
       where
         gets : Gets old new told host now so_far.are.replies so_far.are.notes
@@ -110,7 +110,7 @@ module _ {S Host : Type 0} {answers : Answers S} {wanted : Bool} {told : Host �
         (failed write_failed : Bool) (fault : DialogueFault) → mid ≡ told now awaits → Takes answers.forgets left rest next of
         → is_end (saying of) ≡ false
         → IsRefusedReply answers of state new end_out write_failed told mid end fault → failed ≡ false
-        → StopsAt answers wanted initial text after failed (Gets old end_out told host end) fault
+        → DialogueStops answers wanted initial text after failed (Gets old end_out told host end) fault
     unreplied after end_out mid end failed write_failed Questions waited line goes_on refused fine = absurd refused
     unreplied after end_out mid end failed write_failed NoMemory waited line goes_on refused fine =
         rw (refused.0, refused.2) (stopped after mid failed NoMemory waited tt (λ bad. cc))

@@ -6,7 +6,7 @@ use Rattle.std.specs.List.{list_any}
 use Rattle.std.specs.Io.KnownBytes.{Appends, Consumes}
 use Rattle.htl_command.specs.declared.fault.ParseFault.{ParseFault}
 use Rattle.htl_command.specs.declared.question.Job.{Job}
-use Rattle.htl_dialogue.specs.Lines.{lines_of}
+use Rattle.htl_dialogue.specs.Lines.{lines_of_dialogue}
 use Rattle.htl_dialogue.specs.Notes.{IsAbsence, IsFaultOf, Note, after_notes, awaits, first_fault, refuses, reads as notes_reading}
 use Rattle.htl_dialogue.specs.Sayings.{Saying, nothing, quits, asks, reads, wrong, saying_in, saying_of}
 use Rattle.htl_dialogue.specs.declared.dialogue.Conversed.{Conversed}
@@ -79,11 +79,11 @@ before_end (line ∷ more) = if is_end (saying_of line) then [] else line ∷ be
 
 -- The lines of a text that get a reply.
 abbrev pub asked_lines : List ℕ → List (List ℕ)
-asked_lines text = before_end (lines_of text)
+asked_lines text = before_end (lines_of_dialogue text)
 
 -- one line more is awaited, where it ends the dialogue
 abbrev pub last_wait : List ℕ → List Note
-last_wait text = if list_any (λ line. is_end (saying_of line)) (lines_of text) then awaits ∷ [] else []
+last_wait text = if list_any (λ line. is_end (saying_of line)) (lines_of_dialogue text) then awaits ∷ [] else []
 
 -- the known bytes of a sink got these replies, and a host these notes
 abbrev pub Gets : {Host : Type 0} → Option (List ℕ) → Option (List ℕ) → (Host → Note → Host) → Host → Host → List ℕ → List Note → Type 0
@@ -115,11 +115,11 @@ GotAt answers state failed Got NoMemory later replies notes = Got replies (notes
 
 -- These are the lines that were read to their line feeds, of a text of which this is left.
 abbrev pub AreRead : List ℕ → Option (List ℕ) → List (List ℕ) → Type 0
-AreRead text left lines = (read begun : List ℕ) × Consumes (Some text) left read × (lines_of read ≡ lines ++ begun ∷ [])
+AreRead text left lines = (read begun : List ℕ) × Consumes (Some text) left read × (lines_of_dialogue read ≡ lines ++ begun ∷ [])
 
 -- A fault ends the dialogue: the lines before it got their replies. Where a read failed, these are all lines that were read, so that no
 -- line waits for its reply while the next is read, and nothing is read after a line that ends the dialogue.
-pub record StopsAt {S : Type 0} (answers : Answers S) (wanted : Bool) (before : S) (text : List ℕ) (left : Option (List ℕ))
+pub record DialogueStops {S : Type 0} (answers : Answers S) (wanted : Bool) (before : S) (text : List ℕ) (left : Option (List ℕ))
     (failed : Bool) (Got : List ℕ → List Note → Type 0) (fault : DialogueFault) : Type 0 where
   pub earlier : List (List ℕ)
   pub later : List (List ℕ)

@@ -10,8 +10,8 @@ abbrev pub is_feed : ℕ → Bool
 is_feed b = b == 10
 
 -- The lines of a text: what stands between line feeds. A text that ends with a line feed has an empty line after it.
-unfoldable pub lines_of : List ℕ → List (List ℕ)
-lines_of text = slice_split is_feed text
+unfoldable pub lines_of_dialogue : List ℕ → List (List ℕ)
+lines_of_dialogue text = slice_split is_feed text
 
 abbrev pub is_quote : ℕ → Bool
 is_quote b = b == 34

@@ -19,6 +19,6 @@ mod splitting;
 
 pub use dialogue::{Conversed, DialogueFault, Host};
 pub use line::{Line, MAX_LINE_LEN};
-pub use reading::{Held, NextLine, next_line};
+pub use reading::{NextLine, ReadAhead, next_line};
 pub use saying::{Said, read_line};
 pub use splitting::{ArgumentFault, arguments};

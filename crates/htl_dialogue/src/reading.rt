@@ -3,7 +3,6 @@
 ghost use Rattle.std.specs.Prelude.{◌≡◌, ◌≤◌, ◌⊎◌, [], false, true, length, position, Err};
 ghost use Rattle.std.specs.Prelude.{IfErr, IfOk, IfSome, OnOk};
 ghost use Rattle.std.specs.Io.KnownBytes.{prepend_known};
-ghost use Rattle.htl_device.specs.declared.whole.ReadFault.TheVariants.{NoMemory};
 ghost use Rattle.htl_dialogue.specs.Lines.{is_feed};
 ghost use Rattle.htl_dialogue.specs.Reading.{IsBegun, IsNext};
 
@@ -14,13 +13,13 @@ use std::marker::Model;
 
 /// Bytes that were read of a source, and that no line has yet.
 #[derive(Drop)]
-pub struct Held {
+pub struct ReadAhead {
     buffer: Vec<u8>,
     taken: usize,
     read: usize,
 }
 
-impl Model for Held {
+impl Model for ReadAhead {
     ghost use Rattle.std.specs.Prelude.{◌≡◌, ◌≤◌, ◌-◌, ℕ, List, drop, length, take};
     ghost use Rattle.htl_device.specs.declared.source.TheConstants.{MAX_READ_LEN};
 
@@ -32,17 +31,16 @@ impl Model for Held {
         × (length h.buffer.items ≡ MAX_READ_LEN) };
 }
 
-impl Held {
+impl ReadAhead {
     ghost use Rattle.std.specs.Prelude.{◌≡◌, ◌<◌, [], false, IfOk, OnErr, is_err, length};
     ghost use Rattle.std.specs.Io.KnownBytes.{Consumes, IsAtEnd, Keeps};
-    ghost use Rattle.htl_device.specs.Devices.{reads_after};
     ghost use Rattle.htl_dialogue.specs.Reading.{Moves};
 
     /// No bytes, and room for those of a read.
-    pub fn new(alloc: Global) -> Result<Held, AllocError>
+    pub fn new(alloc: Global) -> Result<ReadAhead, AllocError>
         ensures { IfOk result (λ held. held ≡ []) }
     {
-        Ok(Held {
+        Ok(ReadAhead {
             buffer: vec![in alloc; 0; MAX_READ_LEN]?,
             taken: 0,
             read: 0,
@@ -111,7 +109,7 @@ pub struct NextLine {
 pub fn next_line<R: Source>(
     alloc: Global,
     source: &mut R,
-    held: &mut Held,
+    held: &mut ReadAhead,
 ) -> Result<NextLine, ReadFault>
     requires fresh { R.has_failed source.old ≡ false }
     requires inside { R.has_ended source.old ≡ false }

@@ -1,7 +1,7 @@
 //! Call stacks that lie in their events.
 
-ghost use Rattle.std.specs.Prelude.{◌≡◌, ◌≤◌, ◌<◌, ◌^◌, [], ◌∷◌, ◌++◌};
-ghost use Rattle.std.specs.Prelude.{length, nat_lt, if◌then◌else◌, All};
+ghost use Rattle.std.specs.Prelude.{◌≡◌, ◌≤◌, ◌<◌, [], ◌∷◌, ◌++◌};
+ghost use Rattle.std.specs.Prelude.{length, nat_lt, if◌then◌else◌};
 ghost use Rattle.htl_event.specs.Stacks.{stack_cmp};
 
 use arrayvec::ArrayVec;

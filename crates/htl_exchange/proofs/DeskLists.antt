@@ -1,5 +1,5 @@
 -- Lists of desks.
-use Rattle.std.proofs.Common.{◌≡◌, ℕ, zero, suc, ◌+◌, ◌≤◌, ◌<◌, true, ◌||◌, List, [], ◌∷◌, ◌++◌, take, length, get_or, add-one, sym, ap, ◌∙◌, arith, inl, inr}
+use Rattle.std.proofs.Common.{◌≡◌, ℕ, zero, suc, ◌+◌, ◌≤◌, ◌<◌, ◌||◌, List, [], ◌∷◌, ◌++◌, take, length, get_or, add-one, sym, ap, ◌∙◌, arith, inl, inr}
 use Rattle.htl_exchange.specs.declared.pass.Known.{Known}
 use Rattle.htl_exchange.specs.Runs.{has}
 use Rattle.htl_exchange.specs.Moves.{joined}

@@ -1,8 +1,8 @@
 -- A desk follows the rule of its exchange, whatever step is made with its pass or on its analyst.
-use Rattle.std.proofs.Common.{◌≡◌, ◌≢◌, ◌⊎◌, ℕ, ◌<◌, true, false, true≢false, Bool, List, [], ◌∷◌, length}
-use Rattle.std.proofs.Common.{Some, None, Option, Result, Ok, Err, MatchOption, sym, refl, ap, ◌∙◌, subst, inl, inr, arith}
+use Rattle.std.proofs.Common.{◌≡◌, ◌≢◌, ◌⊎◌, ℕ, ◌<◌, true, false, true≢false, Bool, List, []}
+use Rattle.std.proofs.Common.{Some, None, Option, Result, Ok, Err, sym, refl, ap, ◌∙◌, subst, inl, inr, arith}
 use Rattle.std.specs.Prelude.{◌↔◌}
-use Rattle.crossbeam_queue.specs.Fifo.{Pushes, Held}
+use Rattle.crossbeam_queue.specs.Fifo.{Pushes}
 use Rattle.htl_event.specs.declared.memory.NoMemory.{NoMemory}
 use Rattle.htl_segment.specs.Traces.{Trace, HasKey}
 use Rattle.htl_analyst.specs.States.{State}
@@ -14,7 +14,7 @@ use Rattle.htl_exchange.specs.declared.parcel.Parcel.TheVariants as parcels
 use Rattle.htl_exchange.specs.Runs.{has, union, one, runs_of, runs_taken}
 use Rattle.htl_exchange.specs.Parcels.{named, runs_in, Brings, IsOf, IsParcelOf}
 use Rattle.htl_exchange.specs.Rule.{MakesUp}
-use Rattle.htl_exchange.specs.Moves.{popped, Popped, pushed, Pushed, joined, KnowsRest}
+use Rattle.htl_exchange.specs.Moves.{popped, pushed, Pushed, joined}
 use Rattle.htl_exchange.specs.Desks.{HandIsOf, HasGot, Follows, KeepsGot, IsWholeStanding}
 use Rattle.htl_exchange.specs.declared.desk.Collected.{Collected}
 use Rattle.htl_exchange.specs.declared.desk.Collected.TheVariants as collected

@@ -1,5 +1,5 @@
 -- What one pass, and one parcel, add to what all have.
-use Rattle.std.proofs.Common.{◌≡◌, ◌≢◌, ℕ, zero, suc, ◌+◌, ◌≤◌, Bool, true, false, ◌||◌, List, [], ◌∷◌, ◌++◌, set, sym, refl, ap, ◌∙◌, arith}
+use Rattle.std.proofs.Common.{◌≡◌, ◌≢◌, ℕ, zero, suc, ◌+◌, ◌≤◌, Bool, false, ◌||◌, List, [], ◌∷◌, ◌++◌, set, sym, refl, ap, ◌∙◌, arith}
 use mathlib.Core.Option.{some, some-injective, some-ne-none}
 use lib.ListN.{get_elem?}
 use Rattle.htl_exchange.specs.declared.pass.Known.{Known}
@@ -7,7 +7,7 @@ use Rattle.htl_exchange.specs.declared.parcel.Parcel.{Parcel}
 use Rattle.htl_exchange.specs.Runs.{has}
 use Rattle.htl_exchange.specs.Parcels.{runs_in}
 use Rattle.htl_exchange.specs.Rule.{total, parts_of, any_got, any_in}
-use Rattle.htl_exchange.proofs.Sets.{or_false, or_assoc, or_swap, or_left}
+use Rattle.htl_exchange.proofs.Sets.{or_false, or_assoc, or_swap}
 
 -- what the passes but one have got
 abbrev pub others : ℕ → List Known → ℕ → Bool

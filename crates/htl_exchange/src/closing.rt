@@ -1,5 +1,5 @@
 //! Closing an exchange.
-ghost use Rattle.std.specs.Prelude.{◌≡◌, ◌≢◌, ◌+◌, ◌≤◌, ◌<◌, ◌↔◌, ℕ, [], ◌∷◌, None, IsTrue};
+ghost use Rattle.std.specs.Prelude.{◌≡◌, ◌≢◌, ◌+◌, ◌≤◌, ◌<◌, ◌↔◌, [], ◌∷◌, None, IsTrue};
 ghost use Rattle.std.specs.Prelude.{true, IfOk, IfErr, OnOk, length, vec_len, vec_capacity};
 ghost use Rattle.htl_exchange.specs.Rule.{all_parts};
 ghost use Rattle.htl_exchange.specs.Desks.{IsDeskOf, AreDesksOf, parts_at};

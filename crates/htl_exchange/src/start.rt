@@ -1,13 +1,10 @@
 //! Starting an exchange: the queue is filled with the runs of a case, and its desks are made.
 ghost use Rattle.std.specs.Prelude.{◌≡◌, ◌≢◌, ◌+◌, ◌*◌, ◌≤◌, ◌<◌, ◌↔◌, ◌⊎◌, ◌++◌, ℕ, []};
-ghost use Rattle.std.specs.Prelude.{filter, OnOk, IfOk, IfErr, length, vec_len, Err};
+ghost use Rattle.std.specs.Prelude.{filter, OnOk, IfOk, vec_len, Err};
 ghost use Rattle.std.specs.List.{list_any};
 ghost use Rattle.crossbeam_queue.specs.Passes.{IsPassOf, IsSamePass, ruled_capacity};
-ghost use Rattle.htl_segment.specs.Content.{Content};
-ghost use Rattle.htl_segment.specs.Traces.{Trace};
 ghost use Rattle.htl_analyst.specs.Keys.{HasTaken};
 ghost use Rattle.htl_analyst.specs.Right.{IsRight};
-ghost use Rattle.htl_case.specs.Cases.{IsCase};
 ghost use Rattle.htl_exchange.specs.Runs.{runs_of, size, is_of, IsRunOf};
 ghost use Rattle.htl_exchange.specs.Rule.{all_parts, blank};
 ghost use Rattle.htl_exchange.specs.Moves.{known_of};

@@ -1,6 +1,6 @@
 //! Rows of bad references.
 
-ghost use Rattle.std.specs.Prelude.{◌≡◌, ◌∷◌, [], OnOk, map};
+ghost use Rattle.std.specs.Prelude.{◌≡◌, [], OnOk};
 ghost use Rattle.htl_json.specs.Rows.{bad_fields, bad_reference};
 ghost use Rattle.htl_json.specs.Writing.{AddsFields, AddsLine, AddsLines};
 

@@ -1,6 +1,6 @@
 //! Rows that are counts: leaking stacks, stacks behind a tag, and tags.
 
-ghost use Rattle.std.specs.Prelude.{◌≡◌, ◌∷◌, [], OnOk, map};
+ghost use Rattle.std.specs.Prelude.{◌≡◌, [], OnOk};
 ghost use Rattle.htl_json.specs.Rows.{balance_fields, counted_stack, handles_field, leak};
 ghost use Rattle.htl_json.specs.Rows.{tag_balance};
 ghost use Rattle.htl_json.specs.Writing.{AddsFields, AddsLine, AddsLines};

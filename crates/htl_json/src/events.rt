@@ -1,6 +1,6 @@
 //! Rows that are events: outstanding handles, differences and listings.
 
-ghost use Rattle.std.specs.Prelude.{◌≡◌, ◌∷◌, [], OnOk, map};
+ghost use Rattle.std.specs.Prelude.{◌≡◌, [], OnOk};
 ghost use Rattle.htl_json.specs.Rows.{event_fields, listed, opened};
 ghost use Rattle.htl_json.specs.Writing.{AddsFields, AddsLine, AddsLines};
 

@@ -1,6 +1,6 @@
 //! Rows of a growth.
 
-ghost use Rattle.std.specs.Prelude.{◌≡◌, ◌∷◌, [], OnOk, map};
+ghost use Rattle.std.specs.Prelude.{◌≡◌, [], OnOk};
 ghost use Rattle.htl_json.specs.Rows.{point_fields, point_row};
 ghost use Rattle.htl_json.specs.Writing.{AddsFields, AddsLine, AddsLines};
 

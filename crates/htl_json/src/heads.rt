@@ -1,6 +1,6 @@
 //! The first line of each answer.
 
-ghost use Rattle.std.specs.Prelude.{◌≡◌, ◌∷◌, [], OnOk, codes};
+ghost use Rattle.std.specs.Prelude.{◌≡◌, [], OnOk};
 ghost use Rattle.htl_json.specs.Heads.{count_field, end_fields, handle_field, lines_fields};
 ghost use Rattle.htl_json.specs.Heads.{object_fields, process_fields, process_head, since_fields};
 ghost use Rattle.htl_json.specs.Heads.{stacks_head, summary_head, tags_head, totals_fields};

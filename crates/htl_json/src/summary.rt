@@ -1,6 +1,6 @@
 //! Rows of a summary: gaps, processes and objects.
 
-ghost use Rattle.std.specs.Prelude.{◌≡◌, ◌∷◌, [], OnOk, map};
+ghost use Rattle.std.specs.Prelude.{◌≡◌, [], OnOk};
 ghost use Rattle.htl_json.specs.Rows.{absent_fields, between_fields, handles_fields, missing};
 ghost use Rattle.htl_json.specs.Rows.{missing_fields};
 ghost use Rattle.htl_json.specs.Rows.{moments_fields, process_row, unbalanced_fields};

@@ -18,14 +18,14 @@ use Rattle.htl_command.specs.declared.question.InputForm.{InputForm}
 use Rattle.htl_command.specs.declared.question.Job.{Job}
 use Rattle.htl_command.specs.declared.question.Setting.{Setting}
 use Rattle.htl_main.specs.Causes.{IsCauseAfter}
-use Rattle.htl_main.specs.Inputs.{DecodeAll, Decodes, IsReported, StopsAt}
+use Rattle.htl_main.specs.Inputs.{DecodeAll, Decodes, IsReportedOfInput, StopsAtInput}
 use Rattle.htl_main.specs.Loading.{in_setting}
 use Rattle.htl_main.specs.Origins.{HasSegment, IsBetween}
-use Rattle.htl_main.specs.Parts.{AreParts}
+use Rattle.htl_main.specs.Spans.{AreSpans}
 use Rattle.htl_main.specs.Printed.{WorkersFit}
 use Rattle.htl_main.specs.Readings.{AreRead}
 use Rattle.htl_main.specs.Sources.{IsReportedAt, IsSourcesCause}
-use Rattle.htl_main.specs.declared.decoded.Part.{Part}
+use Rattle.htl_main.specs.declared.decoded.InputSpan.{InputSpan}
 use Rattle.htl_main.specs.declared.fault.RunFault.{RunFault}
 use Rattle.htl_main.specs.declared.fault.RunFault.TheVariants.{Case, Hex, Memory, Read, Segment, Write}
 use Rattle.htl_main.specs.declared.origin.Between.TheVariants.{Nothing}
@@ -91,9 +91,9 @@ has_too form inputs later place s has = record {
 }
 
 -- the part of each segment is the same
-pub parts_too : (form : InputForm) (inputs : List (List ℕ)) (later : List ℕ) (segments : List Content) (parts : List Part)
-    → AreParts form inputs segments parts → AreParts form (inputs ++ later ∷ []) segments parts
-parts_too form inputs later segments parts are = record {
+pub spans_too : (form : InputForm) (inputs : List (List ℕ)) (later : List ℕ) (segments : List Content) (spans : List InputSpan)
+    → AreSpans form inputs segments spans → AreSpans form (inputs ++ later ∷ []) segments spans
+spans_too form inputs later segments spans are = record {
   within = are.within;
   each = λ place s at.
       let own = are.each place s at in
@@ -102,8 +102,8 @@ parts_too form inputs later segments parts are = record {
 
 -- what stops at an input stops there too
 stops_too : (form : InputForm) (Reported Now : ℕ → List ℕ → RunFault → Type 0) (inputs : List (List ℕ)) (later : List ℕ) (fault : RunFault)
-    → ((place : ℕ) (input : List ℕ) → Reported place input fault → Now place input fault) → StopsAt form Reported inputs fault
-    → StopsAt form Now (inputs ++ later ∷ []) fault
+    → ((place : ℕ) (input : List ℕ) → Reported place input fault → Now place input fault) → StopsAtInput form Reported inputs fault
+    → StopsAtInput form Now (inputs ++ later ∷ []) fault
 stops_too form Reported Now inputs later fault too stops = record {
   place = stops.place;
   input = stops.input;
@@ -133,16 +133,16 @@ module _ (setting : Setting) (inputs : List (List ℕ)) (earlier : List ℕ) (le
 
   -- why reading ends
   pub stops_cause : (job : Job) (fault : RunFault) → WorkersFit setting.workers
-      → StopsAt setting.form (IsReportedAt setting.form lefts ends) inputs fault
+      → StopsAtInput setting.form (IsReportedAt setting.form lefts ends) inputs fault
       → IsSourcesCause (in_setting setting job) (inputs ++ earlier ∷ []) (lefts ++ Some [] ∷ []) (ends ++ true ∷ []) None fault
   stops_cause job (Segment at offset found) fit stops = (
     fit,
-    stops_too setting.form (IsReportedAt setting.form lefts ends) (IsReported setting.form) inputs earlier (Segment at offset found)
+    stops_too setting.form (IsReportedAt setting.form lefts ends) (IsReportedOfInput setting.form) inputs earlier (Segment at offset found)
         (λ place input reported. reported.4) stops,
   )
   stops_cause job (Hex at found) fit stops = (
     fit,
-    stops_too setting.form (IsReportedAt setting.form lefts ends) (IsReported setting.form) inputs earlier (Hex at found)
+    stops_too setting.form (IsReportedAt setting.form lefts ends) (IsReportedOfInput setting.form) inputs earlier (Hex at found)
         (λ place input reported. reported.4) stops,
   )
   stops_cause job (Read at) fit stops = (
@@ -158,7 +158,7 @@ module _ (setting : Setting) (inputs : List (List ℕ)) (earlier : List ℕ) (le
   stops_cause job fault fit stops = absurd (stops.reported.4)
 
   -- which is about no two segments
-  pub none_stops : (all : List (List ℕ)) (fault : RunFault) → StopsAt setting.form (IsReportedAt setting.form lefts ends) inputs fault
+  pub none_stops : (all : List (List ℕ)) (fault : RunFault) → StopsAtInput setting.form (IsReportedAt setting.form lefts ends) inputs fault
       → IsBetween setting.form all fault Nothing
   none_stops all (Case found) stops = absurd (stops.reported.4)
   none_stops all fault stops = refl
@@ -166,7 +166,7 @@ module _ (setting : Setting) (inputs : List (List ℕ)) (earlier : List ℕ) (le
   -- Memory for what was loaded before is asked for at the input that has it.
   stops_there : (segments before : List Content) → DecodeAll setting.form inputs segments → Decodes setting.form earlier before
       → before ≢ [] → length lefts ≡ length inputs → length ends ≡ length inputs
-      → StopsAt setting.form (IsReportedAt setting.form (lefts ++ Some [] ∷ []) (ends ++ true ∷ [])) (inputs ++ earlier ∷ []) Memory
+      → StopsAtInput setting.form (IsReportedAt setting.form (lefts ++ Some [] ∷ []) (ends ++ true ∷ [])) (inputs ++ earlier ∷ []) Memory
   stops_there segments before all decoded some as_many so_many = record {
     place = length inputs;
     input = earlier;

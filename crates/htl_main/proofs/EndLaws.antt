@@ -10,7 +10,7 @@ use Rattle.htl_reading.specs.Sources.{IsLeft}
 use Rattle.htl_reading.specs.declared.outcome.Bundle.{Bundle}
 use Rattle.htl_reading.specs.declared.outcome.EarlyEnd.{EarlyEnd}
 use Rattle.htl_main.specs.Ends.{IsEnd, IsEndRefused, IsInput}
-use Rattle.htl_main.specs.Inputs.{HasBytes, IsReported, MayBeLeft}
+use Rattle.htl_main.specs.Inputs.{HasBytes, IsReportedOfInput, MayBeLeft}
 use Rattle.htl_main.specs.Sources.{IsReportedOfSource}
 use Rattle.htl_main.specs.declared.cut_inputs.Accepted.{Accepted}
 use Rattle.htl_main.specs.declared.fault.RunFault.{RunFault}
@@ -59,7 +59,7 @@ module _ (form : InputForm) (input bytes rest : List ℕ) (segments : List Conte
   }
 
   pub input_refused : (place : ℕ) (fault : RunFault) → IsEndRefused form place (length (bundle segments)) rest fault
-      → IsReported form place input fault
+      → IsReportedOfInput form place input fault
   input_refused place fault refused = rw (refused.is) (
     refl,
     record {
@@ -81,14 +81,14 @@ accepted_input form input bytes rest segments list (Err fault) has split same ke
 
 pub refused_input : {S : Type 0} (form : InputForm) (place : ℕ) (input bytes rest : List ℕ) (segments : List Content)
     (result : Result S RunFault) → HasBytes form.hex input bytes → Splits bytes segments rest
-    → IfErr result (IsEndRefused form place (length (bundle segments)) rest) → IfErr result (IsReported form place input)
+    → IfErr result (IsEndRefused form place (length (bundle segments)) rest) → IfErr result (IsReportedOfInput form place input)
 refused_input form place input bytes rest segments (Ok it) has split refused = tt
 refused_input form place input bytes rest segments (Err fault) has split refused =
     input_refused form input bytes rest segments has split place fault refused
 
 -- of a source of bytes
 source_reported : (form : InputForm) (left : Option (List ℕ)) (ended : Bool) (place : ℕ) (bytes : List ℕ) (fault : RunFault)
-    {offset : ℕ} {rest : List ℕ} → IsEndRefused form place offset rest fault → IsReported form place bytes fault
+    {offset : ℕ} {rest : List ℕ} → IsEndRefused form place offset rest fault → IsReportedOfInput form place bytes fault
     → IsReportedOfSource form left ended place bytes fault
 source_reported form left ended place bytes (Segment at offset fault) refused reported = reported
 source_reported form left ended place bytes fault refused reported = absurd (cc (refused.is))

@@ -31,7 +31,7 @@ use Rattle.htl_main.specs.Folders.{AreAllTaken, Folds, GaveOwn, IsAdded, IsMissi
 use Rattle.htl_main.specs.Folders.{folds_of, number_of}
 use Rattle.htl_main.specs.Folding.{AreAccepted, AreAllOf, AreFolded, AreGiven, AreTaken, AsksFoldsMemory, IsFolded, IsFoldedFar, IsFoldedUpTo}
 use Rattle.htl_main.specs.Folding.{AreReadToFold, IsBeginningRefused, IsFoldingRefused, IsFoldsFault, TakesUpTo, counted}
-use Rattle.htl_main.specs.Inputs.{DecodeAll, HasBytes, StopsAt}
+use Rattle.htl_main.specs.Inputs.{DecodeAll, HasBytes, StopsAtInput}
 use Rattle.htl_main.specs.Printed.{WorkersFit}
 use Rattle.htl_main.specs.Readings.{AreRead}
 use Rattle.htl_main.specs.Reads.{NeverRead}
@@ -278,7 +278,7 @@ counted_before before (Some a) T taken all = all_counted before a T taken.1 take
 
 module _ (setting : Setting) (before : List Content) (texts : List (List ℕ)) (lefts : List (Option (List ℕ))) (ends : List Bool) where
   abbrev pub Stops : RunFault → Type 0
-  Stops fault = StopsAt setting.form (IsReportedAt setting.form lefts ends) texts fault
+  Stops fault = StopsAtInput setting.form (IsReportedAt setting.form lefts ends) texts fault
 
   abbrev pub Refuses : Option State → RunFault → Type 0
   Refuses now fault = IsFoldingRefused setting before texts lefts ends (AreFolded now) fault

@@ -17,7 +17,7 @@ use Rattle.htl_segment.specs.declared.fault.Fault.{Fault}
 use Rattle.htl_segment.specs.declared.fault.Fault.TheVariants as faults
 use Rattle.htl_main.specs.declared.fault.RunFault.TheVariants.{Segment}
 use Rattle.htl_main.specs.Faults.{of_segment}
-use Rattle.htl_main.specs.Inputs.{AsksMemory, Decodes, DecodeAll, HasBytes, IsReported}
+use Rattle.htl_main.specs.Inputs.{AsksMemory, Decodes, DecodeAll, HasBytes, IsReportedOfInput}
 
 -- out of memory is reported as itself, and every other fault by its input and offset
 pub segment_fault : (input offset : ℕ) (fault : Fault) → is_memory fault ≡ false
@@ -31,7 +31,7 @@ asks_at false input bytes offset has there = (offset, rw (← has) there)
 
 -- why no more of an input's bytes are split is reported of it
 pub refused_bytes : (form : InputForm) (place : ℕ) (input bytes : List ℕ) (offset : ℕ) (fault : Fault) → HasBytes form.hex input bytes
-    → IsRefused bytes offset fault → IsReported form place input (of_segment place offset fault)
+    → IsRefused bytes offset fault → IsReportedOfInput form place input (of_segment place offset fault)
 refused_bytes form place input bytes offset fault has (inl found) =
     rw (segment_fault place offset fault (first_fault-no_memory found.0.rest fault found.0.fault_is))
     (refl, record { bytes = bytes; has = has; is = found.0; late = λ partial. found.1 })

@@ -20,7 +20,7 @@ pub mod OneOutcome
 pub mod OneCoverage
 pub mod UnfoldedLaws
 pub mod OneSource
-pub mod PartLaws
+pub mod SpanLaws
 pub mod PairLaws
 pub mod CaseRefused
 pub mod AfterDecoding

@@ -26,7 +26,7 @@ use Rattle.htl_command.specs.declared.question.Since.TheVariants.{Snapshot, Sequ
 use Rattle.htl_command.specs.declared.question.Format.{Format}
 use Rattle.htl_command.specs.declared.question.Format.TheVariants.{Plain, Json, Folded}
 use Rattle.htl_json.specs.Lines.{json_line, values_of}
-use Rattle.htl_main.specs.Printed.{lines_of}
+use Rattle.htl_main.specs.Printed.{lines_of_answer}
 use Rattle.htl_main.specs.Answers.{IsAnswer, IsAnswerOver, IsSince, IsSinceIfGiven, has_finding, span_until}
 use Rattle.htl_main.proofs.OneSummary.{one_gaps, one_objects, one_processes, one_totals}
 
@@ -206,7 +206,7 @@ same_values table until top (Summary t gs ps os) (Summary u hs qs ns) same = rw 
 same_values table until top (Summary t gs ps os) other same = absurd same
 
 same_folded : (table : List Range) (until top : Option ℕ) (a b : Answer) → AreSame a b
-    → lines_of Folded table until top a ≡ lines_of Folded table until top b
+    → lines_of_answer Folded table until top a ≡ lines_of_answer Folded table until top b
 same_folded table until top (Leaks p m rs) (Leaks q n ss) same = rw (same.2) refl
 same_folded table until top (Leaks p m rs) other same = absurd same
 same_folded table until top (Outstanding p rs) (Outstanding q ss) same = same_text table until top (Outstanding p rs) (Outstanding q ss) same
@@ -228,7 +228,7 @@ same_folded table until top (Summary t gs ps os) other same = absurd same
 
 -- what is printed is the same in each form
 pub same_lines : (format : Format) (table : List Range) (until top : Option ℕ) (a b : Answer) → AreSame a b
-    → lines_of format table until top a ≡ lines_of format table until top b
+    → lines_of_answer format table until top a ≡ lines_of_answer format table until top b
 same_lines Plain table until top a b same = same_text table until top a b same
 same_lines Json table until top a b same = ap (flat_map json_line) (same_values table until top a b same)
 same_lines Folded table until top a b same = same_folded table until top a b same

@@ -23,12 +23,12 @@ use Rattle.htl_symbols.specs.Ranges.{Range}
 use Rattle.htl_symbols.specs.Reading.{records_of}
 use Rattle.htl_symbols.specs.declared.fault.SymbolFault.{SymbolFault}
 use Rattle.htl_command.specs.declared.question.Job.{Job}
-use Rattle.htl_main.specs.Inputs.{HasBytes, Decodes, DecodeAll, HasBundleFault, HasHexFault, IsReported, MayBeLeft, StopsAt}
+use Rattle.htl_main.specs.Inputs.{HasBytes, Decodes, DecodeAll, HasBundleFault, HasHexFault, IsReportedOfInput, MayBeLeft, StopsAtInput}
 use Rattle.htl_main.specs.Answers.{Finds, FindsIn, FindsOver, IsAnswer}
 use Rattle.htl_main.specs.Completeness.{IsLeastMissing}
 use Rattle.htl_main.specs.Moments.{IsCompleteUntil}
 use Rattle.htl_main.specs.Subjects.{HasSubject, is_about}
-use Rattle.htl_main.specs.Printed.{lines_of, IsText, IsTaken, HasSymbols, HasSymbolFault, AreAnswerLines, IsPrinted, WorkersFit, Printed}
+use Rattle.htl_main.specs.Printed.{lines_of_answer, IsText, IsTaken, HasSymbols, HasSymbolFault, AreAnswerLines, IsPrinted, WorkersFit, Printed}
 use Rattle.htl_case.specs.Complete.{IsFirstMissing}
 use Rattle.htl_main.specs.declared.fault.RunFault.{RunFault}
 use Rattle.htl_main.specs.declared.fault.RunFault.TheVariants.{Workers, Segment, Hex, Case, Incomplete, NoSubject, Symbols, Memory}
@@ -93,7 +93,7 @@ Reported form place input fault =
     ((offset : ℕ) × (f : Fault) × HasBundleFault form input offset f × (fault ≡ Segment place offset f))
     ⊎ ((f : HexFault) × HasHexFault form.hex input f × (fault ≡ Hex place f))
 
-cases_reported : (form : InputForm) (place : ℕ) (input : List ℕ) (fault : RunFault) → fault ≢ Memory → IsReported form place input fault
+cases_reported : (form : InputForm) (place : ℕ) (input : List ℕ) (fault : RunFault) → fault ≢ Memory → IsReportedOfInput form place input fault
     → Reported form place input fault
 cases_reported form place input (Segment at offset f) reported is = inl (offset, f, is.1, ap (λ (p : ℕ). Segment p offset f) is.0)
 cases_reported form place input (Hex at f) reported is = inr (f, is.1, ap (λ (p : ℕ). Hex p f) is.0)
@@ -139,7 +139,7 @@ taken_at (x ∷ inputs) (suc n) zero input lt here = here
 taken_at (x ∷ inputs) (suc n) (suc place) input lt here = taken_at inputs n place input (omega (arith, lt)) here
 
 abbrev Stops : InputForm → List (List ℕ) → RunFault → Type 0
-Stops form inputs fault = StopsAt form (IsReported form) inputs fault
+Stops form inputs fault = StopsAtInput form (IsReportedOfInput form) inputs fault
 
 -- of two inputs that are refused the first one would be decoded
 none_before : (form : InputForm) (inputs : List (List ℕ)) (f g : RunFault) (p : Stops form inputs f) (q : Stops form inputs g) → f ≢ Memory
@@ -156,7 +156,7 @@ same_input form inputs f g p q reported reported_too same =
     let input : q.input ≡ p.input = some_is q.input p.input (sym there ∙ p.here) in
     one_reported form p.place p.input f g (cases_reported form p.place p.input f reported p.reported)
     (cases_reported form p.place p.input g reported_too
-    (subst (λ (i : List ℕ). IsReported form p.place i g) input (subst (λ (n : ℕ). IsReported form n q.input g) (sym same) q.reported)))
+    (subst (λ (i : List ℕ). IsReportedOfInput form p.place i g) input (subst (λ (n : ℕ). IsReportedOfInput form n q.input g) (sym same) q.reported)))
 
 one_stop : (form : InputForm) (inputs : List (List ℕ)) (f g : RunFault) → Stops form inputs f → Stops form inputs g → f ≢ Memory → g ≢ Memory
     → f ≡ g
@@ -204,7 +204,7 @@ one_text : (T : Trace) (table : List Range) (job : Job) (a b : List ℕ) → IsT
 one_text T table job a b p q =
     let until = one_moment T job.until p.0 q.0 p.1 q.1 in
     let is = subst (λ (n : Option ℕ). IsAnswer T n job.question p.2) until p.3 in
-    p.4 ∙ ap (λ (n : Option ℕ). lines_of job.format table n job.top p.2) until
+    p.4 ∙ ap (λ (n : Option ℕ). lines_of_answer job.format table n job.top p.2) until
     ∙ same_lines job.format table q.0 job.top p.2 q.2 (one_answer T q.0 job.question p.2 q.2 is q.3) ∙ sym q.4
 
 one_lines : (segments : List Content) (symbols : Option (List ℕ)) (job : Job) (a b : List ℕ)

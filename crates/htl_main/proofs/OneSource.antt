@@ -8,7 +8,7 @@ use Rattle.htl_device.specs.declared.whole.ReadFault.TheVariants as reads
 use Rattle.htl_device.specs.declared.whole.TheConstants.{MAX_READS}
 use Rattle.htl_reading.specs.declared.fault.SourceFault.{SourceFault}
 use Rattle.htl_reading.specs.declared.fault.SourceFault.TheVariants as sources
-use Rattle.htl_reading.specs.Sources.{IsReported, IsSourceRead}
+use Rattle.htl_reading.specs.Sources.{IsReportedOfBundle, IsSourceRead}
 use Rattle.htl_main.specs.declared.fault.RunFault.{RunFault}
 use Rattle.htl_main.specs.declared.fault.RunFault.TheVariants.{Read, Write}
 use Rattle.htl_main.specs.Ends.{IsSegmentOf}
@@ -32,7 +32,7 @@ abbrev refused : {S : Type 0} → ReadFault → Result S ReadFault
 refused fault = Err fault
 
 reported_source : (form : InputForm) (left : Option (List ℕ)) (ended : Bool) (place : ℕ) (bytes : List ℕ) (fault : SourceFault)
-    → form.hex ≡ false → IsReported left ended bytes fault → IsReportedOfSource form left ended place bytes (of_source place fault)
+    → form.hex ≡ false → IsReportedOfBundle left ended bytes fault → IsReportedOfSource form left ended place bytes (of_source place fault)
 reported_source form left ended place bytes (sources.Segment offset fault) is found =
     (refl, record { bytes = bytes; has = rw is refl; is = found.0; late = λ partial. found.1 })
 reported_source form left ended place bytes sources.Read is found = refl
@@ -44,7 +44,7 @@ reported_source form left ended place bytes sources.NoMemory is found =
 
 -- what is reported, where the bytes are known
 pub reported_bytes_of : (form : InputForm) (first left : Option (List ℕ)) (ended : Bool) (place : ℕ) (fault : SourceFault)
-    → form.hex ≡ false → IfSome first (λ bytes. IsReported left ended bytes fault)
+    → form.hex ≡ false → IfSome first (λ bytes. IsReportedOfBundle left ended bytes fault)
     → IfSome first (λ bytes. IsReportedOfSource form left ended place bytes (of_source place fault))
 reported_bytes_of form None left ended place fault is found = tt
 reported_bytes_of form (Some bytes) left ended place fault is found = reported_source form left ended place bytes fault is found

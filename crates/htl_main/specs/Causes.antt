@@ -7,7 +7,7 @@ use Rattle.htl_segment.specs.Traces.{Trace}
 use Rattle.htl_case.specs.Faults.{IsRefusal}
 use Rattle.htl_case.specs.declared.fault.CaseFault.TheVariants as case_faults
 use Rattle.htl_command.specs.declared.question.Job.{Job}
-use Rattle.htl_main.specs.Inputs.{DecodeAll, IsReported, StopsAt}
+use Rattle.htl_main.specs.Inputs.{DecodeAll, IsReportedOfInput, StopsAtInput}
 use Rattle.htl_main.specs.Printed.{IsPrinted, IsTaken, WorkersFit, Printed}
 use Rattle.htl_main.specs.declared.fault.RunFault.{RunFault}
 use Rattle.htl_main.specs.declared.fault.RunFault.TheVariants.{Write, Memory}
@@ -31,7 +31,7 @@ IsCauseAfter segments symbols job fault = IsPrinted segments symbols job (Err fa
 abbrev pub IsCause : Job → List (List ℕ) → Option (List ℕ) → RunFault → Type 0
 IsCause job inputs symbols Memory =
     WorkersFit job.workers
-    × (StopsAt job.form (IsReported job.form) inputs Memory
+    × (StopsAtInput job.form (IsReportedOfInput job.form) inputs Memory
     ⊎ ((segments : List Content) × DecodeAll job.form inputs segments
     × IsCauseAfter segments symbols job Memory))
 IsCause job inputs symbols Write = (lines : List ℕ) × Printed job inputs symbols (Ok lines)

@@ -7,7 +7,7 @@ use Rattle.htl_command.specs.declared.question.InputForm.{InputForm}
 use Rattle.htl_segment.specs.Content.{Content}
 use Rattle.htl_segment.specs.Bundles.{bundle, IsRest, Splits}
 use Rattle.htl_text.specs.Texts.{segment_text}
-use Rattle.htl_main.specs.Inputs.{AsksMemory, DecodeAll, HasBytes, IsReported}
+use Rattle.htl_main.specs.Inputs.{AsksMemory, DecodeAll, HasBytes, IsReportedOfInput}
 use Rattle.htl_main.specs.declared.fault.RunFault.{RunFault}
 use Rattle.htl_main.specs.declared.fault.RunFault.TheVariants.{Segment, Hex, Read, Memory, Write}
 
@@ -31,7 +31,7 @@ IsReportedOfDump form left ended place input (Read at) = at ≡ place
 IsReportedOfDump form left ended place input Write = Unit {0}
 IsReportedOfDump form left ended place input Memory =
     AsksMemory form.hex input ⊎ ((ended ≡ false) × (read : List ℕ) × (0 < length read) × Consumes (Some input) left read)
-IsReportedOfDump form left ended place input fault = IsReported form place input fault
+IsReportedOfDump form left ended place input fault = IsReportedOfInput form place input fault
 
 -- the input's bytes begin with those of these segments, if there are any
 abbrev pub AreFirst : Bool → List ℕ → List Content → Type 0

@@ -24,7 +24,7 @@ use Rattle.htl_taken.specs.Numbers.{front_at}
 use Rattle.htl_main.specs.Completeness.{IsComplete, IsLeastMissing}
 use Rattle.htl_main.specs.Coverages.{IsCoverage}
 use Rattle.htl_main.specs.CutInputs.{AreCut}
-use Rattle.htl_main.specs.Inputs.{DecodeAll, HasBytes, StopsAt}
+use Rattle.htl_main.specs.Inputs.{DecodeAll, HasBytes, StopsAtInput}
 use Rattle.htl_main.specs.Origins.{is_about_two}
 use Rattle.htl_main.specs.Printed.{HasSymbolFault, WorkersFit}
 use Rattle.htl_main.specs.Readings.{AreRead}
@@ -168,7 +168,7 @@ AreGiven form inputs lefts fault given = DecodeAll form inputs given
 -- Memory is asked for to read; to fold segments that were given, before a fault too; and to say what was read.
 abbrev pub AsksFoldsMemory : Setting → List Content → List (List ℕ) → List (Option (List ℕ)) → List Bool → Type 0
 AsksFoldsMemory setting before inputs lefts ends =
-    WorkersFit setting.workers × (StopsAt setting.form (IsReportedAt setting.form lefts ends) inputs faults.Memory
+    WorkersFit setting.workers × (StopsAtInput setting.form (IsReportedAt setting.form lefts ends) inputs faults.Memory
     ⊎ (((given : List Content) × (given ≢ []) × (fault : RunFault) × AreGiven setting.form inputs lefts fault given)
     ⊎ ((given : List Content) × DecodeAll setting.form inputs given × (before ++ given ≢ []))))
 
@@ -177,11 +177,11 @@ abbrev pub IsFoldsFault : Setting → List Content → List (List ℕ) → List 
     → RunFault → Type 0
 IsFoldsFault setting before inputs lefts ends taken unfit faults.Workers = WorkersFit setting.workers → ⊥
 IsFoldsFault setting before inputs lefts ends taken unfit (faults.Segment place offset fault) =
-    WorkersFit setting.workers × StopsAt setting.form (IsReportedAt setting.form lefts ends) inputs (faults.Segment place offset fault)
+    WorkersFit setting.workers × StopsAtInput setting.form (IsReportedAt setting.form lefts ends) inputs (faults.Segment place offset fault)
 IsFoldsFault setting before inputs lefts ends taken unfit (faults.Hex place fault) =
-    WorkersFit setting.workers × StopsAt setting.form (IsReportedAt setting.form lefts ends) inputs (faults.Hex place fault)
+    WorkersFit setting.workers × StopsAtInput setting.form (IsReportedAt setting.form lefts ends) inputs (faults.Hex place fault)
 IsFoldsFault setting before inputs lefts ends taken unfit (faults.Read place) =
-    WorkersFit setting.workers × StopsAt setting.form (IsReportedAt setting.form lefts ends) inputs (faults.Read place)
+    WorkersFit setting.workers × StopsAtInput setting.form (IsReportedAt setting.form lefts ends) inputs (faults.Read place)
 IsFoldsFault setting before inputs lefts ends taken unfit (faults.Case cases.Empty) = WorkersFit setting.workers × (before ++ taken ≡ [])
 IsFoldsFault setting before inputs lefts ends taken unfit (faults.Case fault) = WorkersFit setting.workers × (unfit ≡ Some fault)
 IsFoldsFault setting before inputs lefts ends taken unfit (faults.Incomplete processor number) =

@@ -51,14 +51,15 @@ AsksMemory true input = hex_fault input ≡ None
 AsksMemory false input = (offset : ℕ) × SegmentAt input offset
 
 -- what is reported of the input at a place: its first fault, and out of memory only where it is asked for
-abbrev pub IsReported : InputForm → ℕ → List ℕ → RunFault → Type 0
-IsReported form place input (Segment at offset fault) = (at ≡ place) × HasBundleFault form input offset fault
-IsReported form place input (Hex at fault) = (at ≡ place) × HasHexFault form.hex input fault
-IsReported form place input Memory = AsksMemory form.hex input
-IsReported form place input other = ⊥
+abbrev pub IsReportedOfInput : InputForm → ℕ → List ℕ → RunFault → Type 0
+IsReportedOfInput form place input (Segment at offset fault) = (at ≡ place) × HasBundleFault form input offset fault
+IsReportedOfInput form place input (Hex at fault) = (at ≡ place) × HasHexFault form.hex input fault
+IsReportedOfInput form place input Memory = AsksMemory form.hex input
+IsReportedOfInput form place input other = ⊥
 
 -- the inputs before one are decoded, and this is reported of that one
-pub record StopsAt (form : InputForm) (Reported : ℕ → List ℕ → RunFault → Type 0) (inputs : List (List ℕ)) (fault : RunFault) : Type 0 where
+pub record StopsAtInput (form : InputForm) (Reported : ℕ → List ℕ → RunFault → Type 0) (inputs : List (List ℕ))
+    (fault : RunFault) : Type 0 where
   pub place : ℕ
   pub input : List ℕ
   pub here : slice_get inputs place ≡ Some input

@@ -30,7 +30,7 @@ pub mod Reads
 pub mod Dumping
 pub mod Unfolded
 pub mod CaseOutlines
-pub mod Parts
+pub mod Spans
 pub mod Pairs
 pub mod Picking
 pub mod Printing

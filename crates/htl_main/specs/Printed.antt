@@ -18,23 +18,23 @@ use Rattle.htl_command.specs.declared.question.Format.TheVariants.{Json, Folded}
 use Rattle.htl_command.specs.declared.question.Job.{Job}
 use Rattle.htl_main.specs.Answers.{IsAnswer}
 use Rattle.htl_main.specs.Completeness.{IsLeastMissing}
-use Rattle.htl_main.specs.Inputs.{DecodeAll, IsReported, StopsAt}
+use Rattle.htl_main.specs.Inputs.{DecodeAll, IsReportedOfInput, StopsAtInput}
 use Rattle.htl_main.specs.Moments.{IsCompleteUntil, IsMomentOf}
 use Rattle.htl_main.specs.Subjects.{HasSubject}
 use Rattle.htl_main.specs.declared.fault.RunFault.{RunFault}
 use Rattle.htl_main.specs.declared.fault.RunFault.TheVariants.{Workers, Segment, Hex, Case, Incomplete, NoSubject, Symbols}
 
 -- the lines of an answer in each form, with all rows or the first so many; only leaking stacks are folded
-abbrev pub lines_of : Format → List Range → Option ℕ → Option ℕ → Answer → List ℕ
-lines_of Json table until top answer = flat_map json_line (values_of table until top answer)
-lines_of Folded table until top (Leaks process since rows) = folded_text table top rows.items
-lines_of format table until top answer = text_of table until top answer
+abbrev pub lines_of_answer : Format → List Range → Option ℕ → Option ℕ → Answer → List ℕ
+lines_of_answer Json table until top answer = flat_map json_line (values_of table until top answer)
+lines_of_answer Folded table until top (Leaks process since rows) = folded_text table top rows.items
+lines_of_answer format table until top answer = text_of table until top answer
 
 -- those of the answer to the job's question over a trace, of which events count up to the job's moment
 abbrev pub IsText : Trace → List Range → Job → List ℕ → Type 0
 IsText T table job lines =
     (until : Option ℕ) × IsMomentOf T job.until until
-    × (answer : Answer) × IsAnswer T until job.question answer × (lines ≡ lines_of job.format table until job.top answer)
+    × (answer : Answer) × IsAnswer T until job.question answer × (lines ≡ lines_of_answer job.format table until job.top answer)
 
 -- the table of symbols, which has no range where none is given
 abbrev pub HasSymbols : Option (List ℕ) → List Range → Type 0
@@ -83,8 +83,9 @@ WorkersFit workers = (0 < workers) × (workers ≤ 8)
 abbrev pub Printed : Job → List (List ℕ) → Option (List ℕ) → Result (List ℕ) RunFault → Type 0
 Printed job inputs symbols (Err Workers) = WorkersFit job.workers → ⊥
 Printed job inputs symbols (Err (Segment at offset fault)) =
-    WorkersFit job.workers × StopsAt job.form (IsReported job.form) inputs (Segment at offset fault)
-Printed job inputs symbols (Err (Hex at fault)) = WorkersFit job.workers × StopsAt job.form (IsReported job.form) inputs (Hex at fault)
+    WorkersFit job.workers × StopsAtInput job.form (IsReportedOfInput job.form) inputs (Segment at offset fault)
+Printed job inputs symbols (Err (Hex at fault)) =
+    WorkersFit job.workers × StopsAtInput job.form (IsReportedOfInput job.form) inputs (Hex at fault)
 Printed job inputs symbols outcome =
     WorkersFit job.workers
     × (segments : List Content) × DecodeAll job.form inputs segments × IsPrinted segments symbols job outcome

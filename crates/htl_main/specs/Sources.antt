@@ -8,7 +8,7 @@ use Rattle.htl_command.specs.declared.question.Job.{Job}
 use Rattle.htl_segment.specs.Content.{Content}
 use Rattle.htl_segment.specs.Bundles.{RestAt}
 use Rattle.htl_reading.specs.Sources.{IsReadToFault}
-use Rattle.htl_main.specs.Inputs.{AsksMemory, DecodeAll, IsReported, StopsAt}
+use Rattle.htl_main.specs.Inputs.{AsksMemory, DecodeAll, IsReportedOfInput, StopsAtInput}
 use Rattle.htl_main.specs.Printed.{WorkersFit}
 use Rattle.htl_main.specs.Causes.{IsCause, IsCauseAfter}
 use Rattle.htl_main.specs.declared.fault.RunFault.{RunFault}
@@ -25,7 +25,7 @@ abbrev pub IsReportedOfSource : InputForm → Option (List ℕ) → Bool → ℕ
 IsReportedOfSource form left ended place input (Read at) = at ≡ place
 IsReportedOfSource form left ended place input Memory =
     AsksMemory form.hex input ⊎ ((ended ≡ false) × (read : List ℕ) × Consumes (Some input) left read × KeepsSome form.hex read)
-IsReportedOfSource form left ended place input fault = IsReported form place input fault
+IsReportedOfSource form left ended place input fault = IsReportedOfInput form place input fault
 
 -- the same where this is left of each source, and these ends were found
 abbrev pub IsReportedAt : InputForm → List (Option (List ℕ)) → List Bool → ℕ → List ℕ → RunFault → Type 0
@@ -37,10 +37,10 @@ IsReportedAt form lefts ends place input fault =
 -- for which memory was refused.
 abbrev pub IsSourcesCause : Job → List (List ℕ) → List (Option (List ℕ)) → List Bool → Option (List ℕ) → RunFault → Type 0
 IsSourcesCause job inputs lefts ends symbols (Read at) =
-    WorkersFit job.workers × StopsAt job.form (IsReportedAt job.form lefts ends) inputs (Read at)
+    WorkersFit job.workers × StopsAtInput job.form (IsReportedAt job.form lefts ends) inputs (Read at)
 IsSourcesCause job inputs lefts ends symbols Memory =
     WorkersFit job.workers
-    × (StopsAt job.form (IsReportedAt job.form lefts ends) inputs Memory
+    × (StopsAtInput job.form (IsReportedAt job.form lefts ends) inputs Memory
     ⊎ ((segments : List Content) × DecodeAll job.form inputs segments
     × IsCauseAfter segments symbols job Memory))
 IsSourcesCause job inputs lefts ends symbols fault = IsCause job inputs symbols fault

@@ -11,7 +11,7 @@ ghost use Rattle.htl_main.specs.Coverages.{IsCoverage};
 ghost use Rattle.htl_main.specs.Inputs.{DecodeAll, Decodes};
 ghost use Rattle.htl_main.specs.Loading.{AreLoaded};
 ghost use Rattle.htl_main.specs.Origins.{IsBetween, by_fault};
-ghost use Rattle.htl_main.specs.Parts.{AreParts};
+ghost use Rattle.htl_main.specs.Spans.{AreSpans};
 ghost use Rattle.htl_main.specs.Printed.{WorkersFit};
 ghost use Rattle.htl_main.specs.Reads.{NeverWrite};
 ghost use Rattle.htl_main.specs.Readings.{AreRead};
@@ -134,7 +134,7 @@ fn load_with(
         → IsCauseAfter (decoded.segments.items ++ before.now.segments) None job refused.fault)) }
     ensures between { IfErr result (λ refused. (form : InputForm) (inputs : List (List ℕ))
         (earlier : List ℕ) → length inputs ≡ place → DecodeAll form inputs decoded.segments.items
-        → AreParts form inputs decoded.segments.items decoded.parts.items
+        → AreSpans form inputs decoded.segments.items decoded.spans.items
         → Decodes form earlier before.now.segments
         → IsBetween form (inputs ++ earlier ∷ []) refused.fault refused.between) }
 {

@@ -10,9 +10,9 @@ ghost use Rattle.htl_command.specs.declared.question.Job.{Job};
 ghost use Rattle.htl_main.specs.Causes.{IsCauseAfter};
 ghost use Rattle.htl_main.specs.Inputs.{DecodeAll};
 ghost use Rattle.htl_main.specs.Origins.{IsBetween, IsBetweenOf, IsOriginOf};
-ghost use Rattle.htl_main.specs.Parts.{AreParts};
+ghost use Rattle.htl_main.specs.Spans.{AreSpans};
 
-use crate::decoded::{Decoded, Part, part_at};
+use crate::decoded::{Decoded, InputSpan, span_at};
 use crate::fault::RunFault;
 use crate::origin::{Between, Origin};
 use crate::pairing::pair;
@@ -32,12 +32,12 @@ pub(crate) fn case_of(alloc: Global, decoded: Decoded) -> Result<Case, Refused>
         → IsCauseAfter decoded.segments.items symbols job refused.fault) }
     ensures between { IfErr result (λ refused. (form : InputForm) (inputs : List (List ℕ))
         → DecodeAll form inputs decoded.segments.items
-        → AreParts form inputs decoded.segments.items decoded.parts.items
+        → AreSpans form inputs decoded.segments.items decoded.spans.items
         → IsBetween form inputs refused.fault refused.between) }
 {
     let Decoded {
         segments,
-        parts,
+        spans,
         ..
     } = decoded;
     let kept = copies(alloc, &segments);
@@ -46,7 +46,7 @@ pub(crate) fn case_of(alloc: Global, decoded: Decoded) -> Result<Case, Refused>
         Err(fault) => Err(Refused {
             fault: RunFault::from(fault),
             between: match kept {
-                Ok(kept) => between(&kept, &parts, fault),
+                Ok(kept) => between(&kept, &spans, fault),
                 Err(_) => unknown(fault),
             },
         }),
@@ -65,17 +65,17 @@ pub(crate) fn copies(alloc: Global, segments: &[Segment]) -> Result<Vec<Segment>
 }
 
 /// The origins of the two segments that break the rule of the fault.
-fn between(segments: &[Segment], parts: &[Part], fault: CaseFault) -> Between
+fn between(segments: &[Segment], spans: &[InputSpan], fault: CaseFault) -> Between
     requires { IsRefusal segments.now fault }
-    ensures { (form : InputForm) (inputs : List (List ℕ)) → AreParts form inputs segments.now parts.now
+    ensures { (form : InputForm) (inputs : List (List ℕ)) → AreSpans form inputs segments.now spans.now
         → IsBetweenOf form inputs segments.now fault result }
 {
     let Some((first, second)) = pair(segments, fault) else {
         return Between::Nothing;
     };
     match (
-        origin(segments, parts, first),
-        origin(segments, parts, second),
+        origin(segments, spans, first),
+        origin(segments, spans, second),
     ) {
         (Some(first), Some(second)) => Between::Two(first, second),
         _ => Between::Nothing,
@@ -94,14 +94,14 @@ fn unknown(fault: CaseFault) -> Between
 }
 
 /// The origin of the segment at a place.
-fn origin(segments: &[Segment], parts: &[Part], place: usize) -> Option<Origin>
+fn origin(segments: &[Segment], spans: &[InputSpan], place: usize) -> Option<Origin>
     ensures some { IfSome result (λ origin. (form : InputForm) (inputs : List (List ℕ)) (s : Content)
-        → AreParts form inputs segments.now parts.now → slice_get segments.now place ≡ Some s
+        → AreSpans form inputs segments.now spans.now → slice_get segments.now place ≡ Some s
         → IsOriginOf form inputs s origin) }
     ensures none { IfNone result ((form : InputForm) (inputs : List (List ℕ)) (s : Content)
-        → AreParts form inputs segments.now parts.now → slice_get segments.now place ≡ Some s → ⊥) }
+        → AreSpans form inputs segments.now spans.now → slice_get segments.now place ≡ Some s → ⊥) }
 {
     let segment = segments.get(place)?;
-    let part = part_at(parts, place)?;
-    Some(Origin::of(part.input, segment))
+    let span = span_at(spans, place)?;
+    Some(Origin::of(span.input, segment))
 }

@@ -5,7 +5,7 @@ ghost use Rattle.std.specs.Prelude.{OnErr, OnOk, None};
 ghost use Rattle.htl_command.specs.declared.question.InputForm.{InputForm};
 ghost use Rattle.htl_main.specs.Ends.{OthersFit, with_input as with_input_of};
 ghost use Rattle.htl_main.specs.Inputs.{Decodes};
-ghost use Rattle.htl_main.specs.Parts.{AreParts, part_at};
+ghost use Rattle.htl_main.specs.Spans.{AreSpans, span_at};
 
 use crate::cut_inputs::{Accepted, CutInputs, with_input};
 use htl_event::NoMemory;
@@ -14,32 +14,32 @@ use std::alloc::Global;
 
 /// An input that has segments, and how many there are of it and of all inputs before it.
 #[derive(Clone, Copy)]
-pub(crate) struct Part {
+pub(crate) struct InputSpan {
     pub input: u64,
     pub end: usize,
 }
 
-/// All segments, in the order of the inputs, which part of them each input has, and which inputs end
+/// All segments, in the order of the inputs, which span of them each input has, and which inputs end
 /// within a segment.
 #[derive(Drop)]
 pub(crate) struct Decoded {
     pub segments: Vec<Segment>,
-    pub parts: Vec<Part>,
+    pub spans: Vec<InputSpan>,
     pub cut: Option<CutInputs>,
 }
 
 impl Decoded {
     /// The segments of no input.
-    #[tactic(auto, using(crate::proofs::PartLaws::no_parts))]
+    #[tactic(auto, using(crate::proofs::SpanLaws::no_spans))]
     pub fn new(alloc: Global) -> Decoded
         ensures segments { result.segments.items ≡ [] }
-        ensures parts { (form : InputForm) (inputs : List (List ℕ))
-            → AreParts form inputs result.segments.items result.parts.items }
+        ensures spans { (form : InputForm) (inputs : List (List ℕ))
+            → AreSpans form inputs result.segments.items result.spans.items }
         ensures cut { result.cut ≡ None }
     {
         Decoded {
             segments: Vec::new(alloc),
-            parts: Vec::new(alloc),
+            spans: Vec::new(alloc),
             cut: None,
         }
     }
@@ -49,10 +49,10 @@ impl Decoded {
         requires few { OthersFit self.old.cut place }
         ensures segments { OnOk result
             (self.new.segments.items ≡ self.old.segments.items ++ more.segments.items) }
-        ensures parts { OnOk result ((form : InputForm) (inputs : List (List ℕ)) (text : List ℕ)
+        ensures spans { OnOk result ((form : InputForm) (inputs : List (List ℕ)) (text : List ℕ)
             → slice_get inputs place ≡ Some text → Decodes form text more.segments.items
-            → AreParts form inputs self.old.segments.items self.old.parts.items
-            → AreParts form inputs self.new.segments.items self.new.parts.items) }
+            → AreSpans form inputs self.old.segments.items self.old.spans.items
+            → AreSpans form inputs self.new.segments.items self.new.spans.items) }
         ensures cut { self.new.cut ≡ with_input_of more.is_cut place self.old.cut }
         ensures full { OnErr result (0 < length more.segments.items) }
     {
@@ -65,10 +65,10 @@ impl Decoded {
     pub fn add_segments(&mut self, input: u64, mut more: Vec<Segment>) -> Result<(), NoMemory>
         ensures segments { OnOk result
             (self.new.segments.items ≡ self.old.segments.items ++ more.items) }
-        ensures parts { OnOk result ((form : InputForm) (inputs : List (List ℕ)) (text : List ℕ)
+        ensures spans { OnOk result ((form : InputForm) (inputs : List (List ℕ)) (text : List ℕ)
             → slice_get inputs input ≡ Some text → Decodes form text more.items
-            → AreParts form inputs self.old.segments.items self.old.parts.items
-            → AreParts form inputs self.new.segments.items self.new.parts.items) }
+            → AreSpans form inputs self.old.segments.items self.old.spans.items
+            → AreSpans form inputs self.new.segments.items self.new.spans.items) }
         ensures kept { self.new.cut ≡ self.old.cut }
         ensures full { OnErr result (0 < length more.items) }
     {
@@ -76,7 +76,7 @@ impl Decoded {
             return Ok(());
         }
         self.segments.append(&mut more)?;
-        self.parts.push(Part {
+        self.spans.push(InputSpan {
             input,
             end: self.segments.len(),
         })?;
@@ -84,9 +84,9 @@ impl Decoded {
     }
 }
 
-/// The part that the segment at a place is in.
-pub(crate) fn part_at(parts: &[Part], place: usize) -> Option<Part>
-    ensures { result ≡ part_at parts.now place }
+/// The span that the segment at a place is in.
+pub(crate) fn span_at(spans: &[InputSpan], place: usize) -> Option<InputSpan>
+    ensures { result ≡ span_at spans.now place }
 {
-    parts.iter().copied().find(|part| place < part.end)
+    spans.iter().copied().find(|span| place < span.end)
 }

@@ -18,7 +18,7 @@ ghost use Rattle.htl_main.specs.Folders.{AreAllTaken, GaveOwn, IsMissingOf, IsOf
 ghost use Rattle.htl_main.specs.Folders.{IsAdded, IsNotAdded, IsSymbolsFault};
 ghost use Rattle.htl_main.specs.Folding.{AreFolded, AreGiven, AreReadToFold, AsksFoldsMemory};
 ghost use Rattle.htl_main.specs.Folding.{IsBeginningRefused, IsFolded, IsFoldingRefused, IsHalfKnown};
-ghost use Rattle.htl_main.specs.Inputs.{DecodeAll, HasBytes, IsReported, StopsAt};
+ghost use Rattle.htl_main.specs.Inputs.{DecodeAll, HasBytes, IsReportedOfInput, StopsAtInput};
 ghost use Rattle.htl_main.specs.Faults.{of_case};
 ghost use Rattle.htl_main.specs.Origins.{by_fault};
 ghost use Rattle.htl_main.specs.Printed.{HasSymbols, WorkersFit};
@@ -261,8 +261,8 @@ fn read_all<Rt: Threads + Sync, R: Parted>(
     ensures cut { (inputs : List (List ℕ)) → map R.remaining sources.old ≡ map Some inputs
         → IfOk result (AreCut setting.form.hex inputs) }
     ensures err { (inputs : List (List ℕ)) → map R.remaining sources.old ≡ map Some inputs
-        → IfErr result (StopsAt setting.form (IsReportedAt setting.form (map R.remaining sources.new)
-        (map R.has_ended sources.new)) inputs) }
+        → IfErr result (StopsAtInput setting.form (IsReportedAt setting.form
+        (map R.remaining sources.new) (map R.has_ended sources.new)) inputs) }
     ensures kept { (inputs : List (List ℕ)) → map R.remaining sources.old ≡ map Some inputs
         → IfErr result (λ fault. fault ≢ RunFault.Memory → (given : List Content)
         × AreGiven setting.form inputs (map R.remaining sources.new) fault given
@@ -331,7 +331,7 @@ fn take_text(
     requires { form.hex ≡ true }
     ensures ok { IfOk result (λ is_cut. (given : List Content) × IsInput form text.now given is_cut
         × Took folds_of folder.old folder.new given) }
-    ensures err { IfErr result (IsReported form place text.now) }
+    ensures err { IfErr result (IsReportedOfInput form place text.now) }
     ensures kept { IfErr result (λ fault. fault ≢ RunFault.Memory → (given : List Content)
         × GaveOwn form None text.now fault given
         × Took folds_of folder.old folder.new given) }
@@ -357,7 +357,7 @@ fn take_bytes(
         → IfOk result (λ is_cut. (given : List Content) × IsInput form input given is_cut
         × Took folds_of folder.old folder.new given) }
     ensures err { (input : List ℕ) → HasBytes form.hex input bytes.now
-        → IfErr result (IsReported form place input) }
+        → IfErr result (IsReportedOfInput form place input) }
     ensures kept { (input : List ℕ) → HasBytes form.hex input bytes.now
         → IfErr result (λ fault. fault ≢ RunFault.Memory → (given : List Content)
         × GaveOwn form None input fault given

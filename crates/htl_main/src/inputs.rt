@@ -3,8 +3,8 @@
 ghost use Rattle.std.specs.Prelude.{ℕ, List, IfOk, IfErr, map};
 ghost use Rattle.htl_main.specs.CutInputs.{AreCut};
 ghost use Rattle.htl_main.specs.Ends.{IsInput};
-ghost use Rattle.htl_main.specs.Inputs.{DecodeAll, HasBytes, IsReported, StopsAt};
-ghost use Rattle.htl_main.specs.Parts.{AreParts};
+ghost use Rattle.htl_main.specs.Inputs.{DecodeAll, HasBytes, IsReportedOfInput, StopsAtInput};
+ghost use Rattle.htl_main.specs.Spans.{AreSpans};
 ghost use Rattle.htl_main.specs.Reads.{NamesOnly, NeverRead};
 
 use crate::cut_inputs::{Accepted, accept};
@@ -23,11 +23,12 @@ pub(crate) fn decode_all(
 ) -> Result<Decoded, RunFault>
     ensures ok { IfOk result (λ decoded.
         DecodeAll form (map (λ input. input.items) inputs.now) decoded.segments.items) }
-    ensures parts { IfOk result (λ decoded. AreParts form (map (λ input. input.items) inputs.now)
-        decoded.segments.items decoded.parts.items) }
+    ensures spans { IfOk result (λ decoded. AreSpans form (map (λ input. input.items) inputs.now)
+        decoded.segments.items decoded.spans.items) }
     ensures cut { IfOk result (λ decoded.
         AreCut form.hex (map (λ input. input.items) inputs.now) decoded.cut) }
-    ensures err { IfErr result (StopsAt form (IsReported form) (map (λ input. input.items) inputs.now)) }
+    ensures err { IfErr result
+        (StopsAtInput form (IsReportedOfInput form) (map (λ input. input.items) inputs.now)) }
 {
     let mut decoded = Decoded::new(alloc);
     for (place, input) in inputs.iter().enumerate() {
@@ -46,7 +47,7 @@ pub(crate) fn decode_input(
 ) -> Result<Accepted<Vec<Segment>>, RunFault>
     ensures ok { IfOk result (λ decoded.
         IsInput form input.now decoded.segments.items decoded.is_cut) }
-    ensures err { IfErr result (IsReported form place input.now) }
+    ensures err { IfErr result (IsReportedOfInput form place input.now) }
     ensures no_read { NeverRead result }
     ensures named { NamesOnly place result }
 {
@@ -67,7 +68,7 @@ fn decode_bytes(
     ensures ok { (input : List ℕ) → HasBytes form.hex input bytes.now
         → IfOk result (λ decoded. IsInput form input decoded.segments.items decoded.is_cut) }
     ensures err { (input : List ℕ) → HasBytes form.hex input bytes.now
-        → IfErr result (IsReported form place input) }
+        → IfErr result (IsReportedOfInput form place input) }
     ensures no_read { NeverRead result }
     ensures named { NamesOnly place result }
 {

@@ -4,7 +4,7 @@
 ghost use Rattle.std.specs.Prelude.{◌≡◌, ℕ, List, All, Some, false, map};
 ghost use Rattle.std.specs.Prelude.{IfErr, IfOk, IfSome};
 ghost use Rattle.htl_main.specs.CutInputs.{AreCut};
-ghost use Rattle.htl_main.specs.Inputs.{StopsAt};
+ghost use Rattle.htl_main.specs.Inputs.{StopsAtInput};
 ghost use Rattle.htl_main.specs.Picked.{NeverCase};
 ghost use Rattle.htl_main.specs.Picking.{ArePicksMore, ArePicksOfAll};
 ghost use Rattle.htl_main.specs.Reads.{IsRead, NeverWrite};
@@ -46,7 +46,7 @@ pub(crate) fn pick_all<Rt: Threads + Sync, R: Parted>(
     ensures cut { (inputs : List (List ℕ)) → map R.remaining sources.old ≡ map Some inputs
         → IfOk result (λ all. AreCut form.hex inputs all.cut) }
     ensures err { (inputs : List (List ℕ)) → map R.remaining sources.old ≡ map Some inputs
-        → IfErr result (StopsAt form (IsReportedAt form (map R.remaining sources.new)
+        → IfErr result (StopsAtInput form (IsReportedAt form (map R.remaining sources.new)
         (map R.has_ended sources.new)) inputs) }
     ensures reading { AreRead false R.has_failed R.has_ended R.good_reads R.remaining
         sources.old sources.new result }

@@ -10,7 +10,8 @@ ghost use Rattle.htl_main.specs.CaseOutlines.{IsMissed};
 ghost use Rattle.htl_main.specs.Completeness.{ReportsMissing};
 ghost use Rattle.htl_main.specs.Coverages.{Covers, IsCoverage};
 ghost use Rattle.htl_main.specs.CutInputs.{AreCut};
-ghost use Rattle.htl_main.specs.Printed.{HasSymbols, HasSymbolFault, IsText, WorkersFit, lines_of};
+ghost use Rattle.htl_main.specs.Printed.{HasSymbols, HasSymbolFault, IsText, WorkersFit};
+ghost use Rattle.htl_main.specs.Printed.{lines_of_answer};
 ghost use Rattle.htl_main.specs.Causes.{Prints, PrintsPart, IsCause};
 ghost use Rattle.htl_main.specs.Moments.{IsCompleteUntil};
 ghost use Rattle.htl_main.specs.Origins.{IsBetween, by_fault};
@@ -179,7 +180,7 @@ pub(crate) fn lines(
     symbols: &Symbols,
 ) -> Result<Vec<u8>, NoMemory>
     ensures { IfOk result (λ lines.
-        lines.items ≡ lines_of job.now.format symbols.now until job.now.top answer.now) }
+        lines.items ≡ lines_of_answer job.now.format symbols.now until job.now.top answer.now) }
 {
     match (job.format, answer) {
         (Format::Json, _) => json_lines(alloc, answer, symbols, until, job.top),

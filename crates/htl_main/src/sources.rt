@@ -4,8 +4,8 @@ ghost use Rattle.std.specs.Prelude.{◌≡◌, ℕ, List, All, Some, false};
 ghost use Rattle.std.specs.Prelude.{map, IfOk, IfErr, IfSome};
 ghost use Rattle.htl_main.specs.CutInputs.{AreCut};
 ghost use Rattle.htl_main.specs.Ends.{IsInput};
-ghost use Rattle.htl_main.specs.Inputs.{DecodeAll, StopsAt};
-ghost use Rattle.htl_main.specs.Parts.{AreParts};
+ghost use Rattle.htl_main.specs.Inputs.{DecodeAll, StopsAtInput};
+ghost use Rattle.htl_main.specs.Spans.{AreSpans};
 ghost use Rattle.htl_main.specs.Reads.{IsRead, NeverWrite};
 ghost use Rattle.htl_main.specs.Readings.{AreRead};
 ghost use Rattle.htl_main.specs.Sources.{IsReportedAt, IsReportedOfSource};
@@ -34,13 +34,13 @@ pub(crate) fn read_all<Rt: Threads + Sync, R: Parted>(
     requires inside { All (λ source. R.has_ended source ≡ false) sources.old }
     ensures ok { (inputs : List (List ℕ)) → map R.remaining sources.old ≡ map Some inputs
         → IfOk result (λ decoded. DecodeAll form inputs decoded.segments.items) }
-    ensures parts { (inputs : List (List ℕ)) → map R.remaining sources.old ≡ map Some inputs
+    ensures spans { (inputs : List (List ℕ)) → map R.remaining sources.old ≡ map Some inputs
         → IfOk result (λ decoded.
-        AreParts form inputs decoded.segments.items decoded.parts.items) }
+        AreSpans form inputs decoded.segments.items decoded.spans.items) }
     ensures cut { (inputs : List (List ℕ)) → map R.remaining sources.old ≡ map Some inputs
         → IfOk result (λ decoded. AreCut form.hex inputs decoded.cut) }
     ensures err { (inputs : List (List ℕ)) → map R.remaining sources.old ≡ map Some inputs
-        → IfErr result (StopsAt form (IsReportedAt form (map R.remaining sources.new)
+        → IfErr result (StopsAtInput form (IsReportedAt form (map R.remaining sources.new)
         (map R.has_ended sources.new)) inputs) }
     ensures reading { AreRead form.hex R.has_failed R.has_ended R.good_reads R.remaining
         sources.old sources.new result }

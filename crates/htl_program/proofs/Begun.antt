@@ -1,6 +1,6 @@
 -- What is said of a dialogue by the notes after its beginning is said of it by all notes.
 use Rattle.std.proofs.Common.{◌≡◌, ◌⊎◌, ◌∙◌, ℕ, Bool, false, List, [], ◌∷◌, ◌++◌, Option, Result, Err, inl, inr, sym, ap, take}
-use Rattle.htl_dialogue.specs.Dialogues.{Answers, Converses, Gets, GotAt, StopsAt, last_wait}
+use Rattle.htl_dialogue.specs.Dialogues.{Answers, Converses, Gets, GotAt, DialogueStops, last_wait}
 use Rattle.htl_dialogue.specs.Notes.{Note, awaits}
 use Rattle.htl_dialogue.specs.declared.dialogue.Conversed.{Conversed}
 use Rattle.htl_dialogue.specs.declared.dialogue.DialogueFault.{DialogueFault}
@@ -45,8 +45,8 @@ module _ {S Host : Type 0} (answers : Answers S) (wanted : Bool) (before : S) (t
   got_at state failed NoMemory later replies notes got = waited failed replies notes got
 
   pub stops_begun : (left : Option (List ℕ)) (failed : Bool) (fault : DialogueFault)
-      → StopsAt answers wanted before text left failed (Gets old new told host after) fault
-      → StopsAt answers wanted before text left failed (BeginsAndGets old new told audience after opening) fault
+      → DialogueStops answers wanted before text left failed (Gets old new told host after) fault
+      → DialogueStops answers wanted before text left failed (BeginsAndGets old new told audience after opening) fault
   stops_begun left failed fault at = record {
     earlier = at.earlier;
     later = at.later;

@@ -6,11 +6,11 @@ use Rattle.htl_command.specs.declared.code.Code.TheVariants.{S11, S12, S13, S14,
 use Rattle.htl_command.specs.declared.printed.Parts.{Parts}
 use Rattle.htl_command.specs.declared.printed.Parts.TheVariants.{Nothing, Number, Numbers, Field}
 use Rattle.htl_program.specs.AskedAbout.{subject_text}
-use Rattle.htl_program.specs.declared.part.Part.{Part}
-use Rattle.htl_program.specs.declared.part.Part.TheVariants as parts
+use Rattle.htl_program.specs.declared.named_part.NamedPart.{NamedPart}
+use Rattle.htl_program.specs.declared.named_part.NamedPart.TheVariants as parts
 
 -- a part of the inputs, by its number or its field; or what was asked about; or words that stand for each of them
-abbrev pub part_text : Part → List ℕ
+abbrev pub part_text : NamedPart → List ℕ
 part_text (parts.Record i) = codes "record " ++ decimal i
 part_text (parts.Byte place) = codes "byte " ++ decimal place
 part_text (parts.Segment place) = codes "segment " ++ (decimal place ++ codes " of all inputs")
@@ -22,7 +22,7 @@ part_text (parts.Subject subject) = subject_text subject
 part_text (parts.Unnumbered words) = words.now
 
 -- the part that the number of a fault names, or its two numbers, or its field
-abbrev pub number_part : Code → ℕ → Option Part
+abbrev pub number_part : Code → ℕ → Option NamedPart
 number_part S11 i = Some (parts.Record i)
 number_part S12 i = Some (parts.Record i)
 number_part S13 i = Some (parts.Record i)
@@ -39,13 +39,13 @@ number_part Y5 row = Some (parts.Row row)
 number_part Y6 row = Some (parts.Row row)
 number_part code n = None
 
-abbrev pub numbers_part : Code → ℕ → ℕ → Option Part
+abbrev pub numbers_part : Code → ℕ → ℕ → Option NamedPart
 numbers_part C4 processor number = Some (parts.Key processor number)
 numbers_part C7 processor number = Some (parts.Key processor number)
 numbers_part C8 processor number = Some (parts.Key processor number)
 numbers_part code m n = None
 
-abbrev pub numbered_part : Code → Parts → Option Part
+abbrev pub numbered_part : Code → Parts → Option NamedPart
 numbered_part code Nothing = None
 numbered_part code (Number n) = number_part code n
 numbered_part code (Numbers m n) = numbers_part code m n

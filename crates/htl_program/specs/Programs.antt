@@ -13,7 +13,7 @@ use Rattle.htl_command.specs.declared.fault.ParseFault.{ParseFault}
 use Rattle.htl_command.specs.declared.fault.ParseFault.TheVariants.{Help, Usage, Memory}
 use Rattle.htl_command.specs.declared.question.InputForm.{InputForm}
 use Rattle.htl_device.specs.Devices.{AppendsPrefix}
-use Rattle.htl_dialogue.specs.Dialogues.{Converses, StopsAt}
+use Rattle.htl_dialogue.specs.Dialogues.{Converses, DialogueStops}
 use Rattle.htl_dialogue.specs.Notes.{Note}
 use Rattle.htl_dialogue.specs.declared.dialogue.Conversed.{Conversed}
 use Rattle.htl_dialogue.specs.declared.dialogue.DialogueFault.{DialogueFault}
@@ -227,7 +227,7 @@ pub record DoesConverse {S R : Type 0} (in_words : Bool) (speaker : Spoken S) (w
       → HaveTexts world of.files.items texts → IsTable world.holds of.symbols table → world.standard ≡ Some lines
       → ended ≡ Err (asks.Dialogue stopped)
       → (read : Taken) × (opening : Opening) × Begins of.folds of.setting texts read opening
-      × StopsAt (answers_over world (ways_of inputs) of.setting of.folds table) speaker.wants_absence (Some read) lines
+      × DialogueStops (answers_over world (ways_of inputs) of.setting of.folds table) speaker.wants_absence (Some read) lines
       (inputs.remaining questions) (inputs.has_failed questions) (HasGot speaker listening old new opening) stopped
   pub devices : ReportsDevices (inputs.has_failed questions) world.standard new.is_full ended
   pub cause : (texts : List (List ℕ)) → (table : Option (List ℕ)) → HaveTexts world of.files.items texts

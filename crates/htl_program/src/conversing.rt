@@ -3,7 +3,7 @@
 ghost use Rattle.std.specs.Prelude.{◌≡◌, ◌⊎◌, ℕ, All, Bool, Err, IfErr, IfOk, List, OnOk, Option, Some};
 ghost use Rattle.std.specs.Prelude.{false, map, option_copied, option_map};
 ghost use Rattle.htl_command.specs.declared.question.Setting.{Setting};
-ghost use Rattle.htl_dialogue.specs.Dialogues.{Converses, StopsAt};
+ghost use Rattle.htl_dialogue.specs.Dialogues.{Converses, DialogueStops};
 ghost use Rattle.htl_dialogue.specs.declared.dialogue.DialogueFault.{DialogueFault};
 ghost use Rattle.htl_main.specs.Origins.{by_fault};
 ghost use Rattle.htl_main.specs.Readings.{AreRead};
@@ -65,7 +65,7 @@ pub fn converse<Rt: Threads + Sync, W: World, Q: Source, O: Sink, H: Speaker>(
         → IsTable (W.holds world.now) of.now.symbols table → Q.remaining questions.old ≡ Some lines
         → result ≡ Err (AskFault.Dialogue stopped)
         → (read : Taken) × (opening : Opening) × Begins of.now.folds of.now.setting texts read opening
-        × StopsAt (answers_over (known W.holds W.is_absent W.standard world.now)
+        × DialogueStops (answers_over (known W.holds W.is_absent W.standard world.now)
         (ways W.Input.remaining W.Input.has_ended W.Input.has_failed W.Input.good_reads)
         of.now.setting of.now.folds table) (H.wants_absence speaker.old) (Some read) lines
         (Q.remaining questions.new) (Q.has_failed questions.new)
@@ -196,7 +196,7 @@ fn ask_opened<Rt: Threads + Sync, W: World, Q: Source, O: Sink, H: Speaker>(
         → Q.remaining questions.old ≡ Some lines
         → result ≡ Err (AskFault.Dialogue stopped)
         → (read : Taken) × (opening : Opening) × Begins folds files.now.setting texts read opening
-        × StopsAt (answers_over (known W.holds W.is_absent W.standard files.now.world.now)
+        × DialogueStops (answers_over (known W.holds W.is_absent W.standard files.now.world.now)
         (ways W.Input.remaining W.Input.has_ended W.Input.has_failed W.Input.good_reads)
         files.now.setting folds (option_copied symbols.entry)) (H.wants_absence speaker.old)
         (Some read) lines

@@ -4,7 +4,7 @@ ghost use Rattle.std.specs.Prelude.{◌≡◌, ◌≤◌, ◌⊎◌, ℕ, List, 
 ghost use Rattle.std.specs.Prelude.{IfErr, IfOk, IfSome, OnOk, length, string_bytes};
 ghost use Rattle.std.specs.Io.KnownBytes.{Appends};
 ghost use Rattle.htl_device.specs.Devices.{AppendsPrefix};
-ghost use Rattle.htl_dialogue.specs.Dialogues.{Converses, Gets, StopsAt, is_end, reading_reply};
+ghost use Rattle.htl_dialogue.specs.Dialogues.{Converses, Gets, DialogueStops, is_end, reading_reply};
 ghost use Rattle.htl_dialogue.specs.Replying.{IsRefusedReply, Lacks, Replies, fault_of};
 ghost use Rattle.htl_dialogue.specs.Sayings.{saying};
 ghost use Rattle.htl_program.specs.Loads.{HasSubjectIn, IsOfForm, answers_from, is_state};
@@ -15,7 +15,7 @@ use crate::kept::Kept;
 use crate::world::World;
 use htl_command::Job;
 use htl_device::{MAX_READS, Sink, Source, write_whole};
-use htl_dialogue::{Conversed, DialogueFault, Held, Host, Said, next_line, read_line};
+use htl_dialogue::{Conversed, DialogueFault, Host, ReadAhead, Said, next_line, read_line};
 use htl_main::{Added, Refused, RunFault};
 use std::alloc::{AllocError, Global};
 use std::thread::Threads;
@@ -46,7 +46,7 @@ pub(crate) fn converse_lines<Rt: Threads + Sync, W: World, Q: Source, O: Sink, H
         (Gets (O.contents out.old) (O.contents out.new) H.told host.old host.new)) }
     // Or those before a fault do: where a read fails, these are all that were read.
     ensures stops { (text : List ℕ) → Q.remaining questions.old ≡ Some text → IfErr result
-        (StopsAt (answers_from (known W.holds W.is_absent W.standard files.now.world.now)
+        (DialogueStops (answers_from (known W.holds W.is_absent W.standard files.now.world.now)
         (ways W.Input.remaining W.Input.has_ended W.Input.has_failed W.Input.good_reads)
         files.now.setting (is_state kept.old)) (H.wants_absence host.old) kept.old text
         (Q.remaining questions.new) (Q.has_failed questions.new)
@@ -61,7 +61,7 @@ pub(crate) fn converse_lines<Rt: Threads + Sync, W: World, Q: Source, O: Sink, H
     ensures write { O.has_failed out.new ≡ true → result ≡ Err DialogueFault.Write }
     ensures failed { result ≡ Err DialogueFault.Write → O.has_failed out.new ≡ true }
 {
-    let mut held = Held::new(alloc)?;
+    let mut held = ReadAhead::new(alloc)?;
     let mut conversed = Conversed::fine();
     for _line in 0..MAX_READS {
         host.awaits();

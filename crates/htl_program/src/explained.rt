@@ -3,7 +3,7 @@
 ghost use Rattle.std.specs.Prelude.{◌≡◌};
 ghost use Rattle.htl_program.specs.Words.{wrong_in};
 
-use crate::part::Part;
+use crate::named_part::NamedPart;
 use crate::words::{BAD_VALUE, advice, wrong};
 use htl_command::{Code, Parts, PrintedFault};
 use std::fmt;
@@ -24,7 +24,7 @@ impl fmt::Display for Explained {
     fn fmt<W: fmt::Write>(&self, f: &mut fmt::Formatter<W>) -> fmt::Result {
         let fault = self.fault;
         let (printed, wrong, advice) = (Printed { fault }, wrong_in(fault), advice(fault.code));
-        match Part::of(fault) {
+        match NamedPart::of(fault) {
             Some(part) => write!(f, "{printed}: {part} {wrong}\n{advice}\n"),
             None => write!(f, "{printed}: {wrong}\n{advice}\n"),
         }

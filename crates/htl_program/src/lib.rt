@@ -13,7 +13,7 @@
 //! `converting.rt` (`dump` and `encode`), `conversing.rt`, `dialogue.rt` and `files.rt` (a dialogue:
 //! each line is answered as by a run over all that was read so far), `kept.rt` (what is kept of that:
 //! all segments, or what they come to), `ask_fault.rt` (why it ends before its lines do),
-//! `explained.rt` and `words.rt` (what a fault means), `part.rt` (the part of the inputs that it
+//! `explained.rt` and `words.rt` (what a fault means), `named_part.rt` (the part of the inputs that it
 //! names), `subject.rt` (what a question is about).
 #![tactic(auto)]
 
@@ -29,9 +29,9 @@ mod explained;
 mod files;
 mod inputs;
 mod kept;
+mod named_part;
 mod opening;
 mod output;
-mod part;
 mod person;
 mod running;
 mod saying;
@@ -47,8 +47,8 @@ pub use console::Console;
 pub use conversing::converse;
 pub use converting::{dump, encode};
 pub use inputs::Inputs;
+pub use named_part::NamedPart;
 pub use output::Output;
-pub use part::Part;
 pub use person::Person;
 pub use speaker::Speaker;
 pub use subject::Subject;

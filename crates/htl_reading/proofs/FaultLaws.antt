@@ -19,7 +19,7 @@ use Rattle.htl_reading.specs.declared.fault.SourceFault.{SourceFault}
 use Rattle.htl_reading.specs.declared.fault.SourceFault.TheVariants.{Segment}
 use Rattle.htl_reading.specs.Keepers.{taken}
 use Rattle.htl_reading.specs.Blocks.{IsRefusedAt, of_segment}
-use Rattle.htl_reading.specs.Sources.{IsReadToFault, IsReported}
+use Rattle.htl_reading.specs.Sources.{IsReadToFault, IsReportedOfBundle}
 
 -- ---- bytes that were taken in
 
@@ -65,7 +65,7 @@ segment_fault offset fault other = refl
 -- ---- what is reported
 
 more_reported : (read left : List ℕ) (ended : Bool) (offset : ℕ) (fault : Fault) → IsRefused read offset fault
-    → IsReported (Some left) ended (read ++ left) (of_segment offset fault)
+    → IsReportedOfBundle (Some left) ended (read ++ left) (of_segment offset fault)
 more_reported read left ended offset fault refused =
     elim refused [
       | inl found ↦ rw (segment_fault offset fault (first_fault-no_memory found.0.rest fault found.0.fault_is))
@@ -76,7 +76,7 @@ more_reported read left ended offset fault refused =
 -- what is refused behind segments is so whichever bytes follow it
 pub refusal_reported : (first last : Option (List ℕ)) (ended : Bool) (segments : List Content) (held : List ℕ) (offset : ℕ)
     (reported : SourceFault) → All Fits segments → offset ≡ length (bundle segments) → Consumes first last (taken segments held)
-    → IsRefusedAt offset held reported → IfSome first (λ all. IsReported last ended all reported)
+    → IsRefusedAt offset held reported → IfSome first (λ all. IsReportedOfBundle last ended all reported)
 refusal_reported None last ended segments held offset reported fits offset_is given refused = tt
 refusal_reported (Some xs) None ended segments held offset reported fits offset_is given refused = absurd given
 refusal_reported (Some xs) (Some ys) ended segments held offset reported fits offset_is given refused =

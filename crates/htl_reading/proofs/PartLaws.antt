@@ -16,11 +16,11 @@ use Rattle.htl_reading.proofs.FaultLaws.{begins_none, read_without_fault, taken_
 use Rattle.htl_reading.proofs.TakenLaws.{asked}
 use Rattle.std.proofs.lemmas.List.Elements.{All-nil}
 use Rattle.htl_reading.specs.Parts.{ArePartsOf, IsAnother, IsPartOf, TookInOrder}
-use Rattle.htl_reading.specs.declared.parts.Part.{Part}
+use Rattle.htl_reading.specs.declared.parts.SourcePart.{SourcePart}
 
 module _ {K R : Type 0} (gathers : K → K → List Content → Type 0) (remaining : R → Option (List ℕ)) (keeper : K) where
   -- one part more
-  parts_more : (parts : List (Part R K)) (part : Part R K) (bytes piece : List ℕ) → ArePartsOf gathers remaining keeper parts bytes
+  parts_more : (parts : List (SourcePart R K)) (part : SourcePart R K) (bytes piece : List ℕ) → ArePartsOf gathers remaining keeper parts bytes
       → IsPartOf gathers remaining keeper part piece → ArePartsOf gathers remaining keeper (parts ++ part ∷ []) (bytes ++ piece)
   parts_more [] part bytes piece are is = (piece, [], rw are (sym (append-nil piece)), is, refl)
   parts_more (first ∷ parts) part bytes piece are is = (
@@ -37,7 +37,7 @@ module _ {K R : Type 0} (gathers : K → K → List Content → Type 0) (remaini
   first_parts (Some bytes) = refl
 
   -- the parts up to a place, and the one behind it
-  pub part_behind : (given : Option (List ℕ)) (parts : List (Part R K)) (part : Part R K) (from len to : ℕ) → to ≡ from + len
+  pub part_behind : (given : Option (List ℕ)) (parts : List (SourcePart R K)) (part : SourcePart R K) (from len to : ℕ) → to ≡ from + len
       → IfSome given (λ bytes. ArePartsOf gathers remaining keeper parts (take from bytes))
       → IfSome given (λ bytes. IsPartOf gathers remaining keeper part (take len (drop from bytes)))
       → IfSome given (λ bytes. ArePartsOf gathers remaining keeper (parts ++ part ∷ []) (take to bytes))
@@ -46,12 +46,12 @@ module _ {K R : Type 0} (gathers : K → K → List Content → Type 0) (remaini
       rw (is, take-add from len bytes) (parts_more parts part (take from bytes) (take len (drop from bytes)) are behind)
 
   -- the worker of a part took its segments, or none
-  abbrev pub Gathers : Part R K → Option K → Type 0
+  abbrev pub Gathers : SourcePart R K → Option K → Type 0
   Gathers part outcome = IfSome outcome (λ new. IfSome (take_remaining remaining part.bytes) (TookAll gathers part.keeper new))
 
   -- where the worker of each part did, the keepers have the segments of all in order
-  pub gathered_in_order : (parts : List (Part R K)) (keepers : List K) (bytes : List ℕ)
-      → ((i : ℕ) (part : Part R K) (outcome : Option K) → i < length parts
+  pub gathered_in_order : (parts : List (SourcePart R K)) (keepers : List K) (bytes : List ℕ)
+      → ((i : ℕ) (part : SourcePart R K) (outcome : Option K) → i < length parts
       → Gathers (slice_index_or parts i part) (slice_index_or (map (λ keeper. Some keeper) keepers) i outcome))
       → length keepers ≡ length parts → ArePartsOf gathers remaining keeper parts bytes → TookInOrder gathers keeper keepers bytes
   gathered_in_order [] [] bytes each len are = are

@@ -17,7 +17,7 @@ use Rattle.htl_reading.specs.declared.fault.SourceFault.{SourceFault}
 use Rattle.htl_reading.specs.declared.fault.SourceFault.TheVariants.{NoMemory, Read}
 use Rattle.htl_reading.specs.Keepers.{IsTakenOf, IsTakenOff, IsTakenTo, taken}
 use Rattle.htl_reading.specs.Blocks.{IsKeptAt, IsReadBehind, IsRefusedAt}
-use Rattle.htl_reading.specs.Sources.{AsksMemory, IsLeft, IsReadToFault, IsReported}
+use Rattle.htl_reading.specs.Sources.{AsksMemory, IsLeft, IsReadToFault, IsReportedOfBundle}
 use Rattle.htl_reading.specs.Taking.{TookBefore, TookToEnd}
 use Rattle.htl_reading.specs.declared.outcome.EarlyEnd.{EarlyEnd}
 use Rattle.htl_reading.proofs.FaultLaws.{begins_none, first_begins, given_many, read_more, read_without_fault, refusal_reported}
@@ -55,14 +55,14 @@ take_past xs ys n all is = rw is (take-append-add xs ys n)
 -- where nothing was taken before it
 pub first_refused : (given left : Option (List ℕ)) (piece : List ℕ) (ended : Bool) (fault : SourceFault) → Consumes given left piece
     → IsRefusedAt 0 piece fault
-    → IfSome given (λ bytes. IsReported left ended bytes fault)
+    → IfSome given (λ bytes. IsReportedOfBundle left ended bytes fault)
 first_refused given left piece ended fault read refused =
     refusal_reported given left ended [] piece 0 fault (All-nil Fits) refl read refused
 
 -- memory, while the end isn't found
 pub asked : (given left : Option (List ℕ)) (ended : Bool) (segments : List Content) (rest : List ℕ) → All Fits segments → IsRest rest
     → Consumes given left (taken segments rest) → 0 < length (taken segments rest) → ended ≡ false
-    → IfSome given (λ bytes. IsReported left ended bytes NoMemory)
+    → IfSome given (λ bytes. IsReportedOfBundle left ended bytes NoMemory)
 asked None left ended segments rest fits is_rest read some not_ended = tt
 asked (Some xs) left ended [] rest fits is_rest read some not_ended =
     let here : RestAt rest 0 = record {
@@ -184,12 +184,12 @@ module _ {S K : Type 0} {gathers : S → K → List Content → Type 0} {old new
   of_refused : {last : Option (List ℕ)} {held : List ℕ} {count : ℕ} (ended : Bool) (fault : SourceFault)
       → IsReadBehind left last rest held count
       → IsRefusedAt offset held fault
-      → IsReported last ended bytes fault
+      → IsReportedOfBundle last ended bytes fault
   of_refused {last = last} {held = held} ended fault behind refused =
       refusal_reported (Some bytes) last ended at.segments held offset fault at.fits at.offset_is (read_behind behind) refused
 
   -- memory is asked for where a segment begins, or to hold what was read last
-  of_memory : (ended : Bool) → 0 < reads → ended ≡ false → IsReported left ended bytes NoMemory
+  of_memory : (ended : Bool) → 0 < reads → ended ≡ false → IsReportedOfBundle left ended bytes NoMemory
   of_memory ended some not_ended =
       asked (Some bytes) left ended at.segments rest at.fits at.is_rest at.read (omega (arith, some, at.each)) not_ended
 
@@ -269,10 +269,10 @@ module _ {S K : Type 0} {gathers : S → K → List Content → Type 0} {old new
 
   pub taken_refused : {last : Option (List ℕ)} {held : List ℕ} {count : ℕ} (ended : Bool) (fault : SourceFault)
       → IsReadBehind left last rest held count → IsRefusedAt offset held fault
-      → IfSome given (λ bytes. IsReported last ended bytes fault)
+      → IfSome given (λ bytes. IsReportedOfBundle last ended bytes fault)
   taken_refused ended fault behind refused = IfSome_then given at.known (λ bytes is. of_refused is ended fault behind refused)
 
-  pub taken_memory : (ended : Bool) → 0 < reads → ended ≡ false → IfSome given (λ bytes. IsReported left ended bytes NoMemory)
+  pub taken_memory : (ended : Bool) → 0 < reads → ended ≡ false → IfSome given (λ bytes. IsReportedOfBundle left ended bytes NoMemory)
   taken_memory ended some not_ended = IfSome_then given at.known (λ bytes is. of_memory is ended some not_ended)
 
   pub offset_memory : (ended : Bool) → 0 < offset → ended ≡ false → IfSome given (AsksMemory left ended)

@@ -7,7 +7,7 @@ use Rattle.htl_segment.specs.declared.keeper.Segments.{Segments}
 use Rattle.htl_device.specs.declared.source.TheConstants.{MAX_READ_LEN}
 use Rattle.htl_reading.specs.Keepers.{IsTakenTo}
 use Rattle.htl_reading.specs.Sources.{AsksMemory, IsReadToFault}
-use Rattle.htl_reading.specs.declared.parts.Part.{Part}
+use Rattle.htl_reading.specs.declared.parts.SourcePart.{SourcePart}
 
 -- it is of another keeper's kind, and took these segments
 abbrev pub IsAnother : {K : Type 0} → (K → K → List Content → Type 0) → K → K → List Content → Type 0
@@ -26,12 +26,13 @@ AreEmpty keepers = All (λ keeper. keeper.list.items ≡ []) keepers
 
 -- the part has these bytes, and a keeper that took no segment
 pub record IsPartOf {K R : Type 0} (gathers : K → K → List Content → Type 0) (remaining : R → Option (List ℕ)) (keeper : K)
-    (part : Part R K) (piece : List ℕ) : Type 0 where
+    (part : SourcePart R K) (piece : List ℕ) : Type 0 where
   pub bytes_are : take_remaining remaining part.bytes ≡ Some piece
   pub fresh : IsAnother gathers keeper part.keeper []
 
 -- these are all bytes, one part after the other
-abbrev pub ArePartsOf : {K R : Type 0} → (K → K → List Content → Type 0) → (R → Option (List ℕ)) → K → List (Part R K) → List ℕ → Type 0
+abbrev pub ArePartsOf : {K R : Type 0} → (K → K → List Content → Type 0) → (R → Option (List ℕ)) → K → List (SourcePart R K) → List ℕ
+    → Type 0
 ArePartsOf gathers remaining keeper [] bytes = bytes ≡ []
 ArePartsOf gathers remaining keeper (part ∷ parts) bytes =
     (piece : List ℕ) × (rest : List ℕ) × (bytes ≡ piece ++ rest) × IsPartOf gathers remaining keeper part piece

@@ -30,10 +30,10 @@ AsksMemory left ended bytes =
 
 -- What is reported of a source that gave some of these bytes, has others left, and whose end was found or not. It is
 -- never that the bytes end within a segment.
-abbrev pub IsReported : Option (List ℕ) → Bool → List ℕ → SourceFault → Type 0
-IsReported left ended bytes (Segment offset fault) = BundleFault bytes offset fault × (is_early_end fault ≡ false)
-IsReported left ended bytes Read = ⊤
-IsReported left ended bytes NoMemory = AsksMemory left ended bytes
+abbrev pub IsReportedOfBundle : Option (List ℕ) → Bool → List ℕ → SourceFault → Type 0
+IsReportedOfBundle left ended bytes (Segment offset fault) = BundleFault bytes offset fault × (is_early_end fault ≡ false)
+IsReportedOfBundle left ended bytes Read = ⊤
+IsReportedOfBundle left ended bytes NoMemory = AsksMemory left ended bytes
 
 -- a failed read is reported only where one failed, or so many reads gave bytes
 abbrev pub FailsOnly : {S : Type 0} → Bool → ℕ → Option (List ℕ) → ℕ → Result S SourceFault → Type 0

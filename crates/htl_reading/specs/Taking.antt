@@ -5,7 +5,7 @@ use Rattle.std.specs.Io.KnownBytes.{Consumes}
 use Rattle.htl_segment.specs.Content.{Content}
 use Rattle.htl_segment.specs.Bundles.{IsRest, Splits}
 use Rattle.htl_segment.specs.Keepers.{Took, TookUpTo}
-use Rattle.htl_reading.specs.Sources.{IsLeft, IsReported, IsSourceRead}
+use Rattle.htl_reading.specs.Sources.{IsLeft, IsReportedOfBundle, IsSourceRead}
 use Rattle.htl_reading.specs.declared.fault.SourceFault.{SourceFault}
 use Rattle.htl_reading.specs.declared.fault.SourceFault.TheVariants.{Segment, Read, NoMemory}
 use Rattle.htl_reading.specs.declared.outcome.EarlyEnd.{EarlyEnd}
@@ -41,7 +41,7 @@ pub record TakesSource {S K R : Type 0} (most : ℕ) (gathers : S → K → List
     (good_reads : R → ℕ) (remaining : R → Option (List ℕ)) (given : Option (List ℕ)) (start after : K) (old new : R)
     (result : Result (Option EarlyEnd) SourceFault) : Type 0 where
   pub ok : IfOk result (λ early_end. IfSome given (TookToEnd gathers start after early_end))
-  pub err : IfErr result (λ fault. IfSome given (λ bytes. IsReported (remaining new) (has_ended new) bytes fault))
+  pub err : IfErr result (λ fault. IfSome given (λ bytes. IsReportedOfBundle (remaining new) (has_ended new) bytes fault))
   pub kept : IfErr result (λ fault. IfSome given (λ bytes. TookBefore gathers start after (remaining new) bytes fault))
   pub reading : IsSourceRead most has_failed has_ended good_reads remaining given old new result
 

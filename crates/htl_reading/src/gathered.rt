@@ -1,7 +1,7 @@
 //! What was gathered from a source, and how one worker reads it on.
 
 ghost use Rattle.std.specs.Prelude.{◌≡◌, ◌≢◌, ◌+◌, ◌*◌, ◌<◌, ◌≤◌, ◌^◌, ℕ, List, Option, Err};
-ghost use Rattle.std.specs.Prelude.{IfOk, IfErr, IfSome, OnOk, false, length};
+ghost use Rattle.std.specs.Prelude.{IfOk, IfErr, OnOk, false, length};
 ghost use Rattle.htl_reading.specs.Blocks.{IsKeptAt, IsRefusedAt, IsTakenIn};
 ghost use Rattle.htl_reading.specs.Keepers.{IsTakenOff, IsTakenTo};
 ghost use Rattle.htl_reading.specs.Taking.{LeavesTaken, TakesSource};

@@ -20,12 +20,12 @@ pub const MAX_LEN: u64 = 1 << 61;
 
 /// A part of a source's bytes, and the keeper that takes its segments.
 #[derive(Drop)]
-pub struct Part<R, K> {
+pub struct SourcePart<R, K> {
     bytes: Take<R>,
     keeper: K,
 }
 
-impl<R: Read + Drop, K: Keeper + Drop> Part<R, K> {
+impl<R: Read + Drop, K: Keeper + Drop> SourcePart<R, K> {
     /// Reads the part, and gives the keeper with its segments. Where it is no whole segments, or can't
     /// be read, it gives none.
     fn gather(self, alloc: Global) -> Option<K>
@@ -101,7 +101,7 @@ pub fn gather_front<T: Threads + Sync, R: Parted, K: JoiningKeeper + Drop + Send
     if end == 0 || end > len {
         return None;
     }
-    let gather = |part: Part<R::Tail, K>| -> Option<K>
+    let gather = |part: SourcePart<R::Tail, K>| -> Option<K>
         ensures { IfSome result (λ new. IfSome
             (take_remaining R.Tail.remaining part.bytes) (TookAll K.gathers part.keeper new)) }
     { part.gather(alloc) };
@@ -121,7 +121,7 @@ fn cut<R: Parted, K: JoiningKeeper + Drop>(
     keeper: &K,
     mut spare: Vec<K>,
     ends: &[u64],
-) -> Option<(Vec<Part<R::Tail, K>>, u64)>
+) -> Option<(Vec<SourcePart<R::Tail, K>>, u64)>
     requires { All (λ spare. IsAnother K.gathers keeper.now spare []) spare.items }
     ensures { IfSome result (λ cut. IfSome (R.remaining source.now) (λ bytes.
         ArePartsOf K.gathers R.Tail.remaining keeper.now cut.0.items (take cut.1 bytes))) }
@@ -146,13 +146,13 @@ fn part_at<R: Parted, K: JoiningKeeper + Drop>(
     spare: &mut Vec<K>,
     from: u64,
     len: u64,
-) -> Option<Part<R::Tail, K>>
+) -> Option<SourcePart<R::Tail, K>>
     requires { All (λ spare. IsAnother K.gathers keeper.now spare []) spare.old.items }
     ensures part { IfSome result (λ part. IfSome (R.remaining source.now) (λ bytes.
         IsPartOf K.gathers R.Tail.remaining keeper.now part (take len (drop from bytes)))) }
     ensures spare { All (λ spare. IsAnother K.gathers keeper.now spare []) spare.new.items }
 {
-    Some(Part {
+    Some(SourcePart {
         bytes: source.tail(from)?.take(len),
         keeper: fresh_keeper(alloc, keeper, spare),
     })

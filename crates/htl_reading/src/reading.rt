@@ -5,7 +5,7 @@ ghost use Rattle.std.specs.Prelude.{[], IfOk, IfErr, IfSome, false};
 ghost use Rattle.htl_segment.specs.Content.{Content};
 ghost use Rattle.htl_segment.specs.Bundles.{Splits};
 ghost use Rattle.htl_reading.specs.Keepers.{IsTakenTo};
-ghost use Rattle.htl_reading.specs.Sources.{IsLeft, IsReported, IsSourceRead};
+ghost use Rattle.htl_reading.specs.Sources.{IsLeft, IsReportedOfBundle, IsSourceRead};
 ghost use Rattle.htl_reading.specs.Taking.{LeavesTaken, TakesSource, TookToEnd};
 
 use crate::block::Block;
@@ -41,7 +41,7 @@ pub fn gather_bundle<T: Threads + Sync, R: Parted, K: JoiningKeeper + Drop + Sen
         × IsLeft more rest bundle.early_end × ((kind : K) (segments : List Content)
         → K.gathers kind keeper segments → K.gathers kind bundle.segments (segments ++ more)))) }
     ensures err { IfErr result (λ fault. IfSome (R.remaining source.old) (λ bytes.
-        IsReported (R.remaining source.new) (R.has_ended source.new) bytes fault)) }
+        IsReportedOfBundle (R.remaining source.new) (R.has_ended source.new) bytes fault)) }
     ensures reading { IsSourceRead MAX_READS R.has_failed R.has_ended R.good_reads R.remaining
         (R.remaining source.old) source.old source.new result }
 {
@@ -69,7 +69,7 @@ pub fn read_bundle<T: Threads + Sync, R: Parted>(
         (rest : List ℕ) × Splits bytes bundle.segments.items rest
         × IsLeft bundle.segments.items rest bundle.early_end)) }
     ensures err { IfErr result (λ fault. IfSome (R.remaining source.old) (λ bytes.
-        IsReported (R.remaining source.new) (R.has_ended source.new) bytes fault)) }
+        IsReportedOfBundle (R.remaining source.new) (R.has_ended source.new) bytes fault)) }
     ensures reading { IsSourceRead MAX_READS R.has_failed R.has_ended R.good_reads R.remaining
         (R.remaining source.old) source.old source.new result }
 {
@@ -132,7 +132,7 @@ pub(crate) fn read_source<R: Source, K: Keeper + Drop>(
     ensures ok { IfOk result (λ bundle. IfSome (R.remaining source.old)
         (TookToEnd K.gathers keeper bundle.segments bundle.early_end)) }
     ensures err { IfErr result (λ fault. IfSome (R.remaining source.old) (λ bytes.
-        IsReported (R.remaining source.new) (R.has_ended source.new) bytes fault)) }
+        IsReportedOfBundle (R.remaining source.new) (R.has_ended source.new) bytes fault)) }
     ensures reading { IsSourceRead most R.has_failed R.has_ended R.good_reads R.remaining
         (R.remaining source.old) source.old source.new result }
 {

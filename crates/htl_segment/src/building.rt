@@ -1,8 +1,8 @@
 //! Building: a segment made of its parts.
-ghost use Rattle.std.specs.Prelude.{◌≡◌, ℕ, All, None, Some, IfOk, OnOk, MatchOption, MatchResult};
+ghost use Rattle.std.specs.Prelude.{◌≡◌, ℕ, All, None, Some, IfOk, OnOk, MatchResult};
 ghost use Rattle.std.specs.Arc.{arc_value};
 ghost use Rattle.htl_event.specs.Ranges.{InRange};
-ghost use Rattle.htl_segment.specs.Content.{content, Fits};
+ghost use Rattle.htl_segment.specs.Content.{content};
 ghost use Rattle.htl_segment.specs.Building.{event_fault, events_fault, build_fault, Builds};
 
 use crate::fault::Fault;

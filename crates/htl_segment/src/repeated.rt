@@ -1,6 +1,6 @@
 //! The least number that comes twice in a list.
 
-ghost use Rattle.std.specs.Prelude.{◌≡◌, ℕ, ◌<◌, ◌≤◌, MatchOption};
+ghost use Rattle.std.specs.Prelude.{ℕ, ◌<◌, ◌≤◌, MatchOption};
 ghost use Rattle.std.specs.List.Sorted.{IsNonDecreasing};
 ghost use Rattle.htl_event.specs.Members.{IsLeastSuch};
 ghost use Rattle.htl_segment.specs.Repeated.{times};

@@ -1,6 +1,5 @@
 //! The stack cache: stacks that were met lately.
 ghost use Rattle.std.specs.Prelude.{◌≡◌, ◌≤◌, ◌<◌, ◌^◌, ◌*◌, ◌/◌, length, IsTrue, IfOk};
-ghost use Rattle.std.specs.List.{AllByRecursion};
 ghost use Rattle.htl_segment.specs.Numbers.{numbers};
 
 use crate::encoding::push_frames;

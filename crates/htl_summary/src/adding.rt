@@ -1,7 +1,7 @@
 //! Adds up the rows of each key.
 
 ghost use Rattle.std.specs.Prelude.{◌≡◌, false, true};
-ghost use Rattle.std.specs.Prelude.{Some, IfOk, IfSome, IfNone, OnOk};
+ghost use Rattle.std.specs.Prelude.{Some, IfOk, IfSome, IfNone};
 ghost use Rattle.std.specs.FinMap.Entries.{find};
 ghost use Rattle.std.specs.declared.cmp.Ordering.TheVariants.{Greater};
 ghost use Rattle.htl_sorted.specs.Entries.{IsSorted, entries, joined_at};

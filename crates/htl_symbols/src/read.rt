@@ -1,6 +1,6 @@
 //! Reading a symbol table from CSV.
 
-ghost use Rattle.std.specs.Prelude.{◌≡◌, ◌+◌, ◌^◌, ◌<◌, ◌∷◌, IfOk, List, length, ℕ};
+ghost use Rattle.std.specs.Prelude.{◌≡◌, ◌+◌, ◌^◌, ◌<◌, ◌∷◌, IfOk, length};
 ghost use Rattle.csv.specs.Records.{fields_of};
 ghost use Rattle.htl_symbols.specs.Reading.{Reads, records_of};
 ghost use Rattle.htl_symbols.specs.Records.{IsAtRecord, records_left};

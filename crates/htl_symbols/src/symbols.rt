@@ -1,6 +1,6 @@
 //! Symbol tables in memory.
 
-ghost use Rattle.std.specs.Prelude.{◌≡◌, ◌<◌, ◌≤◌, ◌∷◌, [], All, false, IsPermutation};
+ghost use Rattle.std.specs.Prelude.{◌≡◌, ◌<◌, ◌∷◌, [], All, false, IsPermutation};
 ghost use Rattle.std.specs.Prelude.{MatchOption, OnErr, OnOk, option_map};
 ghost use Rattle.std.specs.List.{list_any};
 ghost use Rattle.htl_symbols.specs.Ranges.{IsTable, meets, resolved};

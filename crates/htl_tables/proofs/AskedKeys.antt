@@ -7,7 +7,7 @@ use Rattle.htl_event.specs.Events.{Event}
 use Rattle.htl_event.specs.Handles.{opens_or_closes}
 use Rattle.htl_event.proofs.EventTests.{opens_or_closes_base}
 use Rattle.htl_tables.specs.declared.sort_key.SortKey.{SortKey}
-use Rattle.htl_tables.specs.Asked.{is_asked, touches, noted_of}
+use Rattle.htl_tables.specs.OfProcess.{is_asked, touches, noted_of}
 use Rattle.htl_tables.specs.SortKeys.{sort_key_cmp, AreCandidates}
 use Rattle.htl_tables.specs.FirstKeys.{FirstKeyIs}
 use Rattle.htl_tables.proofs.FirstKeys.{keys_noted, key_of_event, opens_of}

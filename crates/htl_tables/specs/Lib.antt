@@ -4,7 +4,7 @@ pub mod Latest
 pub mod Greatest
 pub mod Laws
 -- cited by private contracts alone
-pub mod Asked
+pub mod OfProcess
 pub mod KeyLaws
 pub mod RowOrder
 pub mod Moments

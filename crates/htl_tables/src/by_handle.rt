@@ -1,6 +1,5 @@
 //! Rows of latest events, by process and base handle.
 
-ghost use Rattle.std.specs.Prelude.{◌≡◌};
 ghost use Rattle.htl_tables.specs.Keys.{key_of};
 ghost use Rattle.htl_tables.specs.Latest.{later_of};
 ghost use Rattle.htl_tables.specs.KeyLaws.{key_cmp-equal};

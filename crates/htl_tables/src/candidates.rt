@@ -1,7 +1,7 @@
 //! Candidates: the events that may be the latest of their handles, gathered from lists in one pass.
 
 ghost use Rattle.std.specs.Prelude.{◌≡◌, IfOk, IsSorted};
-ghost use Rattle.htl_tables.specs.Asked.{touches};
+ghost use Rattle.htl_tables.specs.OfProcess.{touches};
 ghost use Rattle.htl_tables.specs.SortKeys.{sort_key_cmp, AreCandidates};
 
 use crate::hints::{KeyHints, WAYS};
@@ -59,7 +59,7 @@ impl<A: Allocator + Clone> Candidates<A> {
 
 impl<A: Allocator> Candidates<A> {
     ghost use Rattle.std.specs.Prelude.{IfOk, OnOk};
-    ghost use Rattle.htl_tables.specs.Asked.{touches};
+    ghost use Rattle.htl_tables.specs.OfProcess.{touches};
     ghost use Rattle.htl_tables.specs.SortKeys.{IsPlaceOf, Gathers, Offers};
 
     /// Offers the keys of the opens and closes of one list that are asked for.

@@ -118,11 +118,11 @@ impl<A: Allocator> Latest<A> {
 }
 
 impl<A: Allocator + Clone> Latest<A> {
-    ghost use Rattle.std.specs.Prelude.{◌≡◌, ◌≢◌, ◌==◌, ◌<◌, ◌≤◌, ℕ, [], None, Ok, OnOk, IfOk, Contains};
+    ghost use Rattle.std.specs.Prelude.{◌≡◌, ◌≢◌, ◌==◌, ◌<◌, ℕ, [], None, Ok, OnOk, IfOk, Contains};
     ghost use Rattle.std.specs.Prelude.{filter, flat_map, length, IsSorted};
     ghost use Rattle.htl_event.specs.Handles.{LatestIs, later};
     ghost use Rattle.htl_tables.specs.Latest.{event_at, noted};
-    ghost use Rattle.htl_tables.specs.Asked.{noted_of, touches};
+    ghost use Rattle.htl_tables.specs.OfProcess.{noted_of, touches};
     ghost use Rattle.htl_tables.specs.SortKeys.{sort_key_cmp, AreCandidates, AreKeysIn};
     ghost use Rattle.htl_tables.specs.FirstKeys.{HaveFirstKeys, NotesKeys};
 

@@ -4,7 +4,7 @@
 ghost use Rattle.std.specs.Prelude.{◌≡◌, ◌≤◌, length, drop, true, IfOk};
 ghost use Rattle.htl_event.specs.Handles.{opens_or_closes};
 ghost use Rattle.htl_tables.specs.declared.sort_key.SortKey.{SortKey};
-ghost use Rattle.htl_tables.specs.Asked.{touches};
+ghost use Rattle.htl_tables.specs.OfProcess.{touches};
 ghost use Rattle.htl_tables.specs.SortKeys.{AreKeysIn, AreEventsOfKeys};
 
 use htl_event::{EventList, NoMemory, SharedEvent, base};

@@ -17,11 +17,11 @@ pub(crate) struct NumberSet<A: Allocator> {
 }
 
 impl<A: Allocator> NumberSet<A> {
-    ghost use Rattle.std.specs.Prelude.{◌≡◌, ◌≤◌, ◌<◌, ◌+◌, ◌⊎◌, ◌↔◌, ℕ, [], length};
-    ghost use Rattle.std.specs.Prelude.{IsTrue, IsFalse, IfOk, IfErr, OnOk, OnErr};
+    ghost use Rattle.std.specs.Prelude.{◌≡◌, ◌≤◌, ◌<◌, ◌+◌, ◌↔◌, ℕ, length};
+    ghost use Rattle.std.specs.Prelude.{IsTrue, IsFalse, IfOk, IfErr, OnErr};
     ghost use Rattle.std.specs.Prelude.{MatchResult, Contains, slice_index, if◌then◌else◌};
     ghost use Rattle.htl_taken.specs.Rising.{gap_of};
-    ghost use Rattle.htl_taken.specs.Numbers.{Numbers, IsUnion, size_of, reach_of};
+    ghost use Rattle.htl_taken.specs.Numbers.{IsUnion, size_of, reach_of};
     ghost use Rattle.htl_taken.specs.Numbers.{with_loose, settled, no_numbers};
     ghost use Rattle.htl_taken.specs.NumberSets.{Has};
     ghost use Rattle.htl_taken.specs.NumberSets.{numbers_of};

@@ -28,7 +28,7 @@ impl<A: Allocator> Model for Taken<A> {
 }
 
 impl<A: Allocator> Taken<A> {
-    ghost use Rattle.std.specs.Prelude.{◌≡◌, ◌≤◌, ◌<◌, ◌↔◌, ◌==◌, ◌&&◌, ◌||◌, ℕ, Bool};
+    ghost use Rattle.std.specs.Prelude.{◌≡◌, ◌≤◌, ◌<◌, ◌↔◌, ◌==◌, ◌&&◌, ◌||◌, ℕ};
     ghost use Rattle.std.specs.Prelude.{true, false, length, sum_by, not, IsTrue};
     ghost use Rattle.std.specs.Prelude.{IfOk, IfErr, OnOk, OnErr, MatchResult, Contains};
     ghost use Rattle.std.specs.Prelude.{slice_index, slice_set, if◌then◌else◌};

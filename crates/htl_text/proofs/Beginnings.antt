@@ -13,8 +13,8 @@ use Rattle.htl_text.specs.declared.item.Head.{Head}
 use Rattle.htl_text.specs.declared.item.Item.{Item}
 use Rattle.htl_text.specs.declared.item.Item.TheVariants as item
 use Rattle.htl_text.specs.Encoded.{begins, begins_segment, is_header, kept}
-use Rattle.htl_text.specs.Lines.{is_skipped, item_in, lines_of, words_of}
-use Rattle.htl_text.specs.Steps.{Held, Progress, after_event, after_form, after_frame, after_frame_of, after_item}
+use Rattle.htl_text.specs.Lines.{is_skipped, item_in, lines_of_text, words_of}
+use Rattle.htl_text.specs.Steps.{DraftLines, Progress, after_event, after_form, after_frame, after_frame_of, after_item}
 use Rattle.htl_text.specs.Steps.{after_words, begun, closed, progress, reopened, with_event}
 use Rattle.htl_text.specs.Steps.{HasCause, NeedsSegment, with_frame_of}
 use Rattle.htl_text.proofs.Writing.{kept_one, kept_passed}
@@ -40,17 +40,17 @@ started_anew : (line : ℕ) (head : Head) (r : Result (List ℕ) (ℕ × LineFau
 started_anew line head (Ok bytes) q h = read_on (progress bytes (Some (begun line head))) q (reopened line head (Ok bytes)) refl h refl
 started_anew line head (Err fault) q h = absurd (no_progress (reopened line head (Err fault)) fault q refl h)
 
-started_frame : (line address : ℕ) (bytes : List ℕ) (d : Held) (e : Option Event) (q : Progress)
+started_frame : (line address : ℕ) (bytes : List ℕ) (d : DraftLines) (e : Option Event) (q : Progress)
     → after_frame_of line address bytes d e ≡ Ok q → is_some q.draft ≡ true
 started_frame line address bytes d None q h = absurd (no_progress (after_frame_of line address bytes d None) (line, Order) q refl h)
 started_frame line address bytes d (Some e) q h =
     read_on (progress bytes (Some (with_frame_of address d e))) q (after_frame_of line address bytes d (Some e)) refl h refl
 
 -- After an item a segment's lines are being read: they were before, or it begins one.
-abbrev Started : Option Held → Item → Progress → Type 0
+abbrev Started : Option DraftLines → Item → Progress → Type 0
 Started d i q = (is_some q.draft ≡ true) × ((is_some d || is_header i) ≡ true)
 
-started : (line : ℕ) (i : Item) (bytes : List ℕ) (d : Option Held) (q : Progress) → after_item line i (progress bytes d) ≡ Ok q → Started d i q
+started : (line : ℕ) (i : Item) (bytes : List ℕ) (d : Option DraftLines) (q : Progress) → after_item line i (progress bytes d) ≡ Ok q → Started d i q
 started line (item.Segment head) bytes d q h = (started_anew line head (closed (progress bytes d)) q h, or-true (is_some d))
 started line (item.Event e) bytes None q h = absurd (no_progress (after_event line e bytes None) (line, Order) q refl h)
 started line (item.Event e) bytes (Some d) q h =
@@ -81,7 +81,7 @@ starts_on whole rest later line n p q start cut h =
 
 -- so a refusal of memory is one of a text that begins with a segment
 pub needs_segment : {A : Type 0} (bytes : List ℕ) (p : Progress) (rest : List (List ℕ)) (answer : Result A TextFault)
-    → begins (kept (lines_of bytes)) ≡ starts p rest → IfErr answer (λ fault. HasCause p fault)
+    → begins (kept (lines_of_text bytes)) ≡ starts p rest → IfErr answer (λ fault. HasCause p fault)
     → IfErr answer (λ fault. NeedsSegment bytes fault)
 needs_segment bytes p rest (Ok a) start h = tt
 needs_segment bytes p rest (Err (text.Line line fault)) start h = tt

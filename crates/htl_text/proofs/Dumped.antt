@@ -21,7 +21,7 @@ use Rattle.htl_text.specs.declared.item.Item.{Item}
 use Rattle.htl_text.specs.declared.item.Item.TheVariants as item
 use Rattle.htl_text.specs.Items.{LoneEvent, without_stack, event_items, draft_items, draft_of, head_of, segments_items}
 use Rattle.htl_text.specs.Fields.{address_value, bare_value, handle_value, marked_value, no_tag, no_values, tag_value}
-use Rattle.htl_text.specs.Lines.{event_form, form_of, item_by, item_in, is_skipped, lines_of, said_by, segment_form, values_in, without_mark, words_of}
+use Rattle.htl_text.specs.Lines.{event_form, form_of, item_by, item_in, is_skipped, lines_of_text, said_by, segment_form, values_in, without_mark, words_of}
 use Rattle.htl_text.specs.declared.field.Field.TheVariants.{Version as version_field, Trace, Processors, Processor, Number}
 use Rattle.htl_text.specs.declared.field.Field.TheVariants.{Handle, Object, Tag, Sequence, Process, Thread}
 use Rattle.htl_text.specs.Encoded.{Encodes, Write}
@@ -473,8 +473,8 @@ empty_passed : is_skipped (words_of []) ≡ true
 unfolding words_of is_skipped
 empty_passed = refl
 
-nothing_said : Write (lines_of []) []
-unfolding lines_of
+nothing_said : Write (lines_of_text []) []
+unfolding lines_of_text
 nothing_said = write_none [] empty_passed
 
 -- no text of segments begins with a byte order mark

@@ -10,7 +10,7 @@ use Rattle.htl_numbers.specs.Numbers.{decimal_number}
 use Rattle.htl_numbers.specs.Written.{hex, padded}
 use Rattle.htl_text.specs.declared.item.Item.{Item}
 use Rattle.htl_text.specs.Fields.{address_value, after_bytes, field_name, first_text, first_value, frame_value, handle_value}
-use Rattle.htl_text.specs.Lines.{item_in, is_skipped, lines_of, words_of}
+use Rattle.htl_text.specs.Lines.{item_in, is_skipped, lines_of_text, words_of}
 use Rattle.htl_text.specs.declared.field.Field.{Field}
 use Rattle.htl_text.specs.Encoded.{Write}
 use Rattle.htl_text.specs.Texts.{is_visible, line_feed}
@@ -22,7 +22,7 @@ use Rattle.htl_text.proofs.Writing.{write_append, write_one}
 -- texts and their items, whatever follows them
 
 abbrev pub Says : List ℕ → List Item → Type 0
-Says text items = (rest : List ℕ) (more : List Item) → Write (lines_of rest) more → Write (lines_of (text ++ rest)) (items ++ more)
+Says text items = (rest : List ℕ) (more : List Item) → Write (lines_of_text rest) more → Write (lines_of_text (text ++ rest)) (items ++ more)
 
 pub says_append : (a b : List ℕ) (is js : List Item) → Says a is → Says b js → Says (a ++ b) (is ++ js)
 says_append a b is js ha hb rest more h =
@@ -32,7 +32,7 @@ pub says_line : (t : List ℕ) (i : Item) → list_all is_plain t ≡ true → i
     → Says (t ++ line_feed) (i ∷ [])
 says_line t i plain here is rest more h =
     rw (append_assoc t line_feed rest, line_first t rest plain)
-    (write_append (t ∷ []) (lines_of rest) (i ∷ []) more (write_one t i here is) h)
+    (write_append (t ∷ []) (lines_of_text rest) (i ∷ []) more (write_one t i here is) h)
 
 -- a line of words that have an item
 pub says_words : (w : List ℕ) (ws : List (List ℕ)) (i : Item) → IsShown w → AllShown ws → is_skipped (w ∷ ws) ≡ false

@@ -7,7 +7,7 @@ use Rattle.std.proofs.lemmas.Bool.Decides.{nat_tests}
 use Rattle.std.proofs.lemmas.List.{append_assoc, append-nil}
 use Rattle.std.proofs.lemmas.List.Folds.{list_all-append}
 use Rattle.htl_text.specs.Texts.{is_visible}
-use Rattle.htl_text.specs.Lines.{is_blank, is_word, lines_of, words_of}
+use Rattle.htl_text.specs.Lines.{is_blank, is_word, lines_of_text, words_of}
 use Rattle.htl_text.specs.Words.{is_feed}
 use Rattle.std.proofs.lemmas.Bool.{and_parts}
 
@@ -99,6 +99,6 @@ nothing_stripped : (t : List ℕ) → list_all is_plain t ≡ true → strip_car
 nothing_stripped [] h = refl
 nothing_stripped (b ∷ t) h = rw (one_less (length t)) (rw (last_plain b t h) refl)
 
-pub line_first : (t rest : List ℕ) → list_all is_plain t ≡ true → lines_of (t ++ 10 ∷ rest) ≡ t ∷ lines_of rest
-unfolding lines_of
+pub line_first : (t rest : List ℕ) → list_all is_plain t ≡ true → lines_of_text (t ++ 10 ∷ rest) ≡ t ∷ lines_of_text rest
+unfolding lines_of_text
 line_first t rest h = rw (line_cut t rest h, nothing_stripped t h) refl

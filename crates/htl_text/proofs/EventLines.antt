@@ -7,7 +7,7 @@ use Rattle.htl_text.specs.declared.item.Head.{Head}
 use Rattle.htl_text.specs.declared.item.Item.TheVariants as item
 use Rattle.htl_text.specs.Items.{LoneEvent}
 use Rattle.htl_text.specs.Encoded.{event_lines}
-use Rattle.htl_text.specs.Lines.{item_in, lines_of, words_of}
+use Rattle.htl_text.specs.Lines.{item_in, lines_of_text, words_of}
 use Rattle.htl_text.proofs.FirstLine.{no_event_left}
 
 -- the line of the event at a place
@@ -21,7 +21,7 @@ pub next_line : (segment m n place left : ℕ) (whole rest : List (List ℕ)) (l
 next_line segment m n place left whole rest l ls so_far cut = so_far ∙ ap (λ xs. slice_get xs left) cut
 
 -- and none
-pub ended : (segment n left : ℕ) (rest : List ℕ) → length rest ≡ 0 → place_in segment n left (lines_of rest) ≡ None
+pub ended : (segment n left : ℕ) (rest : List ℕ) → length rest ≡ 0 → place_in segment n left (lines_of_text rest) ≡ None
 ended segment n left [] none = ap (λ xs. slice_get xs left) (no_event_left segment n)
 ended segment n left (b ∷ bs) none = cc
 

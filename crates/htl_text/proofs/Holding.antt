@@ -22,7 +22,8 @@ use Rattle.htl_text.specs.declared.fault.LineFault.TheVariants.{Form, Order, Seg
 use Rattle.htl_text.specs.Items.{Draft, LoneEvent, with_stack}
 use Rattle.htl_text.specs.Lines.{words_of, is_skipped, item_in}
 use Rattle.htl_text.specs.Encoded.{draft, draft_fault, content_of}
-use Rattle.htl_text.specs.Steps.{Held, Progress, held, progress, nothing_read, begun, with_event, with_frame_of, settled, held_fault, bytes_or_fault, closed}
+use Rattle.htl_text.specs.Steps.{DraftLines, Progress, draft_lines, progress, nothing_read, begun, with_event, with_frame_of, settled}
+use Rattle.htl_text.specs.Steps.{draft_lines_fault, bytes_or_fault, closed}
 use Rattle.htl_text.specs.Steps.{reopened, after_frame_of, after_item, after_form, after_words, go_on, read}
 use Rattle.htl_text.proofs.Overfull.{cut, is_deep, first_deep, length_cut, overfull_draft, whole_draft}
 
@@ -93,9 +94,9 @@ lines_read n [] o = ended o
 lines_read n (l ∷ ls) o = goes_on (words_read (n + 1) (words_of l) o) (lines_read (n + 1) ls)
 
 -- what is held of it
-abbrev hold : ℕ → Head → Option (List Event × Event) → Held
+abbrev hold : ℕ → Head → Option (List Event × Event) → DraftLines
 hold line head None = begun line head
-hold line head (Some events) = held line head (map cut events.0) (Some (cut events.1)) (first_deep 0 (events.0 ++ events.1 ∷ []))
+hold line head (Some events) = draft_lines line head (map cut events.0) (Some (cut events.1)) (first_deep 0 (events.0 ++ events.1 ∷ []))
 
 abbrev pub holding : Option Open → Progress
 holding None = nothing_read
@@ -111,7 +112,7 @@ held_in (Err fault) = Err fault
 
 -- a settled draft
 settles : (line : ℕ) (head : Head) (events : Option (List Event × Event))
-    → settled (hold line head events) ≡ held line head (map cut (all_of events)) None (first_deep 0 (all_of events))
+    → settled (hold line head events) ≡ draft_lines line head (map cut (all_of events)) None (first_deep 0 (all_of events))
 settles line head None = refl
 settles line head (Some events) = rw (map-append cut events.0 (events.1 ∷ [])) refl
 
@@ -119,12 +120,12 @@ bundle_one : (done : List Content) (s : Content) → bundle (done ++ s ∷ []) �
 bundle_one done s = flat_map-append encoding done (s ∷ []) ∙ ap (λ x. bundle done ++ x) (append-nil (encoding s))
 
 checked_bytes : (done : List Content) (line : ℕ) (head : Head) (es : List Event) (fault : Option Fault) → draft_fault (draft head es) ≡ fault
-    → bytes_or_fault (bundle done) (held line head (map cut es) None (first_deep 0 es)) fault ≡ bytes_in (checked done line (draft head es) fault)
+    → bytes_or_fault (bundle done) (draft_lines line head (map cut es) None (first_deep 0 es)) fault ≡ bytes_in (checked done line (draft head es) fault)
 checked_bytes done line head es (Some f) is = refl
 checked_bytes done line head es None is = by_version (version_of head.version) refl
   where
     by_version : (o : Option Version) → version_of head.version ≡ o
-        → bytes_or_fault (bundle done) (held line head (map cut es) None (first_deep 0 es)) None ≡ bytes_in (checked done line (draft head es) None)
+        → bytes_or_fault (bundle done) (draft_lines line head (map cut es) None (first_deep 0 es)) None ≡ bytes_in (checked done line (draft head es) None)
     by_version None v = let h = rw v at is in cc
     by_version (Some v) is_v =
         let whole : map cut es ≡ es = whole_draft v (draft head es) (rw is_v at is) in
@@ -134,8 +135,8 @@ closes : (o : Option Open) → closed (holding o) ≡ bytes_in (ended o)
 unfolding closed
 closes None = refl
 closes (Some o) =
-    ap (λ h. bytes_or_fault (bundle o.done) h (held_fault h)) (settles o.line o.head o.events)
-    ∙ (ap (λ f. bytes_or_fault (bundle o.done) (held o.line o.head (map cut (all_of o.events)) None (first_deep 0 (all_of o.events))) f)
+    ap (λ h. bytes_or_fault (bundle o.done) h (draft_lines_fault h)) (settles o.line o.head o.events)
+    ∙ (ap (λ f. bytes_or_fault (bundle o.done) (draft_lines o.line o.head (map cut (all_of o.events)) None (first_deep 0 (all_of o.events))) f)
     (overfull_draft o.head (all_of o.events))
     ∙ checked_bytes o.done o.line o.head (all_of o.events) (draft_fault (draft_in o)) refl)
 

@@ -17,8 +17,8 @@ use Rattle.htl_text.specs.declared.field.Field.TheVariants.{Handle, Object, Tag,
 use Rattle.htl_text.specs.declared.item.Item.{Item}
 use Rattle.htl_text.specs.declared.item.Item.TheVariants as item
 
-unfoldable pub lines_of : List ℕ → List (List ℕ)
-lines_of text = map strip_carriage_return (slice_split (λ b. b == 10) text)
+unfoldable pub lines_of_text : List ℕ → List (List ℕ)
+lines_of_text text = map strip_carriage_return (slice_split (λ b. b == 10) text)
 
 -- a byte order mark, with which some editors begin a file in UTF-8, is no part of the text
 unfoldable pub without_mark : List ℕ → List ℕ
@@ -26,7 +26,7 @@ without_mark text = if starts_with nat_eq text (0xEF ∷ 0xBB ∷ 0xBF ∷ []) t
 
 -- the lines of a whole text
 abbrev pub text_lines : List ℕ → List (List ℕ)
-text_lines text = lines_of (without_mark text)
+text_lines text = lines_of_text (without_mark text)
 
 -- what parts words
 abbrev pub is_blank : ℕ → Bool

@@ -10,7 +10,7 @@ use Rattle.htl_segment.specs.declared.version.Version.{Version}
 use Rattle.htl_segment.specs.declared.fault.Fault.{Fault}
 use Rattle.htl_segment.specs.declared.fault.Fault.TheVariants as faults
 use Rattle.htl_text.specs.Items.{Draft, LoneEvent, with_stack}
-use Rattle.htl_text.specs.Lines.{lines_of, words_of, is_skipped, item_in}
+use Rattle.htl_text.specs.Lines.{lines_of_text, words_of, is_skipped, item_in}
 use Rattle.htl_text.specs.Encoded.{begins, content_of, draft_fault, IsSegmentOf, kept}
 use Rattle.htl_text.specs.declared.item.Head.{Head}
 use Rattle.htl_text.specs.declared.item.Item.{Item}
@@ -23,7 +23,7 @@ use Rattle.htl_text.specs.declared.fault.TextFault.TheVariants as text
 
 -- A draft, the line at which it begins, and its last event apart. Of a stack no more than 64 frames are held;
 -- `overfull` is the place of the first event that has more.
-pub record Held : Type 0 where
+pub record DraftLines : Type 0 where
   pub line : ℕ
   pub head : Head
   pub events : List Event
@@ -33,25 +33,25 @@ pub record Held : Type 0 where
 -- the bytes of the segments that are ended, and the one whose lines are being read
 pub record Progress : Type 0 where
   pub bytes : List ℕ
-  pub draft : Option Held
+  pub draft : Option DraftLines
 
-abbrev pub held : ℕ → Head → List Event → Option Event → Option ℕ → Held
-held line head events event overfull = record { line = line; head = head; events = events; event = event; overfull = overfull }
+abbrev pub draft_lines : ℕ → Head → List Event → Option Event → Option ℕ → DraftLines
+draft_lines line head events event overfull = record { line = line; head = head; events = events; event = event; overfull = overfull }
 
-abbrev pub progress : List ℕ → Option Held → Progress
+abbrev pub progress : List ℕ → Option DraftLines → Progress
 progress bytes draft = record { bytes = bytes; draft = draft }
 
 abbrev pub nothing_read : Progress
 nothing_read = progress [] None
 
-abbrev pub begun : ℕ → Head → Held
+abbrev pub begun : ℕ → Head → DraftLines
 begun line head = record { line = line; head = head; events = []; event = None; overfull = None }
 
 -- the last event put after the others
-abbrev pub settled : Held → Held
+abbrev pub settled : DraftLines → DraftLines
 settled h = record { line = h.line; head = h.head; events = h.events ++ option_to_list h.event; event = None; overfull = h.overfull }
 
-abbrev pub with_event : LoneEvent → Held → Held
+abbrev pub with_event : LoneEvent → DraftLines → DraftLines
 with_event e h = record {
   line = h.line;
   head = h.head;
@@ -64,10 +64,10 @@ with_event e h = record {
 abbrev pub with_frame : ℕ → Event → Event
 with_frame address e = if nat_lt (length e.stack) 64 then record e { stack = e.stack ++ address ∷ [] } else e
 
-abbrev pub overfull_after : Held → Event → Option ℕ
+abbrev pub overfull_after : DraftLines → Event → Option ℕ
 overfull_after h e = if nat_lt (length e.stack) 64 then h.overfull else Some (unwrap_or h.overfull (length h.events))
 
-abbrev pub with_frame_of : ℕ → Held → Event → Held
+abbrev pub with_frame_of : ℕ → DraftLines → Event → DraftLines
 with_frame_of address h e = record {
   line = h.line;
   head = h.head;
@@ -91,25 +91,25 @@ abbrev pub with_overfull : Option ℕ → Option Fault → Option Fault
 with_overfull None fault = fault
 with_overfull (Some i) fault = Some (overfull_fault i fault)
 
-abbrev pub held_draft : Held → Draft
+abbrev pub held_draft : DraftLines → Draft
 held_draft h = record { head = h.head; events = h.events }
 
 -- of a settled draft
-abbrev pub held_fault : Held → Option Fault
-held_fault h = with_overfull h.overfull (draft_fault (held_draft h))
+abbrev pub draft_lines_fault : DraftLines → Option Fault
+draft_lines_fault h = with_overfull h.overfull (draft_fault (held_draft h))
 
 abbrev pub draft_bytes : Option Version → Draft → List ℕ
 draft_bytes None d = []
 draft_bytes (Some version) d = encoding (content_of version d)
 
-abbrev pub bytes_or_fault : List ℕ → Held → Option Fault → Result (List ℕ) (ℕ × LineFault)
+abbrev pub bytes_or_fault : List ℕ → DraftLines → Option Fault → Result (List ℕ) (ℕ × LineFault)
 bytes_or_fault bytes h None = Ok (bytes ++ draft_bytes (version_of h.head.version) (held_draft h))
 bytes_or_fault bytes h (Some fault) = Err (h.line, Segment fault)
 
 -- the bytes once the segment that is being read is ended
-abbrev pub closed_with : List ℕ → Option Held → Result (List ℕ) (ℕ × LineFault)
+abbrev pub closed_with : List ℕ → Option DraftLines → Result (List ℕ) (ℕ × LineFault)
 closed_with bytes None = Ok bytes
-closed_with bytes (Some h) = bytes_or_fault bytes (settled h) (held_fault (settled h))
+closed_with bytes (Some h) = bytes_or_fault bytes (settled h) (draft_lines_fault (settled h))
 
 unfoldable pub closed : Progress → Result (List ℕ) (ℕ × LineFault)
 closed p = closed_with p.bytes p.draft
@@ -118,15 +118,15 @@ abbrev pub reopened : ℕ → Head → Result (List ℕ) (ℕ × LineFault) → 
 reopened line head (Ok bytes) = Ok (record { bytes = bytes; draft = Some (begun line head) })
 reopened line head (Err fault) = Err fault
 
-abbrev pub after_event : ℕ → LoneEvent → List ℕ → Option Held → Result Progress (ℕ × LineFault)
+abbrev pub after_event : ℕ → LoneEvent → List ℕ → Option DraftLines → Result Progress (ℕ × LineFault)
 after_event line e bytes None = Err (line, Order)
 after_event line e bytes (Some h) = Ok (record { bytes = bytes; draft = Some (with_event e h) })
 
-abbrev pub after_frame_of : ℕ → ℕ → List ℕ → Held → Option Event → Result Progress (ℕ × LineFault)
+abbrev pub after_frame_of : ℕ → ℕ → List ℕ → DraftLines → Option Event → Result Progress (ℕ × LineFault)
 after_frame_of line address bytes h None = Err (line, Order)
 after_frame_of line address bytes h (Some e) = Ok (record { bytes = bytes; draft = Some (with_frame_of address h e) })
 
-abbrev pub after_frame : ℕ → ℕ → List ℕ → Option Held → Result Progress (ℕ × LineFault)
+abbrev pub after_frame : ℕ → ℕ → List ℕ → Option DraftLines → Result Progress (ℕ × LineFault)
 after_frame line address bytes None = Err (line, Order)
 after_frame line address bytes (Some h) = after_frame_of line address bytes h h.event
 
@@ -161,12 +161,13 @@ HasCause p text.NoMemory = is_some p.draft ≡ true
 -- and so only of a text that begins with a segment
 abbrev pub NeedsSegment : List ℕ → TextFault → Type 0
 NeedsSegment bytes (text.Line line fault) = Unit {0}
-NeedsSegment bytes text.NoMemory = begins (kept (lines_of bytes)) ≡ true
+NeedsSegment bytes text.NoMemory = begins (kept (lines_of_text bytes)) ≡ true
 
 -- the text is a line and the others, as far as reading goes
 abbrev pub StartsWithLine : List ℕ → List ℕ → List ℕ → Type 0
 StartsWithLine text line rest =
-    (n : ℕ) (p : Progress) → read n (lines_of text) p ≡ go_on (after_words (n + 1) (words_of line) p) (read (n + 1) (lines_of rest))
+    (n : ℕ) (p : Progress)
+    → read n (lines_of_text text) p ≡ go_on (after_words (n + 1) (words_of line) p) (read (n + 1) (lines_of_text rest))
 
 -- how the fault of a draft is reported that begins at the line, by the fault of what is held of it
 abbrev pub refused_of : ℕ → Option ℕ → Fault → TextFault
@@ -174,15 +175,15 @@ refused_of line (Some i) fault = text.Line line (Segment (overfull_fault i (Some
 refused_of line None faults.NoMemory = text.NoMemory
 refused_of line None fault = text.Line line (Segment fault)
 
-abbrev pub IsReported : ℕ → Option Fault → TextFault → Type 0
-IsReported line fault text.NoMemory = Unit {0}
-IsReported line fault (text.Line n (Segment f)) = (n ≡ line) × (fault ≡ Some f)
-IsReported line fault (text.Line n f) = ⊥
+abbrev pub IsReportedOfLine : ℕ → Option Fault → TextFault → Type 0
+IsReportedOfLine line fault text.NoMemory = Unit {0}
+IsReportedOfLine line fault (text.Line n (Segment f)) = (n ≡ line) × (fault ≡ Some f)
+IsReportedOfLine line fault (text.Line n f) = ⊥
 
 -- what is answered where a settled draft is to be a segment
-abbrev pub IsBuilt : Held → Result Content TextFault → Type 0
-IsBuilt h (Ok segment) = (held_fault h ≡ None) × IsSegmentOf (held_draft h) segment
-IsBuilt h (Err refused) = IsReported h.line (held_fault h) refused
+abbrev pub IsBuilt : DraftLines → Result Content TextFault → Type 0
+IsBuilt h (Ok segment) = (draft_lines_fault h ≡ None) × IsSegmentOf (held_draft h) segment
+IsBuilt h (Err refused) = IsReportedOfLine h.line (draft_lines_fault h) refused
 
 -- the refusal is this fault, or out of memory
 abbrev pub Reports : {A : Type 0} → Result A (ℕ × LineFault) → TextFault → Type 0

@@ -28,11 +28,11 @@ pub(crate) struct Draft {
 }
 
 impl Model for Draft {
-    ghost use Rattle.htl_text.specs.Steps.{Held, held};
+    ghost use Rattle.htl_text.specs.Steps.{DraftLines, draft_lines};
 
-    ghost Value = { Held };
+    ghost Value = { DraftLines };
 
-    ghost view = { λ d. held d.line d.head d.events.items d.event d.overfull };
+    ghost view = { λ d. draft_lines d.line d.head d.events.items d.event d.overfull };
 }
 
 impl Draft {

@@ -7,7 +7,7 @@ ghost use Rattle.htl_segment.specs.Content.{Content};
 ghost use Rattle.htl_text.specs.declared.fault.LineFault.{LineFault};
 ghost use Rattle.htl_text.specs.Encoded.{Encodes, event_lines, FirstFault, IsOrNoMemory};
 ghost use Rattle.htl_text.specs.Encoded.{IsRefused, kept};
-ghost use Rattle.htl_text.specs.Lines.{lines_of, without_mark};
+ghost use Rattle.htl_text.specs.Lines.{lines_of_text, without_mark};
 ghost use Rattle.htl_text.specs.Steps.{read, nothing_read, NeedsSegment, Reports};
 ghost use Rattle.htl_text.specs.Steps.{StartsWithLine};
 ghost use Rattle.htl_text.specs.Words.{is_feed, line_end};
@@ -57,8 +57,8 @@ pub(crate) fn without_mark(text: &[u8]) -> &[u8]
 /// Reads the lines of a text, one after the other.
 fn read_text(alloc: Global, text: &[u8]) -> Result<Vec<u8>, TextFault>
     ensures outcome { MatchResult result
-        (λ bytes. read 0 (lines_of text.now) nothing_read ≡ Ok bytes.items)
-        (λ fault. Reports (read 0 (lines_of text.now) nothing_read) fault) }
+        (λ bytes. read 0 (lines_of_text text.now) nothing_read ≡ Ok bytes.items)
+        (λ fault. Reports (read 0 (lines_of_text text.now) nothing_read) fault) }
     ensures memory { IfErr result (λ fault. NeedsSegment text.now fault) }
 {
     let mut reader = Reader::new(alloc);
@@ -77,9 +77,9 @@ fn read_text(alloc: Global, text: &[u8]) -> Result<Vec<u8>, TextFault>
 pub(crate) fn split_line(text: &[u8]) -> (&[u8], &[u8])
     requires { 0 < length text.now }
     ensures line { StartsWithLine text.now result.0.now result.1.now }
-    ensures kept { kept (lines_of text.now) ≡ kept (result.0.now ∷ lines_of result.1.now) }
-    ensures events { (segment n : ℕ) → event_lines segment n (lines_of text.now)
-        ≡ event_lines segment n (result.0.now ∷ lines_of result.1.now) }
+    ensures kept { kept (lines_of_text text.now) ≡ kept (result.0.now ∷ lines_of_text result.1.now) }
+    ensures events { (segment n : ℕ) → event_lines segment n (lines_of_text text.now)
+        ≡ event_lines segment n (result.0.now ∷ lines_of_text result.1.now) }
     ensures shorter { length result.1.now < length text.now }
 {
     let (line, rest) = text.split_at(line_end(text));

@@ -1,7 +1,7 @@
 //! The lines of a text's events.
 ghost use Rattle.std.specs.Prelude.{◌≡◌, slice_get};
 ghost use Rattle.htl_text.specs.Encoded.{event_line, event_lines, record_of};
-ghost use Rattle.htl_text.specs.Lines.{lines_of};
+ghost use Rattle.htl_text.specs.Lines.{lines_of_text};
 
 use crate::encoding::{split_line, without_mark};
 use crate::fault::LineFault;
@@ -36,7 +36,7 @@ fn record_of(fault: Fault) -> Option<u64>
 
 /// The line of the event at this place of the segment that begins at a line.
 fn find_event(text: &[u8], segment: u64, place: u64) -> Option<u64>
-    ensures { result ≡ slice_get (event_lines segment 0 (lines_of text.now)) place }
+    ensures { result ≡ slice_get (event_lines segment 0 (lines_of_text text.now)) place }
 {
     let mut rest = text;
     let mut number = 0;

@@ -23,7 +23,7 @@ use Rattle.htl_tree.specs.Trees.{Tree, key_cmp, count_at, count_under, sum_where
 use Rattle.htl_tree.specs.Trees.{IsTree, ByStackAndSlot, ListsRowsOf, BySlot, ListsSums}
 use Rattle.htl_tree.specs.declared.slots.Slots.{Slots}
 use Rattle.htl_tree.specs.declared.slots.Slots.TheVariants.{One}
-use Rattle.htl_tree.specs.Asked.{has_slot}
+use Rattle.htl_tree.specs.HasSlot.{has_slot}
 use Rattle.htl_tree.specs.Nodes.{count_in, counts_at, picked, asked_of, counts_in, AreAddedUp}
 use Rattle.htl_tree.proofs.TreesAsLists.{key_total, key_same}
 use Rattle.htl_tree.proofs.ChangedKeys.{found_behind}

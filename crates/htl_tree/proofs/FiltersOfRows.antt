@@ -7,7 +7,7 @@ use Rattle.htl_event.specs.declared.slot.Count.{Count}
 use Rattle.htl_event.specs.Slots.{same_slot}
 use Rattle.htl_event.specs.Tallies.{zero_count, plus_count, IsPositive}
 use Rattle.htl_sorted.proofs.Finds.{each_found}
-use Rattle.htl_tree.specs.Asked.{has_slot}
+use Rattle.htl_tree.specs.HasSlot.{has_slot}
 use Rattle.htl_tree.specs.Filters.{HasFilter}
 use Rattle.htl_tree.specs.Trees.{Tree, sum_where}
 use Rattle.htl_tree.specs.Nodes.{Position, filters, rows, rows_at, asked_of, counts_in, IsNormal}

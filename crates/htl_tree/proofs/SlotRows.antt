@@ -26,7 +26,7 @@ use Rattle.htl_event.specs.OrderLaws.{slot_total}
 use Rattle.htl_tree.specs.Trees.{Tree, AllShort, key_cmp, count_at, IsTree, ListsRows, ListsSlots, BySlot}
 use Rattle.htl_tree.specs.declared.node.Node.{Node}
 use Rattle.htl_tree.specs.Nodes.{Position, frames, top, inside, counts, children, below, rows, tree_at}
-use Rattle.htl_tree.specs.Asked.{has_slot}
+use Rattle.htl_tree.specs.HasSlot.{has_slot}
 use Rattle.htl_tree.specs.declared.slots.Slots.{Slots}
 use Rattle.htl_tree.specs.Nodes.{rows_at, rows_of_counts, picked, asked_of, counts_in, IsShortFrom, slots_of}
 use Rattle.htl_tree.proofs.ChangedKeys.{found_behind}

@@ -1,5 +1,5 @@
 -- what public contracts cite
-pub mod Asked
+pub mod HasSlot
 pub mod Trees
 pub use Rattle.htl_sorted.specs.Entries
 -- what private ones cite

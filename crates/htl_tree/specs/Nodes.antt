@@ -17,7 +17,7 @@ use Rattle.htl_tree.specs.declared.node.Node.TheViews.{out-Node}
 use Rattle.htl_tree.specs.declared.node.Node.TheFolds.{fold-Node}
 use Rattle.htl_event.specs.SlotOrder.{slot_cmp}
 use Rattle.htl_tree.specs.Filters.{HasFilter}
-use Rattle.htl_tree.specs.Asked.{has_slot}
+use Rattle.htl_tree.specs.HasSlot.{has_slot}
 use Rattle.htl_tree.specs.declared.slots.Slots.{Slots}
 use Rattle.htl_tree.specs.Trees.{Tree, AllShort, add_one, total_count, sum_where}
 

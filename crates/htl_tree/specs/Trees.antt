@@ -1,6 +1,6 @@
 -- A tree as its tally: the counts that aren't zero, by stack and then by slot.
 use Rattle.std.specs.Prelude.{◌≡◌, ℕ, ◌+◌, ◌≤◌, List, [], ◌∷◌, Bool, true, ◌&&◌}
-use Rattle.std.specs.Prelude.{if◌then◌else◌, nat_eq, Option, Some, None, unwrap_or, length}
+use Rattle.std.specs.Prelude.{if◌then◌else◌, nat_eq, unwrap_or, length}
 use Rattle.std.specs.List.{sum_by, starts_with, AllByRecursion}
 use Rattle.std.specs.Ordering.{on, then_cmp}
 use Rattle.std.specs.FinMap.Entries.{find, put}
@@ -11,14 +11,14 @@ use Rattle.htl_event.specs.declared.slot.Slot.{Slot}
 use Rattle.htl_event.specs.declared.slot.Sign.{Sign}
 use Rattle.htl_event.specs.declared.slot.Sign.TheVariants.{Plus, Minus}
 use Rattle.htl_event.specs.declared.slot.Count.{Count}
-use Rattle.htl_event.specs.Slots.{slot_of, same_slot}
+use Rattle.htl_event.specs.Slots.{same_slot}
 use Rattle.htl_event.specs.Members.{Lists}
 use Rattle.htl_event.specs.Stacks.{outer, stack_cmp}
 use Rattle.htl_event.specs.Tallies.{zero_count, plus_count, total_of, IsPositive, tally, ByStack}
 use Rattle.htl_sorted.specs.Entries.{IsSorted, Each}
 use Rattle.htl_event.specs.SlotOrder.{slot_cmp}
 use Rattle.htl_tree.specs.declared.slots.Slots.{Slots}
-use Rattle.htl_tree.specs.Asked.{has_slot}
+use Rattle.htl_tree.specs.HasSlot.{has_slot}
 
 abbrev pub Tree : Type 0
 Tree = List ((List ℕ × Slot) × Count)

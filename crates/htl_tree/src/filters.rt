@@ -4,7 +4,7 @@
 ghost use Rattle.std.specs.Prelude.{◌≡◌, ℕ, true};
 ghost use Rattle.std.specs.Int.Bits.{bit_and};
 ghost use Rattle.htl_event.specs.declared.slot.Slot.{Slot};
-ghost use Rattle.htl_tree.specs.Asked.{has_slot};
+ghost use Rattle.htl_tree.specs.HasSlot.{has_slot};
 ghost use Rattle.htl_tree.specs.Filters.{bit_of, filter_of, common_filter, HasFilter, HaveFilters};
 
 use crate::slots::Slots;

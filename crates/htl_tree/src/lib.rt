@@ -15,7 +15,7 @@
 //! `listing.rt` and `slot_sums.rt` (lists of counts, and their sums by slot), `laws.rt` (the
 //! canonical form).
 //!
-//! `specs/Trees` and `specs/Asked` have the words of public contracts, the other files of `specs/`
+//! `specs/Trees` and `specs/HasSlot` have the words of public contracts, the other files of `specs/`
 //! those of private ones.
 #![tactic(auto)]
 

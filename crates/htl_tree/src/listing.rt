@@ -6,7 +6,7 @@ ghost use Rattle.htl_event.specs.declared.slot.Slot.{Slot};
 ghost use Rattle.htl_event.specs.declared.slot.Count.{Count};
 ghost use Rattle.htl_event.specs.Members.{IsRising};
 ghost use Rattle.htl_tree.specs.Trees.{BySlot};
-ghost use Rattle.htl_tree.specs.Asked.{has_slot};
+ghost use Rattle.htl_tree.specs.HasSlot.{has_slot};
 ghost use Rattle.htl_tree.specs.Nodes.{top, inside, rows, rows_at, rows_of_counts};
 ghost use Rattle.htl_tree.specs.Nodes.{asked_of, counts_in, slots_of, IsNormal, IsShortFrom};
 

@@ -5,7 +5,7 @@ ghost use Rattle.std.specs.Prelude.{length, IsTrue, IfOk, MatchResult};
 ghost use Rattle.htl_event.specs.Tallies.{total_of};
 ghost use Rattle.htl_tree.specs.Trees.{count_at, count_under, total_count, with_one};
 ghost use Rattle.htl_tree.specs.Trees.{IsSameTally, IsSumTally, ListsSlots};
-ghost use Rattle.htl_tree.specs.Asked.{has_slot};
+ghost use Rattle.htl_tree.specs.HasSlot.{has_slot};
 ghost use Rattle.htl_tree.specs.Nodes.{tree_of, picked, asked_of, counts_in, IsNormalRoot};
 
 use crate::listing::order_slots;

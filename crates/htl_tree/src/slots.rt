@@ -1,7 +1,7 @@
 //! The slots that a question asks for.
 
 ghost use Rattle.std.specs.Prelude.{◌≡◌};
-ghost use Rattle.htl_tree.specs.Asked.{has_slot};
+ghost use Rattle.htl_tree.specs.HasSlot.{has_slot};
 
 use htl_event::Slot;
 

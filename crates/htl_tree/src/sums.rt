@@ -1,6 +1,6 @@
 //! Copies of nodes, and sums of two nodes.
 
-ghost use Rattle.std.specs.Prelude.{◌≡◌, ◌+◌, ◌<◌, ◌≤◌, ◌^◌, ◌++◌, length, drop, take, IfOk, OnOk};
+ghost use Rattle.std.specs.Prelude.{◌≡◌, ◌+◌, ◌<◌, ◌≤◌, ◌^◌, length, drop, take, IfOk, OnOk};
 ghost use Rattle.std.specs.Prelude.{◌≢◌, get_or};
 ghost use Rattle.std.specs.FinMap.Entries.{find};
 ghost use Rattle.htl_event.specs.declared.slot.Slot.{Slot};

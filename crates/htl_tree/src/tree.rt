@@ -34,7 +34,7 @@ impl<A: Allocator> Model for StackTree<A> {
 }
 
 impl<A: Allocator> StackTree<A> {
-    ghost use Rattle.std.specs.Prelude.{◌≡◌, List, ◌+◌, ◌<◌, ◌≤◌, ◌^◌, [], ◌∷◌, ◌++◌};
+    ghost use Rattle.std.specs.Prelude.{◌≡◌, List, ◌+◌, ◌<◌, ◌≤◌, ◌^◌, []};
     ghost use Rattle.std.specs.Prelude.{◌↔◌, length, IsTrue, IfOk, OnOk, OnErr};
     ghost use Rattle.htl_tree.specs.Trees.{count_at, count_under, total_count};
     ghost use Rattle.htl_tree.specs.Trees.{with_one, IsTree, IsSameTally};

@@ -1,7 +1,5 @@
 //! Devices that give or take a few bytes, and that fail.
 
-ghost use Rattle.std.specs.Prelude.{◌≡◌, false};
-
 use crate::rows::assert_row;
 use htl_device::{Failed, ReadFault, Reading, Sink, Source, Writing, read_whole, write_whole};
 use std::alloc::Global;

@@ -7,7 +7,7 @@ ghost use Rattle.hleak.specs.Meanings.{symbols_text, text_of, unread, untaken};
 
 use htl_case::CaseFault;
 use htl_command::Code;
-use htl_program::{Part, Subject, advice, form_wrong, wrong};
+use htl_program::{NamedPart, Subject, advice, form_wrong, wrong};
 use htl_segment::{Fault, HexFault};
 use htl_symbols::SymbolFault;
 use htl_text::{FormFault, LineFault};
@@ -16,7 +16,7 @@ use std::fmt;
 /// What is wrong with which part of the inputs, and what to do.
 #[derive(Clone, Copy)]
 pub struct Meaning {
-    part: Option<Part>,
+    part: Option<NamedPart>,
     wrong: &'static str,
     advice: &'static str,
 }
@@ -70,7 +70,7 @@ impl Meaning {
 
     /// What a fault means that has this code, and names this part of the inputs.
     #[tactic(auto, unfolding(crate::specs::Meanings::coded))]
-    fn of_part(code: Code, part: Part) -> Meaning
+    fn of_part(code: Code, part: NamedPart) -> Meaning
         ensures { text_of result ≡ coded code (Some part) }
     {
         Meaning {
@@ -95,11 +95,11 @@ impl Meaning {
             Fault::Count => Meaning::of_code(Code::S8),
             Fault::Length => Meaning::of_code(Code::S9),
             Fault::Cut => Meaning::of_code(Code::S10),
-            Fault::RecordShort(record) => Meaning::of_part(Code::S11, Part::Record(record)),
-            Fault::Sequence(record) => Meaning::of_part(Code::S12, Part::Record(record)),
-            Fault::Kind(record) => Meaning::of_part(Code::S13, Part::Record(record)),
-            Fault::Frames(record) => Meaning::of_part(Code::S14, Part::Record(record)),
-            Fault::Field(record) => Meaning::of_part(Code::S15, Part::Record(record)),
+            Fault::RecordShort(record) => Meaning::of_part(Code::S11, NamedPart::Record(record)),
+            Fault::Sequence(record) => Meaning::of_part(Code::S12, NamedPart::Record(record)),
+            Fault::Kind(record) => Meaning::of_part(Code::S13, NamedPart::Record(record)),
+            Fault::Frames(record) => Meaning::of_part(Code::S14, NamedPart::Record(record)),
+            Fault::Field(record) => Meaning::of_part(Code::S15, NamedPart::Record(record)),
             Fault::Excess => Meaning::of_code(Code::S16),
             Fault::NoMemory => Meaning::of_code(Code::S17),
         }
@@ -110,7 +110,7 @@ impl Meaning {
         ensures { text_of result ≡ hex_text fault }
     {
         match fault {
-            HexFault::BadDigit(place) => Meaning::of_part(Code::H1, Part::Byte(place)),
+            HexFault::BadDigit(place) => Meaning::of_part(Code::H1, NamedPart::Byte(place)),
             HexFault::Odd => Meaning::of_code(Code::H2),
             HexFault::NoMemory => Meaning::of_code(Code::H3),
         }
@@ -133,7 +133,7 @@ impl Meaning {
     {
         let part = match fault {
             FormFault::Words => None,
-            FormFault::Field(field) => Some(Part::Field(field.name())),
+            FormFault::Field(field) => Some(NamedPart::Field(field.name())),
         };
         Meaning {
             part,
@@ -148,13 +148,16 @@ impl Meaning {
     {
         match fault {
             CaseFault::Empty => Meaning::of_code(Code::C1),
-            CaseFault::OtherTrace(place) => Meaning::of_part(Code::C2, Part::Segment(place)),
-            CaseFault::OtherProcessors(place) => Meaning::of_part(Code::C3, Part::Segment(place)),
+            CaseFault::OtherTrace(place) => Meaning::of_part(Code::C2, NamedPart::Segment(place)),
+            CaseFault::OtherProcessors(place) => Meaning::of_part(
+                Code::C3,
+                NamedPart::Segment(place),
+            ),
             CaseFault::TwoContents(processor, number) => {
                 Meaning::of_part(Code::C4, key(processor, number))
             }
             CaseFault::SequenceTwice(sequence) => {
-                Meaning::of_part(Code::C5, Part::Sequence(sequence))
+                Meaning::of_part(Code::C5, NamedPart::Sequence(sequence))
             }
             CaseFault::NoMemory => Meaning::of_code(Code::C6),
             CaseFault::Falling(processor, number) => {
@@ -176,8 +179,8 @@ impl Meaning {
         ensures { text_of result ≡ absent_text subject }
     {
         let part = match subject {
-            Some(subject) => Some(Part::Subject(subject)),
-            None => Part::unnumbered(Code::C9),
+            Some(subject) => Some(NamedPart::Subject(subject)),
+            None => NamedPart::unnumbered(Code::C9),
         };
         Meaning {
             part,
@@ -192,21 +195,21 @@ impl Meaning {
     {
         match fault {
             SymbolFault::Header => Meaning::of_code(Code::Y1),
-            SymbolFault::Fields(row) => Meaning::of_part(Code::Y2, Part::Row(row)),
-            SymbolFault::Number(row) => Meaning::of_part(Code::Y3, Part::Row(row)),
-            SymbolFault::EmptyRange(row) => Meaning::of_part(Code::Y4, Part::Row(row)),
-            SymbolFault::Overlap(row) => Meaning::of_part(Code::Y5, Part::Row(row)),
-            SymbolFault::Csv(row) => Meaning::of_part(Code::Y6, Part::Row(row)),
+            SymbolFault::Fields(row) => Meaning::of_part(Code::Y2, NamedPart::Row(row)),
+            SymbolFault::Number(row) => Meaning::of_part(Code::Y3, NamedPart::Row(row)),
+            SymbolFault::EmptyRange(row) => Meaning::of_part(Code::Y4, NamedPart::Row(row)),
+            SymbolFault::Overlap(row) => Meaning::of_part(Code::Y5, NamedPart::Row(row)),
+            SymbolFault::Csv(row) => Meaning::of_part(Code::Y6, NamedPart::Row(row)),
             SymbolFault::NoMemory => Meaning::of_code(Code::Y7),
         }
     }
 }
 
 /// A segment by its key.
-fn key(processor: u16, number: u32) -> Part
-    ensures { result ≡ Part.Key processor number }
+fn key(processor: u16, number: u32) -> NamedPart
+    ensures { result ≡ NamedPart.Key processor number }
 {
-    Part::Key {
+    NamedPart::Key {
         processor: u64::from(processor),
         number: u64::from(number),
     }

@@ -2,7 +2,7 @@
 
 ghost use Rattle.std.specs.Prelude.{◌≡◌};
 ghost use Rattle.hleak.specs.Subjects.{input_name};
-ghost use Rattle.hleak.specs.Sides.{processor_word, sign_of};
+ghost use Rattle.hleak.specs.Sides.{processor_word, label_of};
 
 use crate::explaining::task::Task;
 use crate::shown::Shown;
@@ -12,21 +12,21 @@ use std::fmt;
 
 /// What tells a segment from the one that a fault sets against it.
 #[derive(Clone, Copy, Debug, PartialEq, Eq)]
-pub enum Sign {
+pub enum SegmentLabel {
     Trace(u64),
     Processors(u16),
     Key { processor: u16, number: u32 },
 }
 
-impl Sign {
-    /// The sign of the segment for this fault: its trace, its number of processors, or else its key.
-    fn of(fault: CaseFault, origin: Origin) -> Sign
-        ensures { result ≡ sign_of fault origin }
+impl SegmentLabel {
+    /// The label of the segment for this fault: its trace, its number of processors, or else its key.
+    fn of(fault: CaseFault, origin: Origin) -> SegmentLabel
+        ensures { result ≡ label_of fault origin }
     {
         match fault {
-            CaseFault::OtherTrace(_) => Sign::Trace(origin.trace_id),
-            CaseFault::OtherProcessors(_) => Sign::Processors(origin.processors),
-            _ => Sign::Key {
+            CaseFault::OtherTrace(_) => SegmentLabel::Trace(origin.trace_id),
+            CaseFault::OtherProcessors(_) => SegmentLabel::Processors(origin.processors),
+            _ => SegmentLabel::Key {
                 processor: origin.processor,
                 number: origin.number,
             },
@@ -34,18 +34,18 @@ impl Sign {
     }
 }
 
-impl fmt::Display for Sign {
+impl fmt::Display for SegmentLabel {
     ghost use Rattle.std.specs.Prelude.{Some};
-    ghost use Rattle.hleak.specs.Sides.{sign_text};
+    ghost use Rattle.hleak.specs.Sides.{label_text};
 
-    ghost output = { λ sign. Some (sign_text sign) };
+    ghost output = { λ label. Some (label_text label) };
 
     #[tactic(auto, using(htl_program::proofs::Padding::padded_16))]
     fn fmt<W: fmt::Write>(&self, f: &mut fmt::Formatter<W>) -> fmt::Result {
         match *self {
-            Sign::Trace(id) => write!(f, "trace 0x{id:016x}"),
-            Sign::Processors(count) => write!(f, "{count} {}", processor_word(count)),
-            Sign::Key { processor, number } => {
+            SegmentLabel::Trace(id) => write!(f, "trace 0x{id:016x}"),
+            SegmentLabel::Processors(count) => write!(f, "{count} {}", processor_word(count)),
+            SegmentLabel::Key { processor, number } => {
                 write!(f, "processor {processor}, segment {number}")
             }
         }
@@ -67,18 +67,18 @@ fn processor_word(count: u16) -> &'static str
 #[derive(Clone, Copy)]
 pub struct Side<'a> {
     file: &'a str,
-    sign: Sign,
+    label: SegmentLabel,
 }
 
 impl<'a> Side<'a> {
     /// The segment from this origin, as the fault sees it.
     pub fn of(task: Task<'a>, fault: CaseFault, origin: Origin) -> Side<'a>
         ensures file { result.file.now ≡ input_name task.entry origin.input }
-        ensures sign { result.sign ≡ sign_of fault origin }
+        ensures label { result.label ≡ label_of fault origin }
     {
         Side {
             file: task.input(origin.input),
-            sign: Sign::of(fault, origin),
+            label: SegmentLabel::of(fault, origin),
         }
     }
 }
@@ -87,9 +87,9 @@ impl fmt::Display for Side<'_> {
     ghost use Rattle.std.specs.Prelude.{Some};
     ghost use Rattle.hleak.specs.Sides.{side_text};
 
-    ghost output = { λ side. Some (side_text side.file.now side.sign) };
+    ghost output = { λ side. Some (side_text side.file.now side.label) };
 
     fn fmt<W: fmt::Write>(&self, f: &mut fmt::Formatter<W>) -> fmt::Result {
-        write!(f, "{} ({})", Shown::name(self.file), self.sign)
+        write!(f, "{} ({})", Shown::name(self.file), self.label)
     }
 }

@@ -11,11 +11,11 @@ use Rattle.htl_command.specs.Values.{count_in, moment_in}
 use Rattle.htl_command.specs.declared.names.CommandOption.{CommandOption}
 use Rattle.htl_command.specs.declared.names.CommandOption.TheVariants.{Top, Until, Workers}
 use Rattle.htl_command.specs.declared.question.Moment.{Moment}
-use Rattle.htl_command.specs.declared.reading.Refused.{Refused}
+use Rattle.htl_command.specs.declared.reading.InvalidValue.{InvalidValue}
 use Rattle.htl_command.proofs.reading.job.Goals as goal
 
 -- the first that breaks its rule is the first of more
-own_first : (rows : List Row) (own more : List CommandOption) (refused : Refused) → IsFirstBroken rows own refused
+own_first : (rows : List Row) (own more : List CommandOption) (refused : InvalidValue) → IsFirstBroken rows own refused
     → IsFirstBroken rows (own ++ more) refused
 own_first rows own more refused first =
     (first.0, find-append (breaks_rule rows) own more ∙ ap (λ f. option_or f (find (breaks_rule rows) more)) first.1)
@@ -26,7 +26,7 @@ then_later : (rows : List Row) (own more : List CommandOption) → find (breaks_
 then_later rows own more none =
     find-append (breaks_rule rows) own more ∙ ap (λ f. option_or f (find (breaks_rule rows) more)) none
 
-named : (rows : List Row) (wanted : CommandOption) (refused : Refused) → Names wanted rows refused → Names refused.option rows refused
+named : (rows : List Row) (wanted : CommandOption) (refused : InvalidValue) → Names wanted rows refused → Names refused.option rows refused
 named rows wanted refused names = record { option = refl; given = rw (names.option) (names.given) }
 
 -- the options after the question's own

@@ -7,7 +7,7 @@ use Rattle.htl_tables.proofs.FirstNoted.{get_last}
 use Rattle.htl_main.specs.Causes.{IsCauseAfter}
 use Rattle.htl_main.specs.Inputs.{DecodeAll, Decodes}
 use Rattle.htl_main.specs.Loading.{AreLoaded}
-use Rattle.htl_main.proofs.AddingLaws.{behind, parts_too}
+use Rattle.htl_main.proofs.AddingLaws.{behind, spans_too}
 use Rattle.htl_main.proofs.AfterDecoding.{some_job}
 use Rattle.htl_main.proofs.CaseRefused.{none_after}
 use Rattle.htl_main.proofs.InputLaws.{decode_more}
@@ -30,10 +30,10 @@ returns-in_err-case-clause-between c =
     rw (p.1, p.2) (λ form inputs earlier long decoded are before. c.in_err-case.ensures.between form (inputs ++ earlier ∷ [])
     (subst (DecodeAll form (inputs ++ earlier ∷ [])) (sym all)
     (decode_more form inputs earlier c.args.decoded.segments.items c.args.before.now.segments decoded before))
-    (c.in_ok-add_segments.ensures.parts form (inputs ++ earlier ∷ []) earlier
+    (c.in_ok-add_segments.ensures.spans form (inputs ++ earlier ∷ []) earlier
     (subst (λ (n : ℕ). slice_get (inputs ++ earlier ∷ []) n ≡ Some earlier) long (get_last inputs earlier))
     (subst (Decodes form earlier) (sym same) before)
-    (parts_too form inputs earlier c.args.decoded.segments.items c.args.decoded.parts.items are)))
+    (spans_too form inputs earlier c.args.decoded.segments.items c.args.decoded.spans.items are)))
 
 pub returns-in_err-loaded-clause-err : goal.returns-in_err-loaded-clause-err
 returns-in_err-loaded-clause-err c =

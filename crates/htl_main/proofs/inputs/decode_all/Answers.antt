@@ -47,8 +47,8 @@ loop-place-preserved c =
     record {
       decoded = rw (c.in_ok-add.ensures.segments) (decode_next c.args.form _ c.loop-place.place c.index-inputs-place.result.items
           c.loop-place.decoded.segments.items more.segments.items here c.loop-place.invariant.decoded is.decoded);
-      parts = c.in_ok-add.ensures.parts c.args.form (map (λ (input : Vec ℕ Global). input.items) c.args.inputs.now)
-          c.index-inputs-place.result.items here is.decoded c.loop-place.invariant.parts;
+      spans = c.in_ok-add.ensures.spans c.args.form (map (λ (input : Vec ℕ Global). input.items) c.args.inputs.now)
+          c.index-inputs-place.result.items here is.decoded c.loop-place.invariant.spans;
       cut = rw (c.in_ok-add.ensures.cut) (cut_next c.args.form.hex _ c.loop-place.place c.index-inputs-place.result.items more.is_cut
           c.loop-place.decoded.cut here c.loop-place.invariant.cut is.cut);
       few = rw (c.in_ok-add.ensures.cut) (fits_next more.is_cut c.loop-place.place c.loop-place.decoded.cut c.loop-place.invariant.few);
@@ -57,7 +57,7 @@ loop-place-preserved c =
 pub loop-place-init : goal.loop-place-init
 loop-place-init c = record {
   decoded = c.new-decoded.ensures.segments;
-  parts = c.new-decoded.ensures.parts c.args.form (map (λ (input : Vec ℕ Global). input.items) c.args.inputs.now);
+  spans = c.new-decoded.ensures.spans c.args.form (map (λ (input : Vec ℕ Global). input.items) c.args.inputs.now);
   cut = rw (c.new-decoded.ensures.cut) (none_cut c.args.form.hex (map (λ (input : Vec ℕ Global). input.items) c.args.inputs.now));
   few = rw (c.new-decoded.ensures.cut) (none_fits 0);
 }

@@ -16,7 +16,7 @@ loop-place-init g c = record {
   before = none_before c.args.form.hex g.R.Source.has_failed g.R.Source.has_ended g.R.Source.good_reads g.R.Source.remaining
       c.args.sources.now c.requires.fresh;
   decoded = λ inputs all. c.new-decoded.ensures.segments;
-  parts = λ inputs all. c.new-decoded.ensures.parts c.args.form inputs;
+  spans = λ inputs all. c.new-decoded.ensures.spans c.args.form inputs;
   cut = λ inputs all. rw (c.new-decoded.ensures.cut) (none_cut c.args.form.hex inputs);
   few = rw (c.new-decoded.ensures.cut) (none_fits 0);
 }
@@ -39,12 +39,12 @@ loop-place-preserved g c =
           knows c.in_ok-more.ensures.ok in
           rw (c.in_ok-add.ensures.segments) (decode_next c.args.form texts place knows.input c.loop-place.decoded.segments.items
           more.segments.items knows.here (inv.decoded texts all) is.decoded);
-      parts = λ texts all.
+      spans = λ texts all.
           let knows = knows_now g.R.Source.remaining c.args.sources.now c.loop-place.sources texts place source
           (inv.before.left place (omega arith)) here all in
           let is = at_known texts place (g.R.Source.remaining source) (λ bytes. IsInput c.args.form bytes more.segments.items more.is_cut)
           knows c.in_ok-more.ensures.ok in
-          c.in_ok-add.ensures.parts c.args.form texts knows.input knows.here is.decoded (inv.parts texts all);
+          c.in_ok-add.ensures.spans c.args.form texts knows.input knows.here is.decoded (inv.spans texts all);
       cut = λ texts all.
           let knows = knows_now g.R.Source.remaining c.args.sources.now c.loop-place.sources texts place source
           (inv.before.left place (omega arith)) here all in

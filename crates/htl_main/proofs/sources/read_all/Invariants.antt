@@ -3,7 +3,7 @@ use Rattle.std.proofs.Common.{◌≡◌, ℕ, List, Some, map, take}
 use Rattle.htl_main.specs.CutInputs.{AreCut}
 use Rattle.htl_main.specs.Ends.{OthersFit}
 use Rattle.htl_main.specs.Inputs.{DecodeAll}
-use Rattle.htl_main.specs.Parts.{AreParts}
+use Rattle.htl_main.specs.Spans.{AreSpans}
 use Rattle.htl_main.proofs.ReadingLaws.{ReadBefore}
 use Rattle.htl_main.proofs.sources.read_all.Given as goal
 
@@ -13,8 +13,8 @@ invariant-loop-place g l = record {
       l.initial.sources l.sources l.place;
   decoded : (inputs : List (List ℕ)) → map g.R.Source.remaining l.initial.sources ≡ map Some inputs
       → DecodeAll l.form (take l.place inputs) l.decoded.segments.items;
-  parts : (inputs : List (List ℕ)) → map g.R.Source.remaining l.initial.sources ≡ map Some inputs
-      → AreParts l.form inputs l.decoded.segments.items l.decoded.parts.items;
+  spans : (inputs : List (List ℕ)) → map g.R.Source.remaining l.initial.sources ≡ map Some inputs
+      → AreSpans l.form inputs l.decoded.segments.items l.decoded.spans.items;
   cut : (inputs : List (List ℕ)) → map g.R.Source.remaining l.initial.sources ≡ map Some inputs
       → AreCut l.form.hex (take l.place inputs) l.decoded.cut;
   few : OthersFit l.decoded.cut l.place;

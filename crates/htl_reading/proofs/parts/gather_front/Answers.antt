@@ -3,11 +3,11 @@ use Rattle.std.proofs.Common.{◌≡◌, ◌≤◌, ◌<◌, ℕ, List, IfSome, 
 use Rattle.std.proofs.lemmas.Grind.{common_steps}
 use Rattle.std.proofs.lemmas.List.{length-map}
 use Rattle.htl_reading.specs.Parts.{ArePartsOf, TookInOrder}
-use Rattle.htl_reading.specs.declared.parts.Part.{Part}
+use Rattle.htl_reading.specs.declared.parts.SourcePart.{SourcePart}
 use Rattle.htl_reading.proofs.PartLaws.{Gathers, gathered_in_order}
 use Rattle.htl_reading.proofs.parts.gather_front.Goals as goal
 
-each : (g : _) (c : goal.After-drop-ends-2 g) (i : ℕ) (part : Part _ _) (outcome : Option _) → i < length c.in_ok-parts.parts.items
+each : (g : _) (c : goal.After-drop-ends-2 g) (i : ℕ) (part : SourcePart _ _) (outcome : Option _) → i < length c.in_ok-parts.parts.items
     → Gathers g.K.Keeper.gathers g.R.Tail.Read.remaining c.args.keeper.now (slice_index_or c.in_ok-parts.parts.items i part)
     (slice_index_or c.in-Ok.gathered.items i outcome)
 each g c i part outcome inside =

@@ -1,7 +1,7 @@
 -- A list more is met by its keys, and sorting them keeps them.
 use Rattle.std.proofs.Common.{◌≡◌, length, Some, slice_get, refl, arith}
 use Rattle.std.proofs.lemmas.Option.{slice_get_read}
-use Rattle.htl_tables.specs.Asked.{touches}
+use Rattle.htl_tables.specs.OfProcess.{touches}
 use Rattle.htl_tables.proofs.Gathering.{from_none, from_more, candidates_sorted}
 use Rattle.htl_tables.proofs.candidates.candidates_in.Goals as goal
 

@@ -1,5 +1,5 @@
 -- The keys are of the lists so far, and meet each of their opens and closes.
-use Rattle.htl_tables.specs.Asked.{touches}
+use Rattle.htl_tables.specs.OfProcess.{touches}
 use Rattle.htl_tables.proofs.Gathering.{AreFromFirst}
 use Rattle.htl_tables.proofs.candidates.candidates_in.Given as goal
 

@@ -5,7 +5,7 @@ use Rattle.std.proofs.lemmas.List.{length-append}
 use Rattle.std.proofs.lemmas.List.Elements.{Contains-get_or}
 use Rattle.std.proofs.lemmas.Option.{slice_get-get_or}
 use Rattle.htl_tables.specs.declared.sort_key.SortKey.{SortKey}
-use Rattle.htl_tables.specs.Asked.{touches}
+use Rattle.htl_tables.specs.OfProcess.{touches}
 use Rattle.htl_tables.proofs.AskedKeys.{touches-opens}
 use Rattle.htl_tables.proofs.EventsOfKeys.{one_more}
 use Rattle.htl_tables.proofs.FirstKeys.{key_is}

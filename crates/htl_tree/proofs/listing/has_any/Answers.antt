@@ -3,7 +3,7 @@ use Rattle.std.proofs.Common.{◌≡◌, ℕ, List, drop, get_or, ◌+◌, ◌�
 use Rattle.std.proofs.lemmas.List.{drop_all}
 use Rattle.htl_event.specs.declared.slot.Slot.{Slot}
 use Rattle.htl_event.specs.declared.slot.Count.{Count}
-use Rattle.htl_tree.specs.Asked.{has_slot}
+use Rattle.htl_tree.specs.HasSlot.{has_slot}
 use Rattle.htl_tree.specs.Nodes.{rows_of_counts}
 use Rattle.htl_tree.proofs.Between.{no_count}
 use Rattle.htl_tree.proofs.SlotRows.{rows_of_counts-drop}

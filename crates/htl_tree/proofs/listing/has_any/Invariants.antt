@@ -1,6 +1,6 @@
 -- No count so far is of a slot that passes.
 use Rattle.std.proofs.Common.{◌≡◌, ℕ, List, drop}
-use Rattle.htl_tree.specs.Asked.{has_slot}
+use Rattle.htl_tree.specs.HasSlot.{has_slot}
 use Rattle.htl_tree.specs.Nodes.{rows_of_counts}
 use Rattle.htl_tree.proofs.listing.has_any.Given as goal
 

@@ -1,6 +1,6 @@
 -- The counts so far are listed.
 use Rattle.std.proofs.Common.{◌≡◌, ◌++◌, drop}
-use Rattle.htl_tree.specs.Asked.{has_slot}
+use Rattle.htl_tree.specs.HasSlot.{has_slot}
 use Rattle.htl_tree.specs.Nodes.{rows_of_counts}
 use Rattle.htl_tree.proofs.listing.push_rows.Given as goal
 

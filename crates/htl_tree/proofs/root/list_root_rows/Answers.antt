@@ -1,6 +1,6 @@
 -- The rows of the root are those of the tree.
 use Rattle.std.proofs.Common.{◌≡◌, ℕ, List, [], ◌++◌, length, Some, sym, ap, ◌∙◌, subst}
-use Rattle.htl_tree.specs.Asked.{has_slot}
+use Rattle.htl_tree.specs.HasSlot.{has_slot}
 use Rattle.htl_tree.specs.Nodes.{top, tree_of, rows, rows_at, picked, IsNormalRoot, IsShortFrom}
 use Rattle.htl_tree.proofs.SlotRows.{picked_tree, short_root}
 use Rattle.htl_tree.proofs.root.list_root_rows.Goals as goal

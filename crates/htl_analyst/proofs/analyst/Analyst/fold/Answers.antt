@@ -1,9 +1,9 @@
 -- The run of the processor is that of its part, and a processor without one is compacted as it is.
-use Rattle.std.proofs.Common.{◌≡◌, ◌-◌, ℕ, ap, sym, ◌∙◌, subst, arith}
-use Rattle.htl_taken.specs.Numbers.{numbers_at, reach_of, front_at}
-use Rattle.htl_analyst.specs.States.{State, part_at}
+use Rattle.std.proofs.Common.{◌≡◌, ◌-◌, ℕ, sym, subst, arith}
+use Rattle.htl_taken.specs.Numbers.{numbers_at}
+use Rattle.htl_analyst.specs.States.{State}
 use Rattle.htl_analyst.specs.Right.{IsState}
-use Rattle.htl_analyst.specs.StepParts.{run_length, CanFold, IsFoldedWith}
+use Rattle.htl_analyst.specs.StepParts.{run_length, CanFold}
 use Rattle.htl_analyst.proofs.Compacts.{nothing_to_fold}
 use Rattle.htl_analyst.proofs.Workers.{can_fold, run_read, fold_read}
 use Rattle.htl_analyst.proofs.analyst.Analyst.fold.Goals as goal

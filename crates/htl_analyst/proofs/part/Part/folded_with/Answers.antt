@@ -1,6 +1,5 @@
 -- The first held segments go on from what was folded.
-use Rattle.std.proofs.Common.{◌+◌, ◌*◌, take, length, sym, ap, ◌∙◌, subst, arith, List}
-use Rattle.htl_event.specs.Events.{Event}
+use Rattle.std.proofs.Common.{◌*◌, take, length, sym, subst, List}
 use Rattle.htl_segment.specs.Content.{Content}
 use Rattle.htl_segment.specs.Traces.{all_events}
 use Rattle.htl_analyst.specs.States.{Folded}

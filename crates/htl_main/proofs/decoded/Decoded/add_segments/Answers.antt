@@ -1,14 +1,14 @@
--- The new part is behind the others.
+-- The new span is behind the others.
 use Rattle.std.proofs.Common.{◌≡◌, ◌∙◌, length, length-append, ap, arith}
 use Rattle.std.proofs.lemmas.Grind.{common_steps}
-use Rattle.htl_main.proofs.PartLaws.{parts_more}
+use Rattle.htl_main.proofs.SpanLaws.{spans_more}
 use Rattle.htl_main.proofs.decoded.Decoded.add_segments.Goals as goal
 
-pub returns-clause-parts : goal.returns-clause-parts
-returns-clause-parts c = λ form inputs text here decoded are.
+pub returns-clause-spans : goal.returns-clause-spans
+returns-clause-spans c = λ form inputs text here decoded are.
     let segments = c.args.self.now.segments.items in
     let more = c.args.more.items in
     let end : c.len.result ≡ length c.append.new.self.items = grind (arith, common_steps) in
-    rw (c.in_ok-append.ensures.items, c.in_ok-push.ensures.items) (parts_more form inputs segments more c.args.self.now.parts.items
+    rw (c.in_ok-append.ensures.items, c.in_ok-push.ensures.items) (spans_more form inputs segments more c.args.self.now.spans.items
     (record { input = c.args.input; end = c.len.result }) text here decoded
     (end ∙ ap length c.in_ok-append.ensures.items) (length-append segments more) are)

@@ -1,7 +1,7 @@
 -- An event more that opens or closes is met by its key, and any other changes nothing.
 use Rattle.std.proofs.Common.{◌≡◌, length, Some, slice_get, refl, sym, ◌∙◌, arith}
 use Rattle.std.proofs.lemmas.Option.{slice_get_read}
-use Rattle.htl_tables.specs.Asked.{touches}
+use Rattle.htl_tables.specs.OfProcess.{touches}
 use Rattle.htl_tables.proofs.Gathering.{gathers_more, gathers_skip, gathers_whole}
 use Rattle.htl_tables.proofs.candidates.Candidates.gather.Goals as goal
 use Rattle.htl_tables.proofs.candidates.Candidates.gather.Goals.{then-touches+in_ok-place_of+in_ok-offer, else-touches}

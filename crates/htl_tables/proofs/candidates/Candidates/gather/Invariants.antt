@@ -1,5 +1,5 @@
 -- The keys of the list's events so far came to those that were there.
-use Rattle.htl_tables.specs.Asked.{touches}
+use Rattle.htl_tables.specs.OfProcess.{touches}
 use Rattle.htl_tables.proofs.Gathering.{GathersFirst}
 use Rattle.htl_tables.proofs.candidates.Candidates.gather.Given as goal
 

@@ -1,6 +1,6 @@
 -- The keys that are left are the last ones, and each handle has the event of its first key among those before.
 use Rattle.std.proofs.Common.{◌≡◌, ℕ, ◌+◌, length}
-use Rattle.htl_tables.specs.Asked.{touches}
+use Rattle.htl_tables.specs.OfProcess.{touches}
 use Rattle.htl_tables.specs.FirstKeys.{HaveFirstKeys, StandFrom}
 use Rattle.htl_tables.proofs.latest.Latest.note_all.Given as goal
 

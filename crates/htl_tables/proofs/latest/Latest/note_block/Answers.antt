@@ -2,7 +2,7 @@
 use Rattle.std.proofs.Common.{◌≡◌, ◌+◌, ◌≤◌, length, Some, slice_get, refl, ap, ◌∙◌, arith}
 use Rattle.std.proofs.lemmas.Option.{slice_get_read}
 use Rattle.htl_tables.specs.Latest.{event_at}
-use Rattle.htl_tables.specs.Asked.{touches}
+use Rattle.htl_tables.specs.OfProcess.{touches}
 use Rattle.htl_tables.proofs.AskedKeys.{touches-opens}
 use Rattle.htl_tables.proofs.FirstKeys.{key_noted}
 use Rattle.htl_tables.proofs.latest.Latest.note_block.Goals as goal

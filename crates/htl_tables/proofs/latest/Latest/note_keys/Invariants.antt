@@ -1,7 +1,7 @@
 -- Whatever candidates the keys stand among: where the first of them had been noted, these are, too, as far as they were noted.
 use Rattle.std.proofs.Common.{ℕ, List, ◌+◌, ◌-◌, ◌≤◌, length, IsSorted}
 use Rattle.htl_tables.specs.declared.sort_key.SortKey.{SortKey}
-use Rattle.htl_tables.specs.Asked.{touches}
+use Rattle.htl_tables.specs.OfProcess.{touches}
 use Rattle.htl_tables.specs.SortKeys.{sort_key_cmp, AreCandidates}
 use Rattle.htl_tables.specs.FirstKeys.{HaveFirstKeys, StandFrom}
 use Rattle.htl_tables.proofs.latest.Latest.note_keys.Given as goal

@@ -6,7 +6,7 @@ use Rattle.std.proofs.lemmas.Result.{IfOk-weaker}
 use Rattle.htl_event.specs.Events.{Event}
 use Rattle.htl_event.specs.Handles.{LatestIs}
 use Rattle.htl_tables.specs.Latest.{noted}
-use Rattle.htl_tables.specs.Asked.{noted_of}
+use Rattle.htl_tables.specs.OfProcess.{noted_of}
 use Rattle.htl_tables.proofs.FirstNoted.{LatestIs-noted}
 use Rattle.htl_tables.proofs.latest.Latest.of_process.Goals as goal
 

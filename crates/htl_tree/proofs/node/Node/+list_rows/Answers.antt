@@ -4,7 +4,7 @@ use Rattle.std.proofs.Common.{take, drop, false, vec_len, append_assoc, append-n
 use Rattle.std.proofs.lemmas.List.{take_at}
 use Rattle.htl_event.specs.declared.slot.Slot.{Slot}
 use Rattle.htl_event.specs.declared.slot.Count.{Count}
-use Rattle.htl_tree.specs.Asked.{has_slot}
+use Rattle.htl_tree.specs.HasSlot.{has_slot}
 use Rattle.htl_tree.specs.Nodes.{top, inside, frames, counts_of, filters_at, children, rows, height, rows_at, rows_of_counts, IsNormal, IsShortFrom}
 use Rattle.htl_tree.proofs.NodeRows.{child_rows}
 use Rattle.htl_tree.proofs.CountAdded.{normal_inside}

@@ -1,6 +1,6 @@
 -- The rows of the children so far are listed, and the path leads to the node.
 use Rattle.std.proofs.Common.{◌≡◌, ◌++◌, drop}
-use Rattle.htl_tree.specs.Asked.{has_slot}
+use Rattle.htl_tree.specs.HasSlot.{has_slot}
 use Rattle.htl_tree.specs.Nodes.{top, inside, frames, children, rows, height, rows_at}
 use Rattle.htl_tree.proofs.NodeRows.{child_rows}
 use Rattle.htl_tree.proofs.node.Node.+list_rows.Given as goal

@@ -3,7 +3,7 @@ use Rattle.std.proofs.Common.{ℕ, List, sym, subst}
 use Rattle.htl_event.specs.declared.slot.Slot.{Slot}
 use Rattle.htl_event.specs.declared.slot.Count.{Count}
 use Rattle.htl_tree.specs.Trees.{Tree, ListsRowsOf}
-use Rattle.htl_tree.specs.Asked.{has_slot}
+use Rattle.htl_tree.specs.HasSlot.{has_slot}
 use Rattle.htl_tree.specs.Nodes.{tree_of, picked}
 use Rattle.htl_tree.proofs.Roots.{root_is_tree}
 use Rattle.htl_tree.proofs.Between.{if_ok, lists_rows_of}

@@ -2,7 +2,7 @@
 use Rattle.std.proofs.Common.{◌++◌, take}
 use Rattle.std.specs.Prelude.{flat_map}
 use Rattle.htl_answers.specs.Rows.{rows_of, CountAlike}
-use Rattle.htl_answers.proofs.asked.count_held.Given as goal
+use Rattle.htl_answers.proofs.slot_counts.count_held.Given as goal
 
 abbrev pub invariant-loop-list : goal.invariant-loop-list
 invariant-loop-list g l =

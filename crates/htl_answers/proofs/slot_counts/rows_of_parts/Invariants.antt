@@ -3,7 +3,7 @@ use Rattle.std.proofs.Common.{◌≡◌, ◌≤◌, List, map, take}
 use Rattle.htl_event.specs.Events.{Event}
 use Rattle.htl_answers.specs.Parts.{AreEventsOf, size_of_all}
 use Rattle.htl_answers.specs.Rows.{count_of, total_in, rows_of, EachPositive}
-use Rattle.htl_answers.proofs.asked.rows_of_parts.Given as goal
+use Rattle.htl_answers.proofs.slot_counts.rows_of_parts.Given as goal
 
 abbrev pub invariant-loop-part : goal.invariant-loop-part
 invariant-loop-part g l = record {

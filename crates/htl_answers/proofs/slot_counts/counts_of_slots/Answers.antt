@@ -1,7 +1,7 @@
 -- The rows of all parts, added up.
 use Rattle.std.proofs.Common.{◌∙◌}
 use Rattle.std.proofs.lemmas.Result.{IfOk-weaker}
-use Rattle.htl_answers.proofs.asked.counts_of_slots.Goals as goal
+use Rattle.htl_answers.proofs.slot_counts.counts_of_slots.Goals as goal
 
 pub returns-clause-counts : goal.returns-clause-counts
 returns-clause-counts g c = IfOk-weaker c.add_up.result _ _ (λ sums is events are k.

@@ -3,7 +3,7 @@ use Rattle.std.proofs.Common.{rules, ◌∙◌, arith}
 use Rattle.std.proofs.lemmas.Result.{IfOk-weaker}
 use Rattle.htl_answers.specs.Rows.{CountAlike, rows_of}
 use Rattle.htl_answers.proofs.EventRows.{rows_few}
-use Rattle.htl_answers.proofs.asked.counts_of_events.Goals as goal
+use Rattle.htl_answers.proofs.slot_counts.counts_of_events.Goals as goal
 
 pub add_up-requires : goal.add_up-requires
 add_up-requires g c =

@@ -6,7 +6,7 @@ use Rattle.htl_event.specs.Tallies.{plus_count}
 use Rattle.htl_answers.specs.Counts.{one_count}
 use Rattle.htl_answers.specs.Rows.{CountAlike}
 use Rattle.htl_answers.proofs.CountedAlike.{counted_there}
-use Rattle.htl_answers.proofs.asked.count_in_row.Goals as goal
+use Rattle.htl_answers.proofs.slot_counts.count_in_row.Goals as goal
 
 pub returns-clause-counted : goal.returns-clause-counted
 returns-clause-counted g c = λ counted.

@@ -7,7 +7,7 @@ use Rattle.htl_answers.specs.Rows.{rows_of, CountAlike}
 use Rattle.htl_answers.proofs.CountedAlike.{alike_more}
 use Rattle.htl_answers.proofs.EventRows.{rows_of-append}
 use Rattle.htl_answers.proofs.PartRows.{counted_upto}
-use Rattle.htl_answers.proofs.asked.count_held.Goals as goal
+use Rattle.htl_answers.proofs.slot_counts.count_held.Goals as goal
 
 pub count_events-requires : goal.count_events-requires
 count_events-requires g c =

@@ -3,7 +3,7 @@ use Rattle.std.proofs.Common.{◌≤◌, ◌+◌, ◌-◌, take, drop, sym, arit
 use Rattle.std.proofs.lemmas.List.{append-nil}
 use Rattle.std.proofs.lemmas.Grind.{common_steps}
 use Rattle.htl_dialogue.proofs.Feeds.{cut_at, left, no_feed}
-use Rattle.htl_dialogue.proofs.reading.Held.move_to.Goals as goal
+use Rattle.htl_dialogue.proofs.reading.ReadAhead.move_to.Goals as goal
 
 pub returns-in_ok-add-in-Some-clause-ok : goal.returns-in_ok-add-in-Some-clause-ok
 returns-in_ok-add-in-Some-clause-ok c =

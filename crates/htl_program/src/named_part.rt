@@ -12,7 +12,7 @@ use std::fmt;
 /// The part of the inputs in which a fault finds something wrong. Records, rows and segments count
 /// from 0.
 #[derive(Clone, Copy)]
-pub enum Part {
+pub enum NamedPart {
     Record(u64),
     Byte(u64),
     /// A segment by its place among those of all inputs.
@@ -29,88 +29,88 @@ pub enum Part {
     Unnumbered(&'static str),
 }
 
-impl Part {
+impl NamedPart {
     /// The part that a fault names where it is printed so. Where only its code is, the words have no
     /// number.
-    pub(crate) fn of(fault: PrintedFault) -> Option<Part>
+    pub(crate) fn of(fault: PrintedFault) -> Option<NamedPart>
         ensures { option_map part_text result ≡ part_words fault.code fault.parts }
     {
-        match Part::numbered(fault) {
+        match NamedPart::numbered(fault) {
             Some(part) => Some(part),
-            None => Part::unnumbered(fault.code),
+            None => NamedPart::unnumbered(fault.code),
         }
     }
 
     /// What each fault of the code names, where it names a part.
-    pub fn unnumbered(code: Code) -> Option<Part>
+    pub fn unnumbered(code: Code) -> Option<NamedPart>
         ensures { option_map part_text result ≡ part_of code }
     {
         match part(code) {
-            Some(words) => Some(Part::Unnumbered(words)),
+            Some(words) => Some(NamedPart::Unnumbered(words)),
             None => None,
         }
     }
 
     /// The part that has the fault's numbers, or its field.
-    fn numbered(fault: PrintedFault) -> Option<Part>
+    fn numbered(fault: PrintedFault) -> Option<NamedPart>
         ensures { result ≡ numbered_part fault.code fault.parts }
     {
         match fault.parts {
             Parts::Nothing => None,
-            Parts::Number(number) => Part::of_number(fault.code, number),
-            Parts::Numbers(first, second) => Part::of_numbers(fault.code, first, second),
+            Parts::Number(number) => NamedPart::of_number(fault.code, number),
+            Parts::Numbers(first, second) => NamedPart::of_numbers(fault.code, first, second),
             Parts::Field(name) => match fault.code {
-                Code::E1 => Some(Part::Field(name)),
+                Code::E1 => Some(NamedPart::Field(name)),
                 _ => None,
             },
         }
     }
 
     /// The part that has a number, where the faults of the code have one.
-    fn of_number(code: Code, number: u64) -> Option<Part>
+    fn of_number(code: Code, number: u64) -> Option<NamedPart>
         ensures { result ≡ number_part code number }
     {
         match code {
             Code::S11 | Code::S12 | Code::S13 | Code::S14 | Code::S15 => {
-                Some(Part::Record(number))
+                Some(NamedPart::Record(number))
             }
-            Code::H1 => Some(Part::Byte(number)),
-            Code::C2 | Code::C3 => Some(Part::Segment(number)),
-            Code::C5 => Some(Part::Sequence(number)),
-            Code::Y2 | Code::Y3 | Code::Y4 | Code::Y5 | Code::Y6 => Some(Part::Row(number)),
+            Code::H1 => Some(NamedPart::Byte(number)),
+            Code::C2 | Code::C3 => Some(NamedPart::Segment(number)),
+            Code::C5 => Some(NamedPart::Sequence(number)),
+            Code::Y2 | Code::Y3 | Code::Y4 | Code::Y5 | Code::Y6 => Some(NamedPart::Row(number)),
             _ => None,
         }
     }
 
     /// The part that has two numbers, where the faults of the code have two.
-    fn of_numbers(code: Code, processor: u64, number: u64) -> Option<Part>
+    fn of_numbers(code: Code, processor: u64, number: u64) -> Option<NamedPart>
         ensures { result ≡ numbers_part code processor number }
     {
         match code {
-            Code::C4 | Code::C7 | Code::C8 => Some(Part::Key { processor, number }),
+            Code::C4 | Code::C7 | Code::C8 => Some(NamedPart::Key { processor, number }),
             _ => None,
         }
     }
 }
 
-impl fmt::Display for Part {
+impl fmt::Display for NamedPart {
     ghost use Rattle.std.specs.Prelude.{Some};
 
     ghost output = { λ part. Some (part_text part) };
 
     fn fmt<W: fmt::Write>(&self, f: &mut fmt::Formatter<W>) -> fmt::Result {
         match *self {
-            Part::Record(record) => write!(f, "record {record}"),
-            Part::Byte(place) => write!(f, "byte {place}"),
-            Part::Segment(place) => write!(f, "segment {place} of all inputs"),
-            Part::Key { processor, number } => {
+            NamedPart::Record(record) => write!(f, "record {record}"),
+            NamedPart::Byte(place) => write!(f, "byte {place}"),
+            NamedPart::Segment(place) => write!(f, "segment {place} of all inputs"),
+            NamedPart::Key { processor, number } => {
                 write!(f, "segment {number} of processor {processor}")
             }
-            Part::Sequence(sequence) => write!(f, "sequence {sequence}"),
-            Part::Row(row) => write!(f, "row {row}"),
-            Part::Field(name) => write!(f, "the line's {name}"),
-            Part::Subject(subject) => write!(f, "{subject}"),
-            Part::Unnumbered(words) => write!(f, "{words}"),
+            NamedPart::Sequence(sequence) => write!(f, "sequence {sequence}"),
+            NamedPart::Row(row) => write!(f, "row {row}"),
+            NamedPart::Field(name) => write!(f, "the line's {name}"),
+            NamedPart::Subject(subject) => write!(f, "{subject}"),
+            NamedPart::Unnumbered(words) => write!(f, "{words}"),
         }
     }
 }

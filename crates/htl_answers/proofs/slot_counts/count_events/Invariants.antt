@@ -1,7 +1,7 @@
 -- The events so far were counted.
 use Rattle.std.proofs.Common.{◌++◌, take}
 use Rattle.htl_answers.specs.Rows.{rows_of, CountAlike}
-use Rattle.htl_answers.proofs.asked.count_events.Given as goal
+use Rattle.htl_answers.proofs.slot_counts.count_events.Given as goal
 
 abbrev pub invariant-loop-event : goal.invariant-loop-event
 invariant-loop-event g l =

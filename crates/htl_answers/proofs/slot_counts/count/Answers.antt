@@ -5,7 +5,7 @@ use Rattle.htl_event.specs.declared.slot.Count.{Count}
 use Rattle.htl_answers.specs.Counts.{one_count}
 use Rattle.htl_answers.specs.Rows.{CountAlike}
 use Rattle.htl_answers.proofs.CountedAlike.{alike_itself}
-use Rattle.htl_answers.proofs.asked.count.Goals as goal
+use Rattle.htl_answers.proofs.slot_counts.count.Goals as goal
 
 pub returns : goal.returns
 returns g c =

@@ -12,8 +12,8 @@ use Rattle.htl_answers.proofs.CountedAlike.{alike_more}
 use Rattle.htl_answers.proofs.FilterMaps.{one_row_more, no_row_more}
 use Rattle.htl_answers.proofs.EventRows.{no_row}
 use Rattle.htl_answers.proofs.PartRows.{counted_upto}
-use Rattle.htl_answers.proofs.asked.count_events.Goals as goal
-use Rattle.htl_answers.proofs.asked.count_events.Goals.{in-Some+in_ok-count, in_default}
+use Rattle.htl_answers.proofs.slot_counts.count_events.Goals as goal
+use Rattle.htl_answers.proofs.slot_counts.count_events.Goals.{in-Some+in_ok-count, in_default}
 
 pub count-requires : goal.count-requires
 count-requires g c =

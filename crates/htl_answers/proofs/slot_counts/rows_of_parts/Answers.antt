@@ -12,7 +12,7 @@ use Rattle.htl_answers.proofs.CountedAlike.{positive_both}
 use Rattle.htl_answers.proofs.EventRows.{rows_positive}
 use Rattle.htl_answers.proofs.PartLemmas.{last_part, one_part_more, size_more, size_most}
 use Rattle.htl_answers.proofs.PartRows.{part_counted, part_total}
-use Rattle.htl_answers.proofs.asked.rows_of_parts.Goals as goal
+use Rattle.htl_answers.proofs.slot_counts.rows_of_parts.Goals as goal
 
 pub loop-part-preserved : goal.loop-part-preserved
 loop-part-preserved g c =

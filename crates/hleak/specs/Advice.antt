@@ -25,14 +25,14 @@ dialogue_advice workers =
     else codes "free some, raise its limit, ask for fewer workers, or each question alone"
 
 abbrev pub memory_advice : Task → List ℕ
-memory_advice (tasks.Question run) = question_advice run.now.job.question run.now.job.workers
+memory_advice (tasks.Question run) = question_advice run.now.job.question run.now.job.setting.workers
 memory_advice (tasks.Convert of) = free_memory
 memory_advice (tasks.Ask of) = dialogue_advice of.now.setting.workers
 memory_advice (tasks.Read of) = dialogue_advice 1
 
 -- where a run can do with fewer
 abbrev pub workers_of : Task → ℕ
-workers_of (tasks.Question run) = run.now.job.workers
+workers_of (tasks.Question run) = run.now.job.setting.workers
 workers_of (tasks.Convert of) = 1
 workers_of (tasks.Read of) = 1
 workers_of (tasks.Ask of) = of.now.setting.workers

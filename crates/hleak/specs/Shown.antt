@@ -2,7 +2,7 @@
 use Rattle.std.specs.Prelude.{◌&&◌, ◌||◌, ◌==◌, ◌++◌, ◌∷◌, [], not, ℕ, Bool, false, List, flat_map, if◌then◌else◌, nat_le}
 use Rattle.std.specs.Char.{encode_utf8, is_control}
 use Rattle.std.specs.Str.{chars}
-use Rattle.htl_program.specs.AskedAbout.{hex}
+use Rattle.htl_numbers.specs.Written.{hex}
 
 -- the controls of Unicode's bidirectional algorithm, which turn the direction of writing
 abbrev pub turns : ℕ → Bool

@@ -6,7 +6,7 @@ use Rattle.htl_case.specs.declared.fault.CaseFault.TheVariants.{OtherTrace, Othe
 use Rattle.htl_main.specs.declared.origin.Origin.{Origin}
 use Rattle.hleak.specs.declared.explaining.side.SegmentLabel.{SegmentLabel}
 use Rattle.hleak.specs.declared.explaining.side.SegmentLabel.TheVariants.{Trace, Processors, Key}
-use Rattle.htl_program.specs.AskedAbout.{hex16}
+use Rattle.htl_numbers.specs.Written.{padded}
 use Rattle.hleak.specs.Shown.{shown_name}
 
 -- what tells it from the other: its trace or the number of that trace's processors where these differ, and else its key
@@ -20,7 +20,7 @@ abbrev pub processor_word : ℕ → List ℕ
 processor_word count = if count == 1 then codes "processor" else codes "processors"
 
 abbrev pub label_text : SegmentLabel → List ℕ
-label_text (Trace id) = codes "trace 0x" ++ hex16 id
+label_text (Trace id) = codes "trace 0x" ++ padded 16 id
 label_text (Processors count) = decimal count ++ (codes " " ++ processor_word count)
 label_text (Key processor number) = codes "processor " ++ (decimal processor ++ (codes ", segment " ++ decimal number))
 

@@ -84,7 +84,7 @@ impl Person for Terminal<'_> {
         }
     }
 
-    fn misses(&mut self) {
+    fn loses_text(&mut self) {
         let _ = eprintln!(self.rt; "{}", RunFault::Write);
     }
 

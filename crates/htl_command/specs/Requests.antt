@@ -81,18 +81,21 @@ format_of rows =
 abbrev pub input_form : List Row → InputForm
 input_form rows = record { hex = is_given flag.Hex rows; partial = is_given flag.Partial rows }
 
+-- how the segments are read
+abbrev pub setting_of : List Row → Option Setting
+setting_of rows =
+    option_map (λ n. record { form = input_form rows; workers = n; complete = is_given flag.Complete rows }) (workers rows)
+
 unfoldable pub job_of : QuestionName → List Row → Option Job
 job_of name rows =
-    option_and_then (λ question. option_and_then (λ format. option_and_then (λ u. both (λ n t. record {
+    option_and_then (λ question. option_and_then (λ format. option_and_then (λ u. both (λ s t. record {
       question = question;
-      form = input_form rows;
-      workers = n;
+      setting = s;
       until = u;
       top = t;
-      complete = is_given flag.Complete rows;
       exit_code = is_given flag.ExitCode rows;
       format = format;
-    }) (workers rows) (optional count_in Top rows)) (optional moment_in Until rows)) (format_of rows)) (question_of name rows)
+    }) (setting_of rows) (optional count_in Top rows)) (optional moment_in Until rows)) (format_of rows)) (question_of name rows)
 
 -- a job, with the names of its files
 pub record Work : Type 0 where
@@ -114,11 +117,6 @@ file_names rows = unwrap_or (all_of (codes "files") rows) []
 abbrev pub with_files : List Row → Job → Work
 with_files rows job = record { job = job; files = file_names rows; symbols = given Symbols rows }
 
--- how the segments of a dialogue are read
-abbrev pub setting_of : List Row → Option Setting
-setting_of rows =
-    option_map (λ n. record { form = input_form rows; workers = n; complete = is_given flag.Complete rows }) (workers rows)
-
 -- what a command asks for
 abbrev pub request_of : CommandName → List Row → Option Request
 request_of (command.Question name) rows = option_map (λ job. answers (with_files rows job)) (job_of name rows)
@@ -137,11 +135,9 @@ abbrev pub stored : Work
 stored = record {
   job = record {
     question = Outstanding 4;
-    form = record { hex = true; partial = false };
-    workers = 1;
+    setting = record { form = record { hex = true; partial = false }; workers = 1; complete = false };
     until = None;
     top = None;
-    complete = false;
     exit_code = false;
     format = Plain;
   };

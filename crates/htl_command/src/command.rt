@@ -114,14 +114,16 @@ fn stored(alloc: Global) -> Run
     Run {
         job: Job {
             question: Question::Outstanding { process: 4 },
-            form: InputForm {
-                hex: true,
-                partial: false,
+            setting: Setting {
+                form: InputForm {
+                    hex: true,
+                    partial: false,
+                },
+                workers: 1,
+                complete: false,
             },
-            workers: 1,
             until: None,
             top: None,
-            complete: false,
             exit_code: false,
             format: Format::Plain,
         },

@@ -88,7 +88,7 @@ pub struct InputForm {
     pub partial: bool,
 }
 
-/// How the segments of a dialogue are read.
+/// How segments are read.
 #[derive(Clone, Copy, Debug, PartialEq, Eq)]
 pub struct Setting {
     /// How the inputs hold segments.
@@ -115,17 +115,12 @@ pub enum Format {
 #[derive(Clone, Copy, Debug, PartialEq, Eq)]
 pub struct Job {
     pub question: Question,
-    /// How the inputs hold segments.
-    pub form: InputForm,
-    /// The number of threads that share the work, 1 to 8.
-    pub workers: u32,
+    pub setting: Setting,
     /// Up to when events count. `None` stands for all of them.
     pub until: Option<Moment>,
     /// How many rows are printed at most, 1 or more, and of a summary how many of each kind. `None`
     /// stands for all.
     pub top: Option<u32>,
-    /// Whether segments of which one is missing are refused.
-    pub complete: bool,
     /// Whether the exit status says that the answer finds something. The text is the same.
     pub exit_code: bool,
     pub format: Format,

@@ -323,7 +323,7 @@ fn has_files(entries: &ArgMatches) -> bool
     }
 }
 
-/// How the segments of a dialogue are read.
+/// How segments are read.
 pub(crate) fn setting<'a>(entries: &ArgMatches<'a>) -> Result<Setting, InvalidValue<'a>>
     ensures ok { result_ok result ≡ setting_of (entries_of entries.now) }
     ensures err { IfErr result (Names option.Workers (entries_of entries.now)) }
@@ -379,11 +379,9 @@ pub(crate) fn job<'a>(name: QuestionName, entries: &ArgMatches<'a>) -> Result<Jo
 {
     Ok(Job {
         question: question(name, entries)?,
-        form: input_form(entries),
-        workers: workers(entries)?,
+        setting: setting(entries)?,
         until: until(entries)?,
         top: top(entries)?,
-        complete: is_given(entries, CommandFlag::Complete),
         exit_code: is_given(entries, CommandFlag::ExitCode),
         format: format(entries)?,
     })

@@ -1,7 +1,10 @@
 -- What reads of a source and writes to a sink leave (this project's own).
 use Rattle.std.specs.Prelude.{◌==◌, ◌&&◌, ◌+◌, ◌-◌, ◌^◌, not, min, ℕ, Bool, true, false, List, Option, Result, Ok, Err, take, length}
-use Rattle.std.specs.Prelude.{if◌then◌else◌, drop, option_map}
-use Rattle.std.specs.Io.KnownBytes.{Appends}
+use Rattle.std.specs.Prelude.{if◌then◌else◌, drop, option_map, ◌≡◌, ◌<◌, ◌≤◌, ◌⊎◌, IfErr, IfOk, IfSome, OnOk}
+use Rattle.std.specs.Global.{Vec}
+use Rattle.std.specs.Io.KnownBytes.{Appends, Consumes}
+use Rattle.htl_device.specs.declared.whole.ReadFault.{ReadFault}
+use Rattle.htl_device.specs.declared.whole.ReadFault.TheVariants.{Failed, NoMemory}
 
 -- some first bytes of the text were added to the known bytes
 abbrev pub AppendsPrefix : Option (List ℕ) → Option (List ℕ) → List ℕ → Type 0
@@ -25,3 +28,17 @@ finds_end (Err e) = false
 -- the known bytes from an offset on
 abbrev pub tail_of : ℕ → Option (List ℕ) → Option (List ℕ)
 tail_of offset known = option_map (drop offset) known
+
+-- How a source of these bytes is read whole by a call that ends with this result, and in which at most so many reads give bytes. Which
+-- sources have failed or ended, how many reads of each gave bytes, and which bytes each has left, is said by the functions.
+pub record ReadsWhole {R : Type 0} (most : ℕ) (has_failed has_ended : R → Bool) (good_reads : R → ℕ) (remaining : R → Option (List ℕ))
+    (given : Option (List ℕ)) (old new : R) (result : Result (Vec ℕ) ReadFault) : Type 0 where
+  pub ok : IfOk result (λ bytes. IfSome given (λ known. bytes.items ≡ known))
+  pub fine : OnOk result (has_failed new ≡ false)
+  pub ended : OnOk result (has_ended new ≡ true)
+  pub reported : has_failed new ≡ true → result ≡ Err Failed
+  -- Memory was refused: some bytes came, and the end was not found.
+  pub memory : result ≡ Err NoMemory → (has_ended new ≡ false) × (read : List ℕ) × (0 < length read) × Consumes given (remaining new) read
+  pub failed : IfErr result (λ fault. (fault ≡ NoMemory) ⊎ ((has_failed new ≡ true)
+      ⊎ ((most ≤ good_reads new) × IfSome given (λ known. most ≤ length known))))
+  pub bounded : good_reads new ≤ good_reads old + most

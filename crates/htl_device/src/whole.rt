@@ -1,10 +1,9 @@
 //! Whole texts, read or written by as many calls as it takes.
-ghost use Rattle.std.specs.Prelude.{◌≡◌, ◌<◌, ◌≤◌, ◌+◌, ◌⊎◌, ℕ, List, Option, false, true, length};
-ghost use Rattle.std.specs.Prelude.{is_err};
-ghost use Rattle.std.specs.Prelude.{IfOk, IfErr, IfSome, OnOk, OnErr};
+
+ghost use Rattle.std.specs.Prelude.{◌≡◌, ◌<◌, ◌≤◌, ◌+◌, ℕ, List, Option, false, length};
+ghost use Rattle.std.specs.Prelude.{is_err, IfOk, OnOk, OnErr};
 ghost use Rattle.std.specs.Io.KnownBytes.{Appends, Consumes};
-ghost use Rattle.htl_device.specs.Devices.{AppendsPrefix};
-ghost use Rattle.htl_device.specs.declared.whole.ReadFault.TheVariants.{NoMemory};
+ghost use Rattle.htl_device.specs.Devices.{AppendsPrefix, ReadsWhole};
 
 use crate::source::{MAX_READ_LEN, MIN_READ_LEN};
 use crate::{Failed, Sink, Source};
@@ -57,17 +56,8 @@ pub const MAX_READS: u64 = 4_294_967_296;
 pub fn read_whole<R: Source>(alloc: Global, source: &mut R) -> Result<Vec<u8>, ReadFault>
     requires fresh { R.has_failed source.old ≡ false }
     requires inside { R.has_ended source.old ≡ false }
-    ensures ok { IfOk result (λ v. IfSome (R.remaining source.old) (λ xs. v.items ≡ xs)) }
-    ensures fine { OnOk result (R.has_failed source.new ≡ false) }
-    ensures ended { OnOk result (R.has_ended source.new ≡ true) }
-    ensures reported { R.has_failed source.new ≡ true → result ≡ Err ReadFault.Failed }
-    ensures memory { result ≡ Err NoMemory → (R.has_ended source.new ≡ false)
-        × (read : List ℕ) × (0 < length read)
-        × Consumes (R.remaining source.old) (R.remaining source.new) read }
-    ensures failed { IfErr result (λ e. (e ≡ NoMemory) ⊎ ((R.has_failed source.new ≡ true)
-        ⊎ ((MAX_READS ≤ R.good_reads source.new)
-        × IfSome (R.remaining source.old) (λ xs. MAX_READS ≤ length xs)))) }
-    ensures bounded { R.good_reads source.new ≤ R.good_reads source.old + MAX_READS }
+    ensures { ReadsWhole MAX_READS R.has_failed R.has_ended R.good_reads R.remaining
+        (R.remaining source.old) source.old source.new result }
 {
     read_within(alloc, source, MAX_READS)
 }
@@ -77,17 +67,8 @@ fn read_within<R: Source>(alloc: Global, source: &mut R, most: u64) -> Result<Ve
     requires fresh { R.has_failed source.old ≡ false }
     requires inside { R.has_ended source.old ≡ false }
     requires some { 0 < most }
-    ensures ok { IfOk result (λ v. IfSome (R.remaining source.old) (λ xs. v.items ≡ xs)) }
-    ensures fine { OnOk result (R.has_failed source.new ≡ false) }
-    ensures ended { OnOk result (R.has_ended source.new ≡ true) }
-    ensures reported { R.has_failed source.new ≡ true → result ≡ Err ReadFault.Failed }
-    ensures memory { result ≡ Err NoMemory → (R.has_ended source.new ≡ false)
-        × (read : List ℕ) × (0 < length read)
-        × Consumes (R.remaining source.old) (R.remaining source.new) read }
-    ensures failed { IfErr result (λ e. (e ≡ NoMemory) ⊎ ((R.has_failed source.new ≡ true)
-        ⊎ ((most ≤ R.good_reads source.new)
-        × IfSome (R.remaining source.old) (λ xs. most ≤ length xs)))) }
-    ensures bounded { R.good_reads source.new ≤ R.good_reads source.old + most }
+    ensures { ReadsWhole most R.has_failed R.has_ended R.good_reads R.remaining
+        (R.remaining source.old) source.old source.new result }
 {
     let mut first = [0u8; MIN_READ_LEN];
     let Ok(count) = source.read(&mut first) else {
@@ -96,10 +77,9 @@ fn read_within<R: Source>(alloc: Global, source: &mut R, most: u64) -> Result<Ve
     if count == 0 {
         return Ok(Vec::new(alloc));
     }
-    let mut bytes = Vec::from_slice(alloc, &first[..count])?;
+    let bytes = Vec::from_slice(alloc, &first[..count])?;
     let mut buffer = read_buffer(alloc)?;
-    read_on(source, &mut buffer, &mut bytes, most)?;
-    Ok(bytes)
+    read_on(source, &mut buffer, bytes, most)
 }
 
 /// A buffer for the longest reads.
@@ -113,28 +93,18 @@ fn read_buffer(alloc: Global) -> Result<Vec<u8>, AllocError>
 fn read_on<R: Source>(
     source: &mut R,
     buffer: &mut [u8],
-    bytes: &mut Vec<u8>,
+    mut bytes: Vec<u8>,
     most: u64,
-) -> Result<(), ReadFault>
+) -> Result<Vec<u8>, ReadFault>
     requires fresh { R.has_failed source.old ≡ false }
     requires inside { R.has_ended source.old ≡ false }
     requires whole { length buffer.old ≡ MAX_READ_LEN }
-    requires begun { 0 < length bytes.old.items }
+    requires begun { 0 < length bytes.items }
     requires some { 0 < most }
     requires counted { 1 ≤ R.good_reads source.old }
-    ensures ok { (given : Option (List ℕ)) → Consumes given (R.remaining source.old) bytes.old.items
-        → OnOk result (IfSome given (λ xs. bytes.new.items ≡ xs)) }
-    ensures fine { OnOk result (R.has_failed source.new ≡ false) }
-    ensures ended { OnOk result (R.has_ended source.new ≡ true) }
-    ensures reported { R.has_failed source.new ≡ true → result ≡ Err ReadFault.Failed }
-    ensures memory { (given : Option (List ℕ))
-        → Consumes given (R.remaining source.old) bytes.old.items
-        → result ≡ Err NoMemory → (R.has_ended source.new ≡ false)
-        × (read : List ℕ) × (0 < length read) × Consumes given (R.remaining source.new) read }
-    ensures failed { (given : Option (List ℕ))
-        → Consumes given (R.remaining source.old) bytes.old.items
-        → IfErr result (λ e. (e ≡ NoMemory) ⊎ ((R.has_failed source.new ≡ true)
-        ⊎ ((most ≤ R.good_reads source.new) × IfSome given (λ xs. most ≤ length xs)))) }
+    ensures read { (given : Option (List ℕ)) → Consumes given (R.remaining source.old) bytes.items
+        → ReadsWhole most R.has_failed R.has_ended R.good_reads R.remaining
+        given source.old source.new result }
     ensures bounded { R.good_reads source.new + 1 ≤ R.good_reads source.old + most }
 {
     for _read in 1..most {
@@ -142,7 +112,7 @@ fn read_on<R: Source>(
             return Err(ReadFault::Failed);
         };
         if count == 0 {
-            return Ok(());
+            return Ok(bytes);
         }
         bytes.extend_from_slice(&buffer[..count])?;
     }

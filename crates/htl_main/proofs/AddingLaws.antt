@@ -118,7 +118,7 @@ stops_too form Reported Now inputs later fault too stops = record {
 -- what ends adding once all inputs were read: memory for copies was refused, or it is a cause after decoding
 abbrev EndsAfter : List Content → Setting → RunFault → Type 0
 EndsAfter segments setting fault =
-    (fault ≡ Memory) ⊎ ((job : Job) → job.complete ≡ setting.complete → job.until ≡ None → IsCauseAfter segments None job fault)
+    (fault ≡ Memory) ⊎ ((job : Job) → job.setting.complete ≡ setting.complete → job.until ≡ None → IsCauseAfter segments None job fault)
 
 module _ (setting : Setting) (inputs : List (List ℕ)) (earlier : List ℕ) (lefts : List (Option (List ℕ))) (ends : List Bool) where
   reported_too : (fault : RunFault) (place : ℕ) (input : List ℕ) → IsReportedAt setting.form lefts ends place input fault
@@ -202,7 +202,7 @@ module _ (setting : Setting) (inputs : List (List ℕ)) (earlier : List ℕ) (le
 -- ---- how the sources are read where it ends so
 
 abbrev job_of : Setting → Job
-job_of setting = record some_job { complete = setting.complete; until = None }
+job_of setting = record some_job { setting = setting; until = None }
 
 -- it is no failed write
 pub no_write_after : (segments : List Content) (setting : Setting) (fault : RunFault) → EndsAfter segments setting fault → fault ≢ Write

@@ -17,11 +17,9 @@ use Rattle.htl_main.proofs.ReadingLaws.{ill, read_then, well}
 pub some_job : Job
 some_job = record {
   question = Summary;
+  setting = record { form = record { hex = false; partial = false }; workers = 1; complete = false };
   until = None;
-  form = record { hex = false; partial = false };
-  workers = 1;
   top = None;
-  complete = false;
   exit_code = false;
   format = Plain;
 }
@@ -58,7 +56,7 @@ reads_then is_text has_failed has_ended good_reads remaining old new value segme
     (λ at told. not_read segments symbols job fault at cause (cc told)) (λ place before. no_input segments symbols job fault place cause before)
 
 pub cause_of : (job : Job) (inputs : List (List ℕ)) (symbols : Option (List ℕ)) (segments : List Content) (fault : RunFault)
-    → WorkersFit job.workers → DecodeAll job.form inputs segments → IsCauseAfter segments symbols job fault
+    → WorkersFit job.setting.workers → DecodeAll job.setting.form inputs segments → IsCauseAfter segments symbols job fault
     → IsCause job inputs symbols fault
 cause_of job inputs symbols segments (Case found) fit decoded cause = (fit, segments, decoded, cause)
 cause_of job inputs symbols segments (Incomplete processor number) fit decoded cause = (fit, segments, decoded, cause)
@@ -68,7 +66,7 @@ cause_of job inputs symbols segments Memory fit decoded cause = (fit, inr (segme
 cause_of job inputs symbols segments fault fit decoded cause = absurd cause
 
 pub sources_cause_of : (job : Job) (inputs : List (List ℕ)) (lefts : List (Option (List ℕ))) (ends : List Bool) (symbols : Option (List ℕ))
-    (segments : List Content) (fault : RunFault) → WorkersFit job.workers → DecodeAll job.form inputs segments
+    (segments : List Content) (fault : RunFault) → WorkersFit job.setting.workers → DecodeAll job.setting.form inputs segments
     → IsCauseAfter segments symbols job fault → IsSourcesCause job inputs lefts ends symbols fault
 sources_cause_of job inputs lefts ends symbols segments (Case found) fit decoded cause = (fit, segments, decoded, cause)
 sources_cause_of job inputs lefts ends symbols segments (Incomplete processor number) fit decoded cause = (fit, segments, decoded, cause)

@@ -20,14 +20,10 @@ use Rattle.htl_main.specs.declared.fault.RunFault.{RunFault}
 use Rattle.htl_main.specs.declared.fault.RunFault.TheVariants.{Memory, NoSubject, Read, Write}
 use Rattle.htl_main.proofs.MomentLaws.{complete_until}
 
--- how a run for the job reads its segments
-abbrev pub setting_of : Job → Setting
-setting_of job = record { form = job.form; workers = job.workers; complete = job.complete }
-
 -- what a run loads of its inputs, where its workers fit
 pub loaded_of : (job : Job) (inputs : List (List ℕ)) (symbols : Option (List ℕ)) (segments : List Content) (T : Trace) (table : List Range)
-    → WorkersFit job.workers → DecodeAll job.form inputs segments → AreLoaded segments symbols job.complete job.until T table
-    → AreLoadedOf inputs symbols (setting_of job) job.until T table
+    → WorkersFit job.setting.workers → DecodeAll job.setting.form inputs segments → AreLoaded segments symbols job.setting.complete job.until T table
+    → AreLoadedOf inputs symbols job.setting job.until T table
 loaded_of job inputs symbols segments T table workers decoded loaded =
     record { workers = workers; segments = segments; decoded = decoded; loaded = loaded }
 

@@ -46,19 +46,19 @@ decoded_fit form (input ∷ inputs) segments decoded =
 -- the segments of all inputs, of which the picks are for the job's question
 pub record IsPickedRun (job : Job) (inputs : List (List ℕ)) (picks : Picks) : Type 0 where
   pub segments : List Content
-  pub decoded : DecodeAll job.form inputs segments
+  pub decoded : DecodeAll job.setting.form inputs segments
   pub picked : ArePickedFor job.question picks segments
 
 pub picked_run : (job : Job) (inputs : List (List ℕ)) (interest : Interest) (picks : Picks)
-    → asks_about job.form.hex job.question ≡ Some interest → ArePicksOfAll job.form interest inputs picks → IsPickedRun job inputs picks
+    → asks_about job.setting.form.hex job.question ≡ Some interest → ArePicksOfAll job.setting.form interest inputs picks → IsPickedRun job inputs picks
 picked_run job inputs interest picks about all = record {
   segments = all.segments;
   decoded = all.decoded;
   picked = record {
     interest = interest;
-    about = about_of job.form.hex job.question interest about;
+    about = about_of job.setting.form.hex job.question interest about;
     picks_of = all.picks_of;
-    fits = decoded_fit job.form inputs all.segments all.decoded;
+    fits = decoded_fit job.setting.form inputs all.segments all.decoded;
   };
 }
 
@@ -71,16 +71,16 @@ picked_for question picks segments case made are =
     let of = made are.interest segments are.picks_of are.fits in
     record { trace = of.0; interest = are.interest; about = are.about; case_of = of.1; picked = of.2 }
 
-pub prints : (job : Job) (inputs : List (List ℕ)) (segments : List Content) (symbols old new : Option (List ℕ)) → WorkersFit job.workers
-    → DecodeAll job.form inputs segments → PrintsOf segments symbols job (Appends old new) → Prints job inputs symbols old new
+pub prints : (job : Job) (inputs : List (List ℕ)) (segments : List Content) (symbols old new : Option (List ℕ)) → WorkersFit job.setting.workers
+    → DecodeAll job.setting.form inputs segments → PrintsOf segments symbols job (Appends old new) → Prints job inputs symbols old new
 prints job inputs segments symbols old new fit decoded of = (of.lines, (fit, segments, decoded, of.are), of.written)
 
-pub prints_part : (job : Job) (inputs : List (List ℕ)) (segments : List Content) (symbols old new : Option (List ℕ)) → WorkersFit job.workers
-    → DecodeAll job.form inputs segments → PrintsOf segments symbols job (AppendsPrefix old new) → PrintsPart job inputs symbols old new
+pub prints_part : (job : Job) (inputs : List (List ℕ)) (segments : List Content) (symbols old new : Option (List ℕ)) → WorkersFit job.setting.workers
+    → DecodeAll job.setting.form inputs segments → PrintsOf segments symbols job (AppendsPrefix old new) → PrintsPart job inputs symbols old new
 prints_part job inputs segments symbols old new fit decoded of = (of.lines, (fit, segments, decoded, of.are), of.written)
 
 pub reports : (job : Job) (inputs : List (List ℕ)) (segments : List Content) (cut : Option CutInputs) (completed : Completed)
-    → DecodeAll job.form inputs segments → AreCut job.form.hex inputs cut → ReportsOf segments job cut completed
+    → DecodeAll job.setting.form inputs segments → AreCut job.setting.form.hex inputs cut → ReportsOf segments job cut completed
     → Reports job inputs completed
 reports job inputs segments cut completed decoded are of = record {
   coverage = (segments, decoded, of.coverage);
@@ -104,8 +104,8 @@ if_whole (Ok (Some x)) more is = tt
 if_whole (Err e) more is = tt
 
 pub ends_for : (job : Job) (inputs : List (List ℕ)) (lefts : List (Option (List ℕ))) (ends : List Bool) (symbols : Option (List ℕ))
-    (segments : List Content) (Written : List ℕ → Type 0) (result : Result (Option Completed) RunFault) → WorkersFit job.workers
-    → DecodeAll job.form inputs segments
+    (segments : List Content) (Written : List ℕ → Type 0) (result : Result (Option Completed) RunFault) → WorkersFit job.setting.workers
+    → DecodeAll job.setting.form inputs segments
     → IfErr result EndsPrinting → IfErr result (λ fault. fault ≢ Write → IsCauseAfter segments symbols job fault)
     → (result ≡ Err Write → PrintsOf segments symbols job Written)
     → IfErr result (IsSourcesCause job inputs lefts ends symbols)

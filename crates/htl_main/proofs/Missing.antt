@@ -123,7 +123,7 @@ of_one_trace segments T is = record {
 
 -- a key that is missing is a cause where the job asks for a complete case, and a gap is below its moment
 pub missing_cause : (segments : List Content) (symbols : Option (List ℕ)) (job : Job) (T : Trace) (fault : RunFault) → IsCaseOf segments T
-    → job.complete ≡ true → (IsCompleteUntil T job.until → ⊥) → ReportsMissing T fault → IsCauseAfter segments symbols job fault
+    → job.setting.complete ≡ true → (IsCompleteUntil T job.until → ⊥) → ReportsMissing T fault → IsCauseAfter segments symbols job fault
 missing_cause segments symbols job T (Incomplete p n) case complete touched missing = (complete, T, case, touched, missing)
 missing_cause segments symbols job T other case complete touched missing = absurd missing
 
@@ -134,7 +134,7 @@ memory_cause segments symbols job T case = inl (of_one_trace segments T case)
 
 -- so is the first fault of the symbols, or memory that was refused for them
 pub symbols_cause : (segments : List Content) (symbols : Option (List ℕ)) (job : Job) (T : Trace) (fault : SymbolFault) → IsCaseOf segments T
-    → (job.complete ≡ true → IsCompleteUntil T job.until) → ((fault ≡ NoMemory) ⊎ HasSymbolFault symbols fault)
+    → (job.setting.complete ≡ true → IsCompleteUntil T job.until) → ((fault ≡ NoMemory) ⊎ HasSymbolFault symbols fault)
     → IsCauseAfter segments symbols job (of_symbols fault)
 symbols_cause segments symbols job T NoMemory case ends found = inr (T, (case, ends))
 symbols_cause segments symbols job T other case ends found = elim found [

@@ -28,7 +28,7 @@ use Rattle.htl_main.specs.Answers.{Finds, FindsIn, FindsOver, IsAnswer}
 use Rattle.htl_main.specs.Completeness.{IsLeastMissing}
 use Rattle.htl_main.specs.Moments.{IsCompleteUntil}
 use Rattle.htl_main.specs.Subjects.{HasSubject, is_about}
-use Rattle.htl_main.specs.Printed.{lines_of_answer, IsText, IsTaken, HasSymbols, HasSymbolFault, AreAnswerLines, IsPrinted, WorkersFit, Printed}
+use Rattle.htl_main.specs.Printed.{lines_of_answer, IsText, IsTaken, HasSymbols, HasSymbolFault, AreAnswerLines, IsPrinted, WorkersFit, Printed, by_workers}
 use Rattle.htl_case.specs.Complete.{IsFirstMissing}
 use Rattle.htl_main.specs.declared.fault.RunFault.{RunFault}
 use Rattle.htl_main.specs.declared.fault.RunFault.TheVariants.{Workers, Segment, Hex, Case, Incomplete, NoSubject, Symbols, Memory}
@@ -216,7 +216,7 @@ one_lines segments symbols job a b p q =
     one_text q.trace q.table job a b is q.is
 
 -- no gap is below the moment, or one is
-complete_or_missing : (segments : List Content) (job : Job) (T U : Trace) → IsTaken segments job T → job.complete ≡ true
+complete_or_missing : (segments : List Content) (job : Job) (T U : Trace) → IsTaken segments job T → job.setting.complete ≡ true
     → IsCaseOf segments U → (IsCompleteUntil U job.until → ⊥) → ⊥
 complete_or_missing segments job T U taken complete case touched =
     touched (subst (λ (V : Trace). IsCompleteUntil V job.until) (one_case segments T U taken.0 case) (taken.1 complete))
@@ -301,22 +301,22 @@ one_printed segments symbols job (Err other) b p q = absurd p
 -- what a run comes to where the number of workers is allowed
 abbrev Comes : Job → List (List ℕ) → Option (List ℕ) → Result (List ℕ) RunFault → Type 0
 Comes job inputs symbols outcome =
-    ((fault : RunFault) × (outcome ≡ failed fault) × (fault ≢ Memory) × Stops job.form inputs fault)
-    ⊎ ((segments : List Content) × DecodeAll job.form inputs segments × IsPrinted segments symbols job outcome)
+    ((fault : RunFault) × (outcome ≡ failed fault) × (fault ≢ Memory) × Stops job.setting.form inputs fault)
+    ⊎ ((segments : List Content) × DecodeAll job.setting.form inputs segments × IsPrinted segments symbols job outcome)
 
 one_coming : (job : Job) (inputs : List (List ℕ)) (symbols : Option (List ℕ)) (a b : Result (List ℕ) RunFault)
     → Comes job inputs symbols a → Comes job inputs symbols b → a ≡ b
 one_coming job inputs symbols a b (inl p) (inl q) =
-    p.1 ∙ ap failed (one_stop job.form inputs p.0 q.0 p.3 q.3 p.2 q.2) ∙ sym q.1
-one_coming job inputs symbols a b (inl p) (inr q) = absurd (not_decoded job.form inputs p.0 q.0 p.3 p.2 q.1)
-one_coming job inputs symbols a b (inr p) (inl q) = absurd (not_decoded job.form inputs q.0 p.0 q.3 q.2 p.1)
+    p.1 ∙ ap failed (one_stop job.setting.form inputs p.0 q.0 p.3 q.3 p.2 q.2) ∙ sym q.1
+one_coming job inputs symbols a b (inl p) (inr q) = absurd (not_decoded job.setting.form inputs p.0 q.0 p.3 p.2 q.1)
+one_coming job inputs symbols a b (inr p) (inl q) = absurd (not_decoded job.setting.form inputs q.0 p.0 q.3 q.2 p.1)
 one_coming job inputs symbols a b (inr p) (inr q) =
-    let same = one_decoding job.form inputs p.0 q.0 p.1 q.1 in
+    let same = one_decoding job.setting.form inputs p.0 q.0 p.1 q.1 in
     one_printed q.0 symbols job a b (subst (λ (ss : List Content). IsPrinted ss symbols job a) same p.2) q.2
 
 cases_printed : (job : Job) (inputs : List (List ℕ)) (symbols : Option (List ℕ)) (outcome : Result (List ℕ) RunFault)
     → Printed job inputs symbols outcome
-    → ((outcome ≡ failed Workers) × (WorkersFit job.workers → ⊥)) ⊎ (WorkersFit job.workers × Comes job inputs symbols outcome)
+    → ((outcome ≡ failed Workers) × (WorkersFit job.setting.workers → ⊥)) ⊎ (WorkersFit job.setting.workers × Comes job inputs symbols outcome)
 cases_printed job inputs symbols (Err Workers) is = inl (refl, is)
 cases_printed job inputs symbols (Err (Segment at offset fault)) is =
     inr (is.0, inl (Segment at offset fault, refl, (λ same. cc), is.1))
@@ -337,7 +337,7 @@ one_outcome job inputs symbols a b p q =
 -- and the number of workers is no part of it
 module _ (job : Job) (workers other : ℕ) (inputs : List (List ℕ)) (symbols : Option (List ℕ)) where
   abbrev with_workers : ℕ → Job
-  with_workers n = record job { workers = n }
+  with_workers n = by_workers n job
 
   same_printed : (segments : List Content) (outcome : Result (List ℕ) RunFault) → IsPrinted segments symbols (with_workers workers) outcome
       → IsPrinted segments symbols (with_workers other) outcome
@@ -374,7 +374,7 @@ finds_one T job a b p q =
 
 pub one_finding : (job : Job) (inputs : List (List ℕ)) (a b : Bool) → Finds job inputs a → Finds job inputs b → a ≡ b
 one_finding job inputs a b p q =
-    let same = one_decoding job.form inputs p.0 q.0 p.1 q.1 in
+    let same = one_decoding job.setting.form inputs p.0 q.0 p.1 q.1 in
     let first = subst (λ (ss : List Content). FindsIn ss job a) same p.2 in
     let second = q.2 in
     let trace = one_case q.0 first.0 second.0 first.1 second.1 in

@@ -99,4 +99,4 @@ FindsIn segments job found = (T : Trace) × IsCaseOf segments T × FindsOver T j
 
 -- that over the case of all segments of the inputs
 abbrev pub Finds : Job → List (List ℕ) → Bool → Type 0
-Finds job inputs found = (segments : List Content) × DecodeAll job.form inputs segments × FindsIn segments job found
+Finds job inputs found = (segments : List Content) × DecodeAll job.setting.form inputs segments × FindsIn segments job found

@@ -30,9 +30,9 @@ IsCauseAfter segments symbols job fault = IsPrinted segments symbols job (Err fa
 -- could not be written. No run needs a thread, so none ends because one was refused.
 abbrev pub IsCause : Job → List (List ℕ) → Option (List ℕ) → RunFault → Type 0
 IsCause job inputs symbols Memory =
-    WorkersFit job.workers
-    × (StopsAtInput job.form (IsReportedOfInput job.form) inputs Memory
-    ⊎ ((segments : List Content) × DecodeAll job.form inputs segments
+    WorkersFit job.setting.workers
+    × (StopsAtInput job.setting.form (IsReportedOfInput job.setting.form) inputs Memory
+    ⊎ ((segments : List Content) × DecodeAll job.setting.form inputs segments
     × IsCauseAfter segments symbols job Memory))
 IsCause job inputs symbols Write = (lines : List ℕ) × Printed job inputs symbols (Ok lines)
 IsCause job inputs symbols fault = Printed job inputs symbols (Err fault)

@@ -13,7 +13,7 @@ use Rattle.htl_main.specs.Printed.{HasSymbols, WorkersFit}
 
 -- the job of a run of its own, whose segments are read so
 abbrev pub in_setting : Setting → Job → Job
-in_setting setting job = record job { form = setting.form; workers = setting.workers; complete = setting.complete }
+in_setting setting job = record job { setting = setting }
 
 -- This is the case of decoded segments, which has no gap up to a moment where a complete one is asked for, with the symbols of the table.
 pub record AreLoaded (segments : List Content) (symbols : Option (List ℕ)) (complete : Bool) (until : Option Moment) (T : Trace)

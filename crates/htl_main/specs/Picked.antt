@@ -37,8 +37,8 @@ asks_about false question = interest_of question
 
 -- what is reported beside the answer holds of the inputs
 pub record Reports (job : Job) (inputs : List (List ℕ)) (completed : Completed) : Type 0 where
-  pub coverage : Covers job.form inputs completed.coverage
-  pub cut : AreCut job.form.hex inputs completed.cut
+  pub coverage : Covers job.setting.form inputs completed.coverage
+  pub cut : AreCut job.setting.form.hex inputs completed.cut
   pub subject : ReportsSubject inputs job completed.has_subject
   pub finding : Finds job inputs completed.has_finding
 

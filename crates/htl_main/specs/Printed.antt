@@ -48,7 +48,7 @@ HasSymbolFault (Some bytes) fault = (fault ≢ symbol_faults.NoMemory) × Reads 
 
 -- the case of the segments, which has no gap up to the job's moment where the job asks for a complete one
 abbrev pub IsTaken : List Content → Job → Trace → Type 0
-IsTaken segments job T = IsCaseOf segments T × (job.complete ≡ true → IsCompleteUntil T job.until)
+IsTaken segments job T = IsCaseOf segments T × (job.setting.complete ≡ true → IsCompleteUntil T job.until)
 
 -- The lines are those of the answer over it. Where the status says what an answer finds, there is an event of what it is about.
 pub record AreAnswerLines (segments : List Content) (symbols : Option (List ℕ)) (job : Job) (lines : List ℕ) : Type 0 where
@@ -66,7 +66,7 @@ abbrev pub IsPrinted : List Content → Option (List ℕ) → Job → Result (Li
 IsPrinted segments symbols job (Ok lines) = AreAnswerLines segments symbols job lines
 IsPrinted segments symbols job (Err (Case fault)) = IsOutcome segments (Err fault)
 IsPrinted segments symbols job (Err (Incomplete processor number)) =
-    (job.complete ≡ true)
+    (job.setting.complete ≡ true)
     × (T : Trace) × IsCaseOf segments T × (IsCompleteUntil T job.until → ⊥) × IsLeastMissing T processor number
 IsPrinted segments symbols job (Err (Symbols fault)) = (T : Trace) × IsTaken segments job T × HasSymbolFault symbols fault
 IsPrinted segments symbols job (Err NoSubject) =
@@ -78,14 +78,18 @@ IsPrinted segments symbols job (Err other) = ⊥
 abbrev pub WorkersFit : ℕ → Type 0
 WorkersFit workers = (0 < workers) × (workers ≤ 8)
 
+-- the same job by so many workers
+abbrev pub by_workers : ℕ → Job → Job
+by_workers workers job = record job { setting = record (job.setting) { workers = workers } }
+
 -- Printed: what a run comes to. Its inputs are decoded in order, each to its end, and the first fault ends the
 -- run. (A failed read or write, a refused allocation and a refused thread are no faults of what is given.)
 abbrev pub Printed : Job → List (List ℕ) → Option (List ℕ) → Result (List ℕ) RunFault → Type 0
-Printed job inputs symbols (Err Workers) = WorkersFit job.workers → ⊥
+Printed job inputs symbols (Err Workers) = WorkersFit job.setting.workers → ⊥
 Printed job inputs symbols (Err (Segment at offset fault)) =
-    WorkersFit job.workers × StopsAtInput job.form (IsReportedOfInput job.form) inputs (Segment at offset fault)
+    WorkersFit job.setting.workers × StopsAtInput job.setting.form (IsReportedOfInput job.setting.form) inputs (Segment at offset fault)
 Printed job inputs symbols (Err (Hex at fault)) =
-    WorkersFit job.workers × StopsAtInput job.form (IsReportedOfInput job.form) inputs (Hex at fault)
+    WorkersFit job.setting.workers × StopsAtInput job.setting.form (IsReportedOfInput job.setting.form) inputs (Hex at fault)
 Printed job inputs symbols outcome =
-    WorkersFit job.workers
-    × (segments : List Content) × DecodeAll job.form inputs segments × IsPrinted segments symbols job outcome
+    WorkersFit job.setting.workers
+    × (segments : List Content) × DecodeAll job.setting.form inputs segments × IsPrinted segments symbols job outcome

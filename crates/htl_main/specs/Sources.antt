@@ -37,11 +37,11 @@ IsReportedAt form lefts ends place input fault =
 -- for which memory was refused.
 abbrev pub IsSourcesCause : Job → List (List ℕ) → List (Option (List ℕ)) → List Bool → Option (List ℕ) → RunFault → Type 0
 IsSourcesCause job inputs lefts ends symbols (Read at) =
-    WorkersFit job.workers × StopsAtInput job.form (IsReportedAt job.form lefts ends) inputs (Read at)
+    WorkersFit job.setting.workers × StopsAtInput job.setting.form (IsReportedAt job.setting.form lefts ends) inputs (Read at)
 IsSourcesCause job inputs lefts ends symbols Memory =
-    WorkersFit job.workers
-    × (StopsAtInput job.form (IsReportedAt job.form lefts ends) inputs Memory
-    ⊎ ((segments : List Content) × DecodeAll job.form inputs segments
+    WorkersFit job.setting.workers
+    × (StopsAtInput job.setting.form (IsReportedAt job.setting.form lefts ends) inputs Memory
+    ⊎ ((segments : List Content) × DecodeAll job.setting.form inputs segments
     × IsCauseAfter segments symbols job Memory))
 IsSourcesCause job inputs lefts ends symbols fault = IsCause job inputs symbols fault
 

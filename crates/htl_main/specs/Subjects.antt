@@ -54,4 +54,4 @@ HasSubjectIn segments job found = (T : Trace) × IsCaseOf segments T × HasSubje
 
 -- that is reported of the case of all segments of the inputs
 abbrev pub ReportsSubject : List (List ℕ) → Job → Bool → Type 0
-ReportsSubject inputs job found = (segments : List Content) × DecodeAll job.form inputs segments × HasSubjectIn segments job found
+ReportsSubject inputs job found = (segments : List Content) × DecodeAll job.setting.form inputs segments × HasSubjectIn segments job found

@@ -130,7 +130,7 @@ fn load_with(
     ensures coverage { IfOk result (λ loaded. IsCoverage loaded.case loaded.coverage) }
     // Memory is also refused for the copies.
     ensures err { IfErr result (λ refused. (refused.fault ≡ RunFault.Memory)
-        ⊎ ((job : Job) → job.complete ≡ complete → job.until ≡ None
+        ⊎ ((job : Job) → job.setting.complete ≡ complete → job.until ≡ None
         → IsCauseAfter (decoded.segments.items ++ before.now.segments) None job refused.fault)) }
     ensures between { IfErr result (λ refused. (form : InputForm) (inputs : List (List ℕ))
         (earlier : List ℕ) → length inputs ≡ place → DecodeAll form inputs decoded.segments.items

@@ -31,7 +31,7 @@ ghost use Rattle.htl_main.specs.Answers.{Finds, IsAnswerOver};
 ghost use Rattle.htl_main.specs.Coverages.{Covers, IsCoverage};
 ghost use Rattle.htl_main.specs.Folding.{AreFolded};
 ghost use Rattle.htl_main.specs.Histories.{AnyCanBeCompacted, AnyHistoryLeavesAState};
-ghost use Rattle.htl_main.specs.Printed.{Printed, WorkersFit};
+ghost use Rattle.htl_main.specs.Printed.{Printed, WorkersFit, by_workers};
 ghost use Rattle.htl_main.specs.Summaries.{AreTotals, IsSummary};
 ghost use Rattle.htl_main.specs.declared.coverage.Coverage.{Coverage};
 ghost use Rattle.htl_main.specs.declared.fault.RunFault.{RunFault};
@@ -46,8 +46,8 @@ pub fn one_outcome()
     ensures workers { (job : Job) (workers other : ℕ) (inputs : List (List ℕ))
         (symbols : Option (List ℕ)) (a b : Result (List ℕ) RunFault)
         → WorkersFit workers → WorkersFit other
-        → Printed (record job { workers = workers }) inputs symbols a
-        → Printed (record job { workers = other }) inputs symbols b → a ≡ b }
+        → Printed (by_workers workers job) inputs symbols a
+        → Printed (by_workers other job) inputs symbols b → a ≡ b }
 {}
 
 /// What an answer over inputs finds is one thing.

@@ -109,7 +109,7 @@ pub(crate) fn with_symbols(
     ensures coverage { IfOk result (λ loaded. IsCoverage loaded.case loaded.coverage) }
     ensures cut { IfOk result (λ loaded. loaded.cut ≡ cut) }
     ensures err { IfErr result (λ fault. (segments : List Content) (job : Job)
-        → IsCaseOf segments case → job.complete ≡ complete → job.until ≡ until
+        → IsCaseOf segments case → job.setting.complete ≡ complete → job.until ≡ until
         → IsCauseAfter segments (option_copied symbols.entry) job fault) }
 {
     let missed = Missed::of_case(alloc, &case)?;

@@ -45,7 +45,7 @@ pub(crate) fn answered_of_picks(
     ensures after { IfErr result EndsAnswer }
 {
     let missed = Missed::of(alloc, case.processors(), case.outlines())?;
-    check_gaps(job.complete, job.until, &missed)?;
+    check_gaps(job.setting.complete, job.until, &missed)?;
     let symbols = read_symbols(alloc, symbols)?;
     let coverage = missed.coverage();
     let until = coverage.moment(job.until);

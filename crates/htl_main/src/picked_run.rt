@@ -30,9 +30,9 @@ use std::thread::Threads;
 
 /// The process or the object that the job asks about, where its inputs are bytes.
 pub fn interest(job: &Job) -> Option<Interest>
-    ensures { result ≡ asks_about job.now.form.hex job.now.question }
+    ensures { result ≡ asks_about job.now.setting.form.hex job.now.question }
 {
-    if job.form.hex {
+    if job.setting.form.hex {
         return None;
     }
     match job.question {
@@ -67,7 +67,7 @@ pub fn pick_from<Rt: Threads + Sync, R: Parted, W: Sink>(
     requires inputs { All (λ source. R.has_failed source ≡ false) inputs.old }
     requires inside { All (λ source. R.has_ended source ≡ false) inputs.old }
     requires out { W.has_failed out.old ≡ false }
-    requires about { asks_about job.now.form.hex job.now.question ≡ Some interest }
+    requires about { asks_about job.now.setting.form.hex job.now.question ≡ Some interest }
     // What the sources' bytes come to is printed, or reported.
     ensures ok { (texts : List (List ℕ)) → map R.remaining inputs.old ≡ map Some texts
         → IfOk result (λ done. IfSome done (λ _. Prints job.now texts
@@ -75,7 +75,7 @@ pub fn pick_from<Rt: Threads + Sync, R: Parted, W: Sink>(
     ensures reports { (texts : List (List ℕ)) → map R.remaining inputs.old ≡ map Some texts
         → IfOk result (λ done. IfSome done (Reports job.now texts)) }
     ensures whole { (texts : List (List ℕ)) → map R.remaining inputs.old ≡ map Some texts
-        → IfOk result (λ done. IfNone done (AskForWhole job.now.form texts)) }
+        → IfOk result (λ done. IfNone done (AskForWhole job.now.setting.form texts)) }
     ensures unwritten { IfOk result (λ done. IfNone done (out.new ≡ out.old)) }
     ensures fine { OnOk result (W.has_failed out.new ≡ false) }
     ensures cause { (texts : List (List ℕ)) → map R.remaining inputs.old ≡ map Some texts
@@ -91,8 +91,15 @@ pub fn pick_from<Rt: Threads + Sync, R: Parted, W: Sink>(
     ensures reading { AreRead false R.has_failed R.has_ended R.good_reads R.remaining
         inputs.old inputs.new result }
 {
-    check_workers(job.workers)?;
-    let all = pick_all(rt, alloc, job.form, interest, job.workers, inputs)?;
+    check_workers(job.setting.workers)?;
+    let all = pick_all(
+        rt,
+        alloc,
+        job.setting.form,
+        interest,
+        job.setting.workers,
+        inputs,
+    )?;
     print_picks(alloc, job, all.picks, all.cut, symbols, out)
 }
 

@@ -58,9 +58,9 @@ pub fn run<Rt: Threads + Sync, W: Sink>(
     ensures ok { OnOk result (Prints job.now (map (λ input. input.items) inputs.now)
         (option_copied symbols.entry) (W.contents out.old) (W.contents out.new)) }
     ensures coverage { IfOk result (λ completed.
-        Covers job.now.form (map (λ input. input.items) inputs.now) completed.coverage) }
+        Covers job.now.setting.form (map (λ input. input.items) inputs.now) completed.coverage) }
     ensures cut { IfOk result (λ completed.
-        AreCut job.now.form.hex (map (λ input. input.items) inputs.now) completed.cut) }
+        AreCut job.now.setting.form.hex (map (λ input. input.items) inputs.now) completed.cut) }
     ensures subject { IfOk result (λ completed. ReportsSubject
         (map (λ input. input.items) inputs.now) job.now completed.has_subject) }
     ensures finding { IfOk result (λ completed. Finds job.now
@@ -68,7 +68,7 @@ pub fn run<Rt: Threads + Sync, W: Sink>(
     ensures fine { OnOk result (W.has_failed out.new ≡ false) }
     ensures cause { IfErr (by_fault result) (IsCause job.now (map (λ input. input.items) inputs.now)
         (option_copied symbols.entry)) }
-    ensures between { IfErr result (λ refused. IsBetween job.now.form
+    ensures between { IfErr result (λ refused. IsBetween job.now.setting.form
         (map (λ input. input.items) inputs.now) refused.fault refused.between) }
     ensures write { by_fault result ≡ Err RunFault.Write
         → PrintsPart job.now (map (λ input. input.items) inputs.now)
@@ -76,11 +76,11 @@ pub fn run<Rt: Threads + Sync, W: Sink>(
         × (W.has_failed out.new ≡ true) }
     ensures untouched { IfErr (by_fault result) (λ fault. fault ≢ RunFault.Write → out.new ≡ out.old) }
 {
-    check_workers(job.workers)?;
-    let decoded = decode_all(alloc, job.form, inputs)?;
+    check_workers(job.setting.workers)?;
+    let decoded = decode_all(alloc, job.setting.form, inputs)?;
     let cut = decoded.cut;
     let case = case_of(alloc, decoded)?;
-    let loaded = with_symbols(alloc, job.complete, job.until, case, cut, symbols)?;
+    let loaded = with_symbols(alloc, job.setting.complete, job.until, case, cut, symbols)?;
     let completed = print_answer(alloc, job, &loaded, out)?;
     Ok(completed)
 }

@@ -17,7 +17,7 @@ use crate::fault::RunFault;
 use crate::loading::load;
 use crate::printing::print_answer;
 use crate::refused::Refused;
-use htl_command::{Job, Setting};
+use htl_command::Job;
 use htl_device::{Parted, Sink};
 use std::alloc::Global;
 use std::thread::Threads;
@@ -45,9 +45,9 @@ pub fn run_from<Rt: Threads + Sync, R: Parted, W: Sink>(
         → OnOk result (Prints job.now texts (option_copied symbols.entry)
         (W.contents out.old) (W.contents out.new)) }
     ensures coverage { (texts : List (List ℕ)) → map R.remaining inputs.old ≡ map Some texts
-        → IfOk result (λ completed. Covers job.now.form texts completed.coverage) }
+        → IfOk result (λ completed. Covers job.now.setting.form texts completed.coverage) }
     ensures cut { (texts : List (List ℕ)) → map R.remaining inputs.old ≡ map Some texts
-        → IfOk result (λ completed. AreCut job.now.form.hex texts completed.cut) }
+        → IfOk result (λ completed. AreCut job.now.setting.form.hex texts completed.cut) }
     ensures subject { (texts : List (List ℕ)) → map R.remaining inputs.old ≡ map Some texts
         → IfOk result (λ completed. ReportsSubject texts job.now completed.has_subject) }
     ensures finding { (texts : List (List ℕ)) → map R.remaining inputs.old ≡ map Some texts
@@ -63,18 +63,13 @@ pub fn run_from<Rt: Threads + Sync, R: Parted, W: Sink>(
     // Where a fault is about two segments, they are named.
     ensures between { (texts : List (List ℕ)) → map R.remaining inputs.old ≡ map Some texts
         → IfErr result (λ refused.
-        IsBetween job.now.form texts refused.fault refused.between) }
+        IsBetween job.now.setting.form texts refused.fault refused.between) }
     ensures failed { by_fault result ≡ Err RunFault.Write → W.has_failed out.new ≡ true }
-    ensures reading { AreRead job.now.form.hex R.has_failed R.has_ended R.good_reads
+    ensures reading { AreRead job.now.setting.form.hex R.has_failed R.has_ended R.good_reads
         R.remaining inputs.old inputs.new (by_fault result) }
     ensures untouched { IfErr (by_fault result) (λ fault. fault ≢ RunFault.Write → out.new ≡ out.old) }
 {
-    let setting = Setting {
-        form: job.form,
-        workers: job.workers,
-        complete: job.complete,
-    };
-    let loaded = load(rt, alloc, setting, job.until, inputs, symbols)?;
+    let loaded = load(rt, alloc, job.setting, job.until, inputs, symbols)?;
     let completed = print_answer(alloc, job, &loaded, out)?;
     Ok(completed)
 }

@@ -1,4 +1,3 @@
-pub mod Padding
 pub mod ShownTags
 pub mod Names
 pub mod Told

@@ -18,13 +18,13 @@ use Rattle.htl_program.specs.Endings.{Ends}
 -- the clauses of a run say how it ends
 pub run_ends : (job : Job) (texts : List (List ℕ)) (table : Option (List ℕ)) (lefts : List (Option (List ℕ))) (ends : List Bool)
     (old new : Option (List ℕ)) (result : Result Completed Refused) → OnOk result (Prints job texts table old new)
-    → IfOk result (λ completed. Covers job.form texts completed.coverage)
-    → IfOk result (λ completed. AreCut job.form.hex texts completed.cut)
+    → IfOk result (λ completed. Covers job.setting.form texts completed.coverage)
+    → IfOk result (λ completed. AreCut job.setting.form.hex texts completed.cut)
     → IfOk result (λ completed. ReportsSubject texts job completed.has_subject)
     → IfOk result (λ completed. Finds job texts completed.has_finding)
     → IfErr (by_fault result) (IsSourcesCause job texts lefts ends table)
     → (by_fault result ≡ Err Write → PrintsPart job texts table old new)
-    → IfErr result (λ refused. IsBetween job.form texts refused.fault refused.between)
+    → IfErr result (λ refused. IsBetween job.setting.form texts refused.fault refused.between)
     → Ends job texts table lefts ends old new result
 run_ends job texts table lefts ends old new (Ok completed) prints covers cut subject finds cause write between =
     (prints, record { coverage = covers; cut = cut; subject = subject; finding = finds })

@@ -194,12 +194,12 @@ IsBeginsBetween true setting texts fault between = IsHalfKnown fault between
 
 -- What failed of the questions and of the output is reported, and nothing else is reported as failed. Which bytes the questions have is
 -- given where it is known.
-pub record ReportsDevices {S : Type 0} (has_failed : Bool) (questions : Option (List ℕ)) (is_full : Bool) (ended : Result S AskFault)
+pub record ReportsDevices {S : Type 0} (has_failed : Bool) (questions : Option (List ℕ)) (write_failed : Bool) (ended : Result S AskFault)
     : Type 0 where
   pub lines : has_failed ≡ true → ended ≡ Err (Dialogue Questions)
   pub unread : ended ≡ Err (Dialogue Questions) → (has_failed ≡ true) ⊎ IfSome questions (λ bytes. MAX_READS ≤ length bytes)
-  pub full : is_full ≡ true → ended ≡ Err (Dialogue Write)
-  pub unwritten : ended ≡ Err (Dialogue Write) → is_full ≡ true
+  pub full : write_failed ≡ true → ended ≡ Err (Dialogue Write)
+  pub unwritten : ended ≡ Err (Dialogue Write) → write_failed ≡ true
 
 -- how what comes before the dialogue ends: what ends the dialogue is no fault of it
 abbrev pub before_dialogue : {S : Type 0} → Result S AskFault → Result (Unit {0}) Refused

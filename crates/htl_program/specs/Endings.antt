@@ -21,7 +21,7 @@ use Rattle.htl_main.specs.declared.refused.Refused.{Refused}
 pub record IsRefusal (job : Job) (texts : List (List ℕ)) (table : Option (List ℕ)) (lefts : List (Option (List ℕ))) (ends : List Bool)
     (old new : Option (List ℕ)) (refused : Refused) : Type 0 where
   pub cause : IsSourcesCause job texts lefts ends table refused.fault
-  pub between : IsBetween job.form texts refused.fault refused.between
+  pub between : IsBetween job.setting.form texts refused.fault refused.between
   pub written : refused.fault ≡ Write → PrintsPart job texts table old new
 
 -- The answer was printed, and what is reported beside it holds; or there is a reason why not.

@@ -4,6 +4,7 @@ pub mod Endings
 pub mod Opened
 pub mod Readings
 pub mod Asking
+pub mod Outcomes
 pub mod Statuses
 pub mod AskedAbout
 pub mod Parts

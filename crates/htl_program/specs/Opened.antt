@@ -31,20 +31,28 @@ opened remaining has_ended has_failed good_reads inputs = record {
   questions = inputs.questions;
 }
 
--- how it is said of sources, of which none was opened
-abbrev pub ways : {R : Type 0} → (R → Option (List ℕ)) → (R → Bool) → (R → Bool) → (R → ℕ) → Opened R
-ways remaining has_ended has_failed good_reads = record {
+-- the same of files alone
+abbrev pub opened_files : {R : Type 0} → (R → Option (List ℕ)) → (R → Bool) → (R → Bool) → (R → ℕ) → List R → Opened R
+opened_files remaining has_ended has_failed good_reads files = record {
   remaining = remaining;
   has_ended = has_ended;
   has_failed = has_failed;
   good_reads = good_reads;
-  files = [];
+  files = files;
   questions = None;
 }
+
+-- how it is said of sources, of which none was opened
+abbrev pub ways : {R : Type 0} → (R → Option (List ℕ)) → (R → Bool) → (R → Bool) → (R → ℕ) → Opened R
+ways remaining has_ended has_failed good_reads = opened_files remaining has_ended has_failed good_reads []
 
 -- the same of these
 abbrev pub ways_of : {R : Type 0} → Opened R → Opened R
 ways_of inputs = ways inputs.remaining inputs.has_ended inputs.has_failed inputs.good_reads
+
+-- the files among them
+abbrev pub files_of : {R : Type 0} → Opened R → Opened R
+files_of inputs = opened_files inputs.remaining inputs.has_ended inputs.has_failed inputs.good_reads inputs.files
 
 abbrev pub lefts : {R : Type 0} → Opened R → List (Option (List ℕ))
 lefts inputs = map inputs.remaining inputs.files

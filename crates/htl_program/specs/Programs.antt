@@ -1,6 +1,6 @@
 -- What the program does with its arguments (this project's own).
-use Rattle.std.specs.Prelude.{◌≡◌, ◌≢◌, ◌⊎◌, ◌&&◌, ◌||◌, ⊤, not, ℕ, Bool, true, false, List, map, Option, Some}
-use Rattle.std.specs.Prelude.{IfErr, IfOk, OnOk, Result, Ok, Err, String, string_bytes}
+use Rattle.std.specs.Prelude.{◌≡◌, ◌⊎◌, ◌&&◌, ◌||◌, ⊤, not, ℕ, Bool, true, false, List, Option, Some}
+use Rattle.std.specs.Prelude.{IfErr, Result, Ok, Err, String, string_bytes}
 use Rattle.std.specs.Io.KnownBytes.{Appends}
 use Rattle.htl_command.specs.Refusals.{IsUsageWith, RefusesArguments}
 use Rattle.htl_command.specs.Requests.{IsAskedFor, notes_in, requested}
@@ -13,28 +13,23 @@ use Rattle.htl_command.specs.declared.fault.ParseFault.{ParseFault}
 use Rattle.htl_command.specs.declared.fault.ParseFault.TheVariants.{Help, Usage, Memory}
 use Rattle.htl_command.specs.declared.question.InputForm.{InputForm}
 use Rattle.htl_device.specs.Devices.{AppendsPrefix}
-use Rattle.htl_dialogue.specs.Dialogues.{Converses, DialogueStops}
 use Rattle.htl_dialogue.specs.Notes.{Note}
 use Rattle.htl_dialogue.specs.declared.dialogue.Conversed.{Conversed}
 use Rattle.htl_dialogue.specs.declared.dialogue.DialogueFault.{DialogueFault}
 use Rattle.htl_dialogue.specs.declared.dialogue.DialogueFault.TheVariants as dialogues
-use Rattle.htl_main.specs.Dumps.{is_failed_write}
 use Rattle.htl_main.specs.Origins.{by_fault}
 use Rattle.htl_main.specs.declared.completed.Completed.{Completed}
 use Rattle.htl_main.specs.declared.cut_inputs.CutInputs.{CutInputs}
 use Rattle.htl_main.specs.declared.fault.RunFault.{RunFault}
 use Rattle.htl_main.specs.declared.fault.RunFault.TheVariants as faults
 use Rattle.htl_main.specs.declared.refused.Refused.{Refused}
-use Rattle.htl_program.specs.Asking.{Begins, BeginsAndGets, IsBeginsBetween, IsBeginsCause, Opening, ReportsDevices, Taken, answers_over}
 use Rattle.htl_program.specs.Asking.{before_dialogue}
-use Rattle.htl_program.specs.Endings.{Ends, EndsDump, EndsEncoding, IsUnopened, IsUntabled, RunsOut}
-use Rattle.htl_program.specs.Opened.{Known, Opened, ends, lefts, ways_of}
-use Rattle.htl_program.specs.Readings.{AreInputs, ReportsRead}
+use Rattle.htl_program.specs.Opened.{Known, Opened, files_of}
+use Rattle.htl_program.specs.Outcomes.{IsAnswered, IsConversed, IsDumped, IsEncoded, Talk, talk}
 use Rattle.htl_program.specs.Sayings.{Hears, HearsAll, HearsRun, Saying, alone, cut_noted, fault, fault_said, no_memory, notes_said}
 use Rattle.htl_program.specs.Sayings.{stop_said, text, unwritten}
 use Rattle.htl_program.specs.Statuses.{conversion_status, dialogue_status, end_status}
 use Rattle.htl_program.specs.Words.{explained}
-use Rattle.htl_program.specs.Worlds.{IsFirstAbsent, IsTable, IsTableAbsent, of_each, of_inputs}
 use Rattle.htl_program.specs.declared.ask_fault.AskFault.{AskFault}
 use Rattle.htl_program.specs.declared.ask_fault.AskFault.TheVariants as asks
 use Rattle.htl_program.specs.declared.console.Console.{Console}
@@ -42,44 +37,15 @@ use Rattle.htl_program.specs.declared.console.Console.{Console}
 -- what was written and said: which bytes the output holds, whether a write to it failed, and what a person heard
 pub record Told : Type 0 where
   pub out : Option (List ℕ)
-  pub is_full : Bool
+  pub write_failed : Bool
   pub heard : Option (List Saying)
 
 abbrev pub told : {O P : Type 0} → (O → Option (List ℕ)) → (O → Bool) → (P → Option (List Saying)) → Console O P → Told
 told contents has_failed heard console = record {
   out = contents console.out;
-  is_full = has_failed console.out;
+  write_failed = has_failed console.out;
   heard = heard console.person;
 }
-
--- the inputs of the names have these texts
-abbrev pub HaveTexts : {A : Type 0} → Known → List (String A) → List (List ℕ) → Type 0
-HaveTexts world names texts = of_inputs world.holds world.standard names ≡ map Some texts
-
--- the name at the place is the first for which there is nothing
-abbrev pub IsAbsentAt : {A : Type 0} → Known → List (String A) → ℕ → Type 0
-IsAbsentAt world names place = IsFirstAbsent (of_each world.holds names) (of_each world.is_absent names) place
-
--- a failed read is reported only of a name that was refused, or of an input whose read failed or that has no end
-abbrev pub ReportsOpened : {A R S : Type 0} → Known → Opened R → List (String A) → Result S RunFault → Type 0
-ReportsOpened world inputs names result =
-    ReportsRead world.holds world.is_absent world.standard inputs.has_failed inputs.good_reads names inputs.files result
-
--- how the question was run over its files and its table of symbols
-pub record IsAnswered {R : Type 0} (world : Known) (inputs : Opened R) (old new : Told) (run : Run) (ended : Result Completed Refused)
-    : Type 0 where
-  pub ends : (texts : List (List ℕ)) → (table : Option (List ℕ)) → HaveTexts world run.files.items texts
-      → IsTable world.holds run.symbols table
-      → Ends run.job texts table (lefts inputs) (ends inputs) old.out new.out ended ⊎ RunsOut ended
-  pub absent : (place : ℕ) → IsAbsentAt world run.files.items place → IsUnopened place (by_fault ended)
-  pub untabled : (texts : List (List ℕ)) → HaveTexts world run.files.items texts → IsTableAbsent world.is_absent run.symbols
-      → IsUntabled (by_fault ended)
-  pub reading : AreInputs run.job.form.hex inputs.has_failed inputs.has_ended inputs.good_reads inputs.remaining
-      (of_inputs world.holds world.standard run.files.items) inputs.files (by_fault ended)
-  pub read : ReportsOpened world inputs run.files.items (by_fault ended)
-  pub untouched : IfErr (by_fault ended) (λ reported. reported ≢ faults.Write → new.out ≡ old.out)
-  pub failed : by_fault ended ≡ Err faults.Write → new.is_full ≡ true
-  pub fine : OnOk ended (new.is_full ≡ false)
 
 -- The fault that ended a run is said, once, and in words where these are wanted. A failed write may go unsaid.
 abbrev pub SaysFault : Bool → Option (List Saying) → Option (List Saying) → Command → Refused → Type 0
@@ -94,7 +60,7 @@ SaysAnswer in_words old new command run (Err refused) = SaysFault in_words old n
 pub record DoesAnswer {R : Type 0} (in_words : Bool) (world : Known) (inputs : Opened R) (old new : Told) (command : Command) (run : Run)
     (status : ℕ) : Type 0 where
   pub ended : Result Completed Refused
-  pub is : IsAnswered world inputs old new run ended
+  pub is : IsAnswered world (files_of inputs) run old.out new.out new.write_failed ended
   pub status_is : status ≡ end_status run.job.exit_code (by_fault ended)
   pub after_run : Option (List Saying)
   pub hears_run : HearsRun command old.heard after_run
@@ -113,13 +79,7 @@ SaysDump in_words old new command (Err reported) = SaysFault in_words old new co
 pub record DoesDump {R A : Type 0} (in_words : Bool) (world : Known) (inputs : Opened R) (old new : Told) (command : Command)
     (form : InputForm) (files : List (String A)) (status : ℕ) : Type 0 where
   pub ended : Result (Option CutInputs) RunFault
-  pub ends : (texts : List (List ℕ)) → HaveTexts world files texts
-      → EndsDump form texts (lefts inputs) (ends inputs) old.out new.out ended
-  pub absent : (place : ℕ) → IsAbsentAt world files place → IsUnopened place ended × (new.out ≡ old.out)
-  pub reading : AreInputs form.hex inputs.has_failed inputs.has_ended inputs.good_reads inputs.remaining
-      (of_inputs world.holds world.standard files) inputs.files ended
-  pub read : ReportsOpened world inputs files ended
-  pub failed : new.is_full ≡ is_failed_write ended
+  pub is : IsDumped world (files_of inputs) form files old.out new.out new.write_failed ended
   pub status_is : status ≡ conversion_status ended
   pub after_run : Option (List Saying)
   pub hears_run : HearsRun command old.heard after_run
@@ -128,14 +88,7 @@ pub record DoesDump {R A : Type 0} (in_words : Bool) (world : Known) (inputs : O
 pub record DoesEncode {R A : Type 0} (in_words : Bool) (world : Known) (inputs : Opened R) (old new : Told) (command : Command)
     (hex : Bool) (files : List (String A)) (status : ℕ) : Type 0 where
   pub ended : Result (Unit {0}) RunFault
-  pub ends : (texts : List (List ℕ)) → HaveTexts world files texts
-      → EndsEncoding hex texts (lefts inputs) (ends inputs) old.out new.out ended
-  pub absent : (place : ℕ) → IsAbsentAt world files place → IsUnopened place ended
-  pub reading : AreInputs true inputs.has_failed inputs.has_ended inputs.good_reads inputs.remaining
-      (of_inputs world.holds world.standard files) inputs.files ended
-  pub read : ReportsOpened world inputs files ended
-  pub failed : new.is_full ≡ is_failed_write ended
-  pub untouched : IfErr ended (λ reported. reported ≢ faults.Write → new.out ≡ old.out)
+  pub is : IsEncoded world (files_of inputs) hex files old.out new.out new.write_failed ended
   pub status_is : status ≡ conversion_status ended
   pub after_run : Option (List Saying)
   pub hears_run : HearsRun command old.heard after_run
@@ -144,8 +97,8 @@ pub record DoesEncode {R A : Type 0} (in_words : Bool) (world : Known) (inputs :
 -- A text that was asked for: it is written and nothing is said, with status 0; or its write fails, which is said, with status 5.
 abbrev pub IsPrinted : List ℕ → Told → Told → ℕ → Type 0
 IsPrinted bytes old new status =
-    ((new.is_full ≡ false) × (status ≡ 0) × Appends old.out new.out bytes × (new.heard ≡ old.heard))
-    ⊎ ((new.is_full ≡ true) × (status ≡ 5) × AppendsPrefix old.out new.out bytes × Hears old.heard new.heard unwritten)
+    ((new.write_failed ≡ false) × (status ≡ 0) × Appends old.out new.out bytes × (new.heard ≡ old.heard))
+    ⊎ ((new.write_failed ≡ true) × (status ≡ 5) × AppendsPrefix old.out new.out bytes × Hears old.heard new.heard unwritten)
 
 -- Where the arguments give no command: help is printed, and all else is said.
 abbrev pub Refuses : Told → Told → ParseFault → ℕ → Type 0
@@ -201,9 +154,11 @@ with_notes notes speaker = record speaker {
   wants_absence = speaker.wants_absence || notes;
 }
 
--- after the opening the output got these replies, and the speaker these notes
-abbrev pub HasGot : {S : Type 0} → Spoken S → S → Told → Told → Opening → List ℕ → List Note → Type 0
-HasGot speaker listening old new opening = BeginsAndGets old.out new.out speaker.told speaker.before listening opening
+-- what these questions, this output and this speaker, who is listening by now, were before the dialogue and are after it
+abbrev pub talk_of : {S R : Type 0} → Opened R → R → Option (List ℕ) → Spoken S → S → Told → Told → Talk S
+talk_of inputs questions bytes speaker listening old new =
+    talk bytes (inputs.remaining questions) (inputs.has_failed questions) old.out new.out new.write_failed speaker.told
+    speaker.wants_absence speaker.before listening
 
 -- Nothing was read of the questions, of which these are the bytes.
 pub record IsUnread {R : Type 0} (inputs : Opened R) (questions : R) (bytes : Option (List ℕ)) : Type 0 where
@@ -218,30 +173,7 @@ pub record DoesConverse {S R : Type 0} (in_words : Bool) (speaker : Spoken S) (w
   pub listening : S
   pub questions : R
   pub asked : inputs.questions ≡ Some questions
-  pub replies : (texts : List (List ℕ)) → (table : Option (List ℕ)) → (lines : List ℕ) → HaveTexts world of.files.items texts
-      → IsTable world.holds of.symbols table → world.standard ≡ Some lines
-      → IfOk ended (λ conversed. (read : Taken) × (opening : Opening) × Begins of.folds of.setting texts read opening
-      × Converses (answers_over world (ways_of inputs) of.setting of.folds table) speaker.wants_absence (Some read) lines
-      (HasGot speaker listening old new opening) conversed)
-  pub stops : (texts : List (List ℕ)) → (table : Option (List ℕ)) → (lines : List ℕ) → (stopped : DialogueFault)
-      → HaveTexts world of.files.items texts → IsTable world.holds of.symbols table → world.standard ≡ Some lines
-      → ended ≡ Err (asks.Dialogue stopped)
-      → (read : Taken) × (opening : Opening) × Begins of.folds of.setting texts read opening
-      × DialogueStops (answers_over world (ways_of inputs) of.setting of.folds table) speaker.wants_absence (Some read) lines
-      (inputs.remaining questions) (inputs.has_failed questions) (HasGot speaker listening old new opening) stopped
-  pub devices : ReportsDevices (inputs.has_failed questions) world.standard new.is_full ended
-  pub cause : (texts : List (List ℕ)) → (table : Option (List ℕ)) → HaveTexts world of.files.items texts
-      → IsTable world.holds of.symbols table
-      → IfErr (by_fault (before_dialogue ended)) (λ reported.
-      IsBeginsCause of.folds of.setting texts (lefts inputs) (ends inputs) table reported ⊎ (reported ≡ faults.Memory))
-  pub between : (texts : List (List ℕ)) → HaveTexts world of.files.items texts
-      → IfErr (before_dialogue ended) (λ refused. IsBeginsBetween of.folds of.setting texts refused.fault refused.between)
-  pub absent : (place : ℕ) → IsAbsentAt world of.files.items place → IsUnopened place (by_fault (before_dialogue ended))
-  pub untabled : (texts : List (List ℕ)) → HaveTexts world of.files.items texts → IsTableAbsent world.is_absent of.symbols
-      → IsUntabled (by_fault (before_dialogue ended))
-  pub reading : AreInputs of.setting.form.hex inputs.has_failed inputs.has_ended inputs.good_reads inputs.remaining
-      (of_inputs world.holds world.standard of.files.items) inputs.files (by_fault (before_dialogue ended))
-  pub read : ReportsOpened world inputs of.files.items (by_fault (before_dialogue ended))
+  pub is : IsConversed world (files_of inputs) of (talk_of inputs questions world.standard speaker listening old new) ended
   -- Before the files are read no line is, and nothing is written or told.
   pub untouched : IfErr (before_dialogue ended) (λ refused.
       IsUnread inputs questions world.standard × (new.out ≡ old.out) × (listening ≡ speaker.before))

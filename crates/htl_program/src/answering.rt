@@ -1,13 +1,13 @@
 //! A question in a world: from the names that it is asked of to its end.
 
-ghost use Rattle.std.specs.Prelude.{◌≡◌, ◌≢◌, ◌⊎◌, ℕ, All, IfErr, IfSome, List, OnOk, Option, Some};
+ghost use Rattle.std.specs.Prelude.{◌≡◌, ◌≢◌, ◌⊎◌, ℕ, All, IfErr, IfSome, List, OnOk, Some};
 ghost use Rattle.std.specs.Prelude.{Err, false, length, map, option_copied, true};
 ghost use Rattle.htl_main.specs.Origins.{by_fault};
 ghost use Rattle.htl_main.specs.Picked.{asks_about};
-ghost use Rattle.htl_program.specs.Endings.{Ends, IsUnopened, IsUntabled, RunsOut};
-ghost use Rattle.htl_program.specs.Readings.{AreInputs, ReportsRead};
-ghost use Rattle.htl_program.specs.Worlds.{IsFirstAbsent, IsTable, IsTableAbsent};
-ghost use Rattle.htl_program.specs.Worlds.{of_each, of_inputs};
+ghost use Rattle.htl_program.specs.Endings.{Ends, RunsOut};
+ghost use Rattle.htl_program.specs.Opened.{known, opened_files};
+ghost use Rattle.htl_program.specs.Outcomes.{HaveTexts, IsAnswered, ReadsInputs};
+ghost use Rattle.htl_program.specs.Worlds.{of_inputs};
 
 use crate::opening::{as_bytes, open_inputs, read_table};
 use crate::running::{pick_opened, run_opened};
@@ -35,33 +35,11 @@ pub fn answer<Rt: Threads + Sync, W: World, O: Sink>(
     out: &mut O,
 ) -> Result<Completed, Refused>
     requires { O.has_failed out.old ≡ false }
-    // The answer over what the names hold is printed, or what ends a run over it is reported.
-    ensures ends { (texts : List (List ℕ)) → (table : Option (List ℕ))
-        → of_inputs (W.holds world.now) (W.standard world.now) run.now.files.items ≡ map Some texts
-        → IsTable (W.holds world.now) run.now.symbols table
-        → Ends run.now.job texts table (map W.Input.remaining inputs.new.items)
-        (map W.Input.has_ended inputs.new.items) (O.contents out.old) (O.contents out.new) result
-        ⊎ RunsOut result }
-    // The first name for which there is nothing is reported by its place.
-    ensures absent { (place : ℕ)
-        → IsFirstAbsent (of_each (W.holds world.now) run.now.files.items)
-        (of_each (W.is_absent world.now) run.now.files.items) place
-        → IsUnopened place (by_fault result) }
-    ensures untabled { (texts : List (List ℕ))
-        → of_inputs (W.holds world.now) (W.standard world.now) run.now.files.items ≡ map Some texts
-        → IsTableAbsent (W.is_absent world.now) run.now.symbols → IsUntabled (by_fault result) }
-    // The inputs were read as any run reads its sources.
-    ensures reading { AreInputs run.now.job.form.hex W.Input.has_failed
-        W.Input.has_ended W.Input.good_reads W.Input.remaining
-        (of_inputs (W.holds world.now) (W.standard world.now) run.now.files.items)
-        inputs.new.items (by_fault result) }
-    // A failed read is reported of a name that was refused, or of an input whose read failed.
-    ensures read { ReportsRead (W.holds world.now) (W.is_absent world.now)
-        (W.standard world.now) W.Input.has_failed W.Input.good_reads run.now.files.items
-        inputs.new.items (by_fault result) }
+    ensures answered { IsAnswered (known W.holds W.is_absent W.standard world.now)
+        (opened_files W.Input.remaining W.Input.has_ended W.Input.has_failed W.Input.good_reads
+        inputs.new.items) run.now (O.contents out.old) (O.contents out.new) (O.has_failed out.new)
+        result }
     ensures untouched { IfErr (by_fault result) (λ fault. fault ≢ RunFault.Write → out.new ≡ out.old) }
-    ensures failed { by_fault result ≡ Err RunFault.Write → O.has_failed out.new ≡ true }
-    ensures fine { OnOk result (O.has_failed out.new ≡ false) }
 {
     inputs.clear();
     *inputs = open_inputs(alloc, world, &run.files)?;
@@ -85,17 +63,14 @@ fn run_inputs<Rt: Threads + Sync, W: World, O: Sink>(
         ≡ of_inputs (W.holds world.now) (W.standard world.now) run.now.files.items }
     requires out { O.has_failed out.old ≡ false }
     ensures ends { (texts : List (List ℕ))
-        → of_inputs (W.holds world.now) (W.standard world.now) run.now.files.items ≡ map Some texts
+        → HaveTexts (known W.holds W.is_absent W.standard world.now) run.now.files.items texts
         → Ends run.now.job texts (option_copied symbols.entry)
         (map W.Input.remaining inputs.new.items) (map W.Input.has_ended inputs.new.items)
         (O.contents out.old) (O.contents out.new) result ⊎ RunsOut result }
-    ensures reading { AreInputs run.now.job.form.hex W.Input.has_failed
-        W.Input.has_ended W.Input.good_reads W.Input.remaining
-        (of_inputs (W.holds world.now) (W.standard world.now) run.now.files.items)
-        inputs.new.items (by_fault result) }
-    ensures read { ReportsRead (W.holds world.now) (W.is_absent world.now)
-        (W.standard world.now) W.Input.has_failed W.Input.good_reads run.now.files.items
-        inputs.new.items (by_fault result) }
+    ensures reads { ReadsInputs (known W.holds W.is_absent W.standard world.now)
+        run.now.job.setting.form.hex run.now.files.items
+        (opened_files W.Input.remaining W.Input.has_ended W.Input.has_failed W.Input.good_reads
+        inputs.new.items) (by_fault result) }
     ensures untouched { IfErr (by_fault result) (λ fault. fault ≢ RunFault.Write → out.new ≡ out.old) }
     ensures failed { by_fault result ≡ Err RunFault.Write → O.has_failed out.new ≡ true }
     ensures fine { OnOk result (O.has_failed out.new ≡ false) }
@@ -115,7 +90,7 @@ fn run_inputs<Rt: Threads + Sync, W: World, O: Sink>(
 /// once more.
 fn pickable<W: World>(world: &W, run: &Run) -> Option<Interest>
     ensures { IfSome result (λ interest.
-        asks_about run.now.job.form.hex run.now.job.question ≡ Some interest) }
+        asks_about run.now.job.setting.form.hex run.now.job.question ≡ Some interest) }
 {
     if can_be_read_again(world, &run.files) {
         interest(&run.job)

@@ -78,7 +78,7 @@ fn print<O: Sink, P: Person>(text: &str, console: &mut Console<O, P>) -> u8
     match write_whole(&mut console.out, text.as_bytes()) {
         Ok(()) => 0,
         Err(_) => {
-            console.person.misses();
+            console.person.loses_text();
             RunFault::Write.status()
         }
     }

@@ -1,6 +1,6 @@
 //! A dialogue in a world: the files are read once, and each line of standard input gets its reply.
 
-ghost use Rattle.std.specs.Prelude.{◌≡◌, ◌⊎◌, ℕ, All, Bool, Err, IfErr, IfOk, List, OnOk, Option, Some};
+ghost use Rattle.std.specs.Prelude.{◌≡◌, ℕ, All, Bool, Err, IfErr, IfOk, List, OnOk, Option, Some};
 ghost use Rattle.std.specs.Prelude.{false, map, option_copied, option_map};
 ghost use Rattle.htl_command.specs.declared.question.Setting.{Setting};
 ghost use Rattle.htl_dialogue.specs.Dialogues.{Converses, DialogueStops};
@@ -11,8 +11,8 @@ ghost use Rattle.htl_program.specs.Asking.{Begins, BeginsAndGets, IsBeginsBetwee
 ghost use Rattle.htl_program.specs.Asking.{Opening, ReportsDevices, Taken, answers_over};
 ghost use Rattle.htl_program.specs.Asking.{before_dialogue};
 ghost use Rattle.htl_program.specs.Endings.{IsUnopened, IsUntabled};
-ghost use Rattle.htl_program.specs.Opened.{known, ways};
-ghost use Rattle.htl_program.specs.Readings.{AreInputs, ReportsRead};
+ghost use Rattle.htl_program.specs.Opened.{known, opened_files, ways};
+ghost use Rattle.htl_program.specs.Outcomes.{IsConversed, talk};
 ghost use Rattle.htl_program.specs.Worlds.{IsFirstAbsent, IsFirstRefused, IsTable, IsTableAbsent};
 ghost use Rattle.htl_program.specs.Worlds.{of_each, of_inputs};
 
@@ -48,59 +48,12 @@ pub fn converse<Rt: Threads + Sync, W: World, Q: Source, O: Sink, H: Speaker>(
     requires questions { Q.has_failed questions.old ≡ false }
     requires open { Q.has_ended questions.old ≡ false }
     requires out { O.has_failed out.old ≡ false }
-    // Each line gets what a run of its own prints over what the names hold, or those before a fault do.
-    ensures replies { (texts : List (List ℕ)) → (table : Option (List ℕ)) → (lines : List ℕ)
-        → of_inputs (W.holds world.now) (W.standard world.now) of.now.files.items ≡ map Some texts
-        → IsTable (W.holds world.now) of.now.symbols table → Q.remaining questions.old ≡ Some lines
-        → IfOk result (λ conversed. (read : Taken) × (opening : Opening)
-        × Begins of.now.folds of.now.setting texts read opening
-        × Converses (answers_over (known W.holds W.is_absent W.standard world.now)
-        (ways W.Input.remaining W.Input.has_ended W.Input.has_failed W.Input.good_reads)
-        of.now.setting of.now.folds table) (H.wants_absence speaker.old) (Some read) lines
-        (BeginsAndGets (O.contents out.old) (O.contents out.new) H.told speaker.old speaker.new
-        opening) conversed) }
-    ensures stops { (texts : List (List ℕ)) → (table : Option (List ℕ)) → (lines : List ℕ)
-        → (stopped : DialogueFault)
-        → of_inputs (W.holds world.now) (W.standard world.now) of.now.files.items ≡ map Some texts
-        → IsTable (W.holds world.now) of.now.symbols table → Q.remaining questions.old ≡ Some lines
-        → result ≡ Err (AskFault.Dialogue stopped)
-        → (read : Taken) × (opening : Opening) × Begins of.now.folds of.now.setting texts read opening
-        × DialogueStops (answers_over (known W.holds W.is_absent W.standard world.now)
-        (ways W.Input.remaining W.Input.has_ended W.Input.has_failed W.Input.good_reads)
-        of.now.setting of.now.folds table) (H.wants_absence speaker.old) (Some read) lines
-        (Q.remaining questions.new) (Q.has_failed questions.new)
-        (BeginsAndGets (O.contents out.old) (O.contents out.new) H.told speaker.old speaker.new
-        opening) stopped }
-    ensures devices { ReportsDevices (Q.has_failed questions.new) (Q.remaining questions.old)
-        (O.has_failed out.new) result }
-    ensures cause { (texts : List (List ℕ)) → (table : Option (List ℕ))
-        → of_inputs (W.holds world.now) (W.standard world.now) of.now.files.items ≡ map Some texts
-        → IsTable (W.holds world.now) of.now.symbols table
-        → IfErr (by_fault (before_dialogue result)) (λ fault. IsBeginsCause of.now.folds
-        of.now.setting texts (map W.Input.remaining inputs.new.items)
-        (map W.Input.has_ended inputs.new.items) table fault ⊎ (fault ≡ RunFault.Memory)) }
-    // Where a fault is about two segments, they are named.
-    ensures between { (texts : List (List ℕ))
-        → of_inputs (W.holds world.now) (W.standard world.now) of.now.files.items ≡ map Some texts
-        → IfErr (before_dialogue result) (λ refused. IsBeginsBetween of.now.folds of.now.setting
-        texts refused.fault refused.between) }
-    // The first name for which there is nothing is reported by its place.
-    ensures absent { (place : ℕ) → IsFirstAbsent (of_each (W.holds world.now) of.now.files.items)
-        (of_each (W.is_absent world.now) of.now.files.items) place
-        → IsUnopened place (by_fault (before_dialogue result)) }
-    ensures untabled { (texts : List (List ℕ))
-        → of_inputs (W.holds world.now) (W.standard world.now) of.now.files.items ≡ map Some texts
-        → IsTableAbsent (W.is_absent world.now) of.now.symbols
-        → IsUntabled (by_fault (before_dialogue result)) }
-    // The inputs were read as any run reads its sources.
-    ensures reading { AreInputs of.now.setting.form.hex W.Input.has_failed
-        W.Input.has_ended W.Input.good_reads W.Input.remaining
-        (of_inputs (W.holds world.now) (W.standard world.now) of.now.files.items)
-        inputs.new.items (by_fault (before_dialogue result)) }
-    // A failed read is reported of a name that was refused, or of an input whose read failed.
-    ensures read { ReportsRead (W.holds world.now) (W.is_absent world.now)
-        (W.standard world.now) W.Input.has_failed W.Input.good_reads of.now.files.items
-        inputs.new.items (by_fault (before_dialogue result)) }
+    ensures conversed { IsConversed (known W.holds W.is_absent W.standard world.now)
+        (opened_files W.Input.remaining W.Input.has_ended W.Input.has_failed W.Input.good_reads
+        inputs.new.items) of.now
+        (talk (Q.remaining questions.old) (Q.remaining questions.new) (Q.has_failed questions.new)
+        (O.contents out.old) (O.contents out.new) (O.has_failed out.new) H.told
+        (H.wants_absence speaker.old) speaker.old speaker.new) result }
     ensures untouched { IfErr (before_dialogue result)
         (λ _. (questions.new ≡ questions.old) × (out.new ≡ out.old)
         × (speaker.new ≡ speaker.old)) }

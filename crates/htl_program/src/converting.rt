@@ -1,12 +1,11 @@
 //! The runs that print the segments of files as text and make segments of texts, in a world.
 
-ghost use Rattle.std.specs.Prelude.{◌≡◌, ◌≢◌, ℕ, All, IfErr, List, Some, false, map};
-ghost use Rattle.std.specs.Prelude.{true};
+ghost use Rattle.std.specs.Prelude.{◌≡◌, ◌≢◌, ℕ, All, IfErr, List, Some, false, map, true};
 ghost use Rattle.htl_main.specs.Dumps.{is_failed_write};
 ghost use Rattle.htl_main.specs.Readings.{AreRead};
-ghost use Rattle.htl_program.specs.Endings.{EndsDump, EndsEncoding, IsUnopened};
-ghost use Rattle.htl_program.specs.Readings.{AreInputs, ReportsRead};
-ghost use Rattle.htl_program.specs.Worlds.{IsFirstAbsent, of_each, of_inputs};
+ghost use Rattle.htl_program.specs.Endings.{EndsDump, EndsEncoding};
+ghost use Rattle.htl_program.specs.Opened.{known, opened_files};
+ghost use Rattle.htl_program.specs.Outcomes.{IsAbsentAt, IsDumped, IsEncoded};
 
 use crate::opening::open_inputs;
 use crate::world::World;
@@ -28,24 +27,12 @@ pub fn dump<W: World, O: Sink>(
     out: &mut O,
 ) -> Result<Option<CutInputs>, RunFault>
     requires { O.has_failed out.old ≡ false }
-    ensures ends { (texts : List (List ℕ))
-        → of_inputs (W.holds world.now) (W.standard world.now) files.now ≡ map Some texts
-        → EndsDump form texts (map W.Input.remaining inputs.new.items)
-        (map W.Input.has_ended inputs.new.items) (O.contents out.old) (O.contents out.new) result }
-    // The first name for which there is nothing is reported by its place.
-    ensures absent { (place : ℕ) → IsFirstAbsent (of_each (W.holds world.now) files.now)
-        (of_each (W.is_absent world.now) files.now) place
-        → IsUnopened place result × (out.new ≡ out.old) }
-    // The inputs were read as any run reads its sources.
-    ensures reading { AreInputs form.hex W.Input.has_failed W.Input.has_ended
-        W.Input.good_reads W.Input.remaining
-        (of_inputs (W.holds world.now) (W.standard world.now) files.now)
-        inputs.new.items result }
-    // A failed read is reported of a name that was refused, or of an input whose read failed.
-    ensures read { ReportsRead (W.holds world.now) (W.is_absent world.now)
-        (W.standard world.now) W.Input.has_failed W.Input.good_reads files.now
-        inputs.new.items result }
-    ensures failed { O.has_failed out.new ≡ is_failed_write result }
+    ensures dumped { IsDumped (known W.holds W.is_absent W.standard world.now)
+        (opened_files W.Input.remaining W.Input.has_ended W.Input.has_failed W.Input.good_reads
+        inputs.new.items) form files.now (O.contents out.old) (O.contents out.new)
+        (O.has_failed out.new) result }
+    ensures untouched { (place : ℕ) → IsAbsentAt (known W.holds W.is_absent W.standard world.now)
+        files.now place → out.new ≡ out.old }
 {
     inputs.clear();
     *inputs = open_inputs(alloc, world, files)?;
@@ -85,23 +72,10 @@ pub fn encode<W: World, O: Sink>(
     out: &mut O,
 ) -> Result<(), RunFault>
     requires { O.has_failed out.old ≡ false }
-    ensures ends { (texts : List (List ℕ))
-        → of_inputs (W.holds world.now) (W.standard world.now) files.now ≡ map Some texts
-        → EndsEncoding hex texts (map W.Input.remaining inputs.new.items)
-        (map W.Input.has_ended inputs.new.items) (O.contents out.old) (O.contents out.new) result }
-    // The first name for which there is nothing is reported by its place.
-    ensures absent { (place : ℕ) → IsFirstAbsent (of_each (W.holds world.now) files.now)
-        (of_each (W.is_absent world.now) files.now) place → IsUnopened place result }
-    // The inputs were read as any run reads its sources.
-    ensures reading { AreInputs true W.Input.has_failed W.Input.has_ended
-        W.Input.good_reads W.Input.remaining
-        (of_inputs (W.holds world.now) (W.standard world.now) files.now)
-        inputs.new.items result }
-    // A failed read is reported of a name that was refused, or of an input whose read failed.
-    ensures read { ReportsRead (W.holds world.now) (W.is_absent world.now)
-        (W.standard world.now) W.Input.has_failed W.Input.good_reads files.now
-        inputs.new.items result }
-    ensures failed { O.has_failed out.new ≡ is_failed_write result }
+    ensures encoded { IsEncoded (known W.holds W.is_absent W.standard world.now)
+        (opened_files W.Input.remaining W.Input.has_ended W.Input.has_failed W.Input.good_reads
+        inputs.new.items) hex files.now (O.contents out.old) (O.contents out.new)
+        (O.has_failed out.new) result }
     ensures untouched { IfErr result (λ fault. fault ≢ RunFault.Write → out.new ≡ out.old) }
 {
     inputs.clear();

@@ -41,7 +41,7 @@ pub trait Person {
         ensures { Hears (heard self.old) (heard self.new) (refusal refused.now) };
 
     /// A text that was asked for could not be written.
-    fn misses(&mut self)
+    fn loses_text(&mut self)
         ensures { Hears (heard self.old) (heard self.new) unwritten };
 
     /// A fault ended a run.

@@ -46,7 +46,7 @@ pub(crate) fn pick_opened<Rt: Threads + Sync, R: Parted, O: Sink>(
     requires fresh { All (λ input. R.has_failed input ≡ false) inputs.old.items }
     requires inside { All (λ input. R.has_ended input ≡ false) inputs.old.items }
     requires out { O.has_failed out.old ≡ false }
-    requires about { asks_about job.now.form.hex job.now.question ≡ Some interest }
+    requires about { asks_about job.now.setting.form.hex job.now.question ≡ Some interest }
     ensures ended { IfSome result (λ ended. IsRun job.now (option_copied symbols.entry) R.has_failed
         R.has_ended R.good_reads R.remaining O.contents O.has_failed inputs.old.items
         inputs.new.items out.old out.new ended) }

@@ -1,9 +1,10 @@
 //! What a question is about, as a person reads it.
 
-ghost use Rattle.std.specs.Prelude.{◌≡◌, ◌<◌};
-ghost use Rattle.htl_program.specs.AskedAbout.{shown_byte, subject_of_question};
+ghost use Rattle.std.specs.Prelude.{◌≡◌};
+ghost use Rattle.htl_program.specs.AskedAbout.{subject_of_question};
 
 use htl_command::Question;
+use htl_report::shown_byte;
 use std::fmt;
 
 /// What a question is about, where it isn't about all events.
@@ -46,7 +47,7 @@ impl fmt::Display for Subject {
 
     ghost output = { λ subject. Some (subject_text subject) };
 
-    #[tactic(auto, using(crate::proofs::Padding::padded_16))]
+    #[tactic(auto, using(htl_lemmas::proofs::Padding::padded_to))]
     fn fmt<W: fmt::Write>(&self, f: &mut fmt::Formatter<W>) -> fmt::Result {
         match *self {
             Subject::Process(process) => write!(f, "process {process}"),
@@ -70,26 +71,14 @@ struct ShownTag {
 
 impl fmt::Display for ShownTag {
     ghost use Rattle.std.specs.Prelude.{Some};
-    ghost use Rattle.htl_program.specs.AskedAbout.{shown_tag};
+    ghost use Rattle.htl_report.specs.Parts.{shown_tag};
 
     ghost output = { λ shown. Some (shown_tag shown.tag) };
 
     fn fmt<W: fmt::Write>(&self, f: &mut fmt::Formatter<W>) -> fmt::Result {
         let [first, second, third, fourth] = self.tag;
-        let (first, second) = (shown(first), shown(second));
-        let (third, fourth) = (shown(third), shown(fourth));
+        let (first, second) = (shown_byte(first), shown_byte(second));
+        let (third, fourth) = (shown_byte(third), shown_byte(fourth));
         write!(f, "{first}{second}{third}{fourth}")
-    }
-}
-
-/// The character by which a byte of a tag is shown.
-fn shown(byte: u8) -> char
-    ensures value { result ≡ shown_byte byte }
-    ensures ascii { result < 128 }
-{
-    if (0x20..=0x7e).contains(&byte) {
-        char::from(byte)
-    } else {
-        '.'
     }
 }

@@ -8,6 +8,7 @@ use Rattle.htl_segment.specs.Keepers.{Took, TookUpTo}
 use Rattle.htl_reading.specs.Sources.{IsLeft, IsReportedOfBundle, IsSourceRead}
 use Rattle.htl_reading.specs.declared.fault.SourceFault.{SourceFault}
 use Rattle.htl_reading.specs.declared.fault.SourceFault.TheVariants.{Segment, Read, NoMemory}
+use Rattle.htl_reading.specs.declared.outcome.Bundle.{Bundle}
 use Rattle.htl_reading.specs.declared.outcome.EarlyEnd.{EarlyEnd}
 
 -- it took the segments that these bytes begin with, and what is left behind them is told
@@ -43,6 +44,14 @@ pub record TakesSource {S K R : Type 0} (most : ℕ) (gathers : S → K → List
   pub ok : IfOk result (λ early_end. IfSome given (TookToEnd gathers start after early_end))
   pub err : IfErr result (λ fault. IfSome given (λ bytes. IsReportedOfBundle (remaining new) (has_ended new) bytes fault))
   pub kept : IfErr result (λ fault. IfSome given (λ bytes. TookBefore gathers start after (remaining new) bytes fault))
+  pub reading : IsSourceRead most has_failed has_ended good_reads remaining given old new result
+
+-- How the segments of such a source are gathered, by a call that gives back the keeper that takes them.
+pub record GathersSource {S K R : Type 0} (most : ℕ) (gathers : S → K → List Content → Type 0) (has_failed has_ended : R → Bool)
+    (good_reads : R → ℕ) (remaining : R → Option (List ℕ)) (given : Option (List ℕ)) (start : K) (old new : R)
+    (result : Result (Bundle K) SourceFault) : Type 0 where
+  pub ok : IfOk result (λ bundle. IfSome given (TookToEnd gathers start bundle.segments bundle.early_end))
+  pub err : IfErr result (λ fault. IfSome given (λ bytes. IsReportedOfBundle (remaining new) (has_ended new) bytes fault))
   pub reading : IsSourceRead most has_failed has_ended good_reads remaining given old new result
 
 -- What is done to a keeper between two reads leaves it what it took, unless memory is refused. It is given by what may come of a call.

@@ -1,5 +1,7 @@
 //! Where the parts of several workers end.
 
+ghost use Rattle.std.specs.Prelude.{◌≤◌, IfOk, length};
+
 use htl_device::{Parted, Reading, read_whole};
 use htl_segment::whole_len;
 use std::alloc::{AllocError, Global};
@@ -23,7 +25,10 @@ pub fn ends<R: Parted>(
     most: u64,
     len: u64,
     source: &R,
-) -> Result<Vec<u64>, AllocError> {
+) -> Result<Vec<u64>, AllocError>
+    // Each part is read by a thread of its own, so no more of these are started than workers.
+    ensures { IfOk result (λ ends. length ends.items ≤ workers) }
+{
     let parts = u64::from(workers).min(len / MIN_PART_LEN);
     let mut ends = Vec::new(alloc);
     if parts < 2 {

@@ -7,7 +7,7 @@ ghost use Rattle.htl_reading.specs.Keepers.{TookAll};
 ghost use Rattle.htl_reading.specs.Parts.{ArePartsOf, IsAnother, IsPartOf, Skips, TookInOrder};
 
 use crate::ends::ends;
-use crate::reading::read_source;
+use crate::reading::gather_on;
 use htl_device::{MAX_READS, Parted, Reading};
 use htl_event::NoMemory;
 use htl_segment::{JoiningKeeper, Keeper};
@@ -33,7 +33,7 @@ impl<R: Read + Drop, K: Keeper + Drop> SourcePart<R, K> {
             (TookAll K.gathers self.keeper new)) }
     {
         let mut source = Reading::new(self.bytes);
-        let bundle = read_source(alloc, MAX_READS, &mut source, self.keeper).ok()?;
+        let bundle = gather_on(alloc, MAX_READS, 0, &mut source, self.keeper).ok()?;
         if bundle.early_end.is_some() {
             return None;
         }

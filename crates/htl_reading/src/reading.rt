@@ -1,12 +1,11 @@
 //! A source, read to its end.
 
-ghost use Rattle.std.specs.Prelude.{◌≡◌, ◌*◌, ◌+◌, ◌<◌, ◌^◌, ◌++◌, ℕ, List, Option};
+ghost use Rattle.std.specs.Prelude.{◌≡◌, ◌*◌, ◌+◌, ◌<◌, ◌^◌, ℕ, List, Option};
 ghost use Rattle.std.specs.Prelude.{[], IfOk, IfErr, IfSome, false};
-ghost use Rattle.htl_segment.specs.Content.{Content};
 ghost use Rattle.htl_segment.specs.Bundles.{Splits};
 ghost use Rattle.htl_reading.specs.Keepers.{IsTakenTo};
 ghost use Rattle.htl_reading.specs.Sources.{IsLeft, IsReportedOfBundle, IsSourceRead};
-ghost use Rattle.htl_reading.specs.Taking.{LeavesTaken, TakesSource, TookToEnd};
+ghost use Rattle.htl_reading.specs.Taking.{GathersSource, LeavesTaken, TakesSource};
 
 use crate::block::Block;
 use crate::fault::SourceFault;
@@ -36,24 +35,11 @@ pub fn gather_bundle<T: Threads + Sync, R: Parted, K: JoiningKeeper + Drop + Sen
 ) -> Result<Bundle<K>, SourceFault>
     requires fresh { R.has_failed source.old ≡ false }
     requires inside { R.has_ended source.old ≡ false }
-    ensures ok { IfOk result (λ bundle. IfSome (R.remaining source.old) (λ bytes.
-        (more : List Content) × (rest : List ℕ) × Splits bytes more rest
-        × IsLeft more rest bundle.early_end × ((kind : K) (segments : List Content)
-        → K.gathers kind keeper segments → K.gathers kind bundle.segments (segments ++ more)))) }
-    ensures err { IfErr result (λ fault. IfSome (R.remaining source.old) (λ bytes.
-        IsReportedOfBundle (R.remaining source.new) (R.has_ended source.new) bytes fault)) }
-    ensures reading { IsSourceRead MAX_READS R.has_failed R.has_ended R.good_reads R.remaining
-        (R.remaining source.old) source.old source.new result }
+    ensures { GathersSource MAX_READS K.gathers R.has_failed R.has_ended R.good_reads R.remaining
+        (R.remaining source.old) keeper source.old source.new result }
 {
     let offset = take_parts(rt, alloc, workers, source, &mut keeper)?;
-    let nothing = |keeper: &mut K| -> Result<(), NoMemory>
-        ensures { keeper.new ≡ keeper.old }
-    { Ok(()) };
-    let early_end = take_reads(alloc, MAX_READS, offset, source, &mut keeper, &nothing)?;
-    Ok(Bundle {
-        segments: keeper,
-        early_end,
-    })
+    gather_on(alloc, MAX_READS, offset, source, keeper)
 }
 
 /// The segments of a source, as `gather_bundle` gathers them.
@@ -117,29 +103,28 @@ pub fn take_source<
     take_reads(alloc, MAX_READS, offset, source, keeper, between)
 }
 
-/// Reads a source to its end by one worker, with a keeper that is given back. At most `most` reads give
-/// bytes.
-pub(crate) fn read_source<R: Source, K: Keeper + Drop>(
+/// Gathers the segments of a source from an offset on by one worker, with a keeper that took those
+/// before and is given back. At most `most` reads give bytes.
+pub(crate) fn gather_on<R: Source, K: Keeper + Drop>(
     alloc: Global,
     most: u64,
+    offset: u64,
     source: &mut R,
     mut keeper: K,
 ) -> Result<Bundle<K>, SourceFault>
     requires fresh { R.has_failed source.old ≡ false }
     requires inside { R.has_ended source.old ≡ false }
     requires some { 0 < most }
-    requires few { (most + 1) * MAX_READ_LEN < 2 ^ 64 }
-    ensures ok { IfOk result (λ bundle. IfSome (R.remaining source.old)
-        (TookToEnd K.gathers keeper bundle.segments bundle.early_end)) }
-    ensures err { IfErr result (λ fault. IfSome (R.remaining source.old) (λ bytes.
-        IsReportedOfBundle (R.remaining source.new) (R.has_ended source.new) bytes fault)) }
-    ensures reading { IsSourceRead most R.has_failed R.has_ended R.good_reads R.remaining
-        (R.remaining source.old) source.old source.new result }
+    requires few { offset + (most + 1) * MAX_READ_LEN < 2 ^ 64 }
+    ensures { (start : K) (given : Option (List ℕ))
+        → IsTakenTo K.gathers start keeper given (R.remaining source.old) [] offset 0
+        → GathersSource most K.gathers R.has_failed R.has_ended R.good_reads R.remaining
+        given start source.old source.new result }
 {
     let nothing = |keeper: &mut K| -> Result<(), NoMemory>
         ensures { keeper.new ≡ keeper.old }
     { Ok(()) };
-    let early_end = take_reads(alloc, most, 0, source, &mut keeper, &nothing)?;
+    let early_end = take_reads(alloc, most, offset, source, &mut keeper, &nothing)?;
     Ok(Bundle {
         segments: keeper,
         early_end,

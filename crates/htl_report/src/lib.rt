@@ -27,6 +27,6 @@ mod tags;
 pub use address::write_address;
 pub use answer::{Answer, text};
 pub use flame_graph::folded;
-pub use parts::write_tag;
+pub use parts::{shown_byte, write_tag};
 pub use rows::first_rows;
 pub use summary::Totals;

@@ -120,12 +120,14 @@ pub fn write_tag(out: &mut String, tag: &[u8]) -> Result<(), AllocError>
         ≡ string_bytes out.old ++ shown_tag tag.now) }
 {
     for byte in tag {
-        out.push(shown(*byte))?;
+        out.push(shown_byte(*byte))?;
     }
     Ok(())
 }
 
-fn shown(byte: u8) -> char
+/// The character by which a byte of a tag is shown: printable ASCII is itself, and every other byte a
+/// dot.
+pub fn shown_byte(byte: u8) -> char
     ensures value { result ≡ shown_byte byte }
     ensures ascii { result < 128 }
 {

@@ -1,7 +1,7 @@
 //! Runs over bytes that lie in memory. The program makes those over its files.
 
 use allocation_trials::{Equal, Refusal, Same, Trials};
-use htl_command::{Format, InputForm, Job, Question};
+use htl_command::{Format, InputForm, Job, Question, Setting};
 use htl_device::Writing;
 use htl_main::run;
 use htl_samples::SMALL;
@@ -53,14 +53,16 @@ pub fn try_all<R: Threads + Sync>(rt: &R, trials: &mut Trials<'_, HostRuntime>) 
 fn job(question: Question, workers: u32) -> Job {
     Job {
         question,
-        form: InputForm {
-            hex: false,
-            partial: false,
+        setting: Setting {
+            form: InputForm {
+                hex: false,
+                partial: false,
+            },
+            workers,
+            complete: true,
         },
-        workers,
         until: None,
         top: None,
-        complete: true,
         exit_code: false,
         format: Format::Plain,
     }

@@ -115,7 +115,7 @@ fn bundle(rt: &impl Abort, alloc: Global, row: &Printed) -> Vec<u8> {
 /// A job over digits.
 fn over_digits() -> Job {
     let mut job = over_bytes(OUTSTANDING);
-    job.form.hex = true;
+    job.setting.form.hex = true;
     job
 }
 

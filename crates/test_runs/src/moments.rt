@@ -132,12 +132,12 @@ fn is_refused(
     until: Option<Moment>,
     line: Option<&str>,
 ) {
-    let job = Job {
+    let mut job = Job {
         until,
-        complete: true,
         exit_code: true,
         ..over_bytes(question)
     };
+    job.setting.complete = true;
     let (written, ended) = printed(rt, alloc, &job, &bundles(rt, alloc, &[GAP]), None);
     match line {
         Some(line) => has_line(rt, alloc, &fault_of(rt, &written, ended), line),

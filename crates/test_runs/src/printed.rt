@@ -3,7 +3,7 @@
 use crate::commands::bytes_of;
 use crate::comparison::assert_row;
 use crate::rows::{PRINTED, Printed, REFUSED, Refused, STORED, STORED_COMPLETED, STORED_TEXT};
-use htl_command::{Format, InputForm, Job, Question, Since};
+use htl_command::{Format, InputForm, Job, Question, Setting, Since};
 use htl_main::{Between, Completed, Origin, Refused as Refusal, RunFault, Writing, run};
 use htl_samples::TRACE;
 use std::alloc::Global;
@@ -25,14 +25,16 @@ pub const LEAKING: Question = Question::Leaks {
 pub fn over_bytes(question: Question) -> Job {
     Job {
         question,
-        form: InputForm {
-            hex: false,
-            partial: false,
+        setting: Setting {
+            form: InputForm {
+                hex: false,
+                partial: false,
+            },
+            workers: 1,
+            complete: false,
         },
-        workers: 1,
         until: None,
         top: None,
-        complete: false,
         exit_code: false,
         format: Format::Plain,
     }
@@ -101,10 +103,8 @@ pub fn has_line(rt: &impl Abort, alloc: Global, fault: &impl fmt::Display, line:
 
 /// A row's text is printed by so many workers.
 fn is_printed(rt: &(impl Threads + Sync + Abort), alloc: Global, row: &Printed, workers: u32) {
-    let job = Job {
-        workers,
-        ..over_bytes(row.question)
-    };
+    let mut job = over_bytes(row.question);
+    job.setting.workers = workers;
     let inputs = bundles(rt, alloc, row.inputs);
     let (written, ended) = printed(rt, alloc, &job, &inputs, row.symbols);
     let found = (written.as_slice(), ended.is_ok());
@@ -129,8 +129,8 @@ fn printed_of_digits(
     symbols: Option<&str>,
 ) -> (Vec<u8>, Result<Completed, Refusal>) {
     let mut job = over_bytes(OUTSTANDING);
-    job.form.hex = true;
-    job.workers = workers;
+    job.setting.form.hex = true;
+    job.setting.workers = workers;
     let inputs = texts(rt, alloc, inputs);
     printed(rt, alloc, &job, &inputs, symbols)
 }

@@ -83,7 +83,7 @@ fn fail_reads_of(
     (first, second): (&[u8], &[u8]),
 ) -> usize {
     let mut job = over_bytes(command.question);
-    job.form.hex = hex;
+    job.setting.form.hex = hex;
     let mut failed: usize = 0;
     for piece in [1, 7, 65_536] {
         let sources = Sources {

@@ -2,7 +2,7 @@
 
 use crate::comparison::assert_row;
 use crate::printed::{fault_of, has_line, over_bytes, printed};
-use htl_command::{Job, Question};
+use htl_command::Question;
 use htl_main::{Completed, Coverage, Refused};
 use htl_samples::Trace;
 use htl_segment::{Segment, encode};
@@ -147,10 +147,8 @@ fn prints_summaries(rt: HostRuntime) {
 
 /// A trace's summary is printed by so many workers.
 fn is_summarized(rt: &(impl Threads + Sync + Abort), alloc: Global, row: &Summary, workers: u32) {
-    let job = Job {
-        workers,
-        ..over_bytes(Question::Summary)
-    };
+    let mut job = over_bytes(Question::Summary);
+    job.setting.workers = workers;
     let (written, ended) = printed(rt, alloc, &job, &input(rt, alloc, row), None);
     assert!(rt; written.as_slice() == row.text.as_bytes());
     let completed = ended.expect(rt, "it is printed");
@@ -165,10 +163,8 @@ fn printed_if_complete(
     row: &Summary,
     symbols: Option<&str>,
 ) -> (Vec<u8>, Result<Completed, Refused>) {
-    let job = Job {
-        complete: true,
-        ..over_bytes(Question::Summary)
-    };
+    let mut job = over_bytes(Question::Summary);
+    job.setting.complete = true;
     printed(rt, alloc, &job, &input(rt, alloc, row), symbols)
 }
 

@@ -138,7 +138,7 @@ impl Person for Witness {
         self.hears(Said::Refusal);
     }
 
-    fn misses(&mut self) {
+    fn loses_text(&mut self) {
         self.hears(Said::Unwritten);
     }
 

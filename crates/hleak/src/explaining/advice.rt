@@ -13,7 +13,7 @@ pub fn memory_advice(task: Task) -> &'static str
     ensures { result.now ≡ memory_advice task.entry }
 {
     match task {
-        Task::Question(run) => question_advice(run.job.question, run.job.workers),
+        Task::Question(run) => question_advice(run.job.question, run.job.setting.workers),
         Task::Convert(_) => FREE_MEMORY,
         Task::Ask(of) => dialogue_advice(of.setting.workers),
         Task::Read(_) => dialogue_advice(1),
@@ -62,7 +62,7 @@ fn workers_of(task: Task) -> u32
     ensures { result ≡ workers_of task.entry }
 {
     match task {
-        Task::Question(run) => run.job.workers,
+        Task::Question(run) => run.job.setting.workers,
         Task::Convert(_) | Task::Read(_) => 1,
         Task::Ask(of) => of.setting.workers,
     }

@@ -40,7 +40,7 @@ impl fmt::Display for SegmentLabel {
 
     ghost output = { λ label. Some (label_text label) };
 
-    #[tactic(auto, using(htl_program::proofs::Padding::padded_16))]
+    #[tactic(auto, using(htl_lemmas::proofs::Padding::padded_to))]
     fn fmt<W: fmt::Write>(&self, f: &mut fmt::Formatter<W>) -> fmt::Result {
         match *self {
             SegmentLabel::Trace(id) => write!(f, "trace 0x{id:016x}"),

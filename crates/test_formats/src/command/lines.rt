@@ -684,11 +684,13 @@ fn lines_ask_questions(rt: HostRuntime) {
 fn plain_job(question: Question) -> Job {
     Job {
         question,
-        form: BYTES,
-        workers: 1,
+        setting: Setting {
+            form: BYTES,
+            workers: 1,
+            complete: false,
+        },
         until: None,
         top: None,
-        complete: false,
         exit_code: false,
         format: Format::Plain,
     }
@@ -699,7 +701,11 @@ fn lines_have_options(rt: HostRuntime) {
     for (line, form, workers, files, symbols) in OPTIONS {
         let run = run(&rt, rt.alloc(), line);
         has_files(&rt, line, &run.files, files);
-        let found = (run.job.form, run.job.workers, run.symbols.as_deref());
+        let found = (
+            run.job.setting.form,
+            run.job.setting.workers,
+            run.symbols.as_deref(),
+        );
         assert_row(&rt, *line, found, (*form, *workers, *symbols));
     }
 }
@@ -735,7 +741,7 @@ fn lines_check(rt: HostRuntime) {
         assert_row(
             &rt,
             *line,
-            (job.complete, job.exit_code),
+            (job.setting.complete, job.exit_code),
             (*complete, *exit_code),
         );
     }
@@ -884,7 +890,7 @@ fn is_no_question(rt: &impl Abort, alloc: Global, row: &str) {
 #[test]
 fn no_words_ask_for_the_stored_job(rt: HostRuntime) {
     let written = run(&rt, rt.alloc(), "outstanding|--process|4|--hex");
-    assert!(rt; written.job.workers == 1 && written.files.is_empty());
+    assert!(rt; written.job.setting.workers == 1 && written.files.is_empty());
     let stored = parse(rt.alloc(), Vec::new(rt.alloc())).expect(&rt, "a command");
     let wanted = CommandLine {
         command: Command::Question(written),

@@ -39,7 +39,7 @@ returns-in_err-whole-clause-err g c =
       added_cause setting texts earlier lefts ends job c.in_ok-decoded.decoded.segments.items c.args.loaded.now.case.segments
           c.in_err-whole.field-0.0.fault c.in_ok-check_workers.ensures.ok decodes decoded c.in_err-whole.ensures.before.some
           (length-map new g.R.Source.remaining ∙ sym long) (length-map new g.R.Source.has_ended ∙ sym long) as_of c.in_err-whole.ensures.err,
-      c.in_err-whole.ensures.between setting.form texts earlier long decodes (c.in_ok-decoded.ensures.parts texts all) decoded,
+      c.in_err-whole.ensures.between setting.form texts earlier long decodes (c.in_ok-decoded.ensures.spans texts all) decoded,
     ))
 
 pub returns-in_err-whole-clause-reading : goal.returns-in_err-whole-clause-reading

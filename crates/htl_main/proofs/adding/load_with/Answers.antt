@@ -47,7 +47,7 @@ pub returns-in_err-loaded-clause-between : goal.returns-in_err-loaded-clause-bet
 returns-in_err-loaded-clause-between c =
     let p = err_from_is_err_and c.from_residual-in_err-loaded.result c.from_residual-in_err-loaded.ensures.1 in
     let segments = c.add_segments.new.self.segments.items in
-    let job = record some_job { complete = c.args.complete; until = None } in
+    let job = record some_job { setting = record (some_job.setting) { complete = c.args.complete }; until = None } in
     rw (p.1, p.2.0, p.2.1) (λ form inputs earlier long decoded are before. none_after form (inputs ++ earlier ∷ []) segments
     c.in_ok-case.case None job c.in_err-loaded.field-0.0 c.in_ok-case.ensures.ok
     (c.in_err-loaded.ensures.err segments job c.in_ok-case.ensures.ok refl refl))

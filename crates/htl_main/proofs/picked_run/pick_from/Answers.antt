@@ -49,7 +49,7 @@ pub returns-clause-whole : goal.returns-clause-whole
 returns-clause-whole g c = λ texts all.
     let job = c.args.job.now in
     let run = picked_run job texts c.args.interest c.in_ok-all.all.picks c.requires.about (c.in_ok-all.ensures.ok texts all) in
-    if_whole {P = NeedsWhole run.segments} {Q = AskForWhole job.form texts} c.print_picks.result (λ needs. (run.segments, run.decoded, needs))
+    if_whole {P = NeedsWhole run.segments} {Q = AskForWhole job.setting.form texts} c.print_picks.result (λ needs. (run.segments, run.decoded, needs))
     (c.print_picks.ensures.whole run.segments run.picked)
 
 pub returns-clause-cause : goal.returns-clause-cause
@@ -72,4 +72,4 @@ returns-clause-write g c = λ texts all told.
 
 pub pick_all-requires-clause-bytes : goal.pick_all-requires-clause-bytes
 pick_all-requires-clause-bytes g c κs within =
-    bytes_of c.args.job.now.form.hex c.args.job.now.question c.args.interest c.requires.about
+    bytes_of c.args.job.now.setting.form.hex c.args.job.now.question c.args.interest c.requires.about

@@ -5,7 +5,7 @@ use Rattle.htl_device.specs.Devices.{AppendsPrefix}
 use Rattle.std.specs.Option.{option_copied}
 use Rattle.std.proofs.lemmas.Result.{err_from_is_err_and}
 use Rattle.htl_main.proofs.AfterDecoding.{cause_of, not_write}
-use Rattle.htl_main.proofs.AfterLoading.{ends, loaded_of, prints, runs_coverage, runs_finding, runs_subject, setting_of}
+use Rattle.htl_main.proofs.AfterLoading.{ends, loaded_of, prints, runs_coverage, runs_finding, runs_subject}
 use Rattle.htl_main.proofs.CaseRefused.{none_after}
 use Rattle.htl_main.proofs.printing.run.Goals as goal
 
@@ -43,7 +43,7 @@ pub returns-in_err-loaded-clause-between : goal.returns-in_err-loaded-clause-bet
 returns-in_err-loaded-clause-between g c =
     let p = err_from_is_err_and c.from_residual-in_err-loaded.result c.from_residual-in_err-loaded.ensures.1 in
     let segments = c.in_ok-decoded.decoded.segments.items in
-    rw (p.1, p.2.0, p.2.1) (none_after c.args.job.now.form (map (λ (input : Vec ℕ Global). input.items) c.args.inputs.now) segments
+    rw (p.1, p.2.0, p.2.1) (none_after c.args.job.now.setting.form (map (λ (input : Vec ℕ Global). input.items) c.args.inputs.now) segments
     c.in_ok-case.case (option_copied c.args.symbols) c.args.job.now c.in_err-loaded.field-0.0 c.in_ok-case.ensures.ok
     (c.in_err-loaded.ensures.err segments c.args.job.now c.in_ok-case.ensures.ok refl refl))
 
@@ -58,8 +58,8 @@ returns-in_err-completed-clause-cause g c =
     c.in_ok-check_workers.ensures.ok c.in_ok-decoded.ensures.ok
     (c.in_ok-loaded.ensures.ok c.in_ok-decoded.decoded.segments.items c.in_ok-case.ensures.ok) in
     let fault = c.in_err-completed.field-0.0 in
-    rw (p.1, p.2.0) (ends (setting_of job) inputs symbols loaded.case loaded.symbols job all fault c.in_err-completed.ensures.err
-    (λ is. let over = prints (setting_of job) inputs symbols loaded.case loaded.symbols job all
+    rw (p.1, p.2.0) (ends job.setting inputs symbols loaded.case loaded.symbols job all fault c.in_err-completed.ensures.err
+    (λ is. let over = prints job.setting inputs symbols loaded.case loaded.symbols job all
     (AppendsPrefix (g.W.Sink.contents c.args.out.now) (g.W.Sink.contents c.print_answer.new.out))
     (c.in_err-completed.ensures.write (ap (λ f. Err f) is)).0 in (over.0, over.1)))
 
@@ -75,7 +75,7 @@ returns-in_err-completed-clause-write g c =
     (c.in_ok-loaded.ensures.ok c.in_ok-decoded.decoded.segments.items c.in_ok-case.ensures.ok) in
     rw (p.1, p.2.0) (λ told.
     let written = c.in_err-completed.ensures.write (cc told) in (
-      prints (setting_of job) inputs symbols loaded.case loaded.symbols job all
+      prints job.setting inputs symbols loaded.case loaded.symbols job all
           (AppendsPrefix (g.W.Sink.contents c.args.out.now) (g.W.Sink.contents c.print_answer.new.out)) written.0,
       written.1,
     ))
@@ -89,7 +89,7 @@ returns-clause-ok g c =
     let all = loaded_of job inputs symbols c.in_ok-decoded.decoded.segments.items loaded.case loaded.symbols
     c.in_ok-check_workers.ensures.ok c.in_ok-decoded.ensures.ok
     (c.in_ok-loaded.ensures.ok c.in_ok-decoded.decoded.segments.items c.in_ok-case.ensures.ok) in
-    prints (setting_of job) inputs symbols loaded.case loaded.symbols job all
+    prints job.setting inputs symbols loaded.case loaded.symbols job all
     (Appends (g.W.Sink.contents c.args.out.now) (g.W.Sink.contents c.print_answer.new.out)) c.in_ok-completed.ensures.ok
 
 pub returns-clause-coverage : goal.returns-clause-coverage
@@ -101,7 +101,7 @@ returns-clause-coverage g c =
     let all = loaded_of job inputs symbols c.in_ok-decoded.decoded.segments.items loaded.case loaded.symbols
     c.in_ok-check_workers.ensures.ok c.in_ok-decoded.ensures.ok
     (c.in_ok-loaded.ensures.ok c.in_ok-decoded.decoded.segments.items c.in_ok-case.ensures.ok) in
-    rw (c.in_ok-completed.ensures.coverage) (runs_coverage (setting_of job) inputs symbols loaded.case loaded.symbols job all
+    rw (c.in_ok-completed.ensures.coverage) (runs_coverage job.setting inputs symbols loaded.case loaded.symbols job all
     loaded.coverage c.in_ok-loaded.ensures.coverage)
 
 pub returns-clause-subject : goal.returns-clause-subject
@@ -113,7 +113,7 @@ returns-clause-subject g c =
     let all = loaded_of job inputs symbols c.in_ok-decoded.decoded.segments.items loaded.case loaded.symbols
     c.in_ok-check_workers.ensures.ok c.in_ok-decoded.ensures.ok
     (c.in_ok-loaded.ensures.ok c.in_ok-decoded.decoded.segments.items c.in_ok-case.ensures.ok) in
-    runs_subject (setting_of job) inputs symbols loaded.case loaded.symbols job all c.in_ok-completed.completed.has_subject
+    runs_subject job.setting inputs symbols loaded.case loaded.symbols job all c.in_ok-completed.completed.has_subject
     c.in_ok-completed.ensures.subject
 
 pub returns-clause-finding : goal.returns-clause-finding
@@ -125,5 +125,5 @@ returns-clause-finding g c =
     let all = loaded_of job inputs symbols c.in_ok-decoded.decoded.segments.items loaded.case loaded.symbols
     c.in_ok-check_workers.ensures.ok c.in_ok-decoded.ensures.ok
     (c.in_ok-loaded.ensures.ok c.in_ok-decoded.decoded.segments.items c.in_ok-case.ensures.ok) in
-    runs_finding (setting_of job) inputs symbols loaded.case loaded.symbols job all c.in_ok-completed.completed.has_finding
+    runs_finding job.setting inputs symbols loaded.case loaded.symbols job all c.in_ok-completed.completed.has_finding
     c.in_ok-completed.ensures.finding

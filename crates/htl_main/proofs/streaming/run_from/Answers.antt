@@ -4,7 +4,7 @@ use Rattle.std.specs.Io.KnownBytes.{Appends}
 use Rattle.htl_device.specs.Devices.{AppendsPrefix}
 use Rattle.std.proofs.lemmas.Result.{err_from_is_err_and}
 use Rattle.std.specs.Option.{option_copied}
-use Rattle.htl_main.proofs.AfterLoading.{over_no_input, over_no_read, prints, runs_coverage, runs_finding, runs_subject, setting_of}
+use Rattle.htl_main.proofs.AfterLoading.{over_no_input, over_no_read, prints, runs_coverage, runs_finding, runs_subject}
 use Rattle.htl_main.proofs.AfterLoading.{sources_end}
 use Rattle.htl_main.proofs.ReadingLaws.{ends_too, ill, read_then, well}
 use Rattle.htl_main.proofs.streaming.run_from.Goals as goal
@@ -27,7 +27,7 @@ returns-in_err-loaded-clause-failed g c =
 pub returns-in_err-loaded-clause-reading : goal.returns-in_err-loaded-clause-reading
 returns-in_err-loaded-clause-reading g c =
     let p = err_from_is_err_and c.from_residual.result c.from_residual.ensures.1 in
-    rw (p.1, p.2) (ends_too c.args.job.now.form.hex
+    rw (p.1, p.2) (ends_too c.args.job.now.setting.form.hex
     g.R.Source.has_failed g.R.Source.has_ended g.R.Source.good_reads g.R.Source.remaining c.args.inputs.now c.load.new.inputs c.in_err-loaded.field-0.0.fault
     c.in_err-loaded.ensures.reading)
 
@@ -37,10 +37,10 @@ returns-in_err-completed-clause-cause g c =
     let job = c.args.job.now in
     let symbols = option_copied c.args.symbols in
     let loaded = c.in_ok-loaded.loaded in
-    λ texts all. rw (p.1, p.2.0) (sources_end (setting_of job) texts symbols loaded.case loaded.symbols job
+    λ texts all. rw (p.1, p.2.0) (sources_end job.setting texts symbols loaded.case loaded.symbols job
     (c.in_ok-loaded.ensures.ok texts all) (map g.R.Source.remaining c.load.new.inputs) (map g.R.Source.has_ended c.load.new.inputs)
     c.in_err-completed.field-0.0 c.in_err-completed.ensures.err
-    (λ is. let over = prints (setting_of job) texts symbols loaded.case loaded.symbols job (c.in_ok-loaded.ensures.ok texts all)
+    (λ is. let over = prints job.setting texts symbols loaded.case loaded.symbols job (c.in_ok-loaded.ensures.ok texts all)
     (AppendsPrefix (g.W.Sink.contents c.args.out.now) (g.W.Sink.contents c.print_answer.new.out))
     (c.in_err-completed.ensures.write (ap (λ f. Err f) is)).0 in (over.0, over.1)))
 
@@ -50,7 +50,7 @@ returns-in_err-completed-clause-write g c =
     let job = c.args.job.now in
     let symbols = option_copied c.args.symbols in
     let loaded = c.in_ok-loaded.loaded in
-    rw (p.1, p.2.0) (λ texts all told. prints (setting_of job) texts symbols loaded.case loaded.symbols job
+    rw (p.1, p.2.0) (λ texts all told. prints job.setting texts symbols loaded.case loaded.symbols job
     (c.in_ok-loaded.ensures.ok texts all)
     (AppendsPrefix (g.W.Sink.contents c.args.out.now) (g.W.Sink.contents c.print_answer.new.out))
     (c.in_err-completed.ensures.write (cc told)).0)
@@ -65,7 +65,7 @@ returns-in_err-completed-clause-reading g c =
     let p = err_from_is_err_and c.from_residual-in_err-completed.result c.from_residual-in_err-completed.ensures.1 in
     let loaded = c.in_ok-loaded.loaded in
     let fault = c.in_err-completed.field-0.0 in
-    rw (p.1, p.2.0) (read_then c.args.job.now.form.hex
+    rw (p.1, p.2.0) (read_then c.args.job.now.setting.form.hex
     g.R.Source.has_failed g.R.Source.has_ended g.R.Source.good_reads g.R.Source.remaining c.args.inputs.now c.load.new.inputs loaded
     (ill fault) c.in_ok-loaded.ensures.reading
     (λ at told. over_no_read loaded.case c.args.job.now fault at c.in_err-completed.ensures.err (cc told))
@@ -76,7 +76,7 @@ returns-clause-ok g c =
     let job = c.args.job.now in
     let symbols = option_copied c.args.symbols in
     let loaded = c.in_ok-loaded.loaded in
-    λ texts all. prints (setting_of job) texts symbols loaded.case loaded.symbols job (c.in_ok-loaded.ensures.ok texts all)
+    λ texts all. prints job.setting texts symbols loaded.case loaded.symbols job (c.in_ok-loaded.ensures.ok texts all)
     (Appends (g.W.Sink.contents c.args.out.now) (g.W.Sink.contents c.print_answer.new.out)) c.in_ok-completed.ensures.ok
 
 pub returns-clause-coverage : goal.returns-clause-coverage
@@ -84,7 +84,7 @@ returns-clause-coverage g c =
     let job = c.args.job.now in
     let symbols = option_copied c.args.symbols in
     let loaded = c.in_ok-loaded.loaded in
-    λ texts all. rw (c.in_ok-completed.ensures.coverage) (runs_coverage (setting_of job) texts symbols loaded.case loaded.symbols job
+    λ texts all. rw (c.in_ok-completed.ensures.coverage) (runs_coverage job.setting texts symbols loaded.case loaded.symbols job
     (c.in_ok-loaded.ensures.ok texts all) loaded.coverage c.in_ok-loaded.ensures.coverage)
 
 pub returns-clause-subject : goal.returns-clause-subject
@@ -92,7 +92,7 @@ returns-clause-subject g c =
     let job = c.args.job.now in
     let symbols = option_copied c.args.symbols in
     let loaded = c.in_ok-loaded.loaded in
-    λ texts all. runs_subject (setting_of job) texts symbols loaded.case loaded.symbols job (c.in_ok-loaded.ensures.ok texts all)
+    λ texts all. runs_subject job.setting texts symbols loaded.case loaded.symbols job (c.in_ok-loaded.ensures.ok texts all)
     c.in_ok-completed.completed.has_subject c.in_ok-completed.ensures.subject
 
 pub returns-clause-finding : goal.returns-clause-finding
@@ -100,12 +100,12 @@ returns-clause-finding g c =
     let job = c.args.job.now in
     let symbols = option_copied c.args.symbols in
     let loaded = c.in_ok-loaded.loaded in
-    λ texts all. runs_finding (setting_of job) texts symbols loaded.case loaded.symbols job (c.in_ok-loaded.ensures.ok texts all)
+    λ texts all. runs_finding job.setting texts symbols loaded.case loaded.symbols job (c.in_ok-loaded.ensures.ok texts all)
     c.in_ok-completed.completed.has_finding c.in_ok-completed.ensures.finding
 
 pub returns-clause-reading : goal.returns-clause-reading
 returns-clause-reading g c =
-    read_then c.args.job.now.form.hex g.R.Source.has_failed g.R.Source.has_ended g.R.Source.good_reads g.R.Source.remaining
+    read_then c.args.job.now.setting.form.hex g.R.Source.has_failed g.R.Source.has_ended g.R.Source.good_reads g.R.Source.remaining
     c.args.inputs.now c.load.new.inputs c.in_ok-loaded.loaded (well c.in_ok-completed.completed) c.in_ok-loaded.ensures.reading
     (λ at told. cc told) tt
 

@@ -1,5 +1,5 @@
 -- A dialogue's end is said, and what its speaker heard is what the dialogue told.
-use Rattle.std.proofs.Common.{◌∙◌, rules}
+use Rattle.std.proofs.Common.{rules}
 use Rattle.htl_program.proofs.Told.{run_told}
 use Rattle.htl_program.proofs.commands.do_converse.Goals as goal
 
@@ -9,17 +9,7 @@ returns g c = record {
   listening = c.converse-ended.new.speaker;
   questions = c.converse-ended.new.questions;
   asked = search rules;
-  replies = λ texts table lines all has known.
-      c.converse-ended.ensures.replies texts table lines all has (c.questions-questions.ensures.bytes ∙ known);
-  stops = λ texts table lines stopped all has known is.
-      c.converse-ended.ensures.stops texts table lines stopped all has (c.questions-questions.ensures.bytes ∙ known) is;
-  devices = rw c.questions-questions.ensures.bytes at c.converse-ended.ensures.devices;
-  cause = search rules;
-  between = search rules;
-  absent = search rules;
-  untabled = search rules;
-  reading = search rules;
-  read = search rules;
+  is = rw c.questions-questions.ensures.bytes at c.converse-ended.ensures.conversed;
   untouched = search rules;
   after = search rules;
   status_is = search rules;

@@ -1,19 +1,12 @@
 -- What is said of a dump is how it ended.
-use Rattle.std.proofs.Common.{ap}
+use Rattle.std.proofs.Common.{rules}
 use Rattle.htl_program.proofs.Told.{run_told}
 use Rattle.htl_program.proofs.commands.do_dump.Goals as goal
 
 pub returns : goal.returns
 returns g c = record {
   ended = c.dump-ended.result;
-  ends = c.dump-ended.ensures.ends;
-  absent = λ place absent. (
-    (c.dump-ended.ensures.absent place absent).0,
-    ap g.O.Sink.contents (c.dump-ended.ensures.absent place absent).1,
-  );
-  reading = c.dump-ended.ensures.reading;
-  read = c.dump-ended.ensures.read;
-  failed = c.dump-ended.ensures.failed;
+  is = search rules;
   status_is = c.status_of_conversion.ensures;
   after_run = g.P.Person.heard c.ends.new.self;
   hears_run = run_told _ _ _ c.args.line.now.command c.begins.ensures c.ends.ensures;

@@ -6,12 +6,7 @@ use Rattle.htl_program.proofs.commands.encode_into.Goals as goal
 pub returns : goal.returns
 returns g c = record {
   ended = c.encode-ended.result;
-  ends = c.encode-ended.ensures.ends;
-  absent = c.encode-ended.ensures.absent;
-  reading = c.encode-ended.ensures.reading;
-  read = c.encode-ended.ensures.read;
-  failed = c.encode-ended.ensures.failed;
-  untouched = search rules;
+  is = search rules;
   status_is = c.status_of_conversion.ensures;
   after_run = g.P.Person.heard c.ends.new.self;
   hears_run = run_told _ _ _ c.args.line.now.command c.begins.ensures c.ends.ensures;

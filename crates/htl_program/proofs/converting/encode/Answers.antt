@@ -4,22 +4,28 @@ use Rattle.htl_program.specs.Worlds.{of_each}
 use Rattle.htl_program.proofs.FirstAbsent.{first_or_memory, none_absent, only_memory}
 use Rattle.htl_program.proofs.converting.encode.Goals as goal
 
-pub returns-in_err-inputs-clause-ends : goal.returns-in_err-inputs-clause-ends
-returns-in_err-inputs-clause-ends g c =
+pub returns-in_err-inputs-clause-encoded : goal.returns-in_err-inputs-clause-encoded
+returns-in_err-inputs-clause-encoded g c =
     let is : c.from_residual.result ≡ Err c.in_err-inputs.field-0.0 = search rules in
-    λ texts all. rw (is ∙ ap Err (
-    only_memory (g.W.World.holds c.args.world.now) (g.W.World.standard c.args.world.now) c.args.files.now texts
-    (of_each (g.W.World.is_absent c.args.world.now) c.args.files.now) c.in_err-inputs.field-0.0 all c.in_err-inputs.ensures.refused)) (inr refl)
+    record {
+      ends = λ texts all. rw (is ∙ ap Err (
+          only_memory (g.W.World.holds c.args.world.now) (g.W.World.standard c.args.world.now) c.args.files.now texts
+          (of_each (g.W.World.is_absent c.args.world.now) c.args.files.now) c.in_err-inputs.field-0.0 all c.in_err-inputs.ensures.refused)) (inr refl);
+      absent = λ place absent.
+          first_or_memory c.from_residual.result (of_each (g.W.World.holds c.args.world.now) c.args.files.now)
+          (of_each (g.W.World.is_absent c.args.world.now) c.args.files.now) c.in_err-inputs.field-0.0 place is
+          c.in_err-inputs.ensures.refused absent;
+      reads = search rules;
+      failed = search rules;
+      untouched = search rules;
+    }
 
-pub returns-in_err-inputs-clause-absent : goal.returns-in_err-inputs-clause-absent
-returns-in_err-inputs-clause-absent g c =
-    let is : c.from_residual.result ≡ Err c.in_err-inputs.field-0.0 = search rules in
-    λ place absent.
-    first_or_memory c.from_residual.result (of_each (g.W.World.holds c.args.world.now) c.args.files.now)
-    (of_each (g.W.World.is_absent c.args.world.now) c.args.files.now) c.in_err-inputs.field-0.0 place is
-    c.in_err-inputs.ensures.refused absent
-
-pub returns-clause-absent : goal.returns-clause-absent
-returns-clause-absent g c =
-    λ place absent. absurd (none_absent (of_each (g.W.World.holds c.args.world.now) c.args.files.now)
-    (of_each (g.W.World.is_absent c.args.world.now) c.args.files.now) place c.in_ok-inputs.ensures.there absent)
+pub returns-clause-encoded : goal.returns-clause-encoded
+returns-clause-encoded g c = record {
+  ends = search rules;
+  absent = λ place absent. absurd (none_absent (of_each (g.W.World.holds c.args.world.now) c.args.files.now)
+      (of_each (g.W.World.is_absent c.args.world.now) c.args.files.now) place c.in_ok-inputs.ensures.there absent);
+  reads = search rules;
+  failed = search rules;
+  untouched = search rules;
+}

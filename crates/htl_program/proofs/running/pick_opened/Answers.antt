@@ -8,11 +8,11 @@ pub returns-in-Some-clause-ended : goal.returns-in-Some-clause-ended
 returns-in-Some-clause-ended g c =
     let kept : length c.pick_from.new.inputs ≡ c.args.inputs.now.len = search rules in
     let back = take_front c.pick_from.new.inputs (drop (length c.pick_from.new.inputs) c.args.inputs.now.items) c.args.inputs.now.len kept in
-    let same : c.in-Some.refused.fault ≡ c.in-Err.fault = (c.in-Some.ensures.some c.args.job.now.form []).0 in
+    let same : c.in-Some.refused.fault ≡ c.in-Err.fault = (c.in-Some.ensures.some c.args.job.now.setting.form []).0 in
     rw (back, ← c.deref_mut.ensures.value) record {
       ends = λ texts all. record {
         cause = rw (same) (c.in-Err.ensures.cause texts all);
-        between = rw (same) (c.in-Some.ensures.some c.args.job.now.form texts).1;
+        between = rw (same) (c.in-Some.ensures.some c.args.job.now.setting.form texts).1;
         written = λ is. c.in-Err.ensures.write texts all (ap Err (sym same ∙ is));
       };
       reading = rw (same, picks_bytes _ _ _ c.requires.about) (as_refused false _ _ _ _ _ _ _ c.in-Err.ensures.reading);

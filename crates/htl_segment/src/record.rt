@@ -151,16 +151,17 @@ pub fn check_record(version: Version, place: u64, last: u64, bytes: &[u8]) -> Re
     Ok(())
 }
 
-/// Whether handle, object and tag are those that an event of this kind may have.
+/// Whether handle, object and tag are those that an event of this kind may have. Kinds come in no
+/// order that a processor could foresee, so no branch depends on them.
 pub fn fields_fit(kind: Kind, handle: u32, object: u64, tag: [u8; 4]) -> bool
     ensures { result ≡ fields_fit kind handle object tag }
 {
-    match kind {
-        Kind::Opened | Kind::Closed => base(handle) != 0 && object == 0 && tag == [0; 4],
-        Kind::BadRef => object == 0 && tag == [0; 4],
-        Kind::Snapshot | Kind::Exited => handle == 0 && object == 0 && tag == [0; 4],
-        Kind::Ref | Kind::Deref => handle == 0 && object != 0,
-    }
+    let opens_or_closes = kind.opens_or_closes();
+    let names_object = matches!(kind, Kind::Ref | Kind::Deref);
+    let handle_fits = (kind == Kind::BadRef)
+        | (opens_or_closes & (base(handle) != 0))
+        | (!opens_or_closes & (handle == 0));
+    handle_fits & ((object != 0) == names_object) & (names_object | (tag == [0; 4]))
 }
 
 /// Fills an empty stack with these addresses, eight bytes each.

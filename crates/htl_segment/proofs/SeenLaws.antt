@@ -1,18 +1,18 @@
 -- A number that has a mark comes twice, and so does one of those apart that has a mark or stands there twice.
-use Rattle.std.proofs.Common.{◌≡◌, ℕ, ◌+◌, ◌<◌, ◌≤◌, Bool, true, false, cond, List, [], ◌∷◌, ◌++◌, ◌==◌}
-use Rattle.std.proofs.Common.{append_assoc, refl, sym, ap, ◌∙◌, arith, inl, inr, IsPermutation, Option, None, Some}
+use Rattle.std.proofs.Common.{◌≡◌, ℕ, ◌+◌, ◌<◌, ◌≤◌, Bool, true, false, cond, List, [], ◌∷◌, ◌++◌, ◌==◌, ◌&&◌, ◌||◌, set}
+use Rattle.std.proofs.Common.{refl, sym, ap, ◌∙◌, arith, inl, inr, IsPermutation, Option, None, Some}
 use Rattle.std.specs.Prelude.{Contains, MatchOption, is_some}
 use Rattle.htl_event.proofs.Members.{Contains-here, Contains-there, Contains-cases, Contains-nil}
 use Rattle.std.specs.List.{list_any}
 use Rattle.std.proofs.Common.{length}
-use Rattle.std.proofs.lemmas.Bool.{cases_eq, cases_lt, cases_Bool, or_cases, or_left, or_right}
-use Rattle.std.proofs.lemmas.List.{append-nil, get_or_past}
+use Rattle.std.proofs.lemmas.Bool.{and_parts, cases_eq, cases_lt, cases_Bool, or_cases, or_left, or_parts, or_right}
+use Rattle.std.proofs.lemmas.List.{get_or-set_other, get_or-set_same, get_or_past, length-set}
 use Rattle.htl_event.specs.Members.{IsLeastSuch}
 use Rattle.htl_event.proofs.Counts.{count_by-append}
 use Rattle.htl_segment.specs.Repeated.{times}
-use Rattle.htl_segment.specs.Seen.{Saw, SawMarked, is_marked, mark_count}
+use Rattle.htl_segment.specs.Seen.{Saw, is_marked, mark_count}
 use Rattle.htl_segment.specs.declared.seen.Seen.{Seen}
-use Rattle.htl_segment.proofs.Times.{times_other, times_same, some_there, some_times, times-IsPermutation}
+use Rattle.htl_segment.proofs.Times.{times_same, some_there, some_times, times-IsPermutation}
 
 -- ---- one number more
 
@@ -35,96 +35,96 @@ again marks room apart numbers x same marked are =
     let here : mark_count marks x ≡ 1 = ap (λ (b : Bool). cond {A = ℕ} b 1 0) (sym (same x) ∙ marked) in
     (x, omega (arith, are x, here, times_more x x numbers, times_once x))
 
--- ---- what another saw
+-- ---- marks that are added
 
--- after these numbers those that have a mark below a place were seen
-pub record SawBelow (seen : Seen) (numbers : List ℕ) (marks : List Bool) (place : ℕ) : Type 0 where
-  pub more : List ℕ
-  pub saw : Saw seen (numbers ++ more)
-  pub below : (n : ℕ) → n < place → times n more ≡ mark_count marks n
-  pub above : (n : ℕ) → place ≤ n → times n more ≡ 0
+-- the marks below a place were added, and it is known whether one was there already
+pub record AreUnited (old more marks : List Bool) (place : ℕ) (is_twice : Bool) : Type 0 where
+  pub long : length marks ≡ length old
+  pub twice : is_twice ≡ true → (n : ℕ) × (mark_count old n ≡ 1) × (mark_count more n ≡ 1)
+  pub below : is_twice ≡ false → (n : ℕ) → n < place → mark_count marks n ≡ mark_count old n + mark_count more n
+  pub above : (n : ℕ) → place ≤ n → is_marked marks n ≡ is_marked old n
 
-pub none_below : (seen : Seen) (numbers : List ℕ) (marks : List Bool) → Saw seen numbers → SawBelow seen numbers marks 0
-none_below seen numbers marks saw = record {
-  more = [];
-  saw = rw (append-nil numbers) saw;
-  below = λ n under. absurd (omega (arith, under));
+pub none_united : (marks more : List Bool) → AreUnited marks more marks 0 false
+none_united marks more = record {
+  long = refl;
+  twice = λ is. absurd cc;
+  below = λ once n under. absurd (omega (arith, under));
   above = λ n over. refl;
 }
 
-mark_is : (marks : List Bool) (n : ℕ) (b : Bool) → is_marked marks n ≡ b → mark_count marks n ≡ cond {A = ℕ} b 1 0
-mark_is marks n b is = ap (λ (c : Bool). cond {A = ℕ} c 1 0) is
+count_either : (a b : Bool) → (a && b) ≡ false → cond {A = ℕ} (a || b) 1 0 ≡ cond {A = ℕ} a 1 0 + cond {A = ℕ} b 1 0
+count_either true true is = absurd cc
+count_either true false is = refl
+count_either false true is = refl
+count_either false false is = refl
 
--- the next has a mark
-pub marked_below : (old new : Seen) (numbers : List ℕ) (marks : List Bool) (place : ℕ) → is_marked marks place ≡ true
-    → ((all : List ℕ) → Saw old all → Saw new (all ++ place ∷ [])) → SawBelow old numbers marks place
-    → SawBelow new numbers marks (place + 1)
-marked_below old new numbers marks place marked noted so_far =
-    let more = so_far.more in
-    let one : mark_count marks place ≡ 1 = mark_is marks place true marked in
+-- the next is added
+pub one_united : (old more marks : List Bool) (place : ℕ) (is_twice : Bool) → place < length marks → AreUnited old more marks place is_twice
+    → AreUnited old more (set marks place (is_marked marks place || is_marked more place)) (place + 1)
+    (is_twice || is_marked marks place && is_marked more place)
+one_united old more marks place is_twice inside so_far =
+    let a = is_marked marks place in
+    let b = is_marked more place in
+    let count = λ (c : Bool). cond {A = ℕ} c 1 0 in
+    let same = so_far.above place (omega arith) in
     record {
-      more = more ++ place ∷ [];
-      saw = rw (← append_assoc numbers more (place ∷ [])) (noted (numbers ++ more) so_far.saw);
-      below = λ n under. elim (cases_eq place n) [
-        | inl same ↦ rw (← same)
-            (omega (arith, times_more place place more, so_far.above place (omega arith), times_once place, one))
-        | inr other ↦ omega (arith, times_more n place more, times_other n place [] other, so_far.below n (omega (arith, under, other)))
+      long = length-set marks place (a || b) ∙ so_far.long;
+      twice = λ is. elim (or_cases is_twice (a && b) is) [
+        | inl before ↦ so_far.twice before
+        | inr here ↦ let both = and_parts a b here in (place, ap count (sym same ∙ both.0), ap count both.1)
       ];
-      above = λ n over. omega (
-        arith,
-        times_more n place more,
-        times_other n place [] (λ same. omega (arith, same, over)),
-        so_far.above n (omega (arith, over)),
-      );
+      below = λ once n under.
+          let parts = or_parts is_twice (a && b) once in
+          elim (cases_eq place n) [
+            | inl here ↦ rw (← here) (ap count (get_or-set_same marks place (a || b) false inside) ∙ count_either a b parts.1
+                ∙ ap (λ (c : Bool). count c + count b) same)
+            | inr other ↦ ap count (get_or-set_other marks place n (a || b) false (λ is. other (sym is)))
+                ∙ so_far.below parts.0 n (omega (arith, under, other))
+          ];
+      above = λ n over. get_or-set_other marks place n (a || b) false (λ is. omega (arith, is, over)) ∙ so_far.above n (omega (arith, over));
     }
 
--- or it has none
-pub unmarked_below : (seen : Seen) (numbers : List ℕ) (marks : List Bool) (place : ℕ) → is_marked marks place ≡ false
-    → SawBelow seen numbers marks place → SawBelow seen numbers marks (place + 1)
-unmarked_below seen numbers marks place free so_far =
-    let zero : mark_count marks place ≡ 0 = mark_is marks place false free in
-    record {
-      more = so_far.more;
-      saw = so_far.saw;
-      below = λ n under. elim (cases_eq place n) [
-        | inl same ↦ rw (← same) (omega (arith, so_far.above place (omega arith), zero))
-        | inr other ↦ so_far.below n (omega (arith, under, other))
-      ];
-      above = λ n over. so_far.above n (omega (arith, over));
-    }
+-- the marks behind those that are added stay
+pub all_united : (old more marks : List Bool) (place : ℕ) → length more ≤ place → AreUnited old more marks place false → (n : ℕ)
+    → mark_count marks n ≡ mark_count old n + mark_count more n
+all_united old more marks place past so_far n =
+    elim (cases_lt n place) [
+      | inl under ↦ so_far.below refl n under
+      | inr over ↦
+          let none : mark_count more n ≡ 0 = ap (λ (c : Bool). cond {A = ℕ} c 1 0) (get_or_past more n false (omega (arith, past, over))) in
+          let same : mark_count marks n ≡ mark_count old n = ap (λ (c : Bool). cond {A = ℕ} c 1 0) (so_far.above n over) in
+          omega (arith, none, same)
+    ]
 
-pub marked_all : (seen : Seen) (numbers : List ℕ) (marks : List Bool) (len : ℕ) → len ≡ length marks → SawBelow seen numbers marks len
-    → SawMarked seen numbers marks
-marked_all seen numbers marks len all so_far = record {
-  more = so_far.more;
-  saw = so_far.saw;
-  are = λ n. elim (cases_lt n len) [
-    | inl under ↦ so_far.below n under
-    | inr over ↦
-        let none : mark_count marks n ≡ 0 = mark_is marks n false (get_or_past marks n false (omega (arith, over, all))) in
-        omega (arith, so_far.above n over, none)
-  ];
-}
+-- ---- what another saw
 
-saw_same : (seen : Seen) (xs ys : List ℕ) → ((n : ℕ) → times n xs ≡ times n ys) → Saw seen xs → Saw seen ys
-saw_same seen xs ys same saw = record {
-  counted = λ once n. sym (same n) ∙ saw.counted once n;
-  twice = λ is. let two = saw.twice is in (two.0, omega (arith, two.1, same two.0));
-}
+-- these numbers, and those that have a mark, are all
+abbrev pub AddsMarks : List Bool → List ℕ → List ℕ → Type 0
+AddsMarks marks numbers all = (n : ℕ) → times n all ≡ times n numbers + mark_count marks n
 
 -- those apart, and then those that have a mark, are all that the other saw
-pub saw_both : (seen : Seen) (numbers more apart : List ℕ) (marks : List Bool) → AreCounted marks apart more
-    → SawMarked seen (numbers ++ apart) marks → Saw seen (numbers ++ more)
-saw_both seen numbers more apart marks are both =
-    saw_same seen ((numbers ++ apart) ++ both.more) (numbers ++ more)
-    (λ n. omega (
-      arith,
-      times_both n (numbers ++ apart) both.more,
-      times_both n numbers apart,
-      times_both n numbers more,
-      are n,
-      both.are n,
-    )) both.saw
+pub apart_and_marked : (numbers more apart : List ℕ) (marks : List Bool) → AreCounted marks apart more
+    → AddsMarks marks (numbers ++ apart) (numbers ++ more)
+apart_and_marked numbers more apart marks are n = omega (arith, are n, times_both n numbers more, times_both n numbers apart)
+
+-- marks were added where none was
+pub saw_once : (old : Seen) (marks more : List Bool) (numbers all : List ℕ)
+    → ((n : ℕ) → mark_count marks n ≡ mark_count old.marks.items n + mark_count more n) → Saw old numbers → AddsMarks more numbers all
+    → (old.comes_twice ≡ false → AreCounted marks old.apart.items all) × (old.comes_twice ≡ true → (n : ℕ) × (2 ≤ times n all))
+saw_once old marks more numbers all are saw adds = (
+  λ once n. omega (arith, adds n, saw.counted once n, are n),
+  λ is. let two = saw.twice is in (two.0, omega (arith, two.1, adds two.0)),
+)
+
+-- or where one was already
+pub saw_again : (old : Seen) (marks more : List Bool) (numbers all : List ℕ)
+    → ((n : ℕ) → mark_count marks n ≡ mark_count old.marks.items n) → (n : ℕ) × (mark_count marks n ≡ 1) × (mark_count more n ≡ 1)
+    → Saw old numbers → AddsMarks more numbers all → (n : ℕ) × (2 ≤ times n all)
+saw_again old marks more numbers all same both saw adds =
+    elim (cases_Bool old.comes_twice) [
+      | inl is ↦ let two = saw.twice is in (two.0, omega (arith, two.1, adds two.0))
+      | inr once ↦ (both.0, omega (arith, saw.counted once both.0, same both.0, both.1, both.2, adds both.0))
+    ]
 
 -- or it saw one twice
 pub saw_twice : (numbers more : List ℕ) → (n : ℕ) × (2 ≤ times n more) → (n : ℕ) × (2 ≤ times n (numbers ++ more))

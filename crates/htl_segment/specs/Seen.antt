@@ -1,5 +1,5 @@
 -- Which numbers were seen, and whether one of them came twice (this project's own).
-use Rattle.std.specs.Prelude.{◌≡◌, ◌≤◌, ◌+◌, ◌++◌, ℕ, Bool, true, false, List, slice_index_or, if◌then◌else◌}
+use Rattle.std.specs.Prelude.{◌≡◌, ◌≤◌, ◌+◌, ℕ, Bool, true, false, List, slice_index_or, if◌then◌else◌}
 use Rattle.htl_segment.specs.Repeated.{times}
 use Rattle.htl_segment.specs.declared.seen.Seen.{Seen}
 
@@ -15,11 +15,3 @@ pub record Saw (seen : Seen) (numbers : List ℕ) : Type 0 where
   pub counted :
       seen.comes_twice ≡ false → (n : ℕ) → times n numbers ≡ mark_count seen.marks.items n + times n seen.apart.items
   pub twice : seen.comes_twice ≡ true → (n : ℕ) × (2 ≤ times n numbers)
-
--- ---- for the clauses of private functions
-
--- after these numbers those that have a mark were seen, each once
-pub record SawMarked (seen : Seen) (numbers : List ℕ) (marks : List Bool) : Type 0 where
-  pub more : List ℕ
-  pub saw : Saw seen (numbers ++ more)
-  pub are : (n : ℕ) → times n more ≡ mark_count marks n

@@ -1,11 +1,11 @@
 //! The set of sequences that were seen, and whether one came twice.
 
-ghost use Rattle.std.specs.Prelude.{◌≡◌, ◌<◌, ◌≤◌, ◌++◌, ◌∷◌, ℕ, List, [], IfOk, IsTrue, OnOk, vec_len};
-ghost use Rattle.std.specs.Prelude.{true, false};
+ghost use Rattle.std.specs.Prelude.{◌≡◌, ◌+◌, ◌<◌, ◌≤◌, ◌++◌, ◌∷◌, ℕ, List, [], IfOk, IsTrue};
+ghost use Rattle.std.specs.Prelude.{OnOk, vec_len, true, false, length};
 ghost use Rattle.std.specs.List.{list_any};
 ghost use Rattle.std.specs.List.Sorted.{IsNonDecreasing, IsPermutation};
 ghost use Rattle.htl_segment.specs.Repeated.{times};
-ghost use Rattle.htl_segment.specs.Seen.{is_marked};
+ghost use Rattle.htl_segment.specs.Seen.{is_marked, mark_count};
 
 use crate::repeated::first_repeated;
 use htl_event::NoMemory;
@@ -31,9 +31,9 @@ pub struct Seen {
 }
 
 impl Seen {
-    ghost use Rattle.std.specs.Prelude.{◌≡◌, ◌≤◌, ◌++◌, ◌∷◌, ℕ, List, [], OnOk, true, false};
+    ghost use Rattle.std.specs.Prelude.{◌≡◌, ◌+◌, ◌≤◌, ◌++◌, ◌∷◌, ℕ, List, [], OnOk, true, false};
     ghost use Rattle.htl_segment.specs.Repeated.{times};
-    ghost use Rattle.htl_segment.specs.Seen.{Saw, SawMarked};
+    ghost use Rattle.htl_segment.specs.Seen.{Saw, mark_count};
 
     /// A set in which no sequence was seen yet.
     pub fn new(alloc: Global) -> Seen
@@ -76,8 +76,10 @@ impl Seen {
         if other.comes_twice {
             self.comes_twice = true;
         } else {
+            let count = self.count.saturating_add(other.count);
             self.note_all(&other.apart)?;
-            self.note_marked(&other.marks)?;
+            self.note_marks(&other.marks)?;
+            self.count = count;
         }
         other.clear();
         Ok(())
@@ -94,14 +96,14 @@ impl Seen {
     }
 
     /// Notes each sequence that has a mark in this list.
-    fn note_marked(&mut self, marks: &[bool]) -> Result<(), NoMemory>
-        ensures { (numbers : List ℕ) → Saw self.old numbers
-            → OnOk result (SawMarked self.new numbers marks.now) }
+    fn note_marks(&mut self, marks: &[bool]) -> Result<(), NoMemory>
+        ensures { (numbers all : List ℕ) → Saw self.old numbers
+            → ((n : ℕ) → times n all ≡ times n numbers + mark_count marks.now n)
+            → OnOk result (Saw self.new all) }
     {
-        for place in 0..marks.len() {
-            if marks[place] {
-                self.note(place as u64)?;
-            }
+        reach(&mut self.marks, marks.len())?;
+        if unite(&mut self.marks, marks) {
+            self.comes_twice = true;
         }
         Ok(())
     }
@@ -138,6 +140,33 @@ fn sort(numbers: &mut Vec<u64>)
     ensures sorted { IsNonDecreasing numbers.new.items }
 {
     numbers.sort_unstable();
+}
+
+/// Makes room for marks at all places below a length.
+fn reach(marks: &mut Vec<bool>, len: usize) -> Result<(), NoMemory>
+    ensures kept { (n : ℕ) → is_marked marks.new.items n ≡ is_marked marks.old.items n }
+    ensures room { OnOk result (len ≤ vec_len marks.new) }
+{
+    if marks.len() < len {
+        marks.resize(len, false)?;
+    }
+    Ok(())
+}
+
+/// Adds marks, and tells whether a place had one already. One pass without a branch does it.
+fn unite(marks: &mut [bool], more: &[bool]) -> bool
+    requires { length more.now ≤ length marks.old }
+    ensures twice { result ≡ true
+        → (n : ℕ) × (mark_count marks.old n ≡ 1) × (mark_count more.now n ≡ 1) }
+    ensures once { result ≡ false → (n : ℕ)
+        → mark_count marks.new n ≡ mark_count marks.old n + mark_count more.now n }
+{
+    let mut is_twice = false;
+    for place in 0..more.len() {
+        is_twice |= marks[place] & more[place];
+        marks[place] |= more[place];
+    }
+    is_twice
 }
 
 /// Whether one of these sequences has a mark.

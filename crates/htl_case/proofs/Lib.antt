@@ -11,6 +11,7 @@ pub mod Outlined
 pub mod Moved
 pub mod Listings
 pub mod Counted
+pub mod EventLists
 pub mod Refusals
 pub mod Outcomes
 pub mod Pickings

@@ -17,7 +17,7 @@ use Rattle.htl_segment.specs.declared.outline.Outline.{Outline}
 use Rattle.htl_segment.specs.declared.picks.Picks.{Picks}
 use Rattle.htl_segment.specs.Content.{Content, Fits}
 use Rattle.htl_segment.specs.Outlines.{outline_of}
-use Rattle.htl_segment.specs.Picks.{ArePicksOf}
+use Rattle.htl_segment.specs.Picks.{ArePicksOf, events_in}
 use Rattle.htl_segment.specs.Repeated.{sequence_of, times}
 use Rattle.htl_segment.specs.Rising.{IsKeyBefore}
 use Rattle.htl_segment.specs.Traces.{Trace, trace, AreInOrder, IsBefore, IsTrace, all_events}
@@ -188,7 +188,7 @@ module _ (interest : Interest) (picks : Picks) (segments : List Content) (are : 
     pub case_of_picks : (processors : ℕ) → AreOfOne picks.outlines.items processors
         → ((n : ℕ) → times n (map sequence_of (all_events segments)) ≤ 1)
         → ((ss : List Content) → sorted ≡ map outline_of ss → AreInOrder ss → All Fits ss → (key : ℕ × ℕ) → Falls ss key → ⊥)
-        → (T : Trace) × IsCaseOf segments T × IsPickedOf interest T (picked processors sorted picks.events.items)
+        → (T : Trace) × IsCaseOf segments T × IsPickedOf interest T (picked processors sorted (events_in picks.lists.items))
     case_of_picks processors of once none = (
       trace of.trace_id processors images.behind,
       is_case_of segments images.behind of.trace_id processors of_here put fit_here

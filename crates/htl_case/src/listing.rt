@@ -55,7 +55,10 @@ impl PickedCase {
             IsListing (Contains self.now.events) process handle rows.items) }
     {
         let mut rows = Vec::new(alloc);
-        push_rows(&mut rows, self.events(), process, base(handle))?;
+        let base = base(handle);
+        for events in self.lists() {
+            push_rows(&mut rows, events, process, base)?;
+        }
         newest_first(&mut rows);
         Ok(rows)
     }

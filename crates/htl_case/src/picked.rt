@@ -2,6 +2,7 @@
 
 ghost use Rattle.std.specs.Prelude.{◌≡◌};
 ghost use Rattle.htl_event.specs.Moments.{events_until};
+ghost use Rattle.htl_segment.specs.Picks.{events_in};
 
 use crate::outlines::{key_comes_twice, processors_of, sort_by_key};
 use crate::rising::falling;
@@ -10,20 +11,21 @@ use htl_segment::{Outline, Picks};
 use std::marker::Model;
 
 /// A case, as far as a question about a process or an object needs it: an outline of each segment,
-/// and the events that are asked about.
+/// and the lists of the events that are asked about.
 #[derive(Debug, Drop)]
 pub struct PickedCase {
     processors: u16,
     outlines: Vec<Outline>,
-    events: Vec<SharedEvent>,
+    lists: Vec<Vec<SharedEvent>>,
 }
 
 impl Model for PickedCase {
+    ghost use Rattle.htl_segment.specs.Picks.{events_in};
     ghost use Rattle.htl_case.specs.Picked.{Picked, picked};
 
     ghost Value = { Picked };
 
-    ghost view = { λ c. picked c.processors c.outlines.items c.events.items };
+    ghost view = { λ c. picked c.processors c.outlines.items (events_in c.lists.items) };
 }
 
 impl PickedCase {
@@ -31,7 +33,7 @@ impl PickedCase {
     ghost use Rattle.htl_event.specs.Moments.{counted_events};
     ghost use Rattle.htl_event.specs.declared.interest.Interest.{Interest};
     ghost use Rattle.htl_segment.specs.Content.{Content, Fits};
-    ghost use Rattle.htl_segment.specs.Picks.{ArePicksOf};
+    ghost use Rattle.htl_segment.specs.Picks.{ArePicksOf, events_in};
     ghost use Rattle.htl_segment.specs.Traces.{Trace};
     ghost use Rattle.htl_case.specs.Cases.{IsCaseOf};
     ghost use Rattle.htl_case.specs.Picked.{picked, IsPickedOf, IsPickedUntil, NeedsWhole};
@@ -50,7 +52,7 @@ impl PickedCase {
     {
         let Picks {
             mut outlines,
-            events,
+            lists,
             seen,
             ..
         } = picks;
@@ -62,7 +64,7 @@ impl PickedCase {
         Some(PickedCase {
             processors,
             outlines,
-            events,
+            lists,
         })
     }
 
@@ -74,7 +76,7 @@ impl PickedCase {
             → IsPickedUntil interest T until self.new }
     {
         if let Some(moment) = until {
-            drop_after(&mut self.events, moment);
+            drop_all_after(&mut self.lists, moment);
         }
     }
 
@@ -92,11 +94,21 @@ impl PickedCase {
         self.outlines.as_slice()
     }
 
-    /// The events in hand, in any order: those that the question asks about, less what was dropped.
-    pub fn events(&self) -> &Vec<SharedEvent>
-        ensures { result.now.items ≡ self.now.events }
+    /// The lists of the events in hand, in any order: those that the question asks about, less what
+    /// was dropped.
+    pub fn lists(&self) -> &[Vec<SharedEvent>]
+        ensures { events_in result.now ≡ self.now.events }
     {
-        &self.events
+        self.lists.as_slice()
+    }
+}
+
+/// Drops the events after the moment from lists.
+fn drop_all_after(lists: &mut Vec<Vec<SharedEvent>>, moment: u64)
+    ensures { events_in lists.new.items ≡ events_until moment (events_in lists.old.items) }
+{
+    for list in lists.iter_mut() {
+        drop_after(list, moment);
     }
 }
 

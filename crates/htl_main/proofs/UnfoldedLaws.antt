@@ -1,6 +1,5 @@
 -- Segments of which nothing was folded are a part that stands for their events.
-use Rattle.std.proofs.Common.{◌≡◌, ◌^◌, ◌<◌, List, [], ◌∷◌, length, refl, sym, arith, Vec, Global}
-use Rattle.std.specs.List.{flat_map}
+use Rattle.std.proofs.Common.{◌≡◌, ◌^◌, ◌<◌, List, [], ◌∷◌, length, refl, sym, arith}
 use Rattle.std.proofs.lemmas.List.{append-nil}
 use Rattle.std.proofs.lemmas.List.Sums.{sum_by-cons}
 use Rattle.htl_event.specs.Events.{Event}
@@ -10,10 +9,6 @@ use Rattle.htl_main.specs.Unfolded.{unfolded}
 
 nothing_folded : (events : List Event) → IsFoldOf (unfolded events) []
 nothing_folded events = record { tree = λ slot stack. refl; tables = tables_none }
-
-pub one_list : (lists : List (Vec Event Global)) (list : Vec Event Global) → lists ≡ list ∷ []
-    → flat_map (λ (run : Vec Event Global). run.items) lists ≡ list.items
-one_list lists list is = rw is (append-nil list.items)
 
 pub are_events_of : (part : Contents) (events : List Event) → part ≡ unfolded events → AreEventsOf (part ∷ []) events
 are_events_of part events is = rw is ([], [], nothing_folded events, refl, sym (append-nil events))

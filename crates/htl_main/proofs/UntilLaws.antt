@@ -1,5 +1,5 @@
 -- The events of a trace up to a moment are few enough to count, and have their own sequences.
-use Rattle.std.proofs.Common.{◌≡◌, ◌<◌, ◌^◌, ℕ, Bool, List, [], ◌∷◌, ◌++◌, Option, Some, None, length, refl, arith, inl, inr}
+use Rattle.std.proofs.Common.{◌≡◌, ◌<◌, ◌^◌, ℕ, Bool, List, [], ◌∷◌, ◌++◌, Option, Some, None, length, refl, ap, ◌∙◌, arith, inl, inr, Vec, Global}
 use Rattle.std.specs.Prelude.{filter, nat_le, ◌≢◌}
 use Rattle.std.specs.List.{list_any}
 use Rattle.std.proofs.lemmas.Bool.{cases_Bool}
@@ -11,6 +11,7 @@ use Rattle.htl_event.specs.Handles.{HaveOwnSequences}
 use Rattle.htl_event.specs.Moments.{counted_events}
 use Rattle.htl_event.proofs.Members.{at_member, each_member, filter-pass, filter-skip, Contains-from_filter}
 use Rattle.htl_segment.specs.Content.{Content}
+use Rattle.htl_segment.specs.Picks.{events_in}
 use Rattle.htl_segment.specs.Traces.{Trace, IsTrace, all_events}
 use Rattle.htl_main.proofs.FewSegments.{few_events}
 
@@ -56,3 +57,13 @@ any_until p until (s ∷ ss) =
       list_any-append p (counted_events until s.events) (counted_events until (all_events ss)),
       any_until p until ss,
     ) refl
+
+-- an event of lists is an event of one of them
+any_in_lists : (p : Event → Bool) (lists : List (Vec Event Global))
+    → list_any (λ (l : Vec Event Global). list_any p l.items) lists ≡ list_any p (events_in lists)
+any_in_lists p [] = refl
+any_in_lists p (l ∷ lists) = rw (list_any-append p l.items (events_in lists), any_in_lists p lists) refl
+
+pub found_in_lists : (p : Event → Bool) (lists : List (Vec Event Global)) (events : List Event) (found : Bool)
+    → found ≡ list_any (λ (l : Vec Event Global). list_any p l.items) lists → events_in lists ≡ events → found ≡ list_any p events
+found_in_lists p lists events found is same = is ∙ any_in_lists p lists ∙ ap (list_any p) same

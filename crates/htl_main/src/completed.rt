@@ -100,8 +100,23 @@ fn has_event_until(question: Question, until: Option<u64>, segment: &Segment) ->
     has_event_about(question, Until::new(segment.events(), until).events())
 }
 
+/// Whether one of the lists has an event of what the question is about.
+pub(crate) fn any_list_about<E: EventList>(question: Question, lists: &[E]) -> bool
+    ensures { result
+        ≡ list_any (λ list. list_any (is_about question) (E.events_of list)) lists.now }
+{
+    lists.iter().any(|list| has_event_in(question, list))
+}
+
+/// Whether the list has an event of what the question is about.
+fn has_event_in<E: EventList>(question: Question, list: &E) -> bool
+    ensures { result ≡ list_any (is_about question) (E.events_of list.now) }
+{
+    has_event_about(question, list.events())
+}
+
 /// Whether one of the events is of what the question is about.
-pub(crate) fn has_event_about(question: Question, events: &[SharedEvent]) -> bool
+fn has_event_about(question: Question, events: &[SharedEvent]) -> bool
     ensures { result ≡ list_any (is_about question) events.now }
 {
     events.iter().any(|event| is_about(question, event))

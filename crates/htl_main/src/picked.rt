@@ -1,8 +1,9 @@
 //! The answer over what was picked from a case.
 
-ghost use Rattle.std.specs.Prelude.{◌≡◌, List, IfErr, IfOk, is_some, true};
+ghost use Rattle.std.specs.Prelude.{◌≡◌, ◌<◌, ◌^◌, List, IfErr, IfOk, OnOk, is_some, length, true};
 ghost use Rattle.std.specs.Option.{option_copied};
 ghost use Rattle.htl_segment.specs.Content.{Content};
+ghost use Rattle.htl_segment.specs.Picks.{events_in};
 ghost use Rattle.htl_main.specs.Answers.{IsAnswer};
 ghost use Rattle.htl_main.specs.Causes.{IsCauseAfter};
 ghost use Rattle.htl_main.specs.Picked.{interest_of};
@@ -10,7 +11,7 @@ ghost use Rattle.htl_main.specs.Picking.{EndsAnswer, IsPickedAsOf, IsPickedFor, 
 ghost use Rattle.htl_main.specs.Printed.{AreAnswerLines};
 
 use crate::answering::{answer_of_lists, span_until};
-use crate::completed::{Completed, has_event_about, has_finding};
+use crate::completed::{Completed, any_list_about, has_finding};
 use crate::coverage::Missed;
 use crate::cut_inputs::CutInputs;
 use crate::fault::RunFault;
@@ -18,10 +19,9 @@ use crate::printing::{check_gaps, check_subject, lines, read_symbols};
 use htl_answers::growth;
 use htl_case::PickedCase;
 use htl_command::{Job, Question};
-use htl_event::NoMemory;
+use htl_event::{NoMemory, SharedEvent, number_of_events};
 use htl_report::Answer;
 use std::alloc::Global;
-use std::slice;
 
 /// The lines of the answer to the job's question over what was picked of a case, and what is reported
 /// beside them. A case with a gap is refused where the job asks for a complete one.
@@ -50,7 +50,7 @@ pub(crate) fn answered_of_picks(
     let coverage = missed.coverage();
     let until = coverage.moment(job.until);
     case.keep_until(until);
-    let has_subject = has_event_about(job.question, case.events());
+    let has_subject = any_list_about(job.question, case.lists());
     check_subject(job, has_subject)?;
     let answer = answer_of_picks(alloc, job.question, until, &case)?;
     let lines = lines(alloc, job, until, &answer, &symbols)?;
@@ -77,6 +77,7 @@ fn answer_of_picks(
         (is : IsPickedAsOf question until case.now segments)
         → IsAnswer is.trace until question answer) }
 {
+    let lists = case.lists();
     match question {
         Question::Trace { process, handle } => Ok(Answer::Trace {
             process,
@@ -87,9 +88,22 @@ fn answer_of_picks(
             let span = span_until(until, case.span());
             Ok(Answer::Growth {
                 process,
-                rows: growth(alloc, slice::from_ref(case.events()), process, span, points)?,
+                rows: growth(alloc, lists, process, span, points)?,
             })
         }
-        question => answer_of_lists(alloc, slice::from_ref(case.events()), question),
+        question => {
+            check_number(lists)?;
+            answer_of_lists(alloc, lists, question)
+        }
+    }
+}
+
+/// Refuses more events than a `u64` can count, which would fit in no memory.
+fn check_number(lists: &[Vec<SharedEvent>]) -> Result<(), NoMemory>
+    ensures { OnOk result (length (events_in lists.now) < 2 ^ 64) }
+{
+    match number_of_events(lists) {
+        Some(_) => Ok(()),
+        None => Err(NoMemory),
     }
 }

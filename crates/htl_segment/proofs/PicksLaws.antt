@@ -1,5 +1,5 @@
 -- Picks of one segment more.
-use Rattle.std.proofs.Common.{◌≡◌, List, [], ◌∷◌, ◌++◌, map, sym, ap, ◌∙◌}
+use Rattle.std.proofs.Common.{◌≡◌, List, [], ◌∷◌, ◌++◌, map, append_assoc, sym, ap, ◌∙◌, Vec, Global}
 use Rattle.std.proofs.lemmas.List.{append-nil, map-append}
 use Rattle.std.proofs.lemmas.List.Elements.{filter-append}
 use Rattle.std.proofs.lemmas.Grind.{flat_map-append}
@@ -8,6 +8,7 @@ use Rattle.htl_event.specs.Interests.{wants, wanted}
 use Rattle.htl_event.specs.declared.interest.Interest.{Interest}
 use Rattle.htl_segment.specs.Content.{Content}
 use Rattle.htl_segment.specs.Outlines.{outline_of}
+use Rattle.htl_segment.specs.Picks.{events_in}
 use Rattle.htl_segment.specs.Repeated.{sequence_of, sequences_of}
 use Rattle.htl_segment.specs.Traces.{all_events}
 use Rattle.htl_segment.specs.declared.outline.Outline.{Outline}
@@ -41,6 +42,24 @@ pub events_more : (interest asked : Interest) (events next : List Event) (segmen
 events_more interest asked events next segments s same so_far pushed =
     pushed ∙ ap (λ of. events ++ wanted of s.events) same ∙ ap (λ es. es ++ wanted interest s.events) so_far
     ∙ sym (wanted_more interest segments s)
+
+-- ---- lists of events
+
+list_more : (lists : List (Vec Event Global)) (list : Vec Event Global) → events_in (lists ++ list ∷ []) ≡ events_in lists ++ list.items
+list_more lists list =
+    flat_map-append (λ (l : Vec Event Global). l.items) lists (list ∷ []) ∙ ap (λ (es : List Event). events_in lists ++ es) (append-nil list.items)
+
+-- events were added to the last list
+pub last_more : (before rest after : List (Vec Event Global)) (old new : Vec Event Global) (es : List Event)
+    → events_in before ≡ events_in rest ++ old.items → new.items ≡ old.items ++ es → after ≡ rest ++ new ∷ []
+    → events_in after ≡ events_in before ++ es
+last_more before rest after old new es taken more pushed =
+    ap events_in pushed ∙ list_more rest new ∙ ap (λ (xs : List Event). events_in rest ++ xs) more
+    ∙ sym (append_assoc (events_in rest) old.items es) ∙ ap (λ (xs : List Event). xs ++ es) (sym taken)
+
+-- some lists, and then others
+pub lists_after : (lists others all : List (Vec Event Global)) → all ≡ lists ++ others → events_in all ≡ events_in lists ++ events_in others
+lists_after lists others all joined = ap events_in joined ∙ flat_map-append (λ (l : Vec Event Global). l.items) lists others
 
 -- ---- and of some segments more
 

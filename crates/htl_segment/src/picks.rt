@@ -1,5 +1,8 @@
 //! Picks: what a question about a process or an object needs of segments.
 
+ghost use Rattle.std.specs.Prelude.{◌≡◌, ◌++◌};
+ghost use Rattle.htl_segment.specs.Picks.{events_in};
+
 use crate::keeper::{JoiningKeeper, Keeper};
 use crate::outline::Outline;
 use crate::seen::Seen;
@@ -16,8 +19,9 @@ pub struct Picks {
     cache: StackCache,
     /// The outlines of the segments, in the order in which they were read.
     pub outlines: Vec<Outline>,
-    /// The events that the question asks about, in the order in which they were read.
-    pub events: Vec<SharedEvent>,
+    /// The events that the question asks about, in the order in which they were read. Each worker has
+    /// a list of its own, so that no event is moved where their picks are joined.
+    pub lists: Vec<Vec<SharedEvent>>,
     /// The sequences of all events.
     pub seen: Seen,
 }
@@ -34,7 +38,7 @@ impl Picks {
             interest,
             cache: StackCache::new(alloc),
             outlines: Vec::new(alloc),
-            events: Vec::new(alloc),
+            lists: Vec::new(alloc),
             seen: Seen::new(alloc),
         }
     }
@@ -46,13 +50,15 @@ impl Keeper for Picks {
     ghost gathers = { λ kind now segments. ArePicksOf kind.interest now segments };
 
     fn take(&mut self, alloc: Global, found: &SegmentBytes<'_>) -> Result<(), NoMemory> {
+        let mut list = take_last(alloc, &mut self.lists);
         let last = found.pick_with(
             alloc,
             &mut self.cache,
             self.interest,
             &mut self.seen,
-            &mut self.events,
+            &mut list,
         )?;
+        self.lists.push(list)?;
         self.outlines.push(found.outline(last))?;
         Ok(())
     }
@@ -65,8 +71,18 @@ impl JoiningKeeper for Picks {
 
     fn append(&mut self, other: &mut Picks) -> Result<(), NoMemory> {
         self.outlines.append(&mut other.outlines)?;
-        self.events.append(&mut other.events)?;
+        self.lists.append(&mut other.lists)?;
         self.seen.append(&mut other.seen)?;
         Ok(())
+    }
+}
+
+/// Takes off the last list, or gives an empty one where there is none.
+fn take_last(alloc: Global, lists: &mut Vec<Vec<SharedEvent>>) -> Vec<SharedEvent>
+    ensures { events_in lists.old.items ≡ events_in lists.new.items ++ result.items }
+{
+    match lists.pop() {
+        Some(list) => list,
+        None => Vec::new(alloc),
     }
 }

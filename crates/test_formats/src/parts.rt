@@ -4,7 +4,7 @@ ghost use Rattle.std.specs.Prelude.{◌≡◌, false, true};
 
 use crate::rows::assert_row;
 use htl_device::{Failed, Parted, Reading, Source};
-use htl_event::Interest;
+use htl_event::{Interest, SharedEvent};
 use htl_reading::{Bundle, EarlyEnd, SourceFault, gather_bundle, read_bundle};
 use htl_samples::{RandomTrace, SMALL};
 use htl_segment::{Fault, Picks, Segment, decode_bundle};
@@ -214,7 +214,7 @@ fn picked(
     assert_tails(rt, workers, &source);
     let Picks {
         outlines,
-        events,
+        lists,
         seen,
         ..
     } = segments;
@@ -223,10 +223,19 @@ fn picked(
         of_outlines = of_outlines.wrapping_mul(31).wrapping_add(outline.last);
     }
     let mut of_events: u64 = 1;
-    for event in &events {
-        of_events = of_events.wrapping_mul(31).wrapping_add(event.sequence);
+    for events in &lists {
+        of_events = with_events(of_events, events);
     }
     Ok((of_outlines, of_events, seen.comes_twice()))
+}
+
+/// The number that tells the events before and these apart.
+fn with_events(before: u64, events: &[SharedEvent]) -> u64 {
+    let mut told = before;
+    for event in events {
+        told = told.wrapping_mul(31).wrapping_add(event.sequence);
+    }
+    told
 }
 
 /// Workers pick what one does.

@@ -8,7 +8,6 @@ use Rattle.htl_case.proofs.Pickings.{picked_own}
 use Rattle.std.proofs.lemmas.Result.{IfOk-weaker}
 use Rattle.htl_main.specs.Answers.{IsAnswerOver, span_until}
 use Rattle.htl_main.proofs.PickedAnswers.{of_parts, of_process, over_all}
-use Rattle.htl_main.proofs.UnfoldedLaws.{one_list}
 use Rattle.htl_main.proofs.WholeLaws.{over_events}
 use Rattle.htl_main.proofs.picked.answer_of_picks.Goals as goal
 
@@ -30,7 +29,7 @@ returns-in_ok-growth-in-Growth c = λ segments is.
     let trace = is.case_of.is_case.trace in
     let all = counted_events c.args.until (all_events T.segments) in
     let own = c.args.case.now.events in
-    let same = one_list c.from_ref.result.now c.events.result.now c.from_ref.ensures.value ∙ c.events.ensures in
+    let same = c.lists-lists.ensures in
     let rows = (rw (same, c.span_until-span.ensures) at c.in_ok-growth-in-Growth.ensures)
     (picked_own is.interest T c.args.until c.args.case.now trace is.picked) in
     let of = of_process c.in-Growth.process is.interest all own (rw c.in-Growth.is at is.about) is.picked.events in
@@ -43,11 +42,10 @@ returns-in_ok-growth-in-Growth c = λ segments is.
       ),
     )
 
-pub returns-in_default : goal.returns-in_default
-returns-in_default c =
+pub returns-in_ok-check_number-in_default : goal.returns-in_ok-check_number-in_default
+returns-in_ok-check_number-in_default c =
     let own = c.args.case.now.events in
-    let same = one_list c.from_ref-in_default.result.now c.events-in_default.result.now c.from_ref-in_default.ensures.value
-    ∙ c.events-in_default.ensures in
+    let same = c.lists-lists.ensures in
     IfOk-weaker c.answer_of_lists.result _ _ (λ answer over. λ segments is.
     let T = is.trace in
     over_events T c.args.until c.args.question answer (of_parts c.args.question c.requires c.in_default.not-Trace c.in_default.not-Growth)

@@ -3,7 +3,9 @@ use Rattle.std.proofs.Common.{◌∙◌, inr, rules, refl}
 use Rattle.std.proofs.lemmas.Result.{err_from_is_err_and}
 use Rattle.std.specs.Option.{option_copied}
 use Rattle.htl_main.proofs.Missing.{memory_cause, missing_cause}
+use Rattle.htl_main.specs.Subjects.{is_about}
 use Rattle.htl_main.proofs.PickedAnswers.{subject_until}
+use Rattle.htl_main.proofs.UntilLaws.{found_in_lists}
 use Rattle.htl_main.proofs.picked.answered_of_picks.Goals as goal
 
 pub returns-in_err-missed-clause-err : goal.returns-in_err-missed-clause-err
@@ -36,8 +38,9 @@ returns-in_err-check_subject-clause-err c =
       (is.case_of, λ complete. c.in_ok-check_gaps.ensures.ok complete is.trace missed),
       c.in_ok-symbols.symbols,
       c.in_ok-symbols.ensures.ok,
-      rw (← refused.2) (subject_until c.args.job.now is.trace c.moment-until.result is.interest _ c.has_event_about-has_subject.result
-          named is.about kept.events (search (rules, c.has_event_about-has_subject.ensures))),
+      rw (← refused.2) (subject_until c.args.job.now is.trace c.moment-until.result is.interest _ c.any_list_about-has_subject.result
+          named is.about kept.events
+          (found_in_lists (is_about c.args.job.now.question) c.lists.result.now _ _ c.any_list_about-has_subject.ensures c.lists.ensures)),
     ))
 
 pub returns-in_err-lines-clause-err : goal.returns-in_err-lines-clause-err
@@ -57,14 +60,15 @@ returns-clause-ok c = λ segments is.
     let until = c.moment-until.result in
     let named = c.moment-until.ensures T (c.coverage-coverage.ensures T missed) in
     let kept = c.keep_until.ensures.until is.interest T is.picked in
-    let found = c.has_event_about-has_subject.result in
+    let found = c.any_list_about-has_subject.result in
     record {
       trace = T;
       taken = (is.case_of, λ complete. c.in_ok-check_gaps.ensures.ok complete T missed);
       table = c.in_ok-symbols.symbols;
       named = c.in_ok-symbols.ensures.ok;
       about = λ coded. rw (← c.in_ok-check_subject.ensures.ok coded) (subject_until c.args.job.now T until is.interest _ found
-          named is.about kept.events (search (rules, c.has_event_about-has_subject.ensures)));
+          named is.about kept.events
+          (found_in_lists (is_about c.args.job.now.question) c.lists.result.now _ _ c.any_list_about-has_subject.ensures c.lists.ensures));
       is = (
         until,
         named,
@@ -83,7 +87,7 @@ returns-clause-reports c = λ segments is.
     let until = c.moment-until.result in
     let named = c.moment-until.ensures T (c.coverage-coverage.ensures T missed) in
     let kept = c.keep_until.ensures.until is.interest T is.picked in
-    let found = c.has_event_about-has_subject.result in
+    let found = c.any_list_about-has_subject.result in
     record {
       coverage = (T, is.case_of, c.coverage-coverage.ensures T missed);
       cut_are = refl;
@@ -91,7 +95,7 @@ returns-clause-reports c = λ segments is.
         T,
         is.case_of,
         subject_until c.args.job.now T until is.interest _ found named is.about kept.events
-            (search (rules, c.has_event_about-has_subject.ensures)),
+            (found_in_lists (is_about c.args.job.now.question) c.lists.result.now _ _ c.any_list_about-has_subject.ensures c.lists.ensures),
       );
       finding = (
         T,

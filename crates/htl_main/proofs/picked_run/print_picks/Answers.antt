@@ -1,4 +1,5 @@
 -- What is printed and reported of picks is that of the case that is made of them.
+use Rattle.std.proofs.lemmas.Result.{err_from_is_err_and}
 use Rattle.htl_main.proofs.AfterPicking.{picked_for}
 use Rattle.htl_main.proofs.picked_run.print_picks.Goals as goal
 
@@ -23,3 +24,9 @@ returns-in_err-write_lines-clause-write g c = λ segments are told.
       are = c.in_ok-lines.ensures.ok segments for;
       written = let reported = c.in_err-write_lines.ensures.err in rw (← c.deref.ensures.value) (reported.2);
     }
+
+pub returns-in_err-lines-clause-cause : goal.returns-in_err-lines-clause-cause
+returns-in_err-lines-clause-cause g c = λ segments are.
+    let p = err_from_is_err_and c.from_residual.result c.from_residual.ensures.1 in
+    let for = picked_for c.args.job.now.question c.args.picks segments _ c.in-Some.ensures.some are in
+    rw (p.1, p.2) (λ told. c.in_err-lines.ensures.err segments for)

@@ -82,16 +82,8 @@ impl CommandName {
     pub(crate) fn example<'a>(self) -> &'a str {
         match self {
             CommandName::Question(question) => question.example(),
-            CommandName::Explain => {
-                "\
-Example:
-  hleak explain S10"
-            }
-            CommandName::Dump => {
-                "\
-Example:
-  hleak dump cpu0.hls > cpu0.txt"
-            }
+            CommandName::Explain => "Example:\n  hleak explain S10",
+            CommandName::Dump => "Example:\n  hleak dump cpu0.hls > cpu0.txt",
             CommandName::Encode => {
                 "\
 Bytes are not written to a terminal.
@@ -135,51 +127,23 @@ impl QuestionName {
     /// A command line to begin with, after what else is to be known.
     pub(crate) fn example<'a>(self) -> &'a str {
         match self {
-            QuestionName::Summary => {
-                "\
-Example:
-  hleak summary cpu0.hls cpu1.hls"
-            }
-            QuestionName::Outstanding => {
-                "\
-Example:
-  hleak outstanding --process 4 --symbols names.csv cpu0.hls cpu1.hls"
-            }
-            QuestionName::Diff => {
-                "\
-Example:
-  hleak diff --process 4 --since 1200 cpu0.hls cpu1.hls"
-            }
-            QuestionName::Tags => {
-                "\
-Example:
-  hleak tags --object 0xffffa00000001000 cpu0.hls cpu1.hls"
-            }
-            QuestionName::Bad => {
-                "\
-Example:
-  hleak bad --process 4 --symbols names.csv cpu0.hls cpu1.hls"
-            }
-            QuestionName::Leaks => {
-                "\
-Example:
-  hleak leaks --process 4 --workers 4 cpu0.hls cpu1.hls"
-            }
-            QuestionName::Stacks => {
-                "\
-Example:
-  hleak stacks --object 0xffffa00000001000 --tag Lky8 cpu0.hls cpu1.hls"
-            }
-            QuestionName::Trace => {
-                "\
-Example:
-  hleak trace --process 4 --handle 0x44 cpu0.hls cpu1.hls"
-            }
-            QuestionName::Growth => {
-                "\
-Example:
-  hleak growth --process 4 --points 50 cpu0.hls cpu1.hls"
-            }
+            QuestionName::Summary => "Example:\n  hleak summary cpu0.hls cpu1.hls",
+            QuestionName::Outstanding =>
+                "Example:\n  hleak outstanding --process 4 --symbols names.csv cpu0.hls cpu1.hls",
+            QuestionName::Diff =>
+                "Example:\n  hleak diff --process 4 --since 1200 cpu0.hls cpu1.hls",
+            QuestionName::Tags =>
+                "Example:\n  hleak tags --object 0xffffa00000001000 cpu0.hls cpu1.hls",
+            QuestionName::Bad =>
+                "Example:\n  hleak bad --process 4 --symbols names.csv cpu0.hls cpu1.hls",
+            QuestionName::Leaks =>
+                "Example:\n  hleak leaks --process 4 --workers 4 cpu0.hls cpu1.hls",
+            QuestionName::Stacks =>
+                "Example:\n  hleak stacks --object 0xffffa00000001000 --tag Lky8 cpu0.hls cpu1.hls",
+            QuestionName::Trace =>
+                "Example:\n  hleak trace --process 4 --handle 0x44 cpu0.hls cpu1.hls",
+            QuestionName::Growth =>
+                "Example:\n  hleak growth --process 4 --points 50 cpu0.hls cpu1.hls",
         }
     }
 }

@@ -31,266 +31,233 @@ impl Place {
     }
 }
 
-fn option<'a>(alloc: Global, option: CommandOption, place: Place) -> Arg<'a>
-    ensures rule { rule_of result ≡ option_rule option }
-    ensures local { result.global ≡ false }
-{
-    Arg::new(alloc, option.as_str())
-        .long(option.as_str())
-        .value_name(option.value_name())
-        .help(option.help())
-        .required(option.is_required())
-        .hide(place.is_dialogue() && option.is_of_run())
-}
+type Built<'a> = Result<Command<'a>, AllocError>;
 
-fn flag<'a>(alloc: Global, flag: CommandFlag, help: &'a str, place: Place) -> Arg<'a>
-    ensures rule { rule_of result ≡ flag_rule flag }
-    ensures local { result.global ≡ false }
-{
-    Arg::new(alloc, flag.as_str())
-        .long(flag.as_str())
-        .action(ArgAction::SetTrue)
-        .help(help)
-        .hide(place.is_dialogue() && flag.is_of_run())
-}
-
-fn notes<'a>(alloc: Global, place: Place) -> Arg<'a>
-    ensures rule { rule_of result ≡ flag_rule flags.Notes }
-    ensures local { result.global ≡ false }
-{
-    flag(alloc, CommandFlag::Notes, CommandFlag::Notes.help(), place)
-}
-
-fn files<'a>(alloc: Global, help: &'a str, place: Place) -> Arg<'a>
-    ensures rule { rule_of result ≡ files_rule }
-    ensures local { result.global ≡ false }
-{
-    Arg::new(alloc, "files")
-        .value_name("FILES")
-        .num_args(1..)
-        .help(help)
-        .hide(place.is_dialogue())
-}
-
-fn code<'a>(alloc: Global) -> Arg<'a>
-    ensures rule { rule_of result ≡ code_rule }
-    ensures local { result.global ≡ false }
-{
-    Arg::new(alloc, "code")
-        .value_name("CODE")
-        .help(CODE_HELP)
-        .required(true)
-}
-
-fn with_options<'a>(
+/// Builds commands, each for the place where it is typed.
+#[derive(Clone, Copy)]
+struct Builder {
     alloc: Global,
-    command: Command<'a>,
-    options: &[CommandOption],
     place: Place,
-) -> Result<Command<'a>, AllocError>
-    requires { (fields_of command).has_globals ≡ false }
-    ensures { IfOk result
-        (Describes (with_rules (app_of command.entry) (map option_rule options.now))) }
-{
-    let mut command = command;
-    for own in options {
-        command = command.arg(option(alloc, *own, place))?;
+}
+
+impl Builder {
+    fn option<'a>(self, option: CommandOption) -> Arg<'a>
+        ensures rule { rule_of result ≡ option_rule option }
+        ensures local { result.global ≡ false }
+    {
+        Arg::new(self.alloc, option.as_str())
+            .long(option.as_str())
+            .value_name(option.value_name())
+            .help(option.help())
+            .required(option.is_required())
+            .hide(self.place.is_dialogue() && option.is_of_run())
     }
-    Ok(command)
-}
 
-fn with_flags<'a>(
-    alloc: Global,
-    command: Command<'a>,
-    flags: &[CommandFlag],
-    place: Place,
-) -> Result<Command<'a>, AllocError>
-    requires { (fields_of command).has_globals ≡ false }
-    ensures { IfOk result
-        (Describes (with_rules (app_of command.entry) (map flag_rule flags.now))) }
-{
-    let mut command = command;
-    for own in flags {
-        command = command.arg(flag(alloc, *own, own.help(), place))?;
+    fn flag<'a>(self, flag: CommandFlag, help: &'a str) -> Arg<'a>
+        ensures rule { rule_of result ≡ flag_rule flag }
+        ensures local { result.global ≡ false }
+    {
+        Arg::new(self.alloc, flag.as_str())
+            .long(flag.as_str())
+            .action(ArgAction::SetTrue)
+            .help(help)
+            .hide(self.place.is_dialogue() && flag.is_of_run())
     }
-    Ok(command)
-}
 
-fn with_common_options<'a>(
-    alloc: Global,
-    command: Command<'a>,
-    place: Place,
-) -> Result<Command<'a>, AllocError>
-    requires { (fields_of command).has_globals ≡ false }
-    ensures { IfOk result (Describes (with_rules (app_of command.entry) common_rules)) }
-{
-    let command = with_options(
-        alloc,
-        command,
-        &[
-            CommandOption::Until,
-            CommandOption::Symbols,
-            CommandOption::Workers,
-        ],
-        place,
-    )?;
-    let command = with_flags(
-        alloc,
-        command,
-        &[
-            CommandFlag::Json,
-            CommandFlag::Complete,
-            CommandFlag::Hex,
-            CommandFlag::Partial,
-            CommandFlag::Notes,
-        ],
-        place,
-    )?;
-    command.arg(files(alloc, FILES_HELP, place))
-}
-
-fn with_dump_options<'a>(
-    alloc: Global,
-    command: Command<'a>,
-    place: Place,
-) -> Result<Command<'a>, AllocError>
-    requires { (fields_of command).has_globals ≡ false }
-    ensures { IfOk result (Describes (with_rules (app_of command.entry) dump_rules)) }
-{
-    let command = with_flags(
-        alloc,
-        command,
-        &[CommandFlag::Hex, CommandFlag::Partial, CommandFlag::Notes],
-        place,
-    )?;
-    command.arg(files(alloc, FILES_HELP, place))
-}
-
-fn with_encode_options<'a>(
-    alloc: Global,
-    command: Command<'a>,
-    place: Place,
-) -> Result<Command<'a>, AllocError>
-    requires { (fields_of command).has_globals ≡ false }
-    ensures { IfOk result (Describes (with_rules (app_of command.entry) encode_rules)) }
-{
-    command
-        .arg(flag(alloc, CommandFlag::Hex, HEX_TEXT_HELP, place))?
-        .arg(notes(alloc, place))?
-        .arg(files(alloc, TEXTS_HELP, place))
-}
-
-fn with_dialogue_options<'a>(
-    alloc: Global,
-    command: Command<'a>,
-    place: Place,
-) -> Result<Command<'a>, AllocError>
-    requires { (fields_of command).has_globals ≡ false }
-    ensures { IfOk result (Describes (with_rules (app_of command.entry) dialogue_rules)) }
-{
-    let command = with_options(
-        alloc,
-        command,
-        &[CommandOption::Symbols, CommandOption::Workers],
-        place,
-    )?;
-    let command = with_flags(
-        alloc,
-        command,
-        &[
-            CommandFlag::Fold,
-            CommandFlag::Complete,
-            CommandFlag::Hex,
-            CommandFlag::Partial,
-            CommandFlag::Notes,
-        ],
-        place,
-    )?;
-    command.arg(files(alloc, DIALOGUE_FILES_HELP, place).required(true))
-}
-
-/// The command with its name and what its help says beside its options.
-fn bare_command<'a>(alloc: Global, name: CommandName, place: Place) -> Command<'a>
-    ensures { Describes (new_app (name_of name)) result }
-{
-    let bare = Command::new(alloc, name.as_str()).about(name.about());
-    match place {
-        Place::Shell => bare.after_help(name.example()),
-        Place::Dialogue => bare.hide(!name.is_question()),
+    fn notes<'a>(self) -> Arg<'a>
+        ensures rule { rule_of result ≡ flag_rule flags.Notes }
+        ensures local { result.global ≡ false }
+    {
+        self.flag(CommandFlag::Notes, CommandFlag::Notes.help())
     }
-}
 
-fn command<'a>(alloc: Global, name: CommandName, place: Place) -> Result<Command<'a>, AllocError>
-    ensures { IfOk result (Describes (command_app name)) }
-{
-    let bare = bare_command(alloc, name, place);
-    match name {
-        CommandName::Question(question) => {
-            let command = with_options(alloc, bare, question.own_options(), place)?;
-            let command = with_flags(alloc, command, question.own_flags(), place)?;
-            with_common_options(alloc, command, place)
+    fn files<'a>(self, help: &'a str) -> Arg<'a>
+        ensures rule { rule_of result ≡ files_rule }
+        ensures local { result.global ≡ false }
+    {
+        Arg::new(self.alloc, "files")
+            .value_name("FILES")
+            .num_args(1..)
+            .help(help)
+            .hide(self.place.is_dialogue())
+    }
+
+    fn code<'a>(self) -> Arg<'a>
+        ensures rule { rule_of result ≡ code_rule }
+        ensures local { result.global ≡ false }
+    {
+        Arg::new(self.alloc, "code")
+            .value_name("CODE")
+            .help(CODE_HELP)
+            .required(true)
+    }
+
+    fn with_options<'a>(self, command: Command<'a>, options: &[CommandOption]) -> Built<'a>
+        requires { (fields_of command).has_globals ≡ false }
+        ensures { IfOk result
+            (Describes (with_rules (app_of command.entry) (map option_rule options.now))) }
+    {
+        let mut command = command;
+        for own in options {
+            command = command.arg(self.option(*own))?;
         }
-        CommandName::Explain => bare.arg(code(alloc))?.arg(notes(alloc, place)),
-        CommandName::Dump => with_dump_options(alloc, bare, place),
-        CommandName::Encode => with_encode_options(alloc, bare, place),
-        CommandName::Ask => with_dialogue_options(alloc, bare, place),
+        Ok(command)
     }
-}
 
-fn bare_program<'a>(alloc: Global, place: Place) -> Result<Command<'a>, AllocError>
-    ensures { IfOk result (Describes program_app) }
-{
-    let program = Command::new(alloc, "hleak")
-        .version(VERSION)
-        .no_binary_name(true)
-        .subcommand_required(true);
-    match place {
-        Place::Shell => {
-            let program = program.bin_name("hleak")?;
-            Ok(program.about(ABOUT).after_help(AFTER_HELP))
+    fn with_flags<'a>(self, command: Command<'a>, flags: &[CommandFlag]) -> Built<'a>
+        requires { (fields_of command).has_globals ≡ false }
+        ensures { IfOk result
+            (Describes (with_rules (app_of command.entry) (map flag_rule flags.now))) }
+    {
+        let mut command = command;
+        for own in flags {
+            command = command.arg(self.flag(*own, own.help()))?;
         }
-        Place::Dialogue => Ok(
-            program
-                .override_usage(DIALOGUE_USAGE)
-                .about(DIALOGUE_ABOUT)
-                .after_help(DIALOGUE_AFTER_HELP),
-        ),
+        Ok(command)
     }
-}
 
-#[tactic(auto, using(crate::proofs::Described::added))]
-fn with_command<'a>(
-    alloc: Global,
-    program: Command<'a>,
-    name: CommandName,
-    place: Place,
-) -> Result<Command<'a>, AllocError>
-    requires { (fields_of program).has_globals ≡ false }
-    ensures { IfOk result (Describes (with_subcommand (app_of program.entry) (command_app name).top)) }
-{
-    program.subcommand(command(alloc, name, place)?)
-}
-
-fn with_commands<'a>(
-    alloc: Global,
-    program: Command<'a>,
-    names: &[CommandName],
-    place: Place,
-) -> Result<Command<'a>, AllocError>
-    requires { (fields_of program).has_globals ≡ false }
-    ensures { IfOk result (Describes (with_commands_of (app_of program.entry) names.now)) }
-{
-    let mut program = program;
-    for name in names {
-        program = with_command(alloc, program, *name, place)?;
+    fn with_common_options<'a>(self, command: Command<'a>) -> Built<'a>
+        requires { (fields_of command).has_globals ≡ false }
+        ensures { IfOk result (Describes (with_rules (app_of command.entry) common_rules)) }
+    {
+        let command = self.with_options(
+            command,
+            &[
+                CommandOption::Until,
+                CommandOption::Symbols,
+                CommandOption::Workers,
+            ],
+        )?;
+        let command = self.with_flags(
+            command,
+            &[
+                CommandFlag::Json,
+                CommandFlag::Complete,
+                CommandFlag::Hex,
+                CommandFlag::Partial,
+                CommandFlag::Notes,
+            ],
+        )?;
+        command.arg(self.files(FILES_HELP))
     }
-    Ok(program)
+
+    fn with_dump_options<'a>(self, command: Command<'a>) -> Built<'a>
+        requires { (fields_of command).has_globals ≡ false }
+        ensures { IfOk result (Describes (with_rules (app_of command.entry) dump_rules)) }
+    {
+        let command = self.with_flags(
+            command,
+            &[CommandFlag::Hex, CommandFlag::Partial, CommandFlag::Notes],
+        )?;
+        command.arg(self.files(FILES_HELP))
+    }
+
+    fn with_encode_options<'a>(self, command: Command<'a>) -> Built<'a>
+        requires { (fields_of command).has_globals ≡ false }
+        ensures { IfOk result (Describes (with_rules (app_of command.entry) encode_rules)) }
+    {
+        command
+            .arg(self.flag(CommandFlag::Hex, HEX_TEXT_HELP))?
+            .arg(self.notes())?
+            .arg(self.files(TEXTS_HELP))
+    }
+
+    fn with_dialogue_options<'a>(self, command: Command<'a>) -> Built<'a>
+        requires { (fields_of command).has_globals ≡ false }
+        ensures { IfOk result (Describes (with_rules (app_of command.entry) dialogue_rules)) }
+    {
+        let command = self.with_options(
+            command,
+            &[CommandOption::Symbols, CommandOption::Workers],
+        )?;
+        let command = self.with_flags(
+            command,
+            &[
+                CommandFlag::Fold,
+                CommandFlag::Complete,
+                CommandFlag::Hex,
+                CommandFlag::Partial,
+                CommandFlag::Notes,
+            ],
+        )?;
+        command.arg(self.files(DIALOGUE_FILES_HELP).required(true))
+    }
+
+    /// The command with its name and what its help says beside its options.
+    fn bare_command<'a>(self, name: CommandName) -> Command<'a>
+        ensures { Describes (new_app (name_of name)) result }
+    {
+        let bare = Command::new(self.alloc, name.as_str()).about(name.about());
+        match self.place {
+            Place::Shell => bare.after_help(name.example()),
+            Place::Dialogue => bare.hide(!name.is_question()),
+        }
+    }
+
+    fn command<'a>(self, name: CommandName) -> Built<'a>
+        ensures { IfOk result (Describes (command_app name)) }
+    {
+        let bare = self.bare_command(name);
+        match name {
+            CommandName::Question(question) => {
+                let command = self.with_options(bare, question.own_options())?;
+                let command = self.with_flags(command, question.own_flags())?;
+                self.with_common_options(command)
+            }
+            CommandName::Explain => bare.arg(self.code())?.arg(self.notes()),
+            CommandName::Dump => self.with_dump_options(bare),
+            CommandName::Encode => self.with_encode_options(bare),
+            CommandName::Ask => self.with_dialogue_options(bare),
+        }
+    }
+
+    fn bare_program<'a>(self) -> Built<'a>
+        ensures { IfOk result (Describes program_app) }
+    {
+        let program = Command::new(self.alloc, "hleak")
+            .version(VERSION)
+            .no_binary_name(true)
+            .subcommand_required(true);
+        match self.place {
+            Place::Shell => {
+                let program = program.bin_name("hleak")?;
+                Ok(program.about(ABOUT).after_help(AFTER_HELP))
+            }
+            Place::Dialogue => Ok(
+                program
+                    .override_usage(DIALOGUE_USAGE)
+                    .about(DIALOGUE_ABOUT)
+                    .after_help(DIALOGUE_AFTER_HELP),
+            ),
+        }
+    }
+
+    #[tactic(auto, using(crate::proofs::Described::added))]
+    fn with_command<'a>(self, program: Command<'a>, name: CommandName) -> Built<'a>
+        requires { (fields_of program).has_globals ≡ false }
+        ensures { IfOk result
+            (Describes (with_subcommand (app_of program.entry) (command_app name).top)) }
+    {
+        program.subcommand(self.command(name)?)
+    }
+
+    fn with_commands<'a>(self, program: Command<'a>, names: &[CommandName]) -> Built<'a>
+        requires { (fields_of program).has_globals ≡ false }
+        ensures { IfOk result (Describes (with_commands_of (app_of program.entry) names.now)) }
+    {
+        let mut program = program;
+        for name in names {
+            program = self.with_command(program, *name)?;
+        }
+        Ok(program)
+    }
 }
 
 /// The command line of the program. Help apart it is the same in each place.
 #[tactic(auto, unfolding(crate::specs::Entries::hleak_app))]
-pub(crate) fn program<'a>(alloc: Global, place: Place) -> Result<Command<'a>, AllocError>
+pub(crate) fn program<'a>(alloc: Global, place: Place) -> Built<'a>
     ensures { IfOk result (Describes hleak_app) }
 {
-    with_commands(alloc, bare_program(alloc, place)?, &COMMANDS, place)
+    let builder = Builder { alloc, place };
+    builder.with_commands(builder.bare_program()?, &COMMANDS)
 }

@@ -3,7 +3,7 @@ use Rattle.std.proofs.Common.{◌≡◌, false, drop}
 use Rattle.clap.specs.Words.{app_of}
 use Rattle.clap.specs.declared.builder.Command.TheViews.{out-Command as fields_of}
 use Rattle.htl_command.specs.Entries.{with_commands}
-use Rattle.htl_command.proofs.builder.with_commands.Given as goal
+use Rattle.htl_command.proofs.builder.Builder.with_commands.Given as goal
 
 abbrev pub invariant-loop-name : goal.invariant-loop-name
 invariant-loop-name l = record {

@@ -12,7 +12,8 @@ use Rattle.htl_text.specs.declared.item.Item.TheVariants as item
 abbrev pub LoneEvent : Type 0
 LoneEvent = EventWith (Unit {0})
 
-abbrev pub with_stack : List ℕ → LoneEvent → Event
+-- the event with this stack in place of its own
+abbrev pub with_stack : {S T : Type 0} → T → EventWith S → EventWith T
 with_stack stack e = record {
   sequence = e.sequence;
   kind = e.kind;
@@ -25,16 +26,7 @@ with_stack stack e = record {
 }
 
 abbrev pub without_stack : Event → LoneEvent
-without_stack e = record {
-  sequence = e.sequence;
-  kind = e.kind;
-  process = e.process;
-  thread = e.thread;
-  handle = e.handle;
-  object = e.object;
-  tag = e.tag;
-  stack = tt;
-}
+without_stack e = with_stack tt e
 
 -- an event, and then its frames, the innermost call first
 abbrev pub event_items : Event → List Item

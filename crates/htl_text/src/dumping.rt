@@ -48,7 +48,7 @@ fn write_head(out: &mut String, head: Head) -> Result<(), AllocError>
 {
     write_version(out, head.version)?;
     write_padded(out, head.trace_id)?;
-    write_place(out, head.processors, head.processor, head.number)
+    write_place(out, head)
 }
 
 #[tactic(auto, unfolding(crate::specs::Texts::version_part))]
@@ -59,18 +59,14 @@ fn write_version(out: &mut String, version: u16) -> Result<(), AllocError>
 }
 
 #[tactic(auto, unfolding(crate::specs::Texts::place_part))]
-fn write_place(
-    out: &mut String,
-    processors: u16,
-    processor: u16,
-    number: u32,
-) -> Result<(), AllocError>
-    ensures { OnOk result (string_bytes out.new
-        ≡ string_bytes out.old ++ place_part processors processor number) }
+fn write_place(out: &mut String, head: Head) -> Result<(), AllocError>
+    ensures { OnOk result (string_bytes out.new ≡ string_bytes out.old
+        ++ place_part head.processors head.processor head.number) }
 {
     writeln!(
         out,
-        " processors={processors} processor={processor} number={number}"
+        " processors={} processor={} number={}",
+        head.processors, head.processor, head.number
     )
 }
 
@@ -105,7 +101,7 @@ fn write_event_line(out: &mut String, event: &SharedEvent) -> Result<(), AllocEr
 {
     out.push_str(event.kind.word())?;
     write_subject(out, event)?;
-    write_origin(out, event.sequence, event.process, event.thread)
+    write_origin(out, event)
 }
 
 /// Writes the fields of an event that its kind has.
@@ -176,16 +172,15 @@ fn write_visible(out: &mut String, bytes: &[u8]) -> Result<(), AllocError>
 }
 
 #[tactic(auto, unfolding(crate::specs::Texts::origin))]
-fn write_origin(
-    out: &mut String,
-    sequence: u64,
-    process: u32,
-    thread: u32,
-) -> Result<(), AllocError>
-    ensures { OnOk result (string_bytes out.new
-        ≡ string_bytes out.old ++ origin sequence process thread) }
+fn write_origin(out: &mut String, event: &SharedEvent) -> Result<(), AllocError>
+    ensures { OnOk result (string_bytes out.new ≡ string_bytes out.old
+        ++ origin event.now.sequence event.now.process event.now.thread) }
 {
-    writeln!(out, " seq={sequence} process={process} thread={thread}")
+    writeln!(
+        out,
+        " seq={} process={} thread={}",
+        event.sequence, event.process, event.thread
+    )
 }
 
 fn write_frames(out: &mut String, frames: &[u64]) -> Result<(), AllocError>

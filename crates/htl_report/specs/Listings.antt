@@ -5,13 +5,12 @@ use Rattle.htl_event.specs.Slots.{base_of}
 use Rattle.htl_event.specs.Words.{word_of}
 use Rattle.htl_symbols.specs.Ranges.{Range}
 use Rattle.htl_numbers.specs.Written.{hex}
-use Rattle.htl_report.specs.Addresses.{stack_lines}
-use Rattle.htl_report.specs.Parts.{count_part, event_line, process_part}
+use Rattle.htl_report.specs.Parts.{count_part, event_lines, process_part}
 use Rattle.htl_report.specs.Rows.{first_rows}
 
 -- an event, its handle as it was written (`!htrace` prints opens, closes and bad references, and a listing has no other kind)
 abbrev pub listed_lines : List Range → Event → List ℕ
-listed_lines symbols e = event_line (word_of e.kind) e.handle e ++ stack_lines symbols e.stack
+listed_lines symbols e = event_lines symbols (word_of e.kind) e.handle e
 
 abbrev pub trace_head : ℕ → ℕ → Option ℕ → ℕ → List ℕ
 trace_head process base until count =

@@ -3,21 +3,17 @@ use Rattle.std.specs.Prelude.{◌++◌, ℕ, List, Option, Some, None, codes, fl
 use Rattle.htl_event.specs.Events.{Event}
 use Rattle.htl_event.specs.Slots.{base_of}
 use Rattle.htl_symbols.specs.Ranges.{Range}
-use Rattle.htl_report.specs.Addresses.{stack_lines}
-use Rattle.htl_report.specs.Parts.{event_line, process_head}
+use Rattle.htl_report.specs.Parts.{event_lines, process_head}
 use Rattle.htl_report.specs.Rows.{first_rows}
 
 -- an outstanding handle, by the base handle
 abbrev pub open_lines : List Range → Event → List ℕ
-open_lines symbols e = event_line (codes "OPEN") (base_of e.handle) e ++ stack_lines symbols e.stack
-
-unfoldable pub outstanding_head : ℕ → Option ℕ → ℕ → List ℕ
-outstanding_head process until count = process_head (codes "outstanding") process None until count
+open_lines symbols e = event_lines symbols (codes "OPEN") (base_of e.handle) e
 
 -- the outstanding handles of a process
 unfoldable pub outstanding_text : List Range → Option ℕ → Option ℕ → ℕ → List Event → List ℕ
 outstanding_text symbols until top process rows =
-    outstanding_head process until (length rows) ++ flat_map (open_lines symbols) (first_rows top rows)
+    process_head (codes "outstanding") process None until (length rows) ++ flat_map (open_lines symbols) (first_rows top rows)
 
 -- the outstanding handles of a process that were opened after a sequence
 unfoldable pub diff_text : List Range → Option ℕ → Option ℕ → ℕ → ℕ → List Event → List ℕ

@@ -4,7 +4,8 @@ use Rattle.std.specs.Fmt.{decimal}
 use Rattle.htl_event.specs.Events.{Event}
 use Rattle.htl_event.specs.declared.slot.Count.{Count}
 use Rattle.htl_numbers.specs.Written.{hex, padded}
-use Rattle.htl_report.specs.Addresses.{line_feed}
+use Rattle.htl_symbols.specs.Ranges.{Range}
+use Rattle.htl_report.specs.Addresses.{line_feed, stack_lines}
 
 -- the start of the first line of an answer about a process, by its word
 unfoldable pub process_part : List ℕ → ℕ → List ℕ
@@ -37,6 +38,10 @@ unfoldable pub event_line : List ℕ → ℕ → Event → List ℕ
 event_line word handle e =
     word ++ (codes " handle=0x" ++ (hex handle ++ (codes " seq=" ++ (decimal e.sequence
     ++ (codes " thread=" ++ (decimal e.thread ++ line_feed))))))
+
+-- an event, by this word and this handle, and its stack
+abbrev pub event_lines : List Range → List ℕ → ℕ → Event → List ℕ
+event_lines symbols word handle e = event_line word handle e ++ stack_lines symbols e.stack
 
 -- references and dereferences
 unfoldable pub counts : Count → List ℕ

@@ -3,7 +3,6 @@
 ghost use Rattle.std.specs.Prelude.{◌≡◌, ◌++◌, OnOk, flat_map, string_bytes};
 ghost use Rattle.htl_report.specs.Listings.{listed_lines, trace_head, trace_text};
 
-use crate::address::write_stack;
 use crate::parts::{write_count, write_event, write_process};
 use crate::rows::first_rows;
 use htl_event::{SharedEvent, base};
@@ -51,15 +50,7 @@ fn write_listing(
         ≡ string_bytes out.old ++ flat_map (listed_lines symbols.now) rows.now) }
 {
     for event in rows {
-        write_listed(out, symbols, event)?;
+        write_event(out, symbols, event.kind.word(), event.handle, event)?;
     }
     Ok(())
-}
-
-fn write_listed(out: &mut String, symbols: &Symbols, event: &SharedEvent) -> Result<(), AllocError>
-    ensures { OnOk result (string_bytes out.new
-        ≡ string_bytes out.old ++ listed_lines symbols.now event.now) }
-{
-    write_event(out, event.kind.word(), event.handle, event)?;
-    write_stack(out, symbols, event.stack.frames())
 }

@@ -1,10 +1,8 @@
 //! Outstanding handles and differences: each handle by the event that opened it.
 
 ghost use Rattle.std.specs.Prelude.{◌≡◌, ◌++◌, OnOk, flat_map, string_bytes};
-ghost use Rattle.htl_report.specs.Opens.{diff_text, open_lines, outstanding_head};
-ghost use Rattle.htl_report.specs.Opens.{outstanding_text};
+ghost use Rattle.htl_report.specs.Opens.{diff_text, open_lines, outstanding_text};
 
-use crate::address::write_stack;
 use crate::parts::{write_event, write_process_head};
 use crate::rows::first_rows;
 use htl_event::{SharedEvent, base};
@@ -23,21 +21,8 @@ pub(crate) fn write_outstanding(
     ensures { OnOk result (string_bytes out.new
         ≡ string_bytes out.old ++ outstanding_text symbols.now until top process rows.now) }
 {
-    write_outstanding_head(out, process, until, rows.len())?;
+    write_process_head(out, "outstanding", process, None, until, rows.len())?;
     write_opens(out, symbols, first_rows(top, rows))
-}
-
-#[tactic(auto, unfolding(crate::specs::Opens::outstanding_head))]
-fn write_outstanding_head(
-    out: &mut String,
-    process: u32,
-    until: Option<u64>,
-    count: usize,
-) -> Result<(), AllocError>
-    ensures { OnOk result (string_bytes out.new
-        ≡ string_bytes out.old ++ outstanding_head process until count) }
-{
-    write_process_head(out, "outstanding", process, None, until, count)
 }
 
 #[tactic(auto, unfolding(crate::specs::Opens::diff_text))]
@@ -62,15 +47,7 @@ fn write_opens(out: &mut String, symbols: &Symbols, rows: &[SharedEvent]) -> Res
         ≡ string_bytes out.old ++ flat_map (open_lines symbols.now) rows.now) }
 {
     for event in rows {
-        write_open(out, symbols, event)?;
+        write_event(out, symbols, "OPEN", base(event.handle), event)?;
     }
     Ok(())
-}
-
-fn write_open(out: &mut String, symbols: &Symbols, event: &SharedEvent) -> Result<(), AllocError>
-    ensures { OnOk result (string_bytes out.new
-        ≡ string_bytes out.old ++ open_lines symbols.now event.now) }
-{
-    write_event(out, "OPEN", base(event.handle), event)?;
-    write_stack(out, symbols, event.stack.frames())
 }

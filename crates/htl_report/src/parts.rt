@@ -1,12 +1,13 @@
 //! Parts of lines that several kinds of answers print.
 
 ghost use Rattle.std.specs.Prelude.{◌≡◌, ◌++◌, ◌<◌, OnOk, string_bytes};
-ghost use Rattle.htl_report.specs.Parts.{count_part, counts, event_line, object_part};
+ghost use Rattle.htl_report.specs.Parts.{count_part, counts, event_line, event_lines, object_part};
 ghost use Rattle.htl_report.specs.Parts.{process_head, process_part, shown_byte, shown_tag};
 ghost use Rattle.htl_report.specs.Parts.{since_part, until_part};
 
-use crate::address::write_padded;
+use crate::address::{write_padded, write_stack};
 use htl_event::{Count, SharedEvent};
+use htl_symbols::Symbols;
 use std::alloc::AllocError;
 
 /// Writes the first line of an answer about a process.
@@ -84,9 +85,23 @@ pub(crate) fn write_count(
     writeln!(out, " count={count}")
 }
 
-/// Writes the line of an event, with this word and this handle.
-#[tactic(auto, unfolding(crate::specs::Parts::event_line))]
+/// Writes an event, with this word and this handle, and its stack.
 pub(crate) fn write_event(
+    out: &mut String,
+    symbols: &Symbols,
+    word: &str,
+    handle: u32,
+    event: &SharedEvent,
+) -> Result<(), AllocError>
+    ensures { OnOk result (string_bytes out.new
+        ≡ string_bytes out.old ++ event_lines symbols.now word.now handle event.now) }
+{
+    write_event_line(out, word, handle, event)?;
+    write_stack(out, symbols, event.stack.frames())
+}
+
+#[tactic(auto, unfolding(crate::specs::Parts::event_line))]
+fn write_event_line(
     out: &mut String,
     word: &str,
     handle: u32,

@@ -27,15 +27,15 @@ use Rattle.htl_event.specs.Summaries.{IsOfObject, IsObject, IsNumberOfObjects, i
 use Rattle.htl_event.proofs.Members.{Contains-here, Contains-there, Contains-map, Contains-from_map}
 use Rattle.htl_event.proofs.Members.{Contains-filter, Contains-from_filter}
 use Rattle.htl_event.proofs.Counts.{counts_are_determined}
-use Rattle.htl_sorted.specs.Entries.{IsSorted}
+use Rattle.htl_sorted.specs.Entries.{IsSorted, entries}
 use Rattle.htl_lemmas.proofs.Tests.{both_left, both_right, less, lower}
 use Rattle.htl_tree.specs.Trees.{BySlot}
 use Rattle.htl_answers.specs.Tags.{tag_row}
 use Rattle.htl_answers.proofs.FilterMaps.{Contains-filter_map, Contains-from_filter_map, IsRising-filter_map}
 use Rattle.htl_answers.proofs.TagLemmas.{row_of, row_is, row_at, tags_rise}
 use Rattle.htl_answers.specs.Sums.{times_of, ListsSlotSums}
-use Rattle.htl_summary.specs.Totals.{one_at}
-use Rattle.htl_summary.specs.ObjectTags.{one_if_unbalanced, tag_of, both_objects, by_object, object_at}
+use Rattle.htl_summary.specs.Totals.{one_at, total_at}
+use Rattle.htl_summary.specs.ObjectTags.{one_if_unbalanced, tag_of, both_objects}
 use Rattle.htl_answers.proofs.NumberSums.{amount, sum_same, sum_filter_map}
 use Rattle.htl_summary.proofs.Totals.{found_row, row_there, total-amount, total-keeps, number_at}
 use Rattle.htl_summary.proofs.SlotSums.{came}
@@ -51,6 +51,14 @@ key row = row.object
 
 abbrev whole : ObjectRow → ObjectRow
 whole row = row
+
+-- rows as entries of a table by object
+abbrev by_object : List ObjectRow → List (ℕ × ObjectRow)
+by_object rows = entries key whole rows
+
+-- what the sums say of an object
+abbrev object_at : ℕ → List Sum → Option ObjectRow
+object_at object sums = total_at nat_cmp key whole both_objects object (filter_map (λ (sum : Sum). tag_of sum.0 sum.1) sums)
 
 -- the object has an unbalanced tag
 abbrev pub shows : ObjectRow → Bool

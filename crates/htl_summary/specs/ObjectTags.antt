@@ -1,9 +1,5 @@
 -- What the tags of objects come to, from the sums of slots.
-use Rattle.std.specs.Prelude.{ℕ, ◌+◌, ◌<◌, ◌^◌, ◌==◌, if◌then◌else◌, List, Option, Some, None}
-use Rattle.std.specs.List.{filter_map}
-use Rattle.std.specs.Ordering.{nat_cmp}
-use Rattle.htl_sorted.specs.Entries.{entries}
-use Rattle.htl_summary.specs.Totals.{total_at}
+use Rattle.std.specs.Prelude.{ℕ, ◌+◌, ◌<◌, ◌^◌, ◌==◌, if◌then◌else◌, Option, Some, None}
 use Rattle.htl_event.specs.declared.slot.Slot.{Slot}
 use Rattle.htl_event.specs.declared.slot.Slot.TheVariants.{Tagged}
 use Rattle.htl_event.specs.declared.slot.Count.{Count}
@@ -32,11 +28,3 @@ pub record FitObjects (a b : ObjectRow) : Type 0 where
   pub fit_unbalanced : a.unbalanced + b.unbalanced < 2 ^ 64
   pub fit_refs : a.refs + b.refs < 2 ^ 64
   pub fit_derefs : a.derefs + b.derefs < 2 ^ 64
-
--- rows as entries of a table by object
-abbrev pub by_object : List ObjectRow → List (ℕ × ObjectRow)
-by_object rows = entries (λ row. row.object) (λ row. row) rows
-
--- what the sums say of an object
-abbrev pub object_at : ℕ → List (Slot × Count) → Option ObjectRow
-object_at object sums = total_at nat_cmp (λ row. row.object) (λ row. row) both_objects object (filter_map (λ sum. tag_of sum.0 sum.1) sums)

@@ -12,7 +12,7 @@ ghost use Rattle.htl_event.specs.Summaries.{IsUnbalanced, IsNumberOfObjects, Mos
 ghost use Rattle.htl_answers.specs.Parts.{AreEventsOf, size_of_all};
 ghost use Rattle.htl_answers.specs.Sums.{ListsSlotSums};
 
-use crate::tags::object_rows;
+use crate::rows::rows_by_owner;
 use htl_answers::{Part, slot_sums};
 use htl_event::{Count, NoMemory, ObjectRow, Slot};
 use std::alloc::Global;
@@ -51,7 +51,7 @@ pub(crate) fn balances_of_slots(alloc: Global, sums: &[(Slot, Count)]) -> Result
     ensures unbalanced { IfOk result (λ objects. (events : List Event)
         → ListsSlotSums events sums.now → IsUnbalanced events objects.unbalanced.items) }
 {
-    let mut rows = object_rows(alloc, sums)?;
+    let mut rows = rows_by_owner::<ObjectRow>(alloc, sums)?;
     let number = number_of(&rows);
     keep_unbalanced(&mut rows);
     put_in_order(&mut rows);

@@ -15,8 +15,9 @@ ghost use Rattle.htl_answers.specs.Open.{is_opened_after};
 ghost use Rattle.htl_answers.specs.Sums.{ListsSlotSums};
 ghost use Rattle.htl_summary.specs.Rows.{IsRowOf, AreRowsOf};
 
+use crate::rows::rows_by_owner;
 use crate::tables::{Tables, tables_of};
-use crate::usage::{Usage, used_by_process};
+use crate::usage::Usage;
 use htl_answers::{Part, slot_sums};
 use htl_event::{Count, Kind, NoMemory, ProcessRow, SharedEvent, Slot};
 use std::alloc::{Allocator, Global};
@@ -51,7 +52,7 @@ pub(crate) fn processes_of_slots<P: Part>(
         → HaveOwnSequences events → IsProcesses events rows.items) }
 {
     let tables = tables_of(tree_alloc, parts)?;
-    let used = used_by_process(alloc, sums)?;
+    let used = rows_by_owner::<Usage>(alloc, sums)?;
     let mut rows = process_rows(alloc, &used, &tables)?;
     put_in_order(&mut rows);
     Ok(rows)

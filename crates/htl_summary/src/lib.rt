@@ -7,8 +7,8 @@
 //!
 //! Files, in reading order: `summarizing.rt`, `leaking.rt` and `balancing.rt` (the answers: both,
 //! about processes and about objects), `tables.rt` (the tables of all parts), `usage.rt` and
-//! `tags.rt` (the rows of a process and of an object that a slot gives), `rows.rt` (the rows that all
-//! slots give), `adding.rt` (adds up the rows of each key). In `proofs/`, `ProcessRows` and
+//! `tags.rt` (the rows of a process and of an object that a slot gives), `rows.rt` (the rows of all
+//! owners), `adding.rt` (adds up the rows of each key). In `proofs/`, `ProcessRows` and
 //! `ObjectRows` show that rows are those of the definitions.
 #![tactic(auto)]
 

@@ -1,10 +1,14 @@
--- The rows are those of the definition, put in order, and their number is that of the objects.
+-- The rows fit, and are those of the definition, put in order, and their number is that of the objects.
 use Rattle.std.proofs.Common.{length, ap, ◌∙◌}
 use Rattle.std.specs.Prelude.{Contains, ◌↔◌, filter}
 use Rattle.htl_event.specs.declared.summary.ObjectRow.{ObjectRow}
+use Rattle.htl_summary.proofs.Fitting.{objects_fit}
 use Rattle.htl_summary.proofs.ObjectRows.{shows, are_objects, are_unbalanced}
 use Rattle.htl_summary.proofs.Sorted.{distinct_keys, distinct_filter}
 use Rattle.htl_summary.proofs.balancing.balances_of_slots.Goals as goal
+
+pub rows_by_owner-requires-clause-fits : goal.rows_by_owner-requires-clause-fits
+rows_by_owner-requires-clause-fits c = objects_fit c.args.sums.now c.requires.fits c.requires.positive
 
 pub put_in_order-requires : goal.put_in_order-requires
 put_in_order-requires c =

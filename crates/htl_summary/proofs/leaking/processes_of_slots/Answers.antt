@@ -1,11 +1,15 @@
--- The rows are those of the definition, put in order.
+-- The usages fit, and the rows are those of the definition, put in order.
 use Rattle.std.proofs.Common.{List, map, nat_eq, sym, subst, ap, ◌∙◌}
 use Rattle.std.specs.List.{IsDistinct}
 use Rattle.htl_summary.specs.declared.usage.Usage.{Usage}
 use Rattle.htl_summary.specs.Rows.{AreRowsOf}
+use Rattle.htl_summary.proofs.Fitting.{usages_fit}
 use Rattle.htl_summary.proofs.ProcessRows.{are_processes}
 use Rattle.htl_summary.proofs.Sorted.{distinct_keys}
 use Rattle.htl_summary.proofs.leaking.processes_of_slots.Goals as goal
+
+pub rows_by_owner-requires-clause-fits : goal.rows_by_owner-requires-clause-fits
+rows_by_owner-requires-clause-fits g c = usages_fit c.args.sums.now c.requires
 
 pub put_in_order-requires : goal.put_in_order-requires
 put_in_order-requires g c =

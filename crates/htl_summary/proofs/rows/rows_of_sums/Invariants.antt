@@ -6,4 +6,4 @@ use Rattle.htl_event.specs.declared.slot.Count.{Count}
 use Rattle.htl_summary.proofs.rows.rows_of_sums.Given as goal
 
 abbrev pub invariant-loop-slot : goal.invariant-loop-slot
-invariant-loop-slot g l = l.rows.items ≡ filter_map (λ (sum : Slot × Count). g.L.FromSum.row_of_sum sum.0 sum.1) (take l.slot-index l.sums)
+invariant-loop-slot g l = l.rows.items ≡ filter_map (λ (sum : Slot × Count). g.R.OwnedRow.row_of_sum sum.0 sum.1) (take l.slot-index l.sums)

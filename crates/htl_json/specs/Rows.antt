@@ -14,19 +14,23 @@ use Rattle.htl_json.specs.Frames.{stack_fields}
 use Rattle.htl_json.specs.Records.{Field, count_fields, quantity, record_of, shown_address, shown_handle, tag_fields}
 use Rattle.htl_event.specs.Words.{word_of}
 
--- an event by this word and this handle
+-- an event's own fields, by this word and this handle
 unfoldable pub event_fields : List ℕ → ℕ → Event → List Field
 event_fields word handle e =
     (codes "event", string word) ∷ (codes "handle", shown_handle handle) ∷ (codes "sequence", quantity e.sequence)
     ∷ (codes "thread", quantity e.thread) ∷ []
 
+-- an event, by this word and this handle, and its stack
+abbrev pub event_row : List Range → List ℕ → ℕ → Event → Json
+event_row symbols word handle e = record_of (event_fields word handle e ++ stack_fields symbols e.stack)
+
 -- an outstanding handle, by the base handle
 abbrev pub opened : List Range → Event → Json
-opened symbols e = record_of (event_fields (codes "OPEN") (base_of e.handle) e ++ stack_fields symbols e.stack)
+opened symbols e = event_row symbols (codes "OPEN") (base_of e.handle) e
 
 -- an event, its handle as it was written
 abbrev pub listed : List Range → Event → Json
-listed symbols e = record_of (event_fields (word_of e.kind) e.handle e ++ stack_fields symbols e.stack)
+listed symbols e = event_row symbols (word_of e.kind) e.handle e
 
 -- a handle as it was written, and how often it was named
 unfoldable pub bad_fields : ℕ → ℕ → List Field

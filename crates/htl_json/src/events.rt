@@ -1,7 +1,7 @@
 //! Rows that are events: outstanding handles, differences and listings.
 
 ghost use Rattle.std.specs.Prelude.{◌≡◌, [], OnOk};
-ghost use Rattle.htl_json.specs.Rows.{event_fields, listed, opened};
+ghost use Rattle.htl_json.specs.Rows.{event_fields, event_row, listed, opened};
 ghost use Rattle.htl_json.specs.Writing.{AddsFields, AddsLine, AddsLines};
 
 use crate::frames::write_stack;
@@ -21,20 +21,9 @@ pub(crate) fn write_opens(
         (AddsLines (opened symbols.now) lines.old lines.new rows.now) }
 {
     for event in rows {
-        write_open(lines, symbols, event)?;
+        write_event(lines, symbols, "OPEN", base(event.handle), event)?;
     }
     Ok(())
-}
-
-fn write_open(lines: &mut Lines, symbols: &Symbols, event: &SharedEvent) -> Result<(), AllocError>
-    requires { lines.old.writer.tokens ≡ [] }
-    ensures { OnOk result
-        (AddsLine lines.old lines.new (opened symbols.now event.now)) }
-{
-    lines.begin_object()?;
-    write_event(lines, "OPEN", base(event.handle), event)?;
-    write_stack(lines, symbols, &event.stack)?;
-    lines.end_line()
 }
 
 /// Writes each event by its word, with its handle as written.
@@ -48,24 +37,31 @@ pub(crate) fn write_listing(
         (AddsLines (listed symbols.now) lines.old lines.new rows.now) }
 {
     for event in rows {
-        write_listed(lines, symbols, event)?;
+        write_event(lines, symbols, event.kind.word(), event.handle, event)?;
     }
     Ok(())
 }
 
-fn write_listed(lines: &mut Lines, symbols: &Symbols, event: &SharedEvent) -> Result<(), AllocError>
+/// Writes an event, by this word and this handle, and its stack.
+fn write_event(
+    lines: &mut Lines,
+    symbols: &Symbols,
+    word: &str,
+    handle: u32,
+    event: &SharedEvent,
+) -> Result<(), AllocError>
     requires { lines.old.writer.tokens ≡ [] }
     ensures { OnOk result
-        (AddsLine lines.old lines.new (listed symbols.now event.now)) }
+        (AddsLine lines.old lines.new (event_row symbols.now word.now handle event.now)) }
 {
     lines.begin_object()?;
-    write_event(lines, event.kind.word(), event.handle, event)?;
+    write_fields(lines, word, handle, event)?;
     write_stack(lines, symbols, &event.stack)?;
     lines.end_line()
 }
 
 #[tactic(auto, unfolding(crate::specs::Rows::event_fields))]
-fn write_event(
+fn write_fields(
     lines: &mut Lines,
     word: &str,
     handle: u32,

@@ -1,22 +1,17 @@
--- Each call adds its field.
-use Rattle.std.proofs.Common.{◌++◌, ◌∷◌, [], codes}
+-- The fields are those of the line.
+use Rattle.std.proofs.Common.{◌++◌}
 use Rattle.std.proofs.lemmas.Result.{on_ok_weaker}
-use Rattle.json.specs.Json.{string}
-use Rattle.htl_json.proofs.Line.{fields_then}
-use Rattle.htl_json.specs.Records.{quantity, shown_handle}
+use Rattle.htl_json.proofs.Line.{fields_then, line_added}
+use Rattle.htl_json.specs.Frames.{stack_fields}
 use Rattle.htl_json.specs.Rows.{event_fields}
 use Rattle.htl_json.proofs.events.write_event.Goals as goal
 
 pub returns : goal.returns
-unfolding event_fields
 returns c =
-    let a = (codes "event", string c.args.word.now) ∷ [] in
-    let b = (codes "handle", shown_handle c.args.handle) ∷ [] in
-    let d = (codes "sequence", quantity c.args.event.now.sequence) ∷ [] in
-    let e = (codes "thread", quantity c.args.event.now.thread) ∷ [] in
-    on_ok_weaker c.number-2.result
-    (λ h. fields_then a (b ++ (d ++ e)) c.args.lines.now c.text.new.self c.number-2.new.self c.in_ok-text.ensures
-    (fields_then b (d ++ e) c.text.new.self c.handle.new.self c.number-2.new.self c.in_ok-handle.ensures
-    (fields_then d e c.handle.new.self c.number.new.self c.number-2.new.self c.in_ok-number.ensures
-    h)))
-    c.number-2.ensures
+    let a = event_fields c.args.word.now c.args.handle c.args.event.now in
+    let b = stack_fields c.args.symbols.now c.args.event.now.stack in
+    let fields = fields_then a b c.begin_object.new.self c.write_fields.new.lines c.write_stack.new.lines c.in_ok-write_fields.ensures
+    c.in_ok-write_stack.ensures in
+    on_ok_weaker c.end_line.result
+    (line_added (a ++ b) c.args.lines.now c.begin_object.new.self c.write_stack.new.lines c.end_line.new.self c.requires c.in_ok-begin_object.ensures fields)
+    c.end_line.ensures

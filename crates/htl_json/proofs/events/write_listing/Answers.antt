@@ -1,14 +1,17 @@
 -- Each turn adds a line.
-use Rattle.std.proofs.Common.{arith}
+use Rattle.std.proofs.Common.{arith, subst}
 use Rattle.htl_json.proofs.Added.{rows_done, rows_more}
-use Rattle.htl_json.specs.Rows.{listed}
+use Rattle.htl_json.specs.Rows.{event_row, listed}
+use Rattle.htl_json.specs.Writing.{AddsLine}
 use Rattle.htl_json.proofs.events.write_listing.Goals as goal
 
 pub loop-event-preserved : goal.loop-event-preserved
 loop-event-preserved c =
+    let event = c.event-item.result in
+    let row = subst (λ word. AddsLine c.loop-event.lines c.write_event.new.lines (event_row c.args.symbols.now word event.handle event))
+    c.word.ensures c.in_ok-write_event.ensures in
     rows_more (listed c.args.symbols.now) c.args.rows.now c.loop-event.event-index c.event-item.result c.args.lines.now c.loop-event.lines
-    c.write_listed.new.lines
-    c.loop-event-test.true c.event-item.is c.loop-event.invariant c.in_ok-write_listed.ensures
+    c.write_event.new.lines c.loop-event-test.true c.event-item.is c.loop-event.invariant row
 
 pub returns : goal.returns
 returns c =

@@ -49,9 +49,9 @@ pub struct Front<K> {
     pub len: u64,
 }
 
-/// Has a keeper take over the segments at the front of a source, of which several workers read a part
-/// each. The source skips them. If they aren't whole segments, the keeper takes none and the source
-/// stays where it was.
+/// Has a keeper take over the segments at the front of a source. Each of several workers reads a part
+/// of these bytes, and the source skips them. Where these bytes aren't whole segments, the keeper
+/// takes nothing and the source stays where it was.
 pub fn take_parts<T: Threads + Sync, R: Parted, K: JoiningKeeper + Drop + Send>(
     rt: &T,
     alloc: Global,

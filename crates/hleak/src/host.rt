@@ -1,5 +1,6 @@
-//! The files and the standard input of the machine. What its names hold is known to no contract, so
-//! each body here is one call of std's: `.ci/statuses` and `.ci/picks` show that it is of the name.
+//! The files and the standard input of the machine. No contract knows what its files hold, so each
+//! body here is one call of std's; `.ci/statuses` and `.ci/picks` test that it opens the right
+//! name.
 
 ghost use Rattle.std.specs.Prelude.{◌≡◌, Err, IfErr, IfOk, None, Ok, false};
 ghost use Rattle.std_io.specs.IoError.{error_kind};

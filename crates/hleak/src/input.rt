@@ -8,8 +8,7 @@ use crate::progress::Progress;
 use std::io::{IsTerminal, Read, Stdin};
 use std::{fs, io};
 
-/// An input of the program: it gives what its device gives. What is read of it is counted where
-/// somebody watches.
+/// An input of the program. It gives the bytes of its device, and counts them if progress is shown.
 #[derive(Drop)]
 pub struct Input<'a, D> {
     device: D,

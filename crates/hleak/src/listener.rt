@@ -18,9 +18,9 @@ pub struct Listener {
     rt: HostRuntime,
     /// Whether notes are wanted: a person at a terminal reads it, or they are asked for.
     wants_notes: bool,
-    /// Whether the lines are typed there.
+    /// Whether the lines are typed at a terminal.
     is_typed: bool,
-    /// Whether a line was refused. One that asks for help was not.
+    /// Whether a line was refused. A line that asks for help doesn't count.
     has_refused: bool,
 }
 
@@ -65,7 +65,7 @@ impl Listener {
         }
     }
 
-    /// A line was wrong, for this reason.
+    /// Keeps in mind that a line was refused, unless it asked for help.
     fn count(&mut self, fault: &ParseFault)
         ensures { self.new ≡ record self.old {
           has_refused = self.old.has_refused || is_refusal fault.now;

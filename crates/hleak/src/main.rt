@@ -3,8 +3,8 @@
 //!
 //! What its arguments ask for is done by `htl_program`, for any world. Here is the world of the
 //! machine (`host.rt`), whose files (`file.rt`) are opened once they are read (`input.rt`), also by
-//! several workers (`input_source.rt`), and the person who reads standard error (`terminal.rt`). What
-//! goes there beside the replies of a dialogue is the matter of `listener.rt`.
+//! several workers (`input_source.rt`), and the person who reads standard error (`terminal.rt`).
+//! `listener.rt` writes there beside the replies of a dialogue.
 //!
 //! Where standard error is a terminal, a person reads more: `progress.rt` shows how much was read,
 //! `absence.rt` says that what was asked about has no event, `note.rt` that segments are missing, and

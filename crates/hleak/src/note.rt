@@ -11,7 +11,7 @@ use std::fmt;
 pub enum Note {
     /// Some are missing: the answer holds for those that are there.
     Gaps(Coverage),
-    /// Inputs end within one, which counts for nothing.
+    /// Inputs end within a segment, which is left out.
     Cut(CutInputs),
 }
 

@@ -4,9 +4,8 @@
 //! how much was read, and of how much where each input is a file. It is written over from time to
 //! time and goes away when the last input has ended. A line that can't be written is left out.
 //!
-//! The system's answer to how wide a terminal is can't be had here, so the line is short and fits
-//! into narrow ones: it has `WIDTH` characters, whatever it says, and as many blanks are written over
-//! it.
+//! The width of the terminal can't be asked for here, so the line is short enough for narrow ones:
+//! it has `WIDTH` characters, whatever it says, and as many blanks are written over it.
 
 ghost use Rattle.std.specs.Prelude.{◌≡◌, ◌+◌, ◌-◌, ◌*◌, ◌^◌, ◌<◌, ◌≤◌, ◌↔◌, None, Some};
 ghost use Rattle.std.specs.Prelude.{IsTrue, IfSome, IfNone, min};
@@ -39,7 +38,7 @@ struct Meter {
 }
 
 impl Meter {
-    /// Nothing was read, of no inputs so far.
+    /// No input yet, and nothing read.
     fn new() -> Meter
         ensures read { result.read ≡ 0 }
         ensures total { result.total ≡ Some 0 }
@@ -77,7 +76,7 @@ impl Meter {
         self.read = self.read.saturating_add(bytes);
     }
 
-    /// One input less is open.
+    /// Notes that an input has ended.
     fn end(&mut self)
         ensures inputs { self.new.inputs ≡ self.old.inputs - 1 }
         ensures kept { (self.new.read ≡ self.old.read) × (self.new.total ≡ self.old.total)
@@ -122,7 +121,8 @@ enum Unit {
 }
 
 impl Unit {
-    /// The smallest unit in which the amount is below 1,000. In exabytes each number of 64 bits is.
+    /// The smallest unit in which the amount is below 1,000. Every number of 64 bits is below 1,000
+    /// exabytes.
     fn for_bytes(bytes: u64) -> Unit {
         match bytes / 1_000_000_000 {
             0 => Unit::Megabyte,
@@ -228,7 +228,7 @@ impl Progress {
         }
     }
 
-    /// Takes the line away.
+    /// Clears the line.
     pub fn clear(&self) {
         let mut meter = self.meter.get();
         if meter.shown.is_some() {

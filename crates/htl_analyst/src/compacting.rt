@@ -66,8 +66,9 @@ impl Analyst<Global> {
     ghost use Rattle.htl_analyst.specs.Right.{IsState};
     ghost use Rattle.htl_analyst.specs.StepParts.{IsFurther};
 
-    /// The same as `compact`, by so many workers, each of which folds the runs of some processors.
-    /// Where threads are refused, or a worker finds no memory, one worker does what is left.
+    /// The same as `compact`, by this many workers, each of which folds the runs of some
+    /// processors. Where threads are refused, or a worker finds no memory, one worker does what is
+    /// left.
     pub fn compact_by<T: Threads + Sync>(&mut self, rt: &T, workers: u32) -> Result<(), NoMemory>
         ensures { Compacts self.old self.new result }
     {
@@ -75,8 +76,8 @@ impl Analyst<Global> {
         self.compact()
     }
 
-    /// Folds the runs of the processors by so many workers, as far as these find memory. One worker
-    /// alone has none to share them with, and leaves them.
+    /// Folds the runs of the processors by this many workers, as far as these find memory. With one
+    /// worker, or one processor, it leaves all to `compact`.
     fn fold_by<T: Threads + Sync>(&mut self, rt: &T, workers: u32)
         ensures further { IsFurther self.old self.new }
         ensures state { IsState self.old }
@@ -89,8 +90,8 @@ impl Analyst<Global> {
     }
 }
 
-/// Folds the runs of the parts by so many workers, each of which has some parts. A part for whose run
-/// there is no memory stays as it was. No front moves.
+/// Folds the runs of the parts by this many workers, each of which has some parts. A part for whose
+/// run there is no memory stays as it was. No front moves.
 fn fold_parts<T: Threads + Sync>(
     rt: &T,
     workers: usize,

@@ -1,5 +1,5 @@
 //! Laws of analysts that are right about one trace. Each function's contract is the law; none does
-//! anything when it runs. Below stands what a caller shows by the clauses of `take` alone.
+//! anything when it runs. `take_twice` shows what a caller knows by the clauses of `take` alone.
 
 ghost use Rattle.std.specs.Prelude.{◌≡◌, ◌≤◌, ◌+◌};
 ghost use Rattle.htl_analyst.specs.Keys.{number_taken};
@@ -58,7 +58,8 @@ pub fn nothing_comes_later()
     ensures { NothingComesLater }
 {}
 
-/// A fact of states that are right about a collection's segments holds for each trace.
+/// Every trace is a collection, so what holds of states that are right about a collection holds for
+/// traces.
 pub fn traces_are_collections()
     ensures { TracesAreCollections }
 {}

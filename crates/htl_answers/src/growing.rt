@@ -13,9 +13,9 @@ use crate::lives::{Lives, lives_of, number_at};
 use htl_event::{EventList, NoMemory, Point, Span};
 use std::alloc::Global;
 
-/// How many handles of the process were outstanding as of each of so many moments of the span, at even
-/// distances from its first to its last, the earliest first. Moments that fall together are one point,
-/// and where there is no span there is none.
+/// How many handles of the process were outstanding as of each of this many moments of the span, at
+/// even distances from its first to its last, the earliest first. Moments that fall together are
+/// one point, and where there is no span there is none.
 pub fn growth<E: EventList>(
     alloc: Global,
     lists: &[E],
@@ -87,7 +87,7 @@ fn all_moments(alloc: Global, span: Span, points: u32) -> Result<Vec<u64>, NoMem
     Ok(moments)
 }
 
-/// The `i`-th of so many moments. The product of a place and a distance needs more than 64 bits.
+/// The `i`-th of this many moments. The product of a place and a distance needs more than 64 bits.
 fn moment_at(span: Span, points: u32, i: u32) -> u64
     requires { i < points }
     ensures { result ≡ moment_at span points i }

@@ -19,8 +19,8 @@ use std::alloc::Global;
 use std::cmp::Reverse;
 
 /// The stacks that opened outstanding handles of the process, each with their number, the greatest
-/// number first and then in stack order. Where a moment is given, only handles that were opened after
-/// it count. A stack with fewer than so many of them is left out.
+/// number first and then in stack order. Where a moment is given, only handles that were opened
+/// after it count. Stacks with fewer than `at_least` of them are left out.
 pub fn leaks<P: Part>(
     alloc: Global,
     parts: &[P],
@@ -60,8 +60,8 @@ fn open_since<P: Part>(
     }
 }
 
-/// The rows with so many opens at least, the number of opens first. It is reversed, so that a sort
-/// puts the greatest first.
+/// The rows with `at_least` opens or more. The number of opens comes first, reversed, so that a
+/// sort puts the greatest first.
 fn number_first(
     alloc: Global,
     counts: &[((Slot, SharedStack), Count)],

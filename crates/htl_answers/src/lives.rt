@@ -63,8 +63,8 @@ pub(crate) fn lives_of<E: EventList>(
     Ok(Lives { starts, ends })
 }
 
-/// How many handles were open as of the moment: so many had been opened up to it, less those that had
-/// ceased to be open.
+/// The number of handles that were open as of the moment: those opened up to it, less those that
+/// had ceased to be open.
 pub(crate) fn number_at(lives: &Lives, moment: u64) -> u64
     requires { AreInOrder lives.now.starts.items lives.now.ends.items }
     ensures { result ≡ number_at lives.now.starts.items lives.now.ends.items moment }

@@ -44,8 +44,8 @@ impl Case {
         ensures ok { IfOk result (IsCaseOf segments.items) }
         ensures err { IfErr result (IsRefusal segments.items) }
 
-        // A list is a case or breaks a rule, never both, and one rule first. So nothing else is
-        // answered, but for out of memory.
+        // A list has exactly one outcome: its case, or the first rule that it breaks. The answer is
+        // that outcome, or out of memory.
         ensures exact { (outcome : Result Trace CaseFault) → IsOutcome segments.items outcome
             → (result ≡ outcome) ⊎ (result ≡ Err CaseFault.NoMemory) }
     {

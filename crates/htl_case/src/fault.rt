@@ -1,11 +1,11 @@
-//! Why a list of segments is no case, and why a list of steps isn't played.
+//! Why a list of segments isn't a case, and why a list of steps isn't played.
 
 use htl_event::NoMemory;
 use std::alloc::{AllocError, AllocFailed};
 use thiserror::Error;
 
-/// Why a list of segments is no case: the first rule that it breaks, each tried over all segments
-/// before the next. The `Display` text is the fault's code.
+/// Why a list of segments isn't a case: the first rule that it breaks. Each rule is tried over all
+/// segments before the next. The `Display` text is the fault's code.
 #[derive(Clone, Copy, Debug, PartialEq, Eq, Error)]
 pub enum CaseFault {
     /// There are no segments.

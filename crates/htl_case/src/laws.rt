@@ -1,5 +1,5 @@
-//! The law that this project is about, its premise, when an answer is final, and what it is over a
-//! case. Each function does nothing when it runs.
+//! The headline, that there are analysts as it has them, when an answer is final, and what an
+//! answer over a case is. Each function does nothing when it runs.
 
 ghost use Rattle.htl_case.specs.Answers.{AnswersAreDetermined};
 ghost use Rattle.htl_case.specs.Final.{AnswersAreFinal};

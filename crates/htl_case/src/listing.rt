@@ -44,7 +44,7 @@ impl PickedCase {
     ghost use Rattle.std.specs.Prelude.{Contains, IfOk};
     ghost use Rattle.htl_event.specs.Handles.{HaveOwnSequences, IsListing};
 
-    /// The same listing, over the events in hand.
+    /// The same listing, from the picked events.
     pub fn trace(
         &self,
         alloc: Global,

@@ -1,5 +1,5 @@
-//! Outlines: those of segments in hand, and whether outlines are those of one trace, each with a key
-//! of its own.
+//! The outlines of segments, and the tests that outlines are of one trace and that no key comes
+//! twice.
 
 ghost use Rattle.std.specs.Prelude.{◌≡◌, ◌≤◌, ℕ, true, false, map, IfOk, MatchOption};
 ghost use Rattle.std.specs.List.{list_all};

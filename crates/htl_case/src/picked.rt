@@ -1,4 +1,4 @@
-//! Picked cases: of these only what a question asks about is in hand.
+//! Picked cases: they have only the events that one question asks about.
 
 ghost use Rattle.std.specs.Prelude.{◌≡◌};
 ghost use Rattle.htl_event.specs.Moments.{events_until};
@@ -38,9 +38,9 @@ impl PickedCase {
     ghost use Rattle.htl_case.specs.Cases.{IsCaseOf};
     ghost use Rattle.htl_case.specs.Picked.{picked, IsPickedOf, IsPickedUntil, NeedsWhole};
 
-    /// The case of what was picked of segments, which may come in any order. It takes no memory. It is
-    /// none where a key comes twice or the segments are no case: which of these holds, and why, only
-    /// whole segments tell.
+    /// The case of what was picked of segments, which may come in any order. It takes no memory.
+    /// There is none if a key comes twice or the segments don't form a case; which of these it is,
+    /// only whole segments tell.
     pub fn of(picks: Picks) -> Option<PickedCase>
         ensures some { IfSome result (λ case.
             (interest : Interest) (segments : List Content)

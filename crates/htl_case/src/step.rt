@@ -17,7 +17,7 @@ pub enum Step {
 }
 
 impl Step {
-    /// Whether the step names an analyst beyond the first ones, of which there are this many.
+    /// Whether the step names an analyst at a place that isn't below this number.
     pub(crate) fn names_no_analyst(self, analysts: u32) -> bool
         ensures { IsTrue result ↔ NamesNoAnalyst analysts self }
     {
@@ -27,7 +27,7 @@ impl Step {
         }
     }
 
-    /// Whether the step names a segment beyond the first ones, of which there are this many.
+    /// Whether the step names a segment at a place that isn't below this number.
     pub(crate) fn names_no_segment(self, segments: usize) -> bool
         ensures { IsTrue result ↔ NamesNoSegment segments self }
     {

@@ -7,7 +7,7 @@ use htl_main::{Added, Refused, RunFault};
 use std::alloc::{AllocError, AllocFailed};
 use thiserror::Error;
 
-/// Who is told what goes on beside the replies. What it shows is no part of them.
+/// Who hears what goes on beside the replies. What a host shows isn't part of the replies.
 pub trait Host {
     ghost use Rattle.std.specs.Prelude.{◌≡◌, Bool, map, string_bytes};
     ghost use Rattle.htl_dialogue.specs.Notes.{Note, awaits, lacks, reads, refuses};
@@ -28,7 +28,7 @@ pub trait Host {
         ensures told { self.new ≡ told self.old (refuses fault.now) }
         ensures same { wants_absence self.new ≡ wants_absence self.old };
 
-    /// Files were to be read: this is what they brought, or why they are refused.
+    /// Files were read: this is what they added, or why they were refused.
     fn reads(&mut self, files: &[String], ended: Result<Added, Refused>)
         ensures told { self.new ≡ told self.old (reads (map string_bytes files.now) ended) }
         ensures same { wants_absence self.new ≡ wants_absence self.old };
@@ -48,7 +48,7 @@ pub trait Host {
 pub struct Conversed {
     /// Whether a line was wrong.
     pub has_wrong: bool,
-    /// Why the first files were refused that were to be read, where some were.
+    /// Why files were refused, for the first line whose files were.
     pub first_fault: Option<RunFault>,
 }
 
@@ -56,7 +56,7 @@ impl Conversed {
     ghost use Rattle.std.specs.Prelude.{◌≡◌, ◌||◌, None, false};
     ghost use Rattle.std.specs.Option.{option_or};
 
-    /// Nothing was said yet, or nothing of it is wrong.
+    /// A dialogue without a wrong line and without refused files.
     pub fn fine() -> Conversed
         ensures wrong { result.has_wrong ≡ false }
         ensures first { result.first_fault ≡ None }
@@ -67,7 +67,7 @@ impl Conversed {
         }
     }
 
-    /// What was said so far, and one line more.
+    /// The same dialogue with one line more.
     pub fn then(self, line: Conversed) -> Conversed
         ensures wrong { result.has_wrong ≡ (self.has_wrong || line.has_wrong) }
         ensures first { result.first_fault ≡ option_or self.first_fault line.first_fault }
@@ -82,10 +82,10 @@ impl Conversed {
 /// Why a dialogue ends before its lines do.
 #[derive(Clone, Copy, Debug, PartialEq, Eq, Error)]
 pub enum DialogueFault {
-    /// A read of the lines failed, or there was no end of them.
+    /// A read of the lines failed, or the lines had no end within 2^32 reads.
     #[error("hleak: questions: read failed")]
     Questions,
-    /// A write failed, or took none of some bytes.
+    /// A write failed, or accepted none of the bytes.
     #[error("hleak: output: write failed")]
     Write,
     /// An allocation was refused.

@@ -47,8 +47,8 @@ impl ReadAhead {
         })
     }
 
-    /// Moves the bytes before the first line feed to the line, and says whether there is one. It goes
-    /// too.
+    /// Moves the bytes before the first line feed to the line, drops the line feed, and returns
+    /// whether there was one.
     fn move_to(&mut self, line: &mut Line) -> Result<bool, AllocError>
         ensures ok { IfOk result (Moves self.old self.new line.old line.new) }
         ensures err { OnErr result (self.new ≡ self.old) }
@@ -68,7 +68,7 @@ impl ReadAhead {
         }
     }
 
-    /// Reads on, where no bytes are held, and says how many came.
+    /// Reads more bytes if none are held, and returns how many came.
     fn refill<R: Source>(&mut self, source: &mut R) -> Result<usize, Failed>
         requires empty { self.old ≡ [] }
         requires fresh { R.has_failed source.old ≡ false }

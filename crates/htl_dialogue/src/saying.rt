@@ -30,7 +30,7 @@ pub enum Said {
     Asks(Job),
     /// Files of these names are to be read.
     Reads(Vec<String>),
-    /// None of these, and why.
+    /// The line is wrong, for this reason.
     Wrong(ParseFault),
 }
 
@@ -79,7 +79,7 @@ fn said_of(alloc: Global, line: &Line) -> Result<Said, NoMemory>
     }
 }
 
-/// What arguments say.
+/// What a line with these arguments says.
 fn said_by(alloc: Global, arguments: Vec<String>) -> Result<Said, NoMemory>
     ensures said { IfOk result (λ said.
         saying said ≡ saying_by (map string_bytes arguments.items)) }
@@ -97,7 +97,7 @@ fn said_by(alloc: Global, arguments: Vec<String>) -> Result<Said, NoMemory>
     said_by_question(alloc, &arguments)
 }
 
-/// What a question says.
+/// The question that the arguments ask, or why they are wrong.
 fn said_by_question(alloc: Global, arguments: &[String]) -> Result<Said, NoMemory>
     requires some { 0 < length arguments.now }
     ensures said { IfOk result (λ said. saying said ≡ asking (map string_bytes arguments.now)) }
@@ -120,8 +120,7 @@ fn is_read(arguments: &[String]) -> bool
     }
 }
 
-/// What a line says that reads: the files after the word, of which there is one at least, and no
-/// option.
+/// What a `read` line says: the names of one or more files after the word, and no option.
 fn files_of(alloc: Global, mut arguments: Vec<String>) -> Result<Said, NoMemory>
     requires some { 0 < length arguments.items }
     ensures said { IfOk result (λ said.
@@ -159,7 +158,7 @@ fn is_quit(arguments: &[String]) -> bool
     }
 }
 
-/// Whether the word is `quit`, or what debuggers and shells have for it.
+/// Whether the word is `quit`, `exit` or `q`.
 fn is_farewell(word: &str) -> bool
     ensures { result ≡ is_farewell word.now }
 {

@@ -46,8 +46,8 @@ impl<T: Drop> From<AllocFailed<T>> for ArgumentFault {
     }
 }
 
-/// The arguments of a line, which blanks separate. A blank in double quotes is one of the argument's
-/// bytes, and the quotes are none; where nothing else stands, there is no argument. A quote that is
+/// The arguments of a line, which blanks separate. A blank in double quotes belongs to the
+/// argument, and the quotes don't. Quotes with nothing in them make no argument. A quote that is
 /// not ended is reported first, and then the first argument that is not text.
 pub fn arguments(alloc: Global, line: &[u8]) -> Result<Vec<String>, ArgumentFault>
     ensures ok { IfOk result (λ arguments. (ends_quoted false line.now ≡ false)

@@ -25,7 +25,7 @@ impl<A: Allocator> EventList for Vec<SharedEvent, A> {
     }
 }
 
-/// How many events the lists have, or none where that is no `u64`.
+/// The number of events in the lists, or none if it exceeds a `u64`.
 pub fn number_of_events<R: EventList>(lists: &[R]) -> Option<usize>
     ensures some { IfSome result (λ number. number ≡ length (flat_map R.events_of lists.now)) }
     ensures none { result ≡ None → 2 ^ 64 ≤ length (flat_map R.events_of lists.now) }

@@ -178,7 +178,7 @@ fn push_run(run: &mut Vec<Segment>, segments: &[Segment], processor: u16) -> Res
     Ok(())
 }
 
-// A desk for each of so many parts of the pass. The last has the first pass, with what is left of
+// A desk for each of this many parts of the pass. The last has the first pass, with what is left of
 // it.
 fn make_desks(
     alloc: Global,

@@ -163,7 +163,7 @@ fn work_all<'s, E, G: Gate + Sync, R: Threads + Wait + Sync>(
     Some(desks)
 }
 
-// What a worker's thread promises: a desk of this exchange comes back, with so many parts.
+// What a worker's thread promises: a desk of this exchange comes back, with this many parts.
 #[derive(Clone, Copy)]
 pub(crate) struct ComesBack<'a>(pub(crate) &'a Exchange, pub(crate) u32);
 

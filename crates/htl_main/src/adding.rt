@@ -32,16 +32,16 @@ use std::alloc::Global;
 use std::fmt;
 use std::thread::Threads;
 
-/// What sources brought to what was loaded.
+/// What reading more sources added.
 #[derive(Clone, Copy, Debug, PartialEq, Eq)]
 pub struct Added {
-    /// How many segments they have.
+    /// The number of segments in the sources.
     pub segments: u64,
-    /// How many keys their segments have that were not there.
+    /// The number of their keys that the case didn't have before.
     pub new: u64,
     /// How much of its trace the case has now.
     pub coverage: Coverage,
-    /// Which of them end within a segment.
+    /// The sources that end within a segment.
     pub cut: Option<CutInputs>,
 }
 
@@ -80,7 +80,7 @@ pub fn add<Rt: Threads + Sync, R: Parted>(
 ) -> Result<Added, Refused>
     requires fresh { All (λ source. R.has_failed source ≡ false) inputs.old }
     requires inside { All (λ source. R.has_ended source ≡ false) inputs.old }
-    // What the sources' bytes come to is added, or reported.
+    // The segments of the sources' bytes are added, or their first fault is reported.
     ensures ok { (texts : List (List ℕ)) → map R.remaining inputs.old ≡ map Some texts
         → IfOk result (IsAdded setting.form setting.complete loaded.old.case.segments texts
         loaded.new.case) }
@@ -115,8 +115,8 @@ pub fn add<Rt: Threads + Sync, R: Parted>(
     })
 }
 
-/// Loads the decoded segments and, as those of the input `place`, copies of the old case's segments. It
-/// loads no symbols.
+/// Makes a case of the decoded segments and of copies of the old case's segments, which count as
+/// the input `place`. It reads no symbols.
 fn load_with(
     alloc: Global,
     complete: bool,

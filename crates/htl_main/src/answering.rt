@@ -18,11 +18,14 @@ use htl_command::{Question, Since};
 use htl_event::{EventList, NoMemory, Point, Span};
 use htl_report::Answer;
 use std::alloc::Global;
+use std::thread::Threads;
 
-/// The answer to a question over a case, whose events count up to a moment: from the segments as they
-/// lie there, without folding any.
+/// The answer to a question over the events of a case up to a moment. It is made from the segments
+/// where they lie, without folding any.
 pub(crate) fn answer(
+    rt: &(impl Threads + Sync),
     alloc: Global,
+    workers: u32,
     question: Question,
     until: Option<u64>,
     case: &Case,
@@ -39,7 +42,7 @@ pub(crate) fn answer(
             process,
             rows: growth_over(alloc, case, until, process, points)?,
         }),
-        Question::Summary => summary(alloc, case, until),
+        Question::Summary => summary(rt, alloc, workers, case, until),
         question => answer_over(alloc, case, until, question),
     }
 }
@@ -64,7 +67,7 @@ fn growth_over(
     )
 }
 
-/// The span up to a moment: none where that comes before its first sequence.
+/// The part of the span up to a moment, or none if the moment is before its first sequence.
 pub(crate) fn span_until(until: Option<u64>, span: Option<Span>) -> Option<Span>
     ensures { result ≡ span_until until span }
 {
@@ -93,7 +96,7 @@ fn answer_over(
     answer_of_lists(alloc, &lists, question)
 }
 
-/// The answer to a question about the events of lists, by one part that holds them.
+/// The answer to a question about the events of these lists, which one part holds unfolded.
 pub(crate) fn answer_of_lists<E: EventList>(
     alloc: Global,
     lists: &[E],
@@ -162,7 +165,7 @@ pub(crate) fn answer_of<P: Part>(
     })
 }
 
-/// Since when handles count: the sequence that is given, or the mark of the process.
+/// The sequence after which handles count: the given one, or that of the process's last snapshot.
 fn sequence_of<P: Part>(parts: &[P], process: u32, since: Since) -> u64
     ensures { (events : List Event) → AreEventsOf (map P.contents parts.now) events
         → IsSince events process since result }
@@ -173,7 +176,7 @@ fn sequence_of<P: Part>(parts: &[P], process: u32, since: Since) -> u64
     }
 }
 
-/// The same where it is given at all.
+/// As `sequence_of`, or none if no start is given.
 fn sequence_if_given<P: Part>(parts: &[P], process: u32, since: Option<Since>) -> Option<u64>
     ensures { (events : List Event) → AreEventsOf (map P.contents parts.now) events
         → IsSinceIfGiven events process since result }

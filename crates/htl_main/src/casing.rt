@@ -1,4 +1,4 @@
-//! The case of decoded segments, or which two of them break a rule of a case.
+//! Makes the case of decoded segments, or finds two segments that break a rule of cases.
 
 ghost use Rattle.std.specs.Prelude.{◌≡◌, ℕ, List, Option, IfOk, IfErr, IfNone, IfSome};
 ghost use Rattle.std.specs.Prelude.{Some, slice_get};
@@ -22,8 +22,9 @@ use htl_event::NoMemory;
 use htl_segment::Segment;
 use std::alloc::Global;
 
-/// The case of decoded segments. Since a refusal drops them, copies are kept until then, which take 32
-/// bytes a segment. Where memory for these is refused, the case or the fault is the same.
+/// The case of decoded segments. `Case::of` drops segments that it refuses, so copies (32 bytes
+/// each) are kept to name the two that conflict. Without memory for copies the case or the fault is
+/// the same.
 #[tactic(auto, using(crate::proofs::CaseRefused::cause_of_case))]
 pub(crate) fn case_of(alloc: Global, decoded: Decoded) -> Result<Case, Refused>
     ensures ok { IfOk result (IsCaseOf decoded.segments.items) }
@@ -82,7 +83,7 @@ fn between(segments: &[Segment], spans: &[InputSpan], fault: CaseFault) -> Betwe
     }
 }
 
-/// What is said of the two segments where no copies of them were kept.
+/// What is reported of a fault's two segments if no copies were kept.
 fn unknown(fault: CaseFault) -> Between
     ensures { (form : InputForm) (inputs : List (List ℕ)) (segments : List Content)
         → IsBetweenOf form inputs segments fault result }

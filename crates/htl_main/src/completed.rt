@@ -22,13 +22,13 @@ pub struct Completed {
     pub coverage: Coverage,
     /// The inputs that ended within a segment.
     pub cut: Option<CutInputs>,
-    /// Whether an event that counts is of what the question is about: of its process, in events of
-    /// each kind; of its object, or of its tag of the object, in references and dereferences; or of
-    /// its handle, in opens, closes and bad references. Where none is, a number may be mistyped. A
-    /// summary is about all events.
+    /// Whether the question's subject has an event that counts: its process in an event of any
+    /// kind; its object, or its tag of the object, in a reference or a dereference; its handle in
+    /// an open, a close or a bad reference. If it has none, a number may be mistyped. A summary is
+    /// about all events.
     pub has_subject: bool,
-    /// Whether the answer finds something: it has a row; of tags one that doesn't balance, and of a
-    /// summary a process with outstanding handles or bad references, or an object.
+    /// Whether the answer finds something: any row; for `tags` a tag that doesn't balance; for
+    /// `summary` an unbalanced object, or a process with outstanding handles or bad references.
     pub has_finding: bool,
 }
 
@@ -70,8 +70,8 @@ fn has_use(processes: &[ProcessRow]) -> bool
         .any(|row| row.outstanding != 0 || row.bad != 0)
 }
 
-/// Whether an event that counts is of what the job's question is about. The first that is found ends
-/// the walk.
+/// Whether an event that counts is of what the job's question is about. It stops at the first such
+/// event.
 pub fn has_subject(job: &Job, loaded: &Loaded) -> bool
     ensures { IsCoverage loaded.now.case loaded.now.coverage
         → HasSubject loaded.now.case job.now result }

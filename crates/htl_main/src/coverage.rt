@@ -19,8 +19,8 @@ use std::alloc::Global;
 /// are there.
 #[derive(Clone, Copy, Debug, PartialEq, Eq)]
 pub struct Coverage {
-    /// How many gaps there are: longest unbroken runs of missing segment numbers below a
-    /// processor's greatest one, and processors without a segment.
+    /// The number of gaps. A gap is a longest run of missing segment numbers below a processor's
+    /// greatest one, or a processor without any segment.
     pub gaps: u64,
     /// The sequence up to which no segment is missing.
     pub complete_to: u64,
@@ -41,7 +41,7 @@ impl Coverage {
         self.gaps > 0 && is_above(until, self.complete_to)
     }
 
-    /// The moment that is named, as a sequence. Where none is named, all events count.
+    /// The named moment as a sequence, or none if no moment is named: then all events count.
     pub(crate) fn moment(self, named: Option<Moment>) -> Option<u64>
         ensures { (T : Trace) → IsCoverage T self → IsMomentOf T named result }
     {
@@ -52,7 +52,8 @@ impl Coverage {
     }
 }
 
-/// Whether the moment is above a sequence, as the end of the trace is.
+/// Whether the moment is later than this sequence. If none is named, it is the end of the trace,
+/// which is later than every sequence.
 pub(crate) fn is_above(until: Option<Moment>, sequence: u64) -> bool
     ensures { result ≡ is_above until sequence }
 {
@@ -63,11 +64,11 @@ pub(crate) fn is_above(until: Option<Moment>, sequence: u64) -> bool
     }
 }
 
-/// What a case misses of its trace.
+/// What is missing of a case's trace.
 #[derive(Drop)]
 pub(crate) struct Missed {
-    /// The gaps: for each processor, in order, the longest unbroken runs of numbers that are missing
-    /// below one that is there; or that it has no segment.
+    /// The gaps by processor: each longest run of missing numbers below one that is there, or that
+    /// the processor has no segment.
     pub gaps: Vec<Gap>,
     /// The sequence up to which no segment is missing.
     pub complete_to: u64,
@@ -116,8 +117,7 @@ impl Missed {
         }
     }
 
-    /// The processor and the number of the least key that is missing: of the first processor that has
-    /// a gap the first missing number.
+    /// The least missing key: the first processor with a gap, and its first missing number.
     #[tactic(auto, using(crate::proofs::Missing::complete))]
     pub fn first(&self) -> Option<(u16, u32)>
         ensures some { IfSome result (λ key. (T : Trace) → IsMissed T self.now
@@ -175,8 +175,8 @@ fn add_runs(gaps: &mut Vec<Gap>, processor: u16, outlines: &[Outline]) -> Result
     Ok(())
 }
 
-/// The outlines of the processor, and those of the processors after it, where they are in order and
-/// none is of a processor before it.
+/// Splits ordered outlines, none of an earlier processor, into those of this processor and those of
+/// later ones.
 fn split_at_processor(outlines: &[Outline], processor: u16) -> (&[Outline], &[Outline])
     ensures parts { result.0.now ++ result.1.now ≡ outlines.now }
     ensures own { IsNonDecreasingBy (λ o. o.processor) outlines.now
@@ -188,7 +188,7 @@ fn split_at_processor(outlines: &[Outline], processor: u16) -> (&[Outline], &[Ou
     outlines.split_at(outlines.partition_point(|outline| outline.processor <= processor))
 }
 
-/// The outlines of a processor before the first that is missing.
+/// The processor's outlines before its first missing number.
 fn unbroken(own: &[Outline]) -> &[Outline]
     ensures { result.now ≡ take (reach_from 0 (numbers_of own.now)) own.now }
 {

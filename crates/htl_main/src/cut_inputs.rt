@@ -19,7 +19,7 @@ pub struct CutInputs {
     pub others: u64,
 }
 
-/// The inputs that are cut, with the input at this place where it is cut.
+/// Adds the input at this place to the cut inputs if it is cut.
 pub(crate) fn with_input(cut: Option<CutInputs>, place: u64, is_cut: bool) -> Option<CutInputs>
     requires { OthersFit cut place }
     ensures { result ≡ with_input is_cut place cut }
@@ -39,7 +39,7 @@ pub(crate) fn with_input(cut: Option<CutInputs>, place: u64, is_cut: bool) -> Op
     }
 }
 
-/// What is accepted of an input.
+/// An input that was read and accepted.
 #[derive(Drop)]
 pub(crate) struct Accepted<T> {
     /// Its segments, in the form in which they are kept.
@@ -48,8 +48,8 @@ pub(crate) struct Accepted<T> {
     pub is_cut: bool,
 }
 
-/// Accepts what was read of the input at a place, which is refused where it ends within a segment and
-/// may not.
+/// Accepts what was read of the input at this place. Refuses it if it ends within a segment and
+/// inputs may not be partial.
 pub(crate) fn accept<T: Drop>(
     form: InputForm,
     place: u64,
@@ -70,8 +70,8 @@ pub(crate) fn accept<T: Drop>(
     })
 }
 
-/// Whether the input at this place ends within a segment, by where that segment begins. Such an end is
-/// refused where inputs may not be partial.
+/// Whether the input at this place ends within a segment, given where that segment begins. Refuses
+/// such an end if inputs may not be partial.
 pub(crate) fn check_end(
     form: InputForm,
     place: u64,

@@ -12,15 +12,15 @@ use htl_event::NoMemory;
 use htl_segment::Segment;
 use std::alloc::Global;
 
-/// An input that has segments, and how many there are of it and of all inputs before it.
+/// An input that has segments, and how many segments it and all earlier inputs have together.
 #[derive(Clone, Copy)]
 pub(crate) struct InputSpan {
     pub input: u64,
     pub end: usize,
 }
 
-/// All segments, in the order of the inputs, which span of them each input has, and which inputs end
-/// within a segment.
+/// All segments in the order of the inputs, the span of segments that each input has, and the
+/// inputs that end within a segment.
 #[derive(Drop)]
 pub(crate) struct Decoded {
     pub segments: Vec<Segment>,

@@ -29,12 +29,12 @@ use htl_text::dump;
 use std::alloc::Global;
 
 /// Writes the text of every segment of the sources in their order, each as soon as its bytes were
-/// read. It asks for no case.
+/// read. The segments need not form a case.
 ///
-/// The first fault ends the run: no later source is read, and of its own bytes none after the read
-/// that gave the fault. What was written then are the texts of the segments before the fault, and of
-/// these some first part where the write of one failed. A text in hexadecimal is gathered whole
-/// first; of bytes no more is kept than one segment that isn't there whole yet, and one read.
+/// The first fault ends the run: nothing is read after the read that showed it. By then the texts
+/// of all segments before the fault were written, or a first part of them if a write failed. A text
+/// in hexadecimal is read whole before it is dumped; of bytes only one incomplete segment and one
+/// read are kept.
 pub fn dump_from<R: Source, W: Sink>(
     alloc: Global,
     form: InputForm,
@@ -188,7 +188,7 @@ fn dump_within<R: Source, W: Sink>(
     Err(RunFault::Read { input: place })
 }
 
-/// Leaves the last bytes, of which there are `count`.
+/// Drops all but the last `count` bytes.
 fn keep_last(bytes: &mut Vec<u8>, count: usize)
     requires { count ≤ length bytes.old.items }
     ensures { bytes.new.items ≡ drop (length bytes.old.items - count) bytes.old.items }
@@ -197,8 +197,8 @@ fn keep_last(bytes: &mut Vec<u8>, count: usize)
     bytes.truncate(count);
 }
 
-/// Ends the input at a place, whose last bytes are left from this offset on and make no segment, and
-/// tells whether it was cut.
+/// Ends the input at this place, whose bytes from this offset on make no whole segment. Returns
+/// whether it was cut within a segment.
 fn finish(form: InputForm, place: u64, offset: u64, rest: &[u8]) -> Result<bool, RunFault>
     requires { IsRest rest.now }
     ensures ok { (segments : List Content) → offset ≡ length (bundle segments)
@@ -210,8 +210,8 @@ fn finish(form: InputForm, place: u64, offset: u64, rest: &[u8]) -> Result<bool,
     check_end(form, place, early_end(offset, rest))
 }
 
-/// Dumps the whole segments at the front of some bytes of the input at a place, which follow `start`
-/// others. What more bytes may make a segment of is left.
+/// Dumps the whole segments at the front of these bytes, which follow `start` others of the input
+/// at this place. Returns the bytes after them, which may begin another segment.
 fn dump_front<'a, W: Sink>(
     alloc: Global,
     place: u64,
@@ -246,7 +246,7 @@ fn dump_front<'a, W: Sink>(
     }
 }
 
-/// Whether more bytes may make a segment of those that have this fault.
+/// Whether the fault is only that the bytes end too early, so that more bytes may mend it.
 fn is_early_end(fault: Fault) -> bool
     ensures { result ≡ is_early_end fault }
 {

@@ -19,7 +19,7 @@ pub enum RunFault {
     /// The number of workers is not allowed.
     #[error("hleak: workers must be 1 to 8")]
     Workers,
-    /// The bytes at this offset of an input are no segment.
+    /// The bytes at this offset of an input are not a segment.
     #[error("hleak: input {input}, offset {offset}: {fault}")]
     Segment {
         input: u64,
@@ -32,8 +32,8 @@ pub enum RunFault {
         input: u64,
         fault: HexFault,
     },
-    /// This line of an input, counted from 1, has this fault, as a text that is to be encoded. Where
-    /// the fault is about an event of the segment that begins there, `event` is the event's line.
+    /// A text that is to be encoded has this fault at this line, counted from 1. If the fault is in
+    /// an event of the segment that begins there, `event` is the event's line.
     #[error("hleak: input {input}, line {line}: {fault}")]
     Text {
         input: u64,
@@ -41,19 +41,19 @@ pub enum RunFault {
         fault: LineFault,
         event: Option<u64>,
     },
-    /// The segments of all inputs are no case.
+    /// The segments of all inputs don't form a case.
     #[error("hleak: case: {0}")]
     Case(CaseFault),
-    /// The least key that the case of all segments misses, where a complete case is asked for.
+    /// A complete case was asked for, and the segment of this key is the first that is missing.
     #[error("hleak: case: C8({processor}, {number})")]
     Incomplete {
         processor: u16,
         number: u32,
     },
-    /// No event is of what is asked about, and the exit status would say that nothing was found.
+    /// The question's subject has no event, and the exit status would say that nothing was found.
     #[error("hleak: case: C9")]
     NoSubject,
-    /// The symbols are no symbol table.
+    /// The symbols are not a symbol table.
     #[error("hleak: symbols: {0}")]
     Symbols(SymbolFault),
     /// A read of an input failed, or the input could not be opened.
@@ -61,16 +61,16 @@ pub enum RunFault {
     Read {
         input: u64,
     },
-    /// The symbols could not be read. No run answers it, since a run is given their bytes.
+    /// The file of symbols could not be read. The program reports it; a run is given the bytes.
     #[error("hleak: symbols: read failed")]
     SymbolsRead,
-    /// A write failed, or took none of some bytes.
+    /// A write failed, or accepted none of the bytes.
     #[error("hleak: output: write failed")]
     Write,
     /// An allocation was refused.
     #[error("hleak: out of memory")]
     Memory,
-    /// The system refused to start a worker. No run answers it, since none needs a thread.
+    /// The system refused to start a worker. No run reports it, since each can do without threads.
     #[error("hleak: no thread")]
     NoThread,
 }
@@ -80,10 +80,10 @@ impl RunFault {
     ghost use Rattle.htl_main.specs.Faults.{of_hex, of_read, of_segment, of_source, of_text};
     ghost use Rattle.htl_main.specs.Statuses.{status_of};
 
-    /// The exit status of the program: 2 for a wrong command, 3 for malformed input, 4 where the inputs
-    /// are no case, or not the complete one that is asked for, or have no event of what is asked about,
-    /// 5 where a device failed, 6 where memory or a thread was refused, and 7 for malformed symbols. A
-    /// run without a fault has status 0.
+    /// The exit status of the program: 2 for a wrong command, 3 for malformed input, 4 if the
+    /// inputs don't form a case, or not the complete one that was asked for, or the subject has no
+    /// event, 5 if a device failed, 6 if memory or a thread was refused, and 7 for malformed
+    /// symbols. A run without a fault has status 0.
     pub fn status(&self) -> u8
         ensures { result ≡ status_of self.now }
     {

@@ -21,10 +21,17 @@ use htl_event::NoMemory;
 use htl_report::{Answer, Totals};
 use htl_summary::{Objects, Summary, summarize};
 use std::alloc::Global;
+use std::thread::Threads;
 
-/// Answers the job's question over what was folded: the lines are those of a run over all segments that
-/// were taken. There are none before the first segment.
-pub fn folded_text(alloc: Global, job: &Job, folded: &Folded) -> Result<Vec<u8>, NoMemory>
+/// Answers the job's question from what was folded, with the lines that a run over all segments
+/// taken so far prints. Before the first segment there are no lines.
+pub fn folded_text(
+    rt: &(impl Threads + Sync),
+    alloc: Global,
+    workers: u32,
+    job: &Job,
+    folded: &Folded,
+) -> Result<Vec<u8>, NoMemory>
     requires { needs_events job.now ≡ false }
     ensures { IfOk result (λ text. (segments : List Content) (T : Trace)
         → AreFolded folded.now.analyst segments → IsCaseOf segments T
@@ -33,31 +40,42 @@ pub fn folded_text(alloc: Global, job: &Job, folded: &Folded) -> Result<Vec<u8>,
     let Some(analyst) = &folded.analyst else {
         return Ok(Vec::new(alloc));
     };
-    let answer = answer(alloc, job.question, analyst)?;
+    let answer = answer(rt, alloc, workers, job.question, analyst)?;
     lines(alloc, job, None, &answer, &folded.symbols)
 }
 
 /// The answer of an analyst to a question that needs no events.
-fn answer(alloc: Global, question: Question, analyst: &Analyst<Global>) -> Result<Answer, NoMemory>
+fn answer(
+    rt: &(impl Threads + Sync),
+    alloc: Global,
+    workers: u32,
+    question: Question,
+    analyst: &Analyst<Global>,
+) -> Result<Answer, NoMemory>
     requires { is_of_events question ≡ false }
     ensures { IfOk result (λ answer. (segments : List Content) (T : Trace)
         → AreFolded (Some analyst.now) segments → IsCaseOf segments T
         → IsAnswer T None question answer) }
 {
     match question {
-        Question::Summary => summary(alloc, analyst),
+        Question::Summary => summary(rt, alloc, workers, analyst),
         question => answer_of(alloc, analyst.parts(), question),
     }
 }
 
 /// The summary of what an analyst took.
-fn summary(alloc: Global, analyst: &Analyst<Global>) -> Result<Answer, NoMemory>
+fn summary(
+    rt: &(impl Threads + Sync),
+    alloc: Global,
+    workers: u32,
+    analyst: &Analyst<Global>,
+) -> Result<Answer, NoMemory>
     ensures { IfOk result (λ answer. (segments : List Content) (T : Trace)
         → AreFolded (Some analyst.now) segments → IsCaseOf segments T
         → IsAnswer T None questions.Summary answer) }
 {
     let gaps = analyst.gaps(alloc)?;
-    let Summary { objects, processes } = summarize(alloc, &alloc, analyst.parts())?;
+    let Summary { objects, processes } = summarize(rt, alloc, workers, analyst.parts())?;
     let Objects { number, unbalanced } = objects;
     Ok(Answer::Summary {
         totals: totals(analyst, number),

@@ -1,4 +1,4 @@
-//! Who takes segments into an analyst, and forgets them.
+//! The folder, which gives segments to an analyst and has it fold and forget them.
 
 ghost use Rattle.std.specs.Prelude.{◌≡◌, ◌≢◌, ◌∷◌, [], IfOk, List, OnOk, is_some, true};
 ghost use Rattle.htl_analyst.specs.TakenAll.{HasTakenAll};
@@ -15,22 +15,22 @@ use htl_segment::{Keeper, Segment, SegmentBytes, StackCache};
 use std::alloc::Global;
 use std::thread::Threads;
 
-/// The least number of held records that starts a fold. What one read brings is held beside them. An
-/// event takes 48 bytes beside its stack, which equal ones share.
+/// The least number of held events and segments that starts a fold. Those of one more read are held
+/// on top. An event takes 48 bytes and its stack, which equal stacks share.
 const FEW_HELD: u64 = 1 << 20;
 
 /// Takes segments into an analyst, up to the first that is unfit, and has it fold what it holds.
 #[derive(Drop)]
 pub(crate) struct Folder {
-    /// Stacks that were met lately, which equal ones share.
+    /// Recently met stacks, so that equal ones share memory.
     cache: StackCache,
     /// How many events and segments were taken since the last fold.
     held: u64,
     /// The analyst, where a segment was taken.
     pub analyst: Option<Analyst<Global>>,
-    /// How many segments were taken, up to the greatest number.
+    /// How many segments were taken. It stays at the greatest `u64` once it is there.
     pub segments: u64,
-    /// Why the segment after these isn't taken.
+    /// Why the next segment wasn't taken, if one was unfit. None is taken after it.
     pub unfit: Option<CaseFault>,
 }
 
@@ -78,7 +78,7 @@ impl Folder {
         Ok(())
     }
 
-    /// Folds with this number of workers where many records are held.
+    /// Folds with this number of workers if `most_held` records or more are held.
     pub fn fold_if_full(&mut self, rt: &(impl Threads + Sync), workers: u32) -> Result<(), NoMemory>
         ensures { OnOk result (Took folds_of self.old self.new []) }
     {
@@ -131,8 +131,8 @@ impl SegmentKeeper for Folder {
     }
 }
 
-/// The number of held records that starts a fold: it is the number of handles whose latest event is
-/// kept, since a fold copies these events, and `FEW_HELD` where they are fewer.
+/// The number of held records that starts a fold: as many as there are handles whose latest event
+/// is kept, since each fold copies these, but at least `FEW_HELD`.
 fn most_held(analyst: &Option<Analyst<Global>>) -> u64 {
     let mut latest = 0u64;
     if let Some(analyst) = analyst {
@@ -143,7 +143,7 @@ fn most_held(analyst: &Option<Analyst<Global>>) -> u64 {
     latest.max(FEW_HELD)
 }
 
-/// An analyst that took a segment.
+/// A new analyst that has taken this segment.
 fn begun_by(alloc: Global, segment: Segment) -> Result<Analyst<Global>, NoMemory>
     ensures { IfOk result (HasTakenAll (segment ∷ [])) }
 {
@@ -184,8 +184,8 @@ fn take(
     }
 }
 
-/// Whether the segment is new to the analyst, and has an event that isn't above all those that were
-/// folded of its processor.
+/// Whether the segment is new to the analyst, but has an event that isn't later than all folded
+/// events of its processor.
 fn is_fallen(analyst: &Analyst<Global>, segment: &Segment) -> bool
     ensures is { IsFallen analyst.now segment.now result }
     ensures fits { Fits segment.now }

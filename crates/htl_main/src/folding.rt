@@ -51,7 +51,7 @@ use std::thread::Threads;
 /// for those of segments that wait for others with lower numbers.
 #[derive(Drop)]
 pub struct Folded {
-    /// It is there once a segment was taken.
+    /// The analyst, from the first segment on.
     pub analyst: Option<Analyst<Global>>,
     pub symbols: Symbols,
 }
@@ -70,10 +70,9 @@ impl Folded {
     }
 }
 
-/// Reads all sources and folds their segments. It is what a dialogue does before its first question,
-/// where it forgets events.
+/// Reads all sources and folds their segments. A dialogue that forgets events begins so.
 ///
-/// The symbols are read last. That there is no segment at all is a fault (C1).
+/// The symbols are read last. No segment at all is a fault (C1).
 pub fn load_folded<Rt: Threads + Sync, R: Parted>(
     rt: &Rt,
     alloc: Global,
@@ -111,12 +110,12 @@ pub fn load_folded<Rt: Threads + Sync, R: Parted>(
 /// Reads sources one after another and folds their segments as they come, after those that were folded
 /// before. Several workers read and fold in turn, some hundred megabytes at a time.
 ///
-/// Each source is read to its end, also behind a segment that is unfit, whose fault is reported where no
-/// source has one. What was taken before a fault stays and counts: a mended source can be read again,
-/// and what was taken of it counts once. Places of segments are counted within these sources.
+/// Each source is read to its end, even after an unfit segment, whose fault is reported only if no
+/// source has a fault of its own. Segments taken before a fault stay taken: a mended source can be
+/// read again, and each segment counts once. Places of segments are counted within these sources.
 ///
-/// Where memory is refused to fold what came before a fault of a source, that is reported in its place,
-/// since what was taken isn't folded then.
+/// If memory is refused while the segments before a source's fault are folded, out of memory is
+/// reported in place of that fault.
 pub fn fold<Rt: Threads + Sync, R: Parted>(
     rt: &Rt,
     alloc: Global,
@@ -126,7 +125,7 @@ pub fn fold<Rt: Threads + Sync, R: Parted>(
 ) -> Result<Added, Refused>
     requires fresh { All (λ source. R.has_failed source ≡ false) inputs.old }
     requires inside { All (λ source. R.has_ended source ≡ false) inputs.old }
-    // What the sources' bytes come to is taken, or what comes before the fault.
+    // All segments of the sources are taken, or those before the fault.
     ensures ok { (before : List Content) (texts : List (List ℕ))
         → AreFolded folded.old.analyst before → map R.remaining inputs.old ≡ map Some texts
         → IfOk result (IsFolded setting before texts (AreFolded folded.new.analyst)) }
@@ -151,8 +150,8 @@ pub fn fold<Rt: Threads + Sync, R: Parted>(
     Ok(added)
 }
 
-/// What a reading added, where `before` segments were folded before it. It is a fault (C1) that there is
-/// no segment at all.
+/// What a reading added to the `before` segments that were folded earlier. No segment at all is a
+/// fault (C1).
 fn added_to(
     alloc: Global,
     complete: bool,
@@ -175,7 +174,7 @@ fn added_to(
     })
 }
 
-/// The symbols of a table's bytes, or why the run ends for them.
+/// The symbols of a table, or the fault of its bytes.
 fn symbols_of(alloc: Global, symbols: Option<&[u8]>) -> Result<Symbols, RunFault>
     ensures ok { IfOk result (HasSymbols (option_copied symbols.entry)) }
     ensures err { IfErr result (IsSymbolsFault (option_copied symbols.entry)) }
@@ -184,7 +183,7 @@ fn symbols_of(alloc: Global, symbols: Option<&[u8]>) -> Result<Symbols, RunFault
     Ok(symbols)
 }
 
-/// What was taken of sources.
+/// What was taken from all sources.
 #[derive(Clone, Copy)]
 struct Taken {
     /// How many segments they have, up to the greatest number.
@@ -193,8 +192,8 @@ struct Taken {
     cut: Option<CutInputs>,
 }
 
-/// Takes the segments of all sources, and folds all that it can of what it took, also where a source has
-/// a fault: what it took, or why the reading ends, and whether memory was refused to fold that.
+/// Takes the segments of all sources, and then folds all that can be folded, even after a fault.
+/// Returns what was taken or why the reading ended, and whether memory was refused for that fold.
 fn take_all<Rt: Threads + Sync, R: Parted>(
     rt: &Rt,
     alloc: Global,
@@ -374,8 +373,8 @@ fn take_bytes(
     check_end(form, place, early_end(offset, rest))
 }
 
-/// The fault of a reading that came upon an unfit segment. It names neither of the two segments that it
-/// is about, since one of them may be forgotten.
+/// The fault for an unfit segment. It names neither of the two segments that conflict, since one of
+/// them may be forgotten.
 fn half_known(fault: CaseFault) -> Refused
     ensures fault { result.fault ≡ of_case fault }
     ensures between { IsHalfKnown result.fault result.between }
@@ -411,7 +410,7 @@ fn coverage_of(
     })
 }
 
-/// Refuses the first gap of an analyst that folded all that it can.
+/// Reports the first gap of an analyst that has folded all that it can.
 fn check_gaps(analyst: &Analyst<Global>, gaps: &[Gap]) -> Result<(), RunFault>
     requires { IsGaps (HasTaken analyst.now) analyst.now.processors gaps.now }
     ensures ok { OnOk result (gaps.now ≡ []) }

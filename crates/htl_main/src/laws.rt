@@ -36,9 +36,9 @@ ghost use Rattle.htl_main.specs.Summaries.{AreTotals, IsSummary};
 ghost use Rattle.htl_main.specs.declared.coverage.Coverage.{Coverage};
 ghost use Rattle.htl_main.specs.declared.fault.RunFault.{RunFault};
 
-/// Inputs and a symbol table come to one text or to one fault, and never to both. The number of
-/// workers is no part of it, where it is allowed. (A refused allocation or thread and a failed read or
-/// write are no faults of what is given.)
+/// Inputs and a symbol table have exactly one outcome: a printed text or a fault. It is the same
+/// for every number of workers that is allowed. (A refused allocation or thread and a failed read
+/// or write are no faults of what is given.)
 pub fn one_outcome()
     ensures one { (job : Job) (inputs : List (List ℕ)) (symbols : Option (List ℕ))
         (a b : Result (List ℕ) RunFault)
@@ -50,15 +50,15 @@ pub fn one_outcome()
         → Printed (by_workers other job) inputs symbols b → a ≡ b }
 {}
 
-/// What an answer over inputs finds is one thing.
+/// Over the same inputs an answer always finds something or never does.
 pub fn one_finding()
     ensures { (job : Job) (inputs : List (List ℕ)) (a b : Bool)
         → Finds job inputs a → Finds job inputs b → a ≡ b }
 {}
 
-/// An answer over events has the rows that an analyst's answer over them to the same question has. (A
-/// listing and a growth are no questions to an analyst, and a difference since the snapshot is one
-/// since the mark.)
+/// An answer over events has the rows that an analyst's answer over them to the same question has.
+/// (An analyst isn't asked for a listing or a growth. A difference since the snapshot is one since
+/// the mark.)
 pub fn analysts_agree()
     ensures outstanding { (events : List Event) (process : ℕ) (rows : Vec Event)
         → IsAnswerOver events (questions.Outstanding process) (answers.Outstanding process rows)

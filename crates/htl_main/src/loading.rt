@@ -43,7 +43,7 @@ impl Loaded {
     ghost use Rattle.htl_main.specs.Coverages.{IsCoverage};
     ghost use Rattle.htl_main.specs.Moments.{IsMomentOf};
 
-    /// The moment that is named, as a sequence. Where none is named, all events count.
+    /// The named moment as a sequence, or none if no moment is named: then all events count.
     pub(crate) fn moment(&self, named: Option<Moment>) -> Option<u64>
         ensures { IsCoverage self.now.case self.now.coverage
             → IsMomentOf self.now.case named result }
@@ -52,8 +52,8 @@ impl Loaded {
     }
 }
 
-/// Reads all sources and makes their segments a case. It is all that a run does before it answers as of
-/// the moment, and reports what the run reports then.
+/// Reads all sources and makes their segments a case. A run does exactly this before it answers as
+/// of the moment, and reports the same faults.
 pub fn load<Rt: Threads + Sync, R: Parted>(
     rt: &Rt,
     alloc: Global,

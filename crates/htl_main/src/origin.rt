@@ -2,7 +2,7 @@
 
 use htl_segment::Segment;
 
-/// The input that a segment came from, and of which trace and which place in it the segment is.
+/// Where a segment came from: its input, and its trace and key.
 #[derive(Clone, Copy, Debug, PartialEq, Eq)]
 pub struct Origin {
     /// The input, counted from 0.
@@ -38,9 +38,8 @@ impl Origin {
 pub enum Between {
     /// The fault is about no two segments.
     Nothing,
-    /// The first breaks the rule that the fault names, and the second is the one against which it
-    /// does.
+    /// The first breaks the fault's rule against the second.
     Two(Origin, Origin),
-    /// It is about two, and memory to keep the segments was refused.
+    /// The fault is about two segments, but there was no memory to keep them.
     Unknown,
 }

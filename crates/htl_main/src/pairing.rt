@@ -98,8 +98,8 @@ fn other_with(segments: &[Segment], shared: Shared, one: &Segment) -> Option<usi
     None
 }
 
-/// The places of the segment of this key, and of one with a lower number that has an event which isn't
-/// below all events of that segment.
+/// The places of the segment of this key, and of one with a lower number that has an event at or
+/// after that segment's first one.
 #[tactic(auto, using(crate::proofs::PairLaws::no_key))]
 fn falling(segments: &[Segment], processor: u16, number: u32) -> Option<(usize, usize)>
     requires { HaveOneContent segments.now }
@@ -121,8 +121,7 @@ fn least_sequence(segment: &Segment) -> Option<u64>
     Some(first.sequence)
 }
 
-/// The place of a segment of the processor with a number below this one and an event whose sequence is
-/// the floor or above.
+/// The place of a segment of the processor with a lower number and an event at or above the floor.
 #[tactic(auto, using(crate::proofs::PairLaws::first_passing))]
 fn lower_reaching(segments: &[Segment], processor: u16, number: u32, floor: u64) -> Option<usize>
     ensures { MatchOption result (NonePasses (reaches processor number floor) segments.now)

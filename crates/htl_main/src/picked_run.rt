@@ -1,4 +1,4 @@
-//! The run of a question about a process or an object, which keeps of its inputs only what the
+//! The run of a question about a process or an object, which keeps only the events that the
 //! question asks about.
 
 ghost use Rattle.std.specs.Prelude.{◌≡◌, ◌≢◌, ℕ, List, All, Some, false, true, map};
@@ -52,9 +52,9 @@ pub fn interest(job: &Job) -> Option<Interest>
 /// The same as `run_from` for a question about a process or an object. It makes only the events that
 /// the question asks about.
 ///
-/// It ends without an answer where only whole segments tell what comes of the inputs: where a key
-/// comes twice, of which the contents have to be compared, or where the segments are no case. Then
-/// nothing was written, and `run_from` answers over the same inputs, read again, or says why not.
+/// It returns `None` if the outcome depends on whole segments: if a key comes twice, so that
+/// contents have to be compared, or if the segments don't form a case. Nothing is written then, and
+/// `run_from` over the same inputs, read again, gives the answer or the fault.
 pub fn pick_from<Rt: Threads + Sync, R: Parted, W: Sink>(
     rt: &Rt,
     alloc: Global,
@@ -68,7 +68,7 @@ pub fn pick_from<Rt: Threads + Sync, R: Parted, W: Sink>(
     requires inside { All (λ source. R.has_ended source ≡ false) inputs.old }
     requires out { W.has_failed out.old ≡ false }
     requires about { asks_about job.now.setting.form.hex job.now.question ≡ Some interest }
-    // What the sources' bytes come to is printed, or reported.
+    // The answer over the sources' bytes is printed, or their first fault is reported.
     ensures ok { (texts : List (List ℕ)) → map R.remaining inputs.old ≡ map Some texts
         → IfOk result (λ done. IfSome done (λ _. Prints job.now texts
         (option_copied symbols.entry) (W.contents out.old) (W.contents out.new))) }
@@ -86,7 +86,7 @@ pub fn pick_from<Rt: Threads + Sync, R: Parted, W: Sink>(
         (W.contents out.old) (W.contents out.new) }
     ensures failed { result ≡ Err RunFault.Write → W.has_failed out.new ≡ true }
     ensures untouched { IfErr result (λ fault. fault ≢ RunFault.Write → out.new ≡ out.old) }
-    // Which rule of a case is broken, only whole segments tell.
+    // No broken rule of a case is reported, since only whole segments tell which it is.
     ensures no_case { NeverCase result }
     ensures reading { AreRead false R.has_failed R.has_ended R.good_reads R.remaining
         inputs.old inputs.new result }
@@ -103,8 +103,8 @@ pub fn pick_from<Rt: Threads + Sync, R: Parted, W: Sink>(
     print_picks(alloc, job, all.picks, all.cut, symbols, out)
 }
 
-/// Prints the answer over the case of what was picked, or does nothing where only whole segments
-/// tell what comes of it.
+/// Prints the answer over the picked case, or writes nothing and returns `None` if the outcome
+/// depends on whole segments.
 fn print_picks<W: Sink>(
     alloc: Global,
     job: &Job,

@@ -47,7 +47,7 @@ use std::thread::Threads;
 /// all segments has, whether it has an event of what was asked about, and whether the answer finds
 /// something.
 pub fn run<Rt: Threads + Sync, W: Sink>(
-    _rt: &Rt,
+    rt: &Rt,
     alloc: Global,
     job: &Job,
     inputs: &[Vec<u8>],
@@ -81,13 +81,15 @@ pub fn run<Rt: Threads + Sync, W: Sink>(
     let cut = decoded.cut;
     let case = case_of(alloc, decoded)?;
     let loaded = with_symbols(alloc, job.setting.complete, job.until, case, cut, symbols)?;
-    let completed = print_answer(alloc, job, &loaded, out)?;
+    let completed = print_answer(rt, alloc, job, &loaded, out)?;
     Ok(completed)
 }
 
-/// Prints the answer to the job's question over what was loaded, and says what is reported beside it.
-/// Where the exit status says what the answer finds, none is printed about what has no event.
-pub(crate) fn print_answer<W: Sink>(
+/// Prints the answer to the job's question over what was loaded, and says what is reported beside
+/// it. If the exit status says what the answer finds, an answer about a subject without events is
+/// refused.
+pub(crate) fn print_answer<Rt: Threads + Sync, W: Sink>(
+    rt: &Rt,
     alloc: Global,
     job: &Job,
     loaded: &Loaded,
@@ -112,7 +114,7 @@ pub(crate) fn print_answer<W: Sink>(
 {
     let has_subject = has_subject(job, loaded);
     check_subject(job, has_subject)?;
-    let text = answer_text(alloc, job, loaded)?;
+    let text = answer_text(rt, alloc, job.setting.workers, job, loaded)?;
     write_lines(out, &text.lines)?;
     Ok(Completed {
         coverage: loaded.coverage,
@@ -122,7 +124,7 @@ pub(crate) fn print_answer<W: Sink>(
     })
 }
 
-/// Refuses an answer about what has no event, where the exit status says what the answer finds.
+/// If the exit status says what the answer finds, refuses one about a subject without events.
 pub(crate) fn check_subject(job: &Job, has_subject: bool) -> Result<(), RunFault>
     ensures ok { OnOk result (job.now.exit_code ≡ true → has_subject ≡ true) }
     ensures err { IfErr result (λ fault. (fault ≡ RunFault.NoSubject)
@@ -154,16 +156,22 @@ pub struct AnswerText {
     pub has_finding: bool,
 }
 
-/// Answers the job's question over what was loaded. A run prints these lines, whether it loaded for
-/// this question alone or for many.
-pub fn answer_text(alloc: Global, job: &Job, loaded: &Loaded) -> Result<AnswerText, NoMemory>
+/// Answers the job's question over what was loaded. A run over the same inputs prints exactly these
+/// lines.
+pub fn answer_text(
+    rt: &(impl Threads + Sync),
+    alloc: Global,
+    workers: u32,
+    job: &Job,
+    loaded: &Loaded,
+) -> Result<AnswerText, NoMemory>
     ensures lines { IfOk result (λ text. IsCoverage loaded.now.case loaded.now.coverage
         → IsText loaded.now.case loaded.now.symbols job.now text.lines.items) }
     ensures finding { IfOk result (λ text. IsCoverage loaded.now.case loaded.now.coverage
         → FindsOver loaded.now.case job.now text.has_finding) }
 {
     let until = loaded.moment(job.until);
-    let answer = answer(alloc, job.question, until, &loaded.case)?;
+    let answer = answer(rt, alloc, workers, job.question, until, &loaded.case)?;
     let lines = lines(alloc, job, until, &answer, &loaded.symbols)?;
     Ok(AnswerText {
         lines,
@@ -189,8 +197,7 @@ pub(crate) fn lines(
     }
 }
 
-/// Refuses a case where a complete one is asked for and a segment is missing up to the moment. `missed`
-/// says what the case misses.
+/// If a complete case is asked for, refuses one of which a segment up to the moment is missing.
 #[tactic(auto, using(crate::proofs::MomentLaws::complete_until, crate::proofs::MomentLaws::not_above))]
 pub(crate) fn check_gaps(
     complete: bool,

@@ -1,4 +1,4 @@
-//! Why a run ended, and where what its fault is about came from.
+//! Why a run ended, and which two segments its fault is about.
 
 use crate::fault::RunFault;
 use crate::origin::Between;

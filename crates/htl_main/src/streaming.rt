@@ -25,10 +25,10 @@ use std::thread::Threads;
 /// The same as `run` for the bytes that sources give, each of which is read to its end in reads of
 /// 65,536 bytes.
 ///
-/// A fault of a source ends the run: no later source is read, and of its own bytes, which are
-/// decoded as they come, none after the read that gave the fault. A text in hexadecimal is gathered
-/// whole first. Several workers read parts of a source first, where it has some, and one worker
-/// reads it after that unless they took all of it: so they report the fault that one worker reports.
+/// A fault of a source ends the run: bytes are decoded as they come, and nothing is read after the
+/// read that showed the fault. A text in hexadecimal is read whole first. Several workers begin
+/// with parts of a source that has some, and one worker reads what they left. They report the fault
+/// that one worker reports.
 pub fn run_from<Rt: Threads + Sync, R: Parted, W: Sink>(
     rt: &Rt,
     alloc: Global,
@@ -40,7 +40,7 @@ pub fn run_from<Rt: Threads + Sync, R: Parted, W: Sink>(
     requires inputs { All (λ source. R.has_failed source ≡ false) inputs.old }
     requires inside { All (λ source. R.has_ended source ≡ false) inputs.old }
     requires out { W.has_failed out.old ≡ false }
-    // What the sources' bytes come to is printed, or reported.
+    // The answer over the sources' bytes is printed, or their first fault is reported.
     ensures ok { (texts : List (List ℕ)) → map R.remaining inputs.old ≡ map Some texts
         → OnOk result (Prints job.now texts (option_copied symbols.entry)
         (W.contents out.old) (W.contents out.new)) }
@@ -70,6 +70,6 @@ pub fn run_from<Rt: Threads + Sync, R: Parted, W: Sink>(
     ensures untouched { IfErr (by_fault result) (λ fault. fault ≢ RunFault.Write → out.new ≡ out.old) }
 {
     let loaded = load(rt, alloc, job.setting, job.until, inputs, symbols)?;
-    let completed = print_answer(alloc, job, &loaded, out)?;
+    let completed = print_answer(rt, alloc, job, &loaded, out)?;
     Ok(completed)
 }

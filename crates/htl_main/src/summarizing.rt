@@ -17,14 +17,21 @@ use htl_event::{EventList, NoMemory};
 use htl_report::{Answer, Totals};
 use htl_summary::{Objects, Summary, summarize};
 use std::alloc::Global;
+use std::thread::Threads;
 
 /// The summary of a case, whose events count up to a moment.
-pub(crate) fn summary(alloc: Global, case: &Case, until: Option<u64>) -> Result<Answer, NoMemory>
+pub(crate) fn summary(
+    rt: &(impl Threads + Sync),
+    alloc: Global,
+    workers: u32,
+    case: &Case,
+    until: Option<u64>,
+) -> Result<Answer, NoMemory>
     ensures { IfOk result (IsAnswer case.now until questions.Summary) }
 {
     let Missed { gaps, complete_to } = Missed::of_case(alloc, case)?;
     let lists = case.until(alloc, until)?;
-    let Summary { objects, processes } = summary_of_lists(alloc, &lists)?;
+    let Summary { objects, processes } = summary_of_lists(rt, alloc, workers, &lists)?;
     let Objects { number, unbalanced } = objects;
     Ok(Answer::Summary {
         totals: totals(case, event_count(&lists), complete_to, number),
@@ -34,8 +41,13 @@ pub(crate) fn summary(alloc: Global, case: &Case, until: Option<u64>) -> Result<
     })
 }
 
-/// What leaks at all among the events of lists, by one part that holds them.
-fn summary_of_lists<E: EventList>(alloc: Global, lists: &[E]) -> Result<Summary, NoMemory>
+/// The summary of the events of these lists, which one part holds unfolded.
+fn summary_of_lists<Rt: Threads + Sync, E: EventList + Sync>(
+    rt: &Rt,
+    alloc: Global,
+    workers: u32,
+    lists: &[E],
+) -> Result<Summary, NoMemory>
     requires { length (flat_map E.events_of lists.now) < 2 ^ 64 }
     ensures number { IfOk result (λ summary.
         IsNumberOfObjects (flat_map E.events_of lists.now) summary.objects.number) }
@@ -45,7 +57,7 @@ fn summary_of_lists<E: EventList>(alloc: Global, lists: &[E]) -> Result<Summary,
         → IsProcesses (flat_map E.events_of lists.now) summary.processes.items) }
 {
     let part = Unfolded::new(alloc, lists);
-    summarize(alloc, &alloc, &[part])
+    summarize(rt, alloc, workers, &[part])
 }
 
 /// The totals of a case that is complete to this sequence, with these numbers of events and objects.

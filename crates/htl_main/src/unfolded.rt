@@ -1,4 +1,4 @@
-//! Lists of events that weren't folded, as a part over which answers are made.
+//! Events that weren't folded, as a part from which `htl_answers` answers.
 
 use htl_answers::Part;
 use htl_event::EventList;
@@ -20,7 +20,7 @@ impl<'a, E: EventList> Unfolded<'a, E> {
     ghost use Rattle.std.specs.Prelude.{◌≡◌, flat_map};
     ghost use Rattle.htl_main.specs.Unfolded.{unfolded};
 
-    /// Takes no memory.
+    /// A part of these lists. It allocates nothing.
     pub(crate) fn new(alloc: Global, held: &'a [E]) -> Unfolded<'a, E>
         ensures { ⟦<Unfolded<'a, E> as Part>⟧.contents result
             ≡ unfolded (flat_map E.events_of held.now) }

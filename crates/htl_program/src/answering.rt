@@ -1,4 +1,4 @@
-//! A question in a world: from the names that it is asked of to its end.
+//! Answers a question in a world: opens its files, runs it, and reads files again if it has to.
 
 ghost use Rattle.std.specs.Prelude.{◌≡◌, ◌≢◌, ◌⊎◌, ℕ, All, IfErr, IfSome, List, OnOk, Some};
 ghost use Rattle.std.specs.Prelude.{Err, false, length, map, option_copied, true};
@@ -18,14 +18,14 @@ use htl_main::{Completed, Interest, Refused, RunFault, interest};
 use std::alloc::Global;
 use std::thread::Threads;
 
-/// Answers what is asked from the files and the table of symbols that it names, or from standard input
-/// where it names no file.
+/// Answers a question from the files and the table of symbols that its command names, or from
+/// standard input if it names no file.
 ///
-/// The first file that is refused is reported, and else a table of symbols that is. Of files that can
-/// be read again a question about a process or an object reads only what it asks about; where that
-/// doesn't tell what comes of them, they are opened once more and read whole.
+/// The first file that can't be opened is reported, or else the table. A question about a process
+/// or an object keeps only the events that it asks about, if its files can be read again: should
+/// the outcome depend on whole segments, the files are opened once more and read whole.
 ///
-/// `inputs` has then what was opened, as far as it was read.
+/// Afterwards `inputs` has what was opened, as far as it was read.
 pub fn answer<Rt: Threads + Sync, W: World, O: Sink>(
     rt: &Rt,
     alloc: Global,
@@ -86,8 +86,8 @@ fn run_inputs<Rt: Threads + Sync, W: World, O: Sink>(
     run_opened(rt, alloc, &run.job, inputs, symbols, out)
 }
 
-/// What the question asks about, where that alone can be kept of its files: they may have to be read
-/// once more.
+/// The process or the object that the question asks about, if its files can be read again: only
+/// then may a first reading keep nothing else.
 fn pickable<W: World>(world: &W, run: &Run) -> Option<Interest>
     ensures { IfSome result (λ interest.
         asks_about run.now.job.setting.form.hex run.now.job.question ≡ Some interest) }

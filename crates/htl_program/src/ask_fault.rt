@@ -1,17 +1,17 @@
-//! Why a dialogue ends before its lines do, also before the first.
+//! Why a dialogue ends early, or never begins.
 
 use htl_dialogue::DialogueFault;
 use htl_main::Refused;
 use thiserror::Error;
 
-/// Why asking ends before the lines do. Its text is the line that the program prints on standard
-/// error.
+/// Why a dialogue ends before its lines do. Its text is the line that the program prints on
+/// standard error.
 #[derive(Clone, Copy, Debug, PartialEq, Eq, Error)]
 pub enum AskFault {
-    /// There is nothing that can be asked: the inputs or the symbols are refused, or memory was.
+    /// It never began: the inputs or the symbols are refused, or memory was.
     #[error("{0}")]
     Run(Refused),
-    /// Replies could be given no longer.
+    /// It began, and no further reply could be given.
     #[error("{0}")]
     Dialogue(DialogueFault),
 }

@@ -53,8 +53,8 @@ pub fn program<Rt: Threads + Sync, W: World, O: Output, P: Person, S: Speaker>(
     }
 }
 
-/// Ends the program if the arguments give no command: help goes to the output, and all else is said.
-/// Only help can succeed; any other fault keeps its status even if it can't be said.
+/// Ends the program if the arguments give no command. Help is written to the output; any other
+/// fault is reported to the person, and keeps its status even if that fails.
 pub fn refuse<O: Sink, P: Person>(refused: &ParseFault, console: &mut Console<O, P>) -> u8
     requires { O.has_failed console.old.out ≡ false }
     ensures { Refuses (told O.contents O.has_failed P.heard console.old)
@@ -69,7 +69,7 @@ pub fn refuse<O: Sink, P: Person>(refused: &ParseFault, console: &mut Console<O,
     }
 }
 
-/// Writes a text that was asked for, and says so if that fails.
+/// Writes a text that was asked for, and reports a failed write.
 fn print<O: Sink, P: Person>(text: &str, console: &mut Console<O, P>) -> u8
     requires { O.has_failed console.old.out ≡ false }
     ensures { IsPrinted text.now (told O.contents O.has_failed P.heard console.old)
@@ -211,7 +211,7 @@ fn do_dump<W: World, O: Output, P: Person>(
     status_of_conversion(ended)
 }
 
-/// Makes segments of text. It refuses to show their bytes to a person.
+/// Encodes texts as segments. It refuses to write their bytes to a terminal.
 fn do_encode<W: World, O: Output, P: Person>(
     alloc: Global,
     world: &W,
@@ -236,7 +236,7 @@ fn do_encode<W: World, O: Output, P: Person>(
     encode_into(alloc, world, line, hex, files, inputs, console)
 }
 
-/// Makes segments of text for whoever takes their bytes.
+/// Encodes texts to an output that isn't a terminal.
 fn encode_into<W: World, O: Output, P: Person>(
     alloc: Global,
     world: &W,

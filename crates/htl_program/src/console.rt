@@ -1,4 +1,4 @@
-//! Where the program writes, and who reads what it says beside that.
+//! Where answers are written, and who reads the messages beside them.
 
 ghost use Rattle.std.specs.Prelude.{◌≡◌, ◌||◌};
 
@@ -15,7 +15,7 @@ pub struct Console<O, P> {
 }
 
 impl<O, P: Person> Console<O, P> {
-    /// Whether words are said beside the lines of faults: a person watches, or notes are asked for.
+    /// Whether faults are explained and notes are given: a person watches, or notes are asked for.
     pub(crate) fn says_words(&self, line: &CommandLine) -> bool
         ensures { result ≡ (P.is_watching self.now.person || line.now.notes) }
     {

@@ -30,11 +30,10 @@ use htl_main::{Between, Refused, RunFault};
 use std::alloc::Global;
 use std::thread::Threads;
 
-/// Replies to the lines of the questions, which are asked of the files and the table of symbols that
-/// are named. The first file that is refused is reported, and else a table of symbols that is; no
-/// question is read before.
+/// Opens the named files and the table of symbols, and then replies to each line of the questions.
+/// The first file that can't be opened is reported, or else the table, before a question is read.
 ///
-/// `inputs` has then what was opened, as far as it was read.
+/// Afterwards `inputs` has what was opened, as far as it was read.
 pub fn converse<Rt: Threads + Sync, W: World, Q: Source, O: Sink, H: Speaker>(
     rt: &Rt,
     alloc: Global,

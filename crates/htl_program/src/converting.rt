@@ -15,7 +15,7 @@ use htl_main::{CutInputs, RunFault, dump_from, encode_from};
 use std::alloc::Global;
 
 /// Prints the segments of the files as text, or those of standard input where no file is named.
-/// Tells which of them end within a segment, where they may.
+/// Returns the inputs that end within a segment, if that is allowed.
 ///
 /// `inputs` has then what was opened, as far as it was read.
 pub fn dump<W: World, O: Sink>(

@@ -20,10 +20,10 @@ use htl_main::{Added, Refused, RunFault};
 use std::alloc::{AllocError, Global};
 use std::thread::Threads;
 
-/// Replies to each line of the source up to `quit` or to its end, and says how that went. A line may
-/// name files that are read: the lines after it are answered from these too. The host is told when a
-/// line is awaited, why a line is wrong and what files brought before the reply is written, and after
-/// a reply that what the question names has no event.
+/// Replies to each line of the source up to `quit` or its end, and returns how that went. A line
+/// may name files to read: later lines are answered from these too. The host hears that a line is
+/// awaited, and before the reply why the line is wrong or what its files added; after a reply it
+/// hears if the question's subject has no event.
 ///
 /// All lines that were read have their replies before more is read, and nothing is read once a line
 /// ends the dialogue.
@@ -44,7 +44,8 @@ pub(crate) fn converse_lines<Rt: Threads + Sync, W: World, Q: Source, O: Sink, H
         (ways W.Input.remaining W.Input.has_ended W.Input.has_failed W.Input.good_reads)
         files.now.setting (is_state kept.old)) (H.wants_absence host.old) kept.old text
         (Gets (O.contents out.old) (O.contents out.new) H.told host.old host.new)) }
-    // Or those before a fault do: where a read fails, these are all that were read.
+    // After a fault, the lines before it have their replies; if a read failed, these are all that
+    // were read.
     ensures stops { (text : List ℕ) → Q.remaining questions.old ≡ Some text → IfErr result
         (DialogueStops (answers_from (known W.holds W.is_absent W.standard files.now.world.now)
         (ways W.Input.remaining W.Input.has_ended W.Input.has_failed W.Input.good_reads)
@@ -122,7 +123,7 @@ fn reply<Rt: Threads + Sync, W: World, O: Sink, H: Host>(
             })
         }
         Said::Asks(job) => {
-            let mut text = kept.answer(alloc, job)?;
+            let mut text = kept.answer(files.rt, alloc, files.setting.workers, job)?;
             text.push(b'\n')?;
             write(out, &text)?;
             note_absence(kept, job, host);
@@ -141,7 +142,7 @@ fn reply<Rt: Threads + Sync, W: World, O: Sink, H: Host>(
     }
 }
 
-/// The reply to files that were to be read.
+/// The reply to a line that names files to read.
 fn reading_reply(alloc: Global, ended: Result<Added, Refused>) -> Result<String, AllocError>
     ensures { IfOk result (λ text. string_bytes text ≡ reading_reply ended) }
 {
@@ -151,7 +152,7 @@ fn reading_reply(alloc: Global, ended: Result<Added, Refused>) -> Result<String,
     }
 }
 
-/// Why files are refused, where they are.
+/// The fault that refused the files, if they were refused.
 fn fault_of(ended: Result<Added, Refused>) -> Option<RunFault>
     ensures { result ≡ fault_of ended }
 {
@@ -161,7 +162,7 @@ fn fault_of(ended: Result<Added, Refused>) -> Option<RunFault>
     }
 }
 
-/// Tells a host that wants to know where what a question names has no event.
+/// Notes to a host that wants to know it that the question's subject has no event, if it has none.
 fn note_absence<H: Host>(kept: &Kept, job: &Job, host: &mut H)
     ensures told { Lacks (HasSubjectIn kept.now) (H.wants_absence host.old) H.told host.old job.now
         host.new }

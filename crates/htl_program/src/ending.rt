@@ -9,8 +9,8 @@ use crate::ask_fault::AskFault;
 use htl_dialogue::{Conversed, DialogueFault};
 use htl_main::{Completed, Refused, RunFault};
 
-/// The status after a question: 0, or 1 where its answer finds something and the status is to say so,
-/// or that of its fault.
+/// The status after a question: that of its fault; or else 1 if the answer finds something and the
+/// status is to say so; or else 0.
 pub(crate) fn status_of_answer(exit_code: bool, ended: Result<Completed, Refused>) -> u8
     ensures { result ≡ end_status exit_code (by_fault ended) }
 {
@@ -47,8 +47,8 @@ pub(crate) fn status_after(counts_wrong: bool, ended: Result<Conversed, AskFault
     }
 }
 
-/// The status after a dialogue that came to its end: 2 where a line was wrong and that counts, or that
-/// of the first files that were refused, or 0.
+/// The status after a dialogue that came to its end: 2 if a line was wrong and that counts, or else
+/// the status of the first files that were refused, or else 0.
 fn status_of_conversed(counts_wrong: bool, conversed: Conversed) -> u8
     ensures { result ≡ conversed_status counts_wrong conversed }
 {
@@ -61,7 +61,7 @@ fn status_of_conversed(counts_wrong: bool, conversed: Conversed) -> u8
     }
 }
 
-/// The status where the replies of a dialogue stopped.
+/// The status of a dialogue that a fault ended.
 fn stop_status(fault: DialogueFault) -> u8
     ensures { result ≡ stop_status fault }
 {

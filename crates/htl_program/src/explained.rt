@@ -1,4 +1,4 @@
-//! What the program prints of a fault that it is asked to explain.
+//! The text that `hleak explain` prints of a fault.
 
 ghost use Rattle.std.specs.Prelude.{◌≡◌};
 ghost use Rattle.htl_program.specs.Words.{wrong_in};
@@ -8,7 +8,7 @@ use crate::words::{BAD_VALUE, advice, wrong};
 use htl_command::{Code, Parts, PrintedFault};
 use std::fmt;
 
-/// A fault in words: what is wrong in a line after the fault itself, and what to do in another line.
+/// A fault in words: one line with the fault and what is wrong, and one with what to do.
 #[derive(Clone, Copy)]
 pub struct Explained {
     pub fault: PrintedFault,
@@ -31,7 +31,7 @@ impl fmt::Display for Explained {
     }
 }
 
-/// What is wrong with the part that the fault names, or by itself.
+/// What is wrong, said of the part that the fault names, or else as a whole sentence.
 fn wrong_in(fault: PrintedFault) -> &'static str
     ensures { result.now ≡ wrong_in fault.code fault.parts }
 {

@@ -1,4 +1,4 @@
-//! The files that a dialogue reads later.
+//! Files that lines of a dialogue name.
 
 ghost use Rattle.std.specs.Prelude.{map, string_bytes, IfOk};
 ghost use Rattle.htl_program.specs.Loads.{AddsFiles, FoldsFiles, ReadsFiles};
@@ -23,8 +23,8 @@ pub(crate) struct Files<'a, Rt, W> {
 }
 
 impl<Rt: Threads + Sync, W: World> Files<'_, Rt, W> {
-    /// Opens files and adds their segments to what is kept. Where memory is refused while a state takes
-    /// them, it isn't known what it took, and nothing can be asked of it.
+    /// Opens files and adds their segments to what is kept. If memory is refused while a state
+    /// folds them, it isn't known which ones it took, and it can answer no more.
     pub fn read(
         &self,
         alloc: Global,

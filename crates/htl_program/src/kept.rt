@@ -20,9 +20,9 @@ use std::thread::Threads;
 /// What a dialogue keeps of the segments that were read.
 #[derive(Drop)]
 pub(crate) enum Kept {
-    /// All of them.
+    /// The segments themselves.
     Case(Loaded),
-    /// What they come to, and no event.
+    /// What was folded of them, without events.
     State(Folded),
 }
 
@@ -39,21 +39,27 @@ impl Kept {
     }
 
     /// The text of the answer to a job, as a run prints it.
-    pub fn answer(&self, alloc: Global, job: &Job) -> Result<Vec<u8>, NoMemory>
+    pub fn answer(
+        &self,
+        rt: &(impl Threads + Sync),
+        alloc: Global,
+        workers: u32,
+        job: &Job,
+    ) -> Result<Vec<u8>, NoMemory>
         requires { is_state self.now ≡ true → needs_events job.now ≡ false }
         ensures { IfOk result (λ text. HasTextIn self.now job.now text.items) }
     {
         match self {
             Kept::Case(loaded) => {
-                let text = answer_text(alloc, job, loaded)?;
+                let text = answer_text(rt, alloc, workers, job, loaded)?;
                 Ok(text.lines)
             }
-            Kept::State(folded) => folded_text(alloc, job, folded),
+            Kept::State(folded) => folded_text(rt, alloc, workers, job, folded),
         }
     }
 
-    /// Whether what the question names has an event. Where events are forgotten that isn't known, and
-    /// taken to be so.
+    /// Whether the question's subject has an event. What was folded can't tell, so the answer is
+    /// true then.
     pub fn has_subject(&self, job: &Job) -> bool
         ensures { HasSubjectIn self.now job.now result }
     {
@@ -64,7 +70,7 @@ impl Kept {
     }
 }
 
-/// What there is before the first question.
+/// What a dialogue has before its first question.
 #[derive(Drop)]
 pub(crate) struct Begun {
     pub kept: Kept,
@@ -74,7 +80,7 @@ pub(crate) struct Begun {
     pub cut: Option<CutInputs>,
 }
 
-/// Reads all inputs, and keeps their segments or what they come to.
+/// Reads all inputs, and keeps their segments or folds them.
 pub(crate) fn begin<Rt: Threads + Sync, R: Parted>(
     rt: &Rt,
     alloc: Global,

@@ -8,7 +8,7 @@
 //! `commands.rt`, `console.rt` (where the program writes and speaks), `output.rt` (where answers go),
 //! `person.rt` (who reads what is said beside the output), `saying.rt` (what is said of how a run
 //! ended), `speaker.rt` (who types the lines of a dialogue), `ending.rt` (the statuses), `world.rt`
-//! (what is opened), `inputs.rt` (what was), `opening.rt` (how, and the table of symbols),
+//! (what is opened), `inputs.rt` (what was opened), `opening.rt` (how inputs and the table are opened),
 //! `answering.rt` and `running.rt` (a question, from the names that it is asked of to its end),
 //! `converting.rt` (`dump` and `encode`), `conversing.rt`, `dialogue.rt` and `files.rt` (a dialogue:
 //! each line is answered as by a run over all that was read so far), `kept.rt` (what is kept of that:

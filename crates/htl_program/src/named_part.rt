@@ -25,13 +25,13 @@ pub enum NamedPart {
     Field(&'static str),
     /// What was asked about.
     Subject(Subject),
-    /// What each fault of a code names, with a word in angle brackets for each number.
+    /// The words for every fault of a code, with a placeholder such as `<N>` for each number.
     Unnumbered(&'static str),
 }
 
 impl NamedPart {
-    /// The part that a fault names where it is printed so. Where only its code is, the words have no
-    /// number.
+    /// The part that a printed fault names. If only its code was printed, the words have
+    /// placeholders.
     pub(crate) fn of(fault: PrintedFault) -> Option<NamedPart>
         ensures { option_map part_text result ≡ part_words fault.code fault.parts }
     {

@@ -7,8 +7,8 @@ use std::io::Write;
 
 /// Where the answer goes.
 pub trait Output: Sink {
-    /// Whether a write failed because nobody reads any more, as after `head`. That is no news to
-    /// anybody.
+    /// Whether a write failed because the reader is gone, as after `head`. Such a failure isn't
+    /// reported.
     fn has_lost_reader(&self) -> bool
         ensures { result ≡ true → Self.has_failed self.now ≡ true };
 }

@@ -5,7 +5,7 @@ use htl_command::{Command, ParseFault};
 use htl_dialogue::DialogueFault;
 use htl_main::{Coverage, CutInputs, Refused};
 
-/// Who reads what is said beside the output. How it is worded is the matter of who says it.
+/// Who reads the messages beside the output. The implementation chooses their words.
 pub trait Person {
     ghost use Rattle.std.specs.Prelude.{◌≡◌, Bool, List, Option};
     ghost use Rattle.htl_program.specs.Sayings.{Hears, Saying, absence, begun, cut, fault, gaps};
@@ -32,7 +32,7 @@ pub trait Person {
     fn begins(&mut self, command: &Command)
         ensures { Hears (heard self.old) (heard self.new) (begun command.now) };
 
-    /// The run has ended, and how it has will be said.
+    /// The run has ended. How it ended is reported next.
     fn ends(&mut self)
         ensures { Hears (heard self.old) (heard self.new) over };
 

@@ -31,9 +31,9 @@ pub(crate) fn run_opened<Rt: Threads + Sync, R: Parted, O: Sink>(
     run_from(rt, alloc, job, inputs, symbols, out)
 }
 
-/// Runs the question over what it asks about alone. The run has no end, and has written nothing, where
-/// only whole segments tell what comes of the inputs. So it has none for a fault of all segments, since
-/// whole segments tell which two of them it is about.
+/// Runs the question over only the events that it asks about. Returns none, with nothing written,
+/// if the outcome depends on whole segments: so for a fault of all segments, whose two segments
+/// only they can name.
 pub(crate) fn pick_opened<Rt: Threads + Sync, R: Parted, O: Sink>(
     rt: &Rt,
     alloc: Global,
@@ -62,7 +62,8 @@ pub(crate) fn pick_opened<Rt: Threads + Sync, R: Parted, O: Sink>(
     }
 }
 
-/// The end of a run by the fault, which is about no two segments. A fault of all segments is no end.
+/// The refusal for a fault that isn't about two segments. There is none for a fault of all
+/// segments.
 fn about_no_two(fault: RunFault) -> Option<Refused>
     ensures some { (form : InputForm) → (texts : List (List ℕ)) → IfSome result (λ refused.
         (refused.fault ≡ fault) × IsBetween form texts fault refused.between) }

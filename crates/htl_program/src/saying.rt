@@ -32,8 +32,8 @@ pub(crate) fn say_answer<O: Output, P: Person>(
     }
 }
 
-/// Says what is to be known of an answer, where words are wanted: that what was asked about has no
-/// event, that segments are missing which may have some that count, and which inputs were cut.
+/// Gives the notes on an answer, if they are wanted: that the subject has no event, that missing
+/// segments may have events that count, and which inputs were cut.
 fn note<P: Person>(job: &Job, in_words: bool, completed: Completed, person: &mut P)
     ensures { HearsAll (P.heard person.old) (P.heard person.new)
         (notes_said in_words job.now completed) }
@@ -76,7 +76,7 @@ pub(crate) fn say_dump<O: Output, P: Person>(
     }
 }
 
-/// Says how the making of segments ended, where it has no good end.
+/// Reports why segments could not be made, if they could not.
 pub(crate) fn say_encoding<O: Output, P: Person>(
     command: &Command,
     in_words: bool,
@@ -91,7 +91,7 @@ pub(crate) fn say_encoding<O: Output, P: Person>(
     }
 }
 
-/// What was asked about, where it has no event.
+/// The question's subject, if it has no event.
 fn absent_subject(question: Question, has_event: bool) -> Option<Subject>
     ensures { result ≡ absent_subject question has_event }
 {
@@ -128,7 +128,7 @@ fn say_fault<P: Person>(command: &Command, in_words: bool, refused: Refused, per
     }
 }
 
-/// The fault, which is about no two segments.
+/// A refusal by this fault, which names no two segments.
 pub(crate) fn alone(fault: RunFault) -> Refused
     ensures { result ≡ alone_of fault }
 {
@@ -138,7 +138,7 @@ pub(crate) fn alone(fault: RunFault) -> Refused
     }
 }
 
-/// Says why a dialogue ended, where it has no good end.
+/// Reports why a dialogue ended early, if it did.
 pub(crate) fn say_dialogue<O: Output, P: Person>(
     command: &Command,
     in_words: bool,

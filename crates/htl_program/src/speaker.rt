@@ -3,7 +3,7 @@
 use htl_dialogue::Host;
 use htl_main::{Coverage, CutInputs};
 
-/// Who types the lines of a dialogue, and is told of it.
+/// Who types the lines of a dialogue, and hears what goes on beside the replies.
 pub trait Speaker: Host {
     ghost use Rattle.std.specs.Prelude.{◌≡◌, ◌||◌, Bool};
     ghost use Rattle.htl_program.specs.Asking.{opening_note};
@@ -17,13 +17,15 @@ pub trait Speaker: Host {
     // The speaker once there are no more replies, because the lines came to their end or not.
     ghost left: { Self → Bool → Self } = { λ speaker _. speaker };
 
-    /// Notes may be asked for, as a person at a terminal reads them. Where they are, they are wanted.
+    /// Says whether notes are asked for. If they are, they are wanted, as by a person at a
+    /// terminal.
     fn takes_notes(&mut self, are_asked_for: bool)
         ensures taken { self.new ≡ noted self.old are_asked_for }
         ensures wanted { Self.wants_absence self.new
             ≡ (Self.wants_absence self.old || are_asked_for) };
 
-    /// The inputs were read: so much of their trace is there, and these end within a segment.
+    /// The inputs were read. They have this coverage of their trace, and these end within a
+    /// segment.
     fn begins(&mut self, coverage: Coverage, cut: Option<CutInputs>)
         ensures told { self.new ≡ Self.told self.old (opening_note coverage cut) }
         ensures same { Self.wants_absence self.new ≡ Self.wants_absence self.old };
@@ -32,7 +34,7 @@ pub trait Speaker: Host {
     fn counts_wrong(&self) -> bool
         ensures { result ≡ counts self.now };
 
-    /// There are no more replies. The lines may have come to their end.
+    /// No more replies follow. `has_ended` says whether the lines came to their end.
     fn leaves(&mut self, has_ended: bool)
         ensures { self.new ≡ left self.old has_ended };
 }

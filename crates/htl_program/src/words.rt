@@ -10,7 +10,7 @@ ghost use Rattle.htl_program.specs.Words.{advice_of, form_wrong_of, part_of, wro
 use htl_command::Code;
 use htl_text::FormFault;
 
-/// What to do where bytes of a segment break a rule that each writer keeps.
+/// What to do if the bytes of a segment break a rule that every correct writer keeps.
 const DAMAGED: &str = "was the file changed, or is its writer at fault?";
 
 /// What to do where segments were not written as those of one trace.
@@ -25,7 +25,7 @@ pub(crate) const BAD_VALUE: &str = "isn't there, or has no value that fits";
 /// What to do where memory was refused.
 pub const FREE_MEMORY: &str = "free some, or raise its limit";
 
-/// The part of the inputs with which the words on a code begin, where they do. A word in angle
+/// The part of the inputs that the words on a code begin with, if they name one. A word in angle
 /// brackets stands for a number of the fault.
 pub fn part(code: Code) -> Option<&'static str>
     ensures { option_copied result ≡ part_of code }

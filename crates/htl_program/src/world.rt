@@ -14,7 +14,7 @@ pub enum OpenFault {
     NoMemory,
 }
 
-/// What holds bytes under names, and has a standard input.
+/// Where files are: it has bytes under names, and a standard input.
 pub trait World {
     type Input: Parted + Drop;
 
@@ -55,7 +55,7 @@ pub trait World {
         ensures inside { Self.Input.has_ended result ≡ false }
         ensures bytes { Self.Input.remaining result ≡ standard self.now };
 
-    /// Whether a name gives the same bytes when it is opened once more, and as fast: a regular file
-    /// does. A pipe or a device gives other ones.
+    /// Whether a name gives the same bytes, as fast, when it is opened again. A regular file does;
+    /// a pipe or a device doesn't.
     fn can_be_read_again(&self, name: &str) -> bool;
 }

@@ -10,15 +10,15 @@ use std::io::Read;
 /// The least number of bytes of a part.
 const MIN_PART_LEN: u64 = 4_194_304;
 
-/// Twice the length of the longest segment: among this number of bytes a whole one stands.
+/// Twice the length of the longest segment, so that as many bytes contain a whole one.
 const MAX_SEARCH_LEN: u64 = 4_489_280;
 
-/// Twice the length of most segments, and more: a search begins with this number of bytes.
+/// A search begins with this number of bytes, more than twice the length of most segments.
 const SHORT_SEARCH_LEN: u64 = 2_097_152;
 
-/// The offsets at which the parts of the workers end, in about equal distances of at most `most` bytes.
-/// The last one is the end of the source, where the parts reach it. At each other one a segment seems
-/// to begin: where none is found, there is one part fewer.
+/// The offsets at which the workers' parts end, about equally far apart and by at most `most`
+/// bytes. The last may be the end of the source; at each other one a segment seems to begin. If
+/// none is found near an offset, there is one part fewer.
 pub fn ends<R: Parted>(
     alloc: Global,
     workers: u32,
@@ -66,7 +66,7 @@ fn find_within<R: Parted>(alloc: Global, source: &R, near: u64, len: u64) -> Opt
     near.checked_add(first_whole(&bytes)? as u64)
 }
 
-/// The first place of a header that is followed by as many bytes as it announces.
+/// The first place of a header that is followed by all bytes of its segment.
 fn first_whole(bytes: &[u8]) -> Option<usize> {
     for place in 0..bytes.len() {
         if whole_len(&bytes[place..]).is_some() {

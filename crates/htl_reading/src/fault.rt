@@ -7,9 +7,9 @@ use std::alloc::{AllocError, AllocFailed};
 /// Why the reading of a source ended before its end.
 #[derive(Clone, Copy, Debug, PartialEq, Eq)]
 pub enum SourceFault {
-    /// The bytes at this offset are no segment.
+    /// The bytes at this offset are not a segment.
     Segment { offset: u64, fault: Fault },
-    /// A read failed, or `MAX_READS` of them gave bytes.
+    /// A read failed, or the source had no end after `MAX_READS` reads.
     Read,
     /// Memory was refused.
     NoMemory,

@@ -1,4 +1,4 @@
-//! What was gathered from a source, and how one worker reads it on.
+//! What was gathered from a source so far, and how one worker reads on.
 
 ghost use Rattle.std.specs.Prelude.{◌≡◌, ◌≢◌, ◌+◌, ◌*◌, ◌<◌, ◌≤◌, ◌^◌, ℕ, List, Option, Err};
 ghost use Rattle.std.specs.Prelude.{IfOk, IfErr, OnOk, false, length};

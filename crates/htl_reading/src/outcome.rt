@@ -1,4 +1,4 @@
-//! What comes of a source that was read to its end.
+//! The outcome of a source that was read to its end.
 
 ghost use Rattle.std.specs.Prelude.{◌≡◌, List, length};
 ghost use Rattle.htl_segment.specs.Content.{Content};
@@ -25,7 +25,8 @@ pub struct EarlyEnd {
     pub fault: Fault,
 }
 
-/// Where bytes end within a segment, by those that are left at an offset behind whole ones.
+/// Where bytes end within a segment, given the bytes that are left behind the whole segments and
+/// their offset. There is none if no byte is left.
 pub fn early_end(offset: u64, rest: &[u8]) -> Option<EarlyEnd>
     ensures { (segments : List Content) → offset ≡ length (bundle segments) → IsRest rest.now
         → IsLeft segments rest.now result }

@@ -26,8 +26,8 @@ pub struct SourcePart<R, K> {
 }
 
 impl<R: Read + Drop, K: Keeper + Drop> SourcePart<R, K> {
-    /// Reads the part, and gives the keeper with its segments. Where it is no whole segments, or can't
-    /// be read, it gives none.
+    /// Reads the part and returns the keeper with its segments, or none if the part can't be read
+    /// or isn't made of whole segments.
     fn gather(self, alloc: Global) -> Option<K>
         ensures { IfSome result (λ new. IfSome (take_remaining R.remaining self.bytes)
             (TookAll K.gathers self.keeper new)) }

@@ -36,24 +36,24 @@ pub fn processes<P: Part>(
         → HaveOwnSequences events → IsProcesses events rows.items) }
 {
     let sums = slot_sums(alloc, parts)?;
-    processes_of_slots(alloc, tree_alloc, parts, &sums)
+    let tables = tables_of(tree_alloc, parts)?;
+    processes_of_slots(alloc, &tables, &sums)
 }
 
-/// As `processes`, from the sums of the parts' slots.
-pub(crate) fn processes_of_slots<P: Part>(
+/// As `processes`, from the tables of the parts and the sums of their slots.
+pub(crate) fn processes_of_slots<A: Allocator>(
     alloc: Global,
-    tree_alloc: &P::Alloc,
-    parts: &[P],
+    tables: &Tables<A>,
     sums: &[(Slot, Count)],
 ) -> Result<Vec<ProcessRow>, NoMemory>
     requires { sum_by (λ sum. total_of sum.1) sums.now < 2 ^ 64 }
     ensures { IfOk result (λ rows. (events : List Event)
-        → AreEventsOf (map P.contents parts.now) events → ListsSlotSums events sums.now
+        → AreTablesOf events tables.now.latest tables.now.marks tables.now.exits
+        → ListsSlotSums events sums.now
         → HaveOwnSequences events → IsProcesses events rows.items) }
 {
-    let tables = tables_of(tree_alloc, parts)?;
     let used = rows_by_owner::<Usage>(alloc, sums)?;
-    let mut rows = process_rows(alloc, &used, &tables)?;
+    let mut rows = process_rows(alloc, &used, tables)?;
     put_in_order(&mut rows);
     Ok(rows)
 }

@@ -1,4 +1,4 @@
-//! A segment that a fault sets against another, as a person finds it.
+//! One of the two segments of a fault, named so that a person finds it.
 
 ghost use Rattle.std.specs.Prelude.{◌≡◌};
 ghost use Rattle.hleak.specs.Subjects.{input_name};
@@ -10,7 +10,7 @@ use htl_case::CaseFault;
 use htl_main::Origin;
 use std::fmt;
 
-/// What tells a segment from the one that a fault sets against it.
+/// What distinguishes one of a fault's two segments from the other.
 #[derive(Clone, Copy, Debug, PartialEq, Eq)]
 pub enum SegmentLabel {
     Trace(u64),

@@ -22,6 +22,6 @@ returns g c = λ events are listed own.
     let used = c.in_ok-used.used.items in
     let rows = c.in_ok-rows.rows.items in
     let rows_are : AreRowsOf events used rows = subst (λ (us : List Usage). AreRowsOf events us rows) c.deref.ensures.value
-    (c.in_ok-rows.ensures.rows events own (c.in_ok-tables.ensures events are)) in
+    (c.in_ok-rows.ensures.rows events own are) in
     are_processes events sums used rows c.put_in_order.new.rows.items listed c.in_ok-used.ensures.sorted c.in_ok-used.ensures.values rows_are
     c.put_in_order.ensures.rising c.put_in_order.ensures.members

@@ -63,15 +63,15 @@ module _ (n m : ℕ) (steps : List Step) where
 
   -- ---- asking after the steps
 
-  module _ (asked : ℕ) where
+  module _ (analyst : ℕ) where
     -- a fault of the steps is that of the question
-    pub fault_of_steps : (f : PlayFault) → f ≢ NoMemory → IsPlayRefusal n m steps f → IsAnswerRefusal n m steps asked f
+    pub fault_of_steps : (f : PlayFault) → f ≢ NoMemory → IsPlayRefusal n m steps f → IsAnswerRefusal n m steps analyst f
     fault_of_steps (NoAnalyst i) nf x = inl x
     fault_of_steps (NoSegment i) nf x = x
     fault_of_steps NoMemory nf x = absurd (nf refl)
 
     -- and the only one
-    pub one_of_steps : (f g : PlayFault) → f ≢ NoMemory → g ≢ NoMemory → IsPlayRefusal n m steps f → IsAnswerRefusal n m steps asked g
+    pub one_of_steps : (f g : PlayFault) → f ≢ NoMemory → g ≢ NoMemory → IsPlayRefusal n m steps f → IsAnswerRefusal n m steps analyst g
         → f ≡ g
     one_of_steps f (NoAnalyst j) nf ng x (inl y) = one_fault f (NoAnalyst j) nf ng x y
     one_of_steps f (NoAnalyst j) nf ng x (inr y) = absurd (no_fault y.0 f nf x)
@@ -79,9 +79,9 @@ module _ (n m : ℕ) (steps : List Step) where
     one_of_steps f NoMemory nf ng x y = absurd (ng refl)
 
     -- where no step is faulty, only the analyst that is asked may be missing
-    pub fault_of_asked : (g : PlayFault) → g ≢ NoMemory → NoneIsFaulty n m steps → IsAnswerRefusal n m steps asked g
-        → (n ≤ asked) × (NoAnalyst (length steps) ≡ g)
-    fault_of_asked (NoAnalyst j) ng none (inl y) = absurd (no_fault none (NoAnalyst j) ng y)
-    fault_of_asked (NoAnalyst j) ng none (inr y) = (y.1, ap NoAnalyst (sym y.2))
-    fault_of_asked (NoSegment j) ng none y = absurd (no_fault none (NoSegment j) ng y)
-    fault_of_asked NoMemory ng none y = absurd (ng refl)
+    pub fault_of_analyst : (g : PlayFault) → g ≢ NoMemory → NoneIsFaulty n m steps → IsAnswerRefusal n m steps analyst g
+        → (n ≤ analyst) × (NoAnalyst (length steps) ≡ g)
+    fault_of_analyst (NoAnalyst j) ng none (inl y) = absurd (no_fault none (NoAnalyst j) ng y)
+    fault_of_analyst (NoAnalyst j) ng none (inr y) = (y.1, ap NoAnalyst (sym y.2))
+    fault_of_analyst (NoSegment j) ng none y = absurd (no_fault none (NoSegment j) ng y)
+    fault_of_analyst NoMemory ng none y = absurd (ng refl)

@@ -43,7 +43,7 @@ IsPlayRefusal n m steps NoMemory = NoneIsFaulty n m steps
 -- The fault that is reported where an analyst is asked after the steps: that of the steps, or else a missing analyst that is
 -- asked, at the place after the last step.
 abbrev pub IsAnswerRefusal : ℕ → ℕ → List Step → ℕ → PlayFault → Type 0
-IsAnswerRefusal n m steps asked (NoAnalyst place) =
-    IsPlayRefusal n m steps (NoAnalyst place) ⊎ (NoneIsFaulty n m steps × (n ≤ asked) × (place ≡ length steps))
-IsAnswerRefusal n m steps asked (NoSegment place) = IsPlayRefusal n m steps (NoSegment place)
-IsAnswerRefusal n m steps asked NoMemory = NoneIsFaulty n m steps × (asked < n)
+IsAnswerRefusal n m steps analyst (NoAnalyst place) =
+    IsPlayRefusal n m steps (NoAnalyst place) ⊎ (NoneIsFaulty n m steps × (n ≤ analyst) × (place ≡ length steps))
+IsAnswerRefusal n m steps analyst (NoSegment place) = IsPlayRefusal n m steps (NoSegment place)
+IsAnswerRefusal n m steps analyst NoMemory = NoneIsFaulty n m steps × (analyst < n)

@@ -31,25 +31,25 @@ pub fn answer_after(
     case: &Case,
     analysts: u32,
     steps: &[Step],
-    asked: u32,
+    analyst: u32,
     question: &AnalystQuestion,
 ) -> Result<AnalystAnswer, PlayFault>
     ensures answer { IfOk result (λ answer.
-        IsAnswer case.now (reached case.now steps.now asked) question.now answer) }
+        IsAnswer case.now (reached case.now steps.now analyst) question.now answer) }
     ensures accepted { OnOk result
-        (NoneIsFaulty analysts (length case.now.segments) steps.now × (asked < analysts)) }
+        (NoneIsFaulty analysts (length case.now.segments) steps.now × (analyst < analysts)) }
     ensures refused { IfErr result
-        (IsAnswerRefusal analysts (length case.now.segments) steps.now asked) }
+        (IsAnswerRefusal analysts (length case.now.segments) steps.now analyst) }
     ensures exact { (fault : PlayFault) → fault ≢ PlayFault.NoMemory
-        → IsAnswerRefusal analysts (length case.now.segments) steps.now asked fault
+        → IsAnswerRefusal analysts (length case.now.segments) steps.now analyst fault
         → result ≡ Err fault }
 {
     check_steps(analysts, case.segments().len(), steps)?;
-    if asked >= analysts {
+    if analyst >= analysts {
         return Err(PlayFault::NoAnalyst(steps.len() as u64));
     }
     let after = analysts_after(alloc, case, analysts, steps)?;
-    Ok(ask(alloc, &after[asked as usize], question)?)
+    Ok(ask(alloc, &after[analyst as usize], question)?)
 }
 
 /// The analyst's answer to the question.

@@ -104,7 +104,7 @@ fn said_by_question(alloc: Global, arguments: &[String]) -> Result<Said, NoMemor
     ensures fault { IfOk result
         (HasReason (RefusesQuestion (meant (map string_bytes arguments.now)))) }
 {
-    match asked(alloc, arguments) {
+    match question_job(alloc, arguments) {
         Ok(job) => Ok(Said::Asks(job)),
         Err(fault) => wrong(fault),
     }
@@ -166,7 +166,7 @@ fn is_farewell(word: &str) -> bool
 }
 
 /// The job that the arguments ask for.
-fn asked(alloc: Global, arguments: &[String]) -> Result<Job, ParseFault>
+fn question_job(alloc: Global, arguments: &[String]) -> Result<Job, ParseFault>
     ensures ok { IfOk result (λ job. asked_in (meant (map string_bytes arguments.now)) ≡ Some job) }
     ensures err { IfErr result (RefusesQuestion (meant (map string_bytes arguments.now))) }
 {

@@ -21,7 +21,7 @@ pub(crate) struct Lines {
     /// The writer. It writes behind the lines that are whole.
     pub(crate) writer: Writer,
     /// A text that is made here before it is written as a string.
-    room: String,
+    scratch: String,
 }
 
 impl Lines {
@@ -32,7 +32,7 @@ impl Lines {
         Lines {
             alloc,
             writer: Writer::new(Vec::new(alloc)),
-            room: String::new(alloc),
+            scratch: String::new(alloc),
         }
     }
 
@@ -73,7 +73,7 @@ impl Lines {
     /// Writes the name of a field, whose value is written next.
     pub(crate) fn key(&mut self, name: &str) -> Result<(), AllocError>
         ensures added { OnOk result (AddsTokens self.old self.new (token.key name.now ∷ [])) }
-        ensures room { self.new.room ≡ self.old.room }
+        ensures scratch { self.new.scratch ≡ self.old.scratch }
     {
         self.writer.key(name)
     }
@@ -132,9 +132,9 @@ impl Lines {
         ensures { OnOk result
             (AddsFields self.old self.new ((name.now, shown_handle handle) ∷ [])) }
     {
-        self.room.clear();
-        write!(self.room, "0x{handle:x}")?;
-        self.room_as(name)
+        self.scratch.clear();
+        write!(self.scratch, "0x{handle:x}")?;
+        self.scratch_as(name)
     }
 
     /// Writes an address or an object.
@@ -142,9 +142,9 @@ impl Lines {
         ensures { OnOk result
             (AddsFields self.old self.new ((name.now, shown_address address) ∷ [])) }
     {
-        self.room.clear();
-        write_address(&mut self.room, address)?;
-        self.room_as(name)
+        self.scratch.clear();
+        write_address(&mut self.scratch, address)?;
+        self.scratch_as(name)
     }
 
     /// Writes a tag as it is shown, and its bytes.
@@ -161,25 +161,25 @@ impl Lines {
         ensures { OnOk result
             (AddsFields self.old self.new ((codes "tag", string (shown_tag tag)) ∷ [])) }
     {
-        self.room.clear();
-        write_tag(&mut self.room, &tag)?;
-        self.room_as("tag")
+        self.scratch.clear();
+        write_tag(&mut self.scratch, &tag)?;
+        self.scratch_as("tag")
     }
 
     /// Writes the text that was made, as a field of this name.
-    fn room_as(&mut self, name: &str) -> Result<(), AllocError>
+    fn scratch_as(&mut self, name: &str) -> Result<(), AllocError>
         ensures { OnOk result (AddsFields self.old self.new
-            ((name.now, string (string_bytes self.old.room)) ∷ [])) }
+            ((name.now, string (string_bytes self.old.scratch)) ∷ [])) }
     {
         self.key(name)?;
-        self.write_room()
+        self.write_scratch()
     }
 
-    fn write_room(&mut self) -> Result<(), AllocError>
+    fn write_scratch(&mut self) -> Result<(), AllocError>
         ensures { OnOk result
-            (AddsTokens self.old self.new (token.string (string_bytes self.old.room) ∷ [])) }
+            (AddsTokens self.old self.new (token.string (string_bytes self.old.scratch) ∷ [])) }
     {
-        self.writer.string(self.room.as_str())
+        self.writer.string(self.scratch.as_str())
     }
 
     #[tactic(auto, unfolding(crate::specs::Records::count_fields))]

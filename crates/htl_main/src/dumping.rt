@@ -88,7 +88,7 @@ fn dump_input<R: Source, W: Sink>(
     if form.hex {
         return match read_whole(alloc, source) {
             Ok(text) => dump_text(alloc, form, place, &text, out),
-            Err(fault) => Err(RunFault::of_read(place, fault)),
+            Err(fault) => Err(RunFault::from_read(place, fault)),
         };
     }
     let mut buffer = [0u8; MIN_READ_LEN];
@@ -116,7 +116,7 @@ fn dump_text<W: Sink>(
 {
     match from_hex(alloc, text) {
         Ok(bytes) => dump_whole(alloc, form, place, &bytes, out),
-        Err(fault) => Err(RunFault::of_hex(place, fault)),
+        Err(fault) => Err(RunFault::from_hex(place, fault)),
     }
 }
 

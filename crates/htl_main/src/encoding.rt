@@ -89,7 +89,7 @@ fn encode_input<R: Source>(alloc: Global, place: u64, source: &mut R) -> Result<
 {
     match read_whole(alloc, source) {
         Ok(text) => encode_text(alloc, place, &text),
-        Err(fault) => Err(RunFault::of_read(place, fault)),
+        Err(fault) => Err(RunFault::from_read(place, fault)),
     }
 }
 
@@ -103,7 +103,7 @@ fn encode_text(alloc: Global, place: u64, text: &[u8]) -> Result<Vec<u8>, RunFau
     ensures named { NamesOnly place result }
     ensures no_write { NeverWrite result }
 {
-    encode(alloc, text).map_err(|fault| RunFault::of_text(place, text, fault))
+    encode(alloc, text).map_err(|fault| RunFault::from_text(place, text, fault))
 }
 
 /// Writes the bytes as they are, or their hexadecimal digits and a line feed.

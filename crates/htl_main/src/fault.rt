@@ -98,7 +98,7 @@ impl RunFault {
     }
 
     /// The fault of the bytes at an offset of an input.
-    pub(crate) fn of_segment(input: u64, offset: u64, fault: Fault) -> RunFault
+    pub(crate) fn from_segment(input: u64, offset: u64, fault: Fault) -> RunFault
         ensures { result ≡ of_segment input offset fault }
     {
         match fault {
@@ -112,7 +112,7 @@ impl RunFault {
     }
 
     /// The fault of the digits of an input.
-    pub(crate) fn of_hex(input: u64, fault: HexFault) -> RunFault
+    pub(crate) fn from_hex(input: u64, fault: HexFault) -> RunFault
         ensures { result ≡ of_hex input fault }
     {
         match fault {
@@ -122,7 +122,7 @@ impl RunFault {
     }
 
     /// The fault of a read of an input.
-    pub(crate) fn of_read(input: u64, fault: ReadFault) -> RunFault
+    pub(crate) fn from_read(input: u64, fault: ReadFault) -> RunFault
         ensures { result ≡ of_read input fault }
     {
         match fault {
@@ -132,7 +132,7 @@ impl RunFault {
     }
 
     /// Why the reading of an input of bytes ended.
-    pub(crate) fn of_source(input: u64, fault: SourceFault) -> RunFault
+    pub(crate) fn from_source(input: u64, fault: SourceFault) -> RunFault
         ensures { result ≡ of_source input fault }
     {
         match fault {
@@ -147,7 +147,7 @@ impl RunFault {
     }
 
     /// The fault of the text of an input.
-    pub(crate) fn of_text(input: u64, text: &[u8], fault: TextFault) -> RunFault
+    pub(crate) fn from_text(input: u64, text: &[u8], fault: TextFault) -> RunFault
         ensures { result ≡ of_text input text.now fault }
     {
         match fault {

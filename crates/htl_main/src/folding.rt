@@ -307,7 +307,7 @@ fn read_input<Rt: Threads + Sync, R: Parted>(
     if setting.form.hex {
         return match read_whole(alloc, source) {
             Ok(text) => take_text(alloc, setting.form, place, &text, folder),
-            Err(fault) => Err(RunFault::of_read(place, fault)),
+            Err(fault) => Err(RunFault::from_read(place, fault)),
         };
     }
     let fold = |folder: &mut Folder| -> Result<(), NoMemory>
@@ -315,7 +315,7 @@ fn read_input<Rt: Threads + Sync, R: Parted>(
     { folder.fold_if_full(rt, setting.workers) };
     match take_source(rt, alloc, setting.workers, source, folder, &fold) {
         Ok(end) => check_end(setting.form, place, end),
-        Err(fault) => Err(RunFault::of_source(place, fault)),
+        Err(fault) => Err(RunFault::from_source(place, fault)),
     }
 }
 
@@ -340,7 +340,7 @@ fn take_text(
 {
     match from_hex(alloc, text) {
         Ok(bytes) => take_bytes(alloc, form, place, &bytes, folder),
-        Err(fault) => Err(RunFault::of_hex(place, fault)),
+        Err(fault) => Err(RunFault::from_hex(place, fault)),
     }
 }
 
@@ -367,7 +367,7 @@ fn take_bytes(
 {
     let rest = match split(alloc, folder, bytes) {
         Ok(rest) => rest,
-        Err((offset, fault)) => return Err(RunFault::of_segment(place, offset, fault)),
+        Err((offset, fault)) => return Err(RunFault::from_segment(place, offset, fault)),
     };
     let offset = (bytes.len() - rest.len()) as u64;
     check_end(form, place, early_end(offset, rest))

@@ -54,7 +54,7 @@ pub(crate) fn decode_input(
     if !form.hex {
         return decode_bytes(alloc, form, place, input);
     }
-    let bytes = from_hex(alloc, input).map_err(|fault| RunFault::of_hex(place, fault))?;
+    let bytes = from_hex(alloc, input).map_err(|fault| RunFault::from_hex(place, fault))?;
     decode_bytes(alloc, form, place, &bytes)
 }
 
@@ -75,7 +75,7 @@ fn decode_bytes(
     let mut segments = Segments::new(alloc);
     let rest = match split(alloc, &mut segments, bytes) {
         Ok(rest) => rest,
-        Err((offset, fault)) => return Err(RunFault::of_segment(place, offset, fault)),
+        Err((offset, fault)) => return Err(RunFault::from_segment(place, offset, fault)),
     };
     let offset = (bytes.len() - rest.len()) as u64;
     let early_end = early_end(offset, rest);

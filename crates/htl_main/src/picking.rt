@@ -87,6 +87,6 @@ fn pick_source<Rt: Threads + Sync, R: Parted>(
 {
     match gather_bundle(rt, alloc, workers, source, picks) {
         Ok(bundle) => accept(form, place, bundle),
-        Err(fault) => Err(RunFault::of_source(place, fault)),
+        Err(fault) => Err(RunFault::from_source(place, fault)),
     }
 }

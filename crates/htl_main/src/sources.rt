@@ -77,11 +77,11 @@ fn read_input<Rt: Threads + Sync, R: Parted>(
     if form.hex {
         return match read_whole(alloc, source) {
             Ok(text) => decode_input(alloc, form, place, &text),
-            Err(fault) => Err(RunFault::of_read(place, fault)),
+            Err(fault) => Err(RunFault::from_read(place, fault)),
         };
     }
     match read_bundle(rt, alloc, workers, source) {
         Ok(bundle) => accept(form, place, bundle),
-        Err(fault) => Err(RunFault::of_source(place, fault)),
+        Err(fault) => Err(RunFault::from_source(place, fault)),
     }
 }

@@ -57,8 +57,8 @@ impl NamedPart {
     {
         match fault.parts {
             Parts::Nothing => None,
-            Parts::Number(number) => NamedPart::of_number(fault.code, number),
-            Parts::Numbers(first, second) => NamedPart::of_numbers(fault.code, first, second),
+            Parts::Number(number) => NamedPart::from_number(fault.code, number),
+            Parts::Numbers(first, second) => NamedPart::from_numbers(fault.code, first, second),
             Parts::Field(name) => match fault.code {
                 Code::E1 => Some(NamedPart::Field(name)),
                 _ => None,
@@ -67,7 +67,7 @@ impl NamedPart {
     }
 
     /// The part that has a number, where the faults of the code have one.
-    fn of_number(code: Code, number: u64) -> Option<NamedPart>
+    fn from_number(code: Code, number: u64) -> Option<NamedPart>
         ensures { result ≡ number_part code number }
     {
         match code {
@@ -83,7 +83,7 @@ impl NamedPart {
     }
 
     /// The part that has two numbers, where the faults of the code have two.
-    fn of_numbers(code: Code, processor: u64, number: u64) -> Option<NamedPart>
+    fn from_numbers(code: Code, processor: u64, number: u64) -> Option<NamedPart>
         ensures { result ≡ numbers_part code processor number }
     {
         match code {

@@ -20,7 +20,7 @@ impl SourceFault {
     ghost use Rattle.htl_reading.specs.Blocks.{of_segment};
 
     /// The fault of the bytes at an offset.
-    pub(crate) fn of_segment(offset: u64, fault: Fault) -> SourceFault
+    pub(crate) fn from_segment(offset: u64, fault: Fault) -> SourceFault
         ensures { result ≡ of_segment offset fault }
     {
         match fault {

@@ -96,6 +96,6 @@ pub fn take_front<K: Keeper>(
 {
     match split(alloc, keeper, bytes) {
         Ok(rest) => Ok(bytes.len() - rest.len()),
-        Err((inside, fault)) => Err(SourceFault::of_segment(offset + inside, fault)),
+        Err((inside, fault)) => Err(SourceFault::from_segment(offset + inside, fault)),
     }
 }

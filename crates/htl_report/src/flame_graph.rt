@@ -25,14 +25,14 @@ pub fn folded(
     ensures { IfOk result (λ bytes. bytes.items ≡ folded_text symbols.now top rows.now) }
 {
     let mut out = Vec::new(alloc);
-    let mut room = String::new(alloc);
-    write_rows(&mut out, &mut room, symbols, first_rows(top, rows))?;
+    let mut scratch = String::new(alloc);
+    write_rows(&mut out, &mut scratch, symbols, first_rows(top, rows))?;
     Ok(out)
 }
 
 fn write_rows(
     out: &mut Vec<u8>,
-    room: &mut String,
+    scratch: &mut String,
     symbols: &Symbols,
     rows: &[(SharedStack, u64)],
 ) -> Result<(), AllocError>
@@ -40,15 +40,15 @@ fn write_rows(
         ≡ out.old.items ++ flat_map (folded_line symbols.now) rows.now) }
 {
     for (stack, handles) in rows {
-        write_stack(out, room, symbols, stack.frames())?;
-        write_count(out, room, *handles)?;
+        write_stack(out, scratch, symbols, stack.frames())?;
+        write_count(out, scratch, *handles)?;
     }
     Ok(())
 }
 
 fn write_stack(
     out: &mut Vec<u8>,
-    room: &mut String,
+    scratch: &mut String,
     symbols: &Symbols,
     frames: &[u64],
 ) -> Result<(), AllocError>
@@ -58,8 +58,8 @@ fn write_stack(
     match frames.split_last() {
         None => out.extend_from_slice(b"(no stack)"),
         Some((outermost, inner)) => {
-            write_frame(out, room, symbols, *outermost)?;
-            write_inner(out, room, symbols, inner)
+            write_frame(out, scratch, symbols, *outermost)?;
+            write_inner(out, scratch, symbols, inner)
         }
     }
 }
@@ -67,7 +67,7 @@ fn write_stack(
 /// Writes the frames, each after a `;`.
 fn write_inner(
     out: &mut Vec<u8>,
-    room: &mut String,
+    scratch: &mut String,
     symbols: &Symbols,
     frames: &[u64],
 ) -> Result<(), AllocError>
@@ -76,23 +76,23 @@ fn write_inner(
 {
     for frame in frames.iter().rev() {
         out.push(b';')?;
-        write_frame(out, room, symbols, *frame)?;
+        write_frame(out, scratch, symbols, *frame)?;
     }
     Ok(())
 }
 
 fn write_frame(
     out: &mut Vec<u8>,
-    room: &mut String,
+    scratch: &mut String,
     symbols: &Symbols,
     address: u64,
 ) -> Result<(), AllocError>
     ensures { OnOk result (out.new.items
         ≡ out.old.items ++ folded_frame symbols.now address) }
 {
-    room.clear();
-    write_named(room, symbols, address)?;
-    write_bytes(out, room.as_bytes())
+    scratch.clear();
+    write_named(scratch, symbols, address)?;
+    write_bytes(out, scratch.as_bytes())
 }
 
 fn write_bytes(out: &mut Vec<u8>, name: &[u8]) -> Result<(), AllocError>
@@ -115,10 +115,10 @@ fn folded_in_name(byte: u8) -> u8
 }
 
 #[tactic(auto, unfolding(crate::specs::Folded::folded_count))]
-fn write_count(out: &mut Vec<u8>, room: &mut String, handles: u64) -> Result<(), AllocError>
+fn write_count(out: &mut Vec<u8>, scratch: &mut String, handles: u64) -> Result<(), AllocError>
     ensures { OnOk result (out.new.items ≡ out.old.items ++ folded_count handles) }
 {
-    room.clear();
-    writeln!(room, " {handles}")?;
-    out.extend_from_slice(room.as_bytes())
+    scratch.clear();
+    writeln!(scratch, " {handles}")?;
+    out.extend_from_slice(scratch.as_bytes())
 }

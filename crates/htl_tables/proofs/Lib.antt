@@ -11,7 +11,7 @@ pub mod Gathering
 pub mod FlatPlaces
 pub mod EventsOfKeys
 pub mod FirstKeys
-pub mod AskedKeys
+pub mod ChosenKeys
 pub mod Sequences
 pub mod Moments
 pub mod NotingLaws

@@ -21,26 +21,27 @@ struct Candidates<A: Allocator> {
 pub(crate) fn candidates_in<R: EventList, A: Allocator + Clone>(
     alloc: A,
     lists: &[R],
-    asked: Option<u32>,
+    chosen: Option<u32>,
 ) -> Result<Vec<SortKey, A>, NoMemory>
     ensures all { IfOk result (λ keys.
-        AreCandidates R.events_of lists.now (touches asked) keys.items) }
+        AreCandidates R.events_of lists.now (touches chosen) keys.items) }
     ensures sorted { IfOk result (λ keys. IsSorted sort_key_cmp keys.items) }
 {
     let mut candidates = Candidates::new(alloc, number_of_events(lists).unwrap_or(usize::MAX))?;
     for (list, events) in lists.iter().enumerate() {
-        candidates.gather(place_of(list)?, events.events(), asked)?;
+        candidates.gather(place_of(list)?, events.events(), chosen)?;
     }
     let mut keys = candidates.keys;
     keys.sort_unstable();
     Ok(keys)
 }
 
-/// Whether the event opens or closes a handle of the process that is asked for.
-fn touches(event: &SharedEvent, asked: Option<u32>) -> bool
-    ensures { result ≡ touches asked event.now }
+/// Whether the event opens or closes a handle of the chosen process, or of any where none is
+/// chosen.
+fn touches(event: &SharedEvent, chosen: Option<u32>) -> bool
+    ensures { result ≡ touches chosen event.now }
 {
-    event.kind.opens_or_closes() && asked.is_none_or(|process| event.process == process)
+    event.kind.opens_or_closes() && chosen.is_none_or(|process| event.process == process)
 }
 
 impl<A: Allocator + Clone> Candidates<A> {
@@ -62,19 +63,19 @@ impl<A: Allocator> Candidates<A> {
     ghost use Rattle.htl_tables.specs.OfProcess.{touches};
     ghost use Rattle.htl_tables.specs.SortKeys.{IsPlaceOf, Gathers, Offers};
 
-    /// Offers the keys of the opens and closes of one list that are asked for.
+    /// Offers the keys of one list's opens and closes of the chosen process, or of all processes.
     fn gather(
         &mut self,
         list: u32,
         events: &[SharedEvent],
-        asked: Option<u32>,
+        chosen: Option<u32>,
     ) -> Result<(), AllocError>
         ensures { OnOk result
-            (Gathers list events.now (touches asked) self.old.keys.items self.new.keys.items) }
+            (Gathers list events.now (touches chosen) self.old.keys.items self.new.keys.items) }
     {
         for (index, event) in events.iter().enumerate() {
             let likely = self.hints.likely_place(&self.keys, events, index);
-            if touches(event, asked) {
+            if touches(event, chosen) {
                 self.offer(SortKey::of(event, list, place_of(index)?), likely)?;
             }
         }

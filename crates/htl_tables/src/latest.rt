@@ -184,7 +184,7 @@ impl<A: Allocator + Clone> Latest<A> {
             → LatestIs (Contains (flat_map R.events_of lists.now)) process base
             (event_at t process base)) }
     {
-        Latest::of_asked(alloc, lists, None)
+        Latest::of_chosen(alloc, lists, None)
     }
 
     /// As `of`, but of one process alone: the table has no event of another.
@@ -201,22 +201,22 @@ impl<A: Allocator + Clone> Latest<A> {
         ensures others { IfOk result (λ t. (other base : ℕ) → other ≢ process
             → event_at t other base ≡ None) }
     {
-        Latest::of_asked(alloc, lists, Some(process))
+        Latest::of_chosen(alloc, lists, Some(process))
     }
 
-    fn of_asked<R: EventList>(
+    fn of_chosen<R: EventList>(
         alloc: A,
         lists: &[R],
-        asked: Option<u32>,
+        chosen: Option<u32>,
     ) -> Result<Latest<A>, NoMemory>
         ensures { IfOk result (λ t. (process base : ℕ) → event_at t process base
-            ≡ noted_of asked (flat_map R.events_of lists.now) process base) }
+            ≡ noted_of chosen (flat_map R.events_of lists.now) process base) }
     {
-        let keys = candidates_in(alloc.clone()?, lists, asked)?;
+        let keys = candidates_in(alloc.clone()?, lists, chosen)?;
         let mut latest = Latest {
             rows: Vec::with_capacity(alloc, handles_in(&keys))?,
         };
-        latest.note_all(keys, lists, asked)?;
+        latest.note_all(keys, lists, chosen)?;
         Ok(latest)
     }
 
@@ -226,18 +226,18 @@ impl<A: Allocator + Clone> Latest<A> {
         &mut self,
         keys: Vec<SortKey, A>,
         lists: &[R],
-        asked: Option<u32>,
+        chosen: Option<u32>,
     ) -> Result<(), NoMemory>
-        requires keys { AreCandidates R.events_of lists.now (touches asked) keys.items }
+        requires keys { AreCandidates R.events_of lists.now (touches chosen) keys.items }
         requires sorted { IsSorted sort_key_cmp keys.items }
         requires none { self.old ≡ [] }
-        ensures { OnOk result (HaveFirstKeys R.events_of lists.now (touches asked) keys.items
+        ensures { OnOk result (HaveFirstKeys R.events_of lists.now (touches chosen) keys.items
             (length keys.items) self.new) }
     {
         let mut rest = keys;
         while !rest.is_empty() {
             let half = rest.len().div_ceil(2);
-            self.note_keys(&rest[..half], lists, asked)?;
+            self.note_keys(&rest[..half], lists, chosen)?;
             drop_first(&mut rest, half);
         }
         Ok(())
@@ -248,16 +248,16 @@ impl<A: Allocator + Clone> Latest<A> {
         &mut self,
         keys: &[SortKey],
         lists: &[R],
-        asked: Option<u32>,
+        chosen: Option<u32>,
     ) -> Result<(), NoMemory>
-        requires { AreKeysIn R.events_of lists.now (touches asked) keys.now }
-        ensures { OnOk result (NotesKeys R.events_of lists.now (touches asked) keys.now
+        requires { AreKeysIn R.events_of lists.now (touches chosen) keys.now }
+        ensures { OnOk result (NotesKeys R.events_of lists.now (touches chosen) keys.now
             self.old self.new) }
     {
         let mut noted = 0;
         while noted < keys.len() {
             let end = noted.saturating_add(BLOCK).min(keys.len());
-            self.note_block(&keys[noted..end], lists, asked)?;
+            self.note_block(&keys[noted..end], lists, chosen)?;
             noted = end;
         }
         Ok(())
@@ -268,14 +268,14 @@ impl<A: Allocator + Clone> Latest<A> {
         &mut self,
         keys: &[SortKey],
         lists: &[R],
-        asked: Option<u32>,
+        chosen: Option<u32>,
     ) -> Result<(), NoMemory>
-        requires { AreKeysIn R.events_of lists.now (touches asked) keys.now }
-        ensures { OnOk result (NotesKeys R.events_of lists.now (touches asked) keys.now
+        requires { AreKeysIn R.events_of lists.now (touches chosen) keys.now }
+        ensures { OnOk result (NotesKeys R.events_of lists.now (touches chosen) keys.now
             self.old self.new) }
     {
         let alloc = self.rows.allocator().clone()?;
-        let events = events_of(alloc, keys, lists, asked)?;
+        let events = events_of(alloc, keys, lists, chosen)?;
         for event in &events {
             self.note(event)?;
         }

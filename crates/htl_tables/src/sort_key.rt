@@ -78,9 +78,9 @@ pub(crate) fn events_of<'a, R: EventList, A: Allocator>(
     alloc: A,
     keys: &[SortKey],
     lists: &'a [R],
-    asked: Option<u32>,
+    chosen: Option<u32>,
 ) -> Result<Vec<&'a SharedEvent, A>, NoMemory>
-    requires { AreKeysIn R.events_of lists.now (touches asked) keys.now }
+    requires { AreKeysIn R.events_of lists.now (touches chosen) keys.now }
     ensures each { IfOk result (λ events.
         AreEventsOfKeys R.events_of lists.now keys.now events.items) }
     ensures all { IfOk result (λ events. length events.items ≡ length keys.now) }

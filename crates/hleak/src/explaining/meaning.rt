@@ -62,7 +62,7 @@ impl Meaning {
 
     /// What a fault means that has this code, and names no part of the inputs.
     #[tactic(auto, unfolding(crate::specs::Meanings::coded))]
-    fn of_code(code: Code) -> Meaning
+    fn from_code(code: Code) -> Meaning
         ensures { text_of result ≡ coded code None }
     {
         Meaning::new(wrong(code), advice(code))
@@ -70,7 +70,7 @@ impl Meaning {
 
     /// What a fault means that has this code, and names this part of the inputs.
     #[tactic(auto, unfolding(crate::specs::Meanings::coded))]
-    fn of_part(code: Code, part: NamedPart) -> Meaning
+    fn from_part(code: Code, part: NamedPart) -> Meaning
         ensures { text_of result ≡ coded code (Some part) }
     {
         Meaning {
@@ -81,54 +81,54 @@ impl Meaning {
     }
 
     /// What a fault of a segment means.
-    pub fn of_segment(fault: Fault) -> Meaning
+    pub fn from_segment(fault: Fault) -> Meaning
         ensures { text_of result ≡ segment_text fault }
     {
         match fault {
-            Fault::Short => Meaning::of_code(Code::S1),
-            Fault::Magic => Meaning::of_code(Code::S2),
-            Fault::Version => Meaning::of_code(Code::S3),
-            Fault::Processors => Meaning::of_code(Code::S4),
-            Fault::Processor => Meaning::of_code(Code::S5),
-            Fault::Reserved => Meaning::of_code(Code::S6),
-            Fault::Number => Meaning::of_code(Code::S7),
-            Fault::Count => Meaning::of_code(Code::S8),
-            Fault::Length => Meaning::of_code(Code::S9),
-            Fault::Cut => Meaning::of_code(Code::S10),
-            Fault::RecordShort(record) => Meaning::of_part(Code::S11, NamedPart::Record(record)),
-            Fault::Sequence(record) => Meaning::of_part(Code::S12, NamedPart::Record(record)),
-            Fault::Kind(record) => Meaning::of_part(Code::S13, NamedPart::Record(record)),
-            Fault::Frames(record) => Meaning::of_part(Code::S14, NamedPart::Record(record)),
-            Fault::Field(record) => Meaning::of_part(Code::S15, NamedPart::Record(record)),
-            Fault::Excess => Meaning::of_code(Code::S16),
-            Fault::NoMemory => Meaning::of_code(Code::S17),
+            Fault::Short => Meaning::from_code(Code::S1),
+            Fault::Magic => Meaning::from_code(Code::S2),
+            Fault::Version => Meaning::from_code(Code::S3),
+            Fault::Processors => Meaning::from_code(Code::S4),
+            Fault::Processor => Meaning::from_code(Code::S5),
+            Fault::Reserved => Meaning::from_code(Code::S6),
+            Fault::Number => Meaning::from_code(Code::S7),
+            Fault::Count => Meaning::from_code(Code::S8),
+            Fault::Length => Meaning::from_code(Code::S9),
+            Fault::Cut => Meaning::from_code(Code::S10),
+            Fault::RecordShort(record) => Meaning::from_part(Code::S11, NamedPart::Record(record)),
+            Fault::Sequence(record) => Meaning::from_part(Code::S12, NamedPart::Record(record)),
+            Fault::Kind(record) => Meaning::from_part(Code::S13, NamedPart::Record(record)),
+            Fault::Frames(record) => Meaning::from_part(Code::S14, NamedPart::Record(record)),
+            Fault::Field(record) => Meaning::from_part(Code::S15, NamedPart::Record(record)),
+            Fault::Excess => Meaning::from_code(Code::S16),
+            Fault::NoMemory => Meaning::from_code(Code::S17),
         }
     }
 
     /// What a fault of a text in hexadecimal means.
-    pub fn of_hex(fault: HexFault) -> Meaning
+    pub fn from_hex(fault: HexFault) -> Meaning
         ensures { text_of result ≡ hex_text fault }
     {
         match fault {
-            HexFault::BadDigit(place) => Meaning::of_part(Code::H1, NamedPart::Byte(place)),
-            HexFault::Odd => Meaning::of_code(Code::H2),
-            HexFault::NoMemory => Meaning::of_code(Code::H3),
+            HexFault::BadDigit(place) => Meaning::from_part(Code::H1, NamedPart::Byte(place)),
+            HexFault::Odd => Meaning::from_code(Code::H2),
+            HexFault::NoMemory => Meaning::from_code(Code::H3),
         }
     }
 
     /// What a fault of a line of text means.
-    pub fn of_line(fault: LineFault) -> Meaning
+    pub fn from_line(fault: LineFault) -> Meaning
         ensures { text_of result ≡ line_text fault }
     {
         match fault {
-            LineFault::Form(fault) => Meaning::of_form(fault),
-            LineFault::Order => Meaning::of_code(Code::E2),
-            LineFault::Segment(fault) => Meaning::of_segment(fault),
+            LineFault::Form(fault) => Meaning::from_form(fault),
+            LineFault::Order => Meaning::from_code(Code::E2),
+            LineFault::Segment(fault) => Meaning::from_segment(fault),
         }
     }
 
     /// What it means that a line has none of the forms.
-    fn of_form(fault: FormFault) -> Meaning
+    fn from_form(fault: FormFault) -> Meaning
         ensures { text_of result ≡ form_text fault }
     {
         let part = match fault {
@@ -143,39 +143,39 @@ impl Meaning {
     }
 
     /// What a fault of all segments means.
-    pub fn of_case(fault: CaseFault) -> Meaning
+    pub fn from_case(fault: CaseFault) -> Meaning
         ensures { text_of result ≡ case_text fault }
     {
         match fault {
-            CaseFault::Empty => Meaning::of_code(Code::C1),
-            CaseFault::OtherTrace(place) => Meaning::of_part(Code::C2, NamedPart::Segment(place)),
-            CaseFault::OtherProcessors(place) => Meaning::of_part(
+            CaseFault::Empty => Meaning::from_code(Code::C1),
+            CaseFault::OtherTrace(place) => Meaning::from_part(Code::C2, NamedPart::Segment(place)),
+            CaseFault::OtherProcessors(place) => Meaning::from_part(
                 Code::C3,
                 NamedPart::Segment(place),
             ),
             CaseFault::TwoContents(processor, number) => {
-                Meaning::of_part(Code::C4, key(processor, number))
+                Meaning::from_part(Code::C4, key(processor, number))
             }
             CaseFault::SequenceTwice(sequence) => {
-                Meaning::of_part(Code::C5, NamedPart::Sequence(sequence))
+                Meaning::from_part(Code::C5, NamedPart::Sequence(sequence))
             }
-            CaseFault::NoMemory => Meaning::of_code(Code::C6),
+            CaseFault::NoMemory => Meaning::from_code(Code::C6),
             CaseFault::Falling(processor, number) => {
-                Meaning::of_part(Code::C7, key(processor, number))
+                Meaning::from_part(Code::C7, key(processor, number))
             }
         }
     }
 
     /// What it means that a case misses a segment, where a complete one is asked for.
-    pub fn of_missing(processor: u16, number: u32) -> Meaning
+    pub fn from_missing(processor: u16, number: u32) -> Meaning
         ensures { text_of result ≡ missing_text processor number }
     {
-        Meaning::of_part(Code::C8, key(processor, number))
+        Meaning::from_part(Code::C8, key(processor, number))
     }
 
     /// What it means that what was asked about has no event.
     #[tactic(auto, unfolding(crate::specs::Meanings::coded))]
-    pub fn of_absent(subject: Option<Subject>) -> Meaning
+    pub fn from_absent(subject: Option<Subject>) -> Meaning
         ensures { text_of result ≡ absent_text subject }
     {
         let part = match subject {
@@ -190,17 +190,17 @@ impl Meaning {
     }
 
     /// What a fault of a symbol table means.
-    pub fn of_symbols(fault: SymbolFault) -> Meaning
+    pub fn from_symbols(fault: SymbolFault) -> Meaning
         ensures { text_of result ≡ symbols_text fault }
     {
         match fault {
-            SymbolFault::Header => Meaning::of_code(Code::Y1),
-            SymbolFault::Fields(row) => Meaning::of_part(Code::Y2, NamedPart::Row(row)),
-            SymbolFault::Number(row) => Meaning::of_part(Code::Y3, NamedPart::Row(row)),
-            SymbolFault::EmptyRange(row) => Meaning::of_part(Code::Y4, NamedPart::Row(row)),
-            SymbolFault::Overlap(row) => Meaning::of_part(Code::Y5, NamedPart::Row(row)),
-            SymbolFault::Csv(row) => Meaning::of_part(Code::Y6, NamedPart::Row(row)),
-            SymbolFault::NoMemory => Meaning::of_code(Code::Y7),
+            SymbolFault::Header => Meaning::from_code(Code::Y1),
+            SymbolFault::Fields(row) => Meaning::from_part(Code::Y2, NamedPart::Row(row)),
+            SymbolFault::Number(row) => Meaning::from_part(Code::Y3, NamedPart::Row(row)),
+            SymbolFault::EmptyRange(row) => Meaning::from_part(Code::Y4, NamedPart::Row(row)),
+            SymbolFault::Overlap(row) => Meaning::from_part(Code::Y5, NamedPart::Row(row)),
+            SymbolFault::Csv(row) => Meaning::from_part(Code::Y6, NamedPart::Row(row)),
+            SymbolFault::NoMemory => Meaning::from_code(Code::Y7),
         }
     }
 }

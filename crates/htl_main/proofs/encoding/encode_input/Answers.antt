@@ -10,6 +10,6 @@ returns-in-Ok-clause-reading g c =
 
 pub returns-in-Err-clause-reading : goal.returns-in-Err-clause-reading
 returns-in-Err-clause-reading g c =
-    rw (c.of_read.ensures) (ungathered g.R.Source.has_failed g.R.Source.has_ended g.R.Source.good_reads g.R.Source.remaining
+    rw (c.from_read.ensures) (ungathered g.R.Source.has_failed g.R.Source.has_ended g.R.Source.good_reads g.R.Source.remaining
     c.args.place c.args.source.now c.read_whole.new.source c.in-Err.fault c.in-Err.ensures.reported c.in-Err.ensures.failed
     c.in-Err.ensures.bounded)

@@ -16,7 +16,7 @@ returns-in-Ok-clause-kept g c =
 
 pub returns-in-Err-clause-kept : goal.returns-in-Err-clause-kept
 returns-in-Err-clause-kept g c =
-    rw (c.of_read.ensures) (unread_kept folds_of c.args.folder.now c.args.setting.form c.args.place (g.R.Source.remaining c.args.source.now) _
+    rw (c.from_read.ensures) (unread_kept folds_of c.args.folder.now c.args.setting.form c.args.place (g.R.Source.remaining c.args.source.now) _
     c.in-Err.fault c.if-setting.true)
 
 pub returns-in-Ok-take_source-clause-ok : goal.returns-in-Ok-take_source-clause-ok
@@ -42,16 +42,16 @@ returns-in-Ok-take_source-clause-reading g c =
 
 pub returns-in-Err-take_source-clause-err : goal.returns-in-Err-take_source-clause-err
 returns-in-Err-take_source-clause-err g c =
-    rw (c.of_source.ensures) (reported_bytes_of c.args.setting.form (g.R.Source.remaining c.args.source.now) _ _ c.args.place
+    rw (c.from_source.ensures) (reported_bytes_of c.args.setting.form (g.R.Source.remaining c.args.source.now) _ _ c.args.place
     c.in-Err-take_source.fault c.if-setting.false c.in-Err-take_source.ensures.err)
 
 pub returns-in-Err-take_source-clause-kept : goal.returns-in-Err-take_source-clause-kept
 returns-in-Err-take_source-clause-kept g c =
-    rw (c.of_source.ensures) (fault_kept folds_of c.args.folder.now c.take_source.new.keeper c.args.setting.form c.args.place
+    rw (c.from_source.ensures) (fault_kept folds_of c.args.folder.now c.take_source.new.keeper c.args.setting.form c.args.place
     (g.R.Source.remaining c.args.source.now) _ c.in-Err-take_source.fault c.if-setting.false c.in-Err-take_source.ensures.kept)
 
 pub returns-in-Err-take_source-clause-reading : goal.returns-in-Err-take_source-clause-reading
 returns-in-Err-take_source-clause-reading g c =
-    rw (c.if-setting.false, c.of_source.ensures) (decoded_ill g.R.Source.has_failed g.R.Source.has_ended
+    rw (c.if-setting.false, c.from_source.ensures) (decoded_ill g.R.Source.has_failed g.R.Source.has_ended
     g.R.Source.good_reads g.R.Source.remaining c.args.place c.args.source.now c.take_source.new.source c.in-Err-take_source.fault
     c.in-Err-take_source.ensures.reading)

@@ -33,9 +33,9 @@ returns-clause-kept c = λ input has.
 
 pub returns-in-Err-clause-err : goal.returns-in-Err-clause-err
 returns-in-Err-clause-err c = λ input has.
-    rw (c.of_segment.ensures) (refused_bytes c.args.form c.args.place input c.args.bytes.now _ _ has c.in-Err.ensures.refused)
+    rw (c.from_segment.ensures) (refused_bytes c.args.form c.args.place input c.args.bytes.now _ _ has c.in-Err.ensures.refused)
 
 pub returns-in-Err-clause-kept : goal.returns-in-Err-clause-kept
 returns-in-Err-clause-kept c = λ input has.
-    rw (c.of_segment.ensures) (kept_before folds_of c.args.folder.now c.split.new.keeper c.args.form c.args.place None input c.args.bytes.now
+    rw (c.from_segment.ensures) (kept_before folds_of c.args.folder.now c.split.new.keeper c.args.form c.args.place None input c.args.bytes.now
     c.in-Err.offset c.in-Err.fault has c.in-Err.ensures.kept)

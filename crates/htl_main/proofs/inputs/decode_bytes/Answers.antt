@@ -23,4 +23,4 @@ returns-clause-err c = λ input has.
 
 pub returns-in-Err-clause-err : goal.returns-in-Err-clause-err
 returns-in-Err-clause-err c = λ input has.
-    rw (c.of_segment.ensures) (refused_bytes c.args.form c.args.place input c.args.bytes.now _ _ has c.in-Err.ensures.refused)
+    rw (c.from_segment.ensures) (refused_bytes c.args.form c.args.place input c.args.bytes.now _ _ has c.in-Err.ensures.refused)

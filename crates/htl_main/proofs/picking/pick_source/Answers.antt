@@ -20,16 +20,16 @@ returns-in-Ok-clause-reading g c =
 
 pub returns-in-Err-clause-reading : goal.returns-in-Err-clause-reading
 returns-in-Err-clause-reading g c =
-    rw (c.of_source.ensures) (decoded_ill g.R.Source.has_failed g.R.Source.has_ended g.R.Source.good_reads
+    rw (c.from_source.ensures) (decoded_ill g.R.Source.has_failed g.R.Source.has_ended g.R.Source.good_reads
     g.R.Source.remaining c.args.place c.args.source.now c.gather_bundle.new.source c.in-Err.fault c.in-Err.ensures.reading)
 
 pub returns-in-Err-clause-err : goal.returns-in-Err-clause-err
 returns-in-Err-clause-err g c =
-    rw (c.of_source.ensures) (reported_bytes_of c.args.form (g.R.Source.remaining c.args.source.now) _ _ c.args.place c.in-Err.fault
+    rw (c.from_source.ensures) (reported_bytes_of c.args.form (g.R.Source.remaining c.args.source.now) _ _ c.args.place c.in-Err.fault
     c.requires.bytes c.in-Err.ensures.err)
 
 pub returns-in-Err-clause-no_write : goal.returns-in-Err-clause-no_write
-returns-in-Err-clause-no_write g c = rw (c.of_source.ensures) (never_write c.args.place c.in-Err.fault)
+returns-in-Err-clause-no_write g c = rw (c.from_source.ensures) (never_write c.args.place c.in-Err.fault)
 
 pub returns-in-Err-clause-no_case : goal.returns-in-Err-clause-no_case
-returns-in-Err-clause-no_case g c = rw (c.of_source.ensures) (never_case c.args.place c.in-Err.fault)
+returns-in-Err-clause-no_case g c = rw (c.from_source.ensures) (never_case c.args.place c.in-Err.fault)

@@ -21,11 +21,11 @@ returns-in-Ok-read_bundle-clause-reading g c =
 
 pub returns-in-Err-read_bundle-clause-err : goal.returns-in-Err-read_bundle-clause-err
 returns-in-Err-read_bundle-clause-err g c =
-    rw (c.of_source.ensures) (reported_bytes_of c.args.form (g.R.Source.remaining c.args.source.now) _ _ c.args.place
+    rw (c.from_source.ensures) (reported_bytes_of c.args.form (g.R.Source.remaining c.args.source.now) _ _ c.args.place
     c.in-Err-read_bundle.fault c.if-form.false c.in-Err-read_bundle.ensures.err)
 
 pub returns-in-Err-read_bundle-clause-reading : goal.returns-in-Err-read_bundle-clause-reading
 returns-in-Err-read_bundle-clause-reading g c =
-    rw (c.if-form.false, c.of_source.ensures) (decoded_ill g.R.Source.has_failed g.R.Source.has_ended
+    rw (c.if-form.false, c.from_source.ensures) (decoded_ill g.R.Source.has_failed g.R.Source.has_ended
     g.R.Source.good_reads g.R.Source.remaining c.args.place c.args.source.now c.read_bundle.new.source c.in-Err-read_bundle.fault
     c.in-Err-read_bundle.ensures.reading)

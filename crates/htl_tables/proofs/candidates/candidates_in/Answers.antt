@@ -6,7 +6,7 @@ use Rattle.htl_tables.proofs.Gathering.{from_none, from_more, candidates_sorted}
 use Rattle.htl_tables.proofs.candidates.candidates_in.Goals as goal
 
 pub loop-list-init : goal.loop-list-init
-loop-list-init g c = rw c.in_ok-candidates.ensures (from_none g.R.EventList.events_of c.args.lists.now (touches c.args.asked))
+loop-list-init g c = rw c.in_ok-candidates.ensures (from_none g.R.EventList.events_of c.args.lists.now (touches c.args.chosen))
 
 pub loop-list-preserved : goal.loop-list-preserved
 loop-list-preserved g c =
@@ -14,11 +14,11 @@ loop-list-preserved g c =
     let n = c.loop-list.list in
     let x = c.index-lists-list.result in
     let at : slice_get lists n ≡ Some x = slice_get_read lists (length lists) n x refl c.loop-list-test.true c.index-lists-list.is in
-    from_more g.R.EventList.events_of lists (touches c.args.asked) n x c.loop-list.candidates.keys.items
+    from_more g.R.EventList.events_of lists (touches c.args.chosen) n x c.loop-list.candidates.keys.items
     c.gather.new.self.keys.items at (rw (c.events.ensures, c.in_ok-place_of.ensures) at c.in_ok-gather.ensures) c.loop-list.invariant
 
 pub returns-clause-all : goal.returns-clause-all
 returns-clause-all g c =
     let all : c.loop-list.list ≡ length c.args.lists.now = omega arith in
-    candidates_sorted g.R.EventList.events_of c.args.lists.now (touches c.args.asked) c.loop-list.candidates.keys.items c.sort_unstable.new.self.items
+    candidates_sorted g.R.EventList.events_of c.args.lists.now (touches c.args.chosen) c.loop-list.candidates.keys.items c.sort_unstable.new.self.items
     (rw all at c.loop-list.invariant) c.sort_unstable.ensures.permutation

@@ -6,7 +6,7 @@ use Rattle.std.proofs.lemmas.List.Elements.{Contains-get_or}
 use Rattle.std.proofs.lemmas.Option.{slice_get-get_or}
 use Rattle.htl_tables.specs.declared.sort_key.SortKey.{SortKey}
 use Rattle.htl_tables.specs.OfProcess.{touches}
-use Rattle.htl_tables.proofs.AskedKeys.{touches-opens}
+use Rattle.htl_tables.proofs.ChosenKeys.{touches-opens}
 use Rattle.htl_tables.proofs.EventsOfKeys.{one_more}
 use Rattle.htl_tables.proofs.FirstKeys.{key_is}
 use Rattle.htl_tables.proofs.sort_key.events_of.Goals as goal
@@ -32,8 +32,8 @@ loop-key-preserved g c =
     let events = c.loop-key.events.items in
     let are = c.loop-key.invariant.0 in
     let all = c.loop-key.invariant.1 in
-    let opens = touches-opens c.args.asked e.now
-    (key_is g.R.EventList.events_of c.args.lists.now (touches c.args.asked) key e.now here c.event-event.ensures).passes in
+    let opens = touches-opens c.args.chosen e.now
+    (key_is g.R.EventList.events_of c.args.lists.now (touches c.args.chosen) key e.now here c.event-event.ensures).passes in
     elim c.if-opens_or_closes.branch [
       | then-opens_or_closes+in_ok-push w ↦ (
         rw (w.events-is, w.in_ok-push.ensures.items)

@@ -17,15 +17,15 @@ loop-index-preserved g c =
     elim c.if-touches.branch [
       | then-touches+in_ok-place_of+in_ok-offer w ↦
           let offers = rw (w.of.ensures, w.in_ok-place_of.ensures) at w.in_ok-offer.ensures in
-          rw w.self-is (gathers_more c.args.list events (touches c.args.asked) old i keys w.offer.new.self.keys.items
+          rw w.self-is (gathers_more c.args.list events (touches c.args.chosen) old i keys w.offer.new.self.keys.items
           e at (sym c.touches.ensures ∙ w.if-touches.true) offers c.loop-index.invariant)
       | else-touches w ↦
-          rw w.self-is (gathers_skip c.args.list events (touches c.args.asked) old i keys e at (sym c.touches.ensures ∙ w.if-touches.false)
+          rw w.self-is (gathers_skip c.args.list events (touches c.args.chosen) old i keys e at (sym c.touches.ensures ∙ w.if-touches.false)
           c.loop-index.invariant)
     ]
 
 pub returns : goal.returns
 returns g c =
     let all : c.loop-index.index ≡ length c.args.events.now = omega arith in
-    gathers_whole c.args.list c.args.events.now (touches c.args.asked) c.args.self.now.keys.items c.loop-index.self.keys.items
+    gathers_whole c.args.list c.args.events.now (touches c.args.chosen) c.args.self.now.keys.items c.loop-index.self.keys.items
     (rw all at c.loop-index.invariant)

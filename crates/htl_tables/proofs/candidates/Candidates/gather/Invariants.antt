@@ -4,4 +4,4 @@ use Rattle.htl_tables.proofs.Gathering.{GathersFirst}
 use Rattle.htl_tables.proofs.candidates.Candidates.gather.Given as goal
 
 abbrev pub invariant-loop-index : goal.invariant-loop-index
-invariant-loop-index g l = GathersFirst l.list l.events (touches l.asked) l.initial.self.keys.items l.index l.self.keys.items
+invariant-loop-index g l = GathersFirst l.list l.events (touches l.chosen) l.initial.self.keys.items l.index l.self.keys.items

@@ -5,14 +5,14 @@ use Rattle.std.proofs.lemmas.List.{length-drop, length-take-le}
 use Rattle.htl_tables.proofs.KeyRuns.{first_stand, rest_stand}
 use Rattle.htl_tables.proofs.latest.Latest.note_all.Goals as goal
 
-pub loop-asked-preserved : goal.loop-asked-preserved
-loop-asked-preserved g c =
+pub loop-chosen-preserved : goal.loop-chosen-preserved
+loop-chosen-preserved g c =
     let all = c.args.keys.items in
-    let rest = c.loop-asked.rest.items in
+    let rest = c.loop-chosen.rest.items in
     let half = c.div_ceil-half.result in
-    let n = c.loop-asked.invariant.0 in
-    let sum = c.loop-asked.invariant.1 in
-    let stand = c.loop-asked.invariant.2 in
+    let n = c.loop-chosen.invariant.0 in
+    let sum = c.loop-chosen.invariant.1 in
+    let stand = c.loop-chosen.invariant.2 in
     let left = c.drop_first.ensures in
     let len : length rest ≡ c.len.result = (rw c.deref.ensures.value at c.deref.ensures.len) ∙ sym c.len.ensures in
     let times = (div_ceil_times c.len.result 2 (omega arith)).1 in
@@ -26,5 +26,5 @@ loop-asked-preserved g c =
       rest_stand all n rest stand half,
       (λ process base. rw (← first)
           ((rw c.deref.ensures.value at c.in_ok-note_keys.ensures) all n c.requires.keys c.requires.sorted (first_stand all n rest stand half)
-          c.loop-asked.invariant.3 process base)),
+          c.loop-chosen.invariant.3 process base)),
     )

@@ -4,9 +4,9 @@ use Rattle.htl_tables.specs.OfProcess.{touches}
 use Rattle.htl_tables.specs.FirstKeys.{HaveFirstKeys, StandFrom}
 use Rattle.htl_tables.proofs.latest.Latest.note_all.Given as goal
 
-abbrev pub invariant-loop-asked : goal.invariant-loop-asked
-invariant-loop-asked g l = (n : ℕ) × (n + length l.rest.items ≡ length l.fn.keys.items) × StandFrom l.fn.keys.items n l.rest.items
-    × HaveFirstKeys g.R.EventList.events_of l.lists (touches l.fn.asked) l.fn.keys.items n l.self
+abbrev pub invariant-loop-chosen : goal.invariant-loop-chosen
+invariant-loop-chosen g l = (n : ℕ) × (n + length l.rest.items ≡ length l.fn.keys.items) × StandFrom l.fn.keys.items n l.rest.items
+    × HaveFirstKeys g.R.EventList.events_of l.lists (touches l.fn.chosen) l.fn.keys.items n l.self
 
-abbrev pub decreases-loop-asked : goal.decreases-loop-asked
-decreases-loop-asked g l = length l.rest.items
+abbrev pub decreases-loop-chosen : goal.decreases-loop-chosen
+decreases-loop-chosen g l = length l.rest.items

@@ -3,7 +3,7 @@ use Rattle.std.proofs.Common.{◌≡◌, ◌+◌, ◌≤◌, length, Some, slice
 use Rattle.std.proofs.lemmas.Option.{slice_get_read}
 use Rattle.htl_tables.specs.Latest.{event_at}
 use Rattle.htl_tables.specs.OfProcess.{touches}
-use Rattle.htl_tables.proofs.AskedKeys.{touches-opens}
+use Rattle.htl_tables.proofs.ChosenKeys.{touches-opens}
 use Rattle.htl_tables.proofs.FirstKeys.{key_noted}
 use Rattle.htl_tables.proofs.latest.Latest.note_block.Goals as goal
 
@@ -17,7 +17,7 @@ loop-event-preserved g c = λ all n are sorted stand before process base.
     let here = each i x at in
     let next : n + (i + 1) ≡ n + i + 1 = omega arith in
     rw (next, c.in_ok-note.ensures.ok process base)
-    (key_noted g.R.EventList.events_of c.args.lists.now (touches c.args.asked) all process base (touches-opens c.args.asked)
+    (key_noted g.R.EventList.events_of c.args.lists.now (touches c.args.chosen) all process base (touches-opens c.args.chosen)
     are sorted (n + i) here.key x.now (stand i here.key here.at) here.stands
     (event_at c.loop-event.self process base) (c.loop-event.invariant all n are sorted stand before process base))
 

@@ -7,7 +7,7 @@ use Rattle.htl_tables.specs.FirstKeys.{HaveFirstKeys, StandFrom}
 use Rattle.htl_tables.proofs.latest.Latest.note_block.Given as goal
 
 abbrev pub invariant-loop-event : goal.invariant-loop-event
-invariant-loop-event g l = (all : List SortKey) (n : ℕ) → AreCandidates g.R.EventList.events_of l.fn.lists (touches l.fn.asked) all
+invariant-loop-event g l = (all : List SortKey) (n : ℕ) → AreCandidates g.R.EventList.events_of l.fn.lists (touches l.fn.chosen) all
     → IsSorted sort_key_cmp all → StandFrom all n l.fn.keys
-    → HaveFirstKeys g.R.EventList.events_of l.fn.lists (touches l.fn.asked) all n l.initial.self
-    → HaveFirstKeys g.R.EventList.events_of l.fn.lists (touches l.fn.asked) all (n + l.event-index) l.self
+    → HaveFirstKeys g.R.EventList.events_of l.fn.lists (touches l.fn.chosen) all n l.initial.self
+    → HaveFirstKeys g.R.EventList.events_of l.fn.lists (touches l.fn.chosen) all (n + l.event-index) l.self

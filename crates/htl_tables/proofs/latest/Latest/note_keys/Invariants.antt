@@ -8,10 +8,10 @@ use Rattle.htl_tables.proofs.latest.Latest.note_keys.Given as goal
 
 abbrev pub invariant-loop-noted : goal.invariant-loop-noted
 invariant-loop-noted g l = ((all : List SortKey) (n : ℕ)
-    → AreCandidates g.R.EventList.events_of l.lists (touches l.fn.asked) all
+    → AreCandidates g.R.EventList.events_of l.lists (touches l.fn.chosen) all
     → IsSorted sort_key_cmp all → StandFrom all n l.keys
-    → HaveFirstKeys g.R.EventList.events_of l.lists (touches l.fn.asked) all n l.initial.self
-    → HaveFirstKeys g.R.EventList.events_of l.lists (touches l.fn.asked) all (n + l.noted) l.self)
+    → HaveFirstKeys g.R.EventList.events_of l.lists (touches l.fn.chosen) all n l.initial.self
+    → HaveFirstKeys g.R.EventList.events_of l.lists (touches l.fn.chosen) all (n + l.noted) l.self)
     × (l.noted ≤ length l.keys)
 
 abbrev pub decreases-loop-noted : goal.decreases-loop-noted

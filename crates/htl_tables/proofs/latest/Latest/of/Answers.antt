@@ -9,5 +9,5 @@ use Rattle.htl_tables.proofs.latest.Latest.of.Goals as goal
 pub returns-clause-latest : goal.returns-clause-latest
 returns-clause-latest g c =
     let events = flat_map g.R.EventList.events_of c.args.lists.now in
-    IfOk-weaker c.of_asked.result _ _ (λ t is process base.
-    subst (LatestIs (Contains events) process base) (sym (is process base)) (LatestIs-noted process base events)) c.of_asked.ensures
+    IfOk-weaker c.of_chosen.result _ _ (λ t is process base.
+    subst (LatestIs (Contains events) process base) (sym (is process base)) (LatestIs-noted process base events)) c.of_chosen.ensures

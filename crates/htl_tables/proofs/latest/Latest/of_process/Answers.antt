@@ -1,4 +1,4 @@
--- The process is asked for, and no other is.
+-- The process is chosen for, and no other is.
 use Rattle.std.proofs.Common.{◌≡◌, ℕ, List, None, refl, sym, subst, ◌∙◌}
 use Rattle.std.specs.Prelude.{Contains, flat_map, Some, ◌≢◌}
 use Rattle.std.proofs.lemmas.Bool.{eq-eqb, ne_eqb}
@@ -20,18 +20,18 @@ pub returns-clause-noted : goal.returns-clause-noted
 returns-clause-noted g c =
     let events = flat_map g.R.EventList.events_of c.args.lists.now in
     let process = c.args.process in
-    IfOk-weaker c.of_asked.result _ _ (λ t is base. is process base ∙ of_itself events process base) c.of_asked.ensures
+    IfOk-weaker c.of_chosen.result _ _ (λ t is base. is process base ∙ of_itself events process base) c.of_chosen.ensures
 
 pub returns-clause-latest : goal.returns-clause-latest
 returns-clause-latest g c =
     let events = flat_map g.R.EventList.events_of c.args.lists.now in
     let process = c.args.process in
-    IfOk-weaker c.of_asked.result _ _ (λ t is base.
+    IfOk-weaker c.of_chosen.result _ _ (λ t is base.
     subst (LatestIs (Contains events) process base) (sym (is process base ∙ of_itself events process base))
-    (LatestIs-noted process base events)) c.of_asked.ensures
+    (LatestIs-noted process base events)) c.of_chosen.ensures
 
 pub returns-clause-others : goal.returns-clause-others
 returns-clause-others g c =
     let events = flat_map g.R.EventList.events_of c.args.lists.now in
-    IfOk-weaker c.of_asked.result _ _ (λ t is other base differs.
-    is other base ∙ of_others events c.args.process other base differs) c.of_asked.ensures
+    IfOk-weaker c.of_chosen.result _ _ (λ t is other base differs.
+    is other base ∙ of_others events c.args.process other base differs) c.of_chosen.ensures

@@ -201,12 +201,18 @@ abbrev pub IsParsed : List (List ℕ) → Result CommandLine ParseFault → Type
 IsParsed words (Ok line) = IsAskedFor (requested words) line.command × (line.notes ≡ notes_in words)
 IsParsed words (Err why) = RefusesArguments words why
 
+-- Only a dialogue speaks to the speaker. Beside every other command nothing is told.
+abbrev pub SpeaksIn : {S : Type 0} → Command → Spoken S → Type 0
+SpeaksIn (wish.Ask of) speaker = ⊤
+SpeaksIn command speaker = speaker.after ≡ speaker.before
+
 -- Words are for a person who watches, and for whoever asks for notes.
 abbrev pub DoesParsed : {S R : Type 0} → Bool → Bool → Spoken S → Known → Opened R → Told → Told → Result CommandLine ParseFault → ℕ
     → Type 0
 DoesParsed sees watches speaker world inputs old new (Ok line) status =
     Does sees (watches || line.notes) (with_notes line.notes speaker) world inputs old new line.command status
-DoesParsed sees watches speaker world inputs old new (Err why) status = Refuses old new why status
+    × SpeaksIn line.command speaker
+DoesParsed sees watches speaker world inputs old new (Err why) status = Refuses old new why status × (speaker.after ≡ speaker.before)
 
 -- The program does what its arguments ask for.
 pub record Obeys {S R : Type 0} (sees watches : Bool) (speaker : Spoken S) (world : Known) (inputs : Opened R) (old new : Told)

@@ -4,7 +4,7 @@ ghost use Rattle.std.specs.Prelude.{◌≡◌, ◌&&◌, ◌||◌, false, map, n
 ghost use Rattle.htl_program.specs.Programs.{Does, DoesAnswer, DoesConverse, DoesDump, DoesEncode};
 ghost use Rattle.htl_program.specs.Opened.{known, opened};
 ghost use Rattle.htl_program.specs.Programs.{Encodes, Explains, IsPrinted, Obeys, Refuses};
-ghost use Rattle.htl_program.specs.Programs.{spoken, told, with_notes};
+ghost use Rattle.htl_program.specs.Programs.{SpeaksIn, spoken, told, with_notes};
 ghost use Rattle.htl_program.specs.Words.{explained};
 
 use crate::answering::answer;
@@ -95,7 +95,7 @@ fn obey<Rt: Threads + Sync, W: World, O: Output, P: Person, S: Speaker>(
     speaker: &mut S,
 ) -> u8
     requires { O.has_failed console.old.out ≡ false }
-    ensures { Does (P.sees_output console.old.person)
+    ensures does { Does (P.sees_output console.old.person)
         (P.is_watching console.old.person || line.now.notes)
         (with_notes line.now.notes
         (spoken S.told S.noted S.left S.wants_absence S.counts speaker.old speaker.new))
@@ -104,6 +104,8 @@ fn obey<Rt: Threads + Sync, W: World, O: Output, P: Person, S: Speaker>(
         inputs.new)
         (told O.contents O.has_failed P.heard console.old)
         (told O.contents O.has_failed P.heard console.new) line.now.command result }
+    ensures speaks { SpeaksIn line.now.command
+        (spoken S.told S.noted S.left S.wants_absence S.counts speaker.old speaker.new) }
 {
     match &line.command {
         Command::Question(run) => do_answer(rt, alloc, world, line, run, inputs, console),

@@ -2,6 +2,7 @@
 
 ghost use Rattle.std.specs.Prelude.{◌≡◌, ◌≢◌, ℕ, All, IfNone, IfSome, List, Some, false};
 ghost use Rattle.std.specs.Option.{option_copied};
+ghost use Rattle.htl_case.specs.declared.fault.CaseFault.{CaseFault};
 ghost use Rattle.htl_command.specs.declared.question.InputForm.{InputForm};
 ghost use Rattle.htl_main.specs.Origins.{IsBetween};
 ghost use Rattle.htl_main.specs.Picked.{asks_about};
@@ -67,7 +68,7 @@ pub(crate) fn pick_opened<Rt: Threads + Sync, R: Parted, O: Sink>(
 fn about_no_two(fault: RunFault) -> Option<Refused>
     ensures some { (form : InputForm) → (texts : List (List ℕ)) → IfSome result (λ refused.
         (refused.fault ≡ fault) × IsBetween form texts fault refused.between) }
-    ensures none { IfNone result (fault ≢ RunFault.Write) }
+    ensures none { IfNone result ((broken : CaseFault) × (fault ≡ RunFault.Case broken)) }
 {
     match fault {
         RunFault::Case(_) => None,

@@ -151,6 +151,7 @@ impl<A: Allocator> Analyst<A> {
         ensures missing { (T : Trace) → IsRight self.now T → SequencesRise T.segments
             → NothingMissing T self.now result }
     {
+        // For the proof: what every analyst keeps is known once a field is read.
         let _some = &self.trace_id;
         let mut least = self.part(0).folded().last_sequence();
         for processor in 1..self.processors {

@@ -51,6 +51,7 @@ impl<A: Allocator> Analyst<A> {
             → HoldTwo self.now other.now processor m → ⊥) }
         ensures none { IfNone result ((m : ℕ) → HoldTwo self.now other.now processor m → ⊥) }
     {
+        // For the proof: what every analyst keeps is known once a field is read.
         let _other = &other.trace_id;
         for segment in other.part(processor).held() {
             if self.holds_other(segment, processor) {

@@ -89,6 +89,7 @@ fn run_count(case: &Case) -> usize
     ensures runs { result ≡ size (runs_of case.now.segments) }
     ensures few { result ≤ 65536 }
 {
+    // For the proof: what every case keeps is known once it is read.
     let _is_case = case.segments();
     let mut runs = 0;
     for processor in 0..case.processors() {
@@ -121,6 +122,7 @@ fn fill<R: Wait>(
     ensures ok { OnOk result (IsIdle case.now all_parts (known_of pass.new)) }
     ensures pushes { OnOk result ((known_of pass.new).pushes ≡ size (runs_of case.now.segments)) }
 {
+    // For the proof: what every case keeps is known once it is read.
     let _is_case = case.segments();
     for processor in 0..case.processors() {
         put_run(rt, alloc, case, queue, pass, processor)?;
@@ -143,6 +145,7 @@ fn put_run<R: Wait>(
     ensures pass { IsSamePass pass.old pass.new }
     ensures ok { OnOk result (FillsTo case.now (processor + 1) (known_of pass.new)) }
 {
+    // For the proof: what every case keeps is known once it is read.
     let _is_case = case.segments();
     let run = copy_run(alloc, case, processor)?;
     if run.is_empty() {
@@ -215,6 +218,7 @@ fn new_analyst(alloc: Global, case: &Case) -> Result<Analyst<Global>, NoMemory>
     ensures none { IfOk result (λ analyst. (p n : ℕ) → HasTaken analyst p n → ⊥) }
     ensures some { OnOk result (case.now.segments ≢ []) }
 {
+    // For the proof: what every case keeps is known once it is read.
     let _is_case = case.segments();
     match Analyst::new(alloc, case.trace_id(), case.processors()) {
         Ok(analyst) => Ok(analyst),

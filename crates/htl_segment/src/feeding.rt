@@ -168,6 +168,7 @@ fn keep_after(
         × (rest.new.items ≡ rest.old.items)) }
     ensures capacity { vec_capacity rest.old ≤ vec_capacity rest.new }
 {
+    // For the proof: the rules that every segment keeps are known once it is read.
     let _fits = first.events();
     if kept.list.push(first).is_err() {
         return Err((0, Fault::NoMemory));

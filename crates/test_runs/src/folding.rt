@@ -103,22 +103,29 @@ fn folds(
 }
 
 /// What was folded has the commands' answers, but for the last one, which needs events.
-fn has_answers(rt: &impl Abort, alloc: Global, folded: &Folded) {
+fn has_answers(rt: &(impl Threads + Sync + Abort), alloc: Global, folded: &Folded) {
     for command in COMMANDS.iter().take(7) {
         has_answer(rt, alloc, folded, command);
     }
 }
 
-fn has_answer(rt: &impl Abort, alloc: Global, folded: &Folded, command: &Command) {
+fn has_answer(
+    rt: &(impl Threads + Sync + Abort),
+    alloc: Global,
+    folded: &Folded,
+    command: &Command,
+) {
     let job = over_bytes(command.question);
     assert!(rt; !job.needs_events());
-    let text = folded_text(alloc, &job, folded).expect(rt, "the memory");
-    assert_row(
-        rt,
-        command.question,
-        text.as_slice(),
-        command.text.as_bytes(),
-    );
+    for workers in 1..3 {
+        let text = folded_text(rt, alloc, workers, &job, folded).expect(rt, "the memory");
+        assert_row(
+            rt,
+            command.question,
+            text.as_slice(),
+            command.text.as_bytes(),
+        );
+    }
 }
 
 /// Two segments in sources of their own are folded one after the other, and the first again. The

@@ -9,7 +9,7 @@ use Rattle.htl_main.proofs.WholeLaws.{over_events}
 use Rattle.htl_main.proofs.answering.answer.Goals as goal
 
 pub returns-in_default : goal.returns-in_default
-returns-in_default c =
+returns-in_default g c =
     let T = c.args.case.now in
     let until = c.args.until in
     let question = c.args.question in

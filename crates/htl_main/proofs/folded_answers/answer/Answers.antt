@@ -8,13 +8,13 @@ use Rattle.htl_main.proofs.WholeLaws.{over_events}
 use Rattle.htl_main.proofs.folded_answers.answer.Goals as goal
 
 pub answer_of-requires : goal.answer_of-requires
-answer_of-requires c = record {
+answer_of-requires g c = record {
   about = of_parts c.args.question c.requires c.in_default.not-Summary;
   few = c.parts.ensures.few;
 }
 
 pub returns-in_default : goal.returns-in_default
-returns-in_default c =
+returns-in_default g c =
     let a = c.args.analyst.now in
     let about = of_parts c.args.question c.requires c.in_default.not-Summary in
     IfOk-weaker c.answer_of.result _ _ (λ answer over segments T folded case.

@@ -5,13 +5,13 @@ use Rattle.htl_main.proofs.FoldLaws.{all_count, no_case}
 use Rattle.htl_main.proofs.folded_answers.folded_text.Goals as goal
 
 pub answer-requires : goal.answer-requires
-answer-requires c = (all_count c.args.job.now c.requires).0
+answer-requires g c = (all_count c.args.job.now c.requires).0
 
 pub returns-in_default : goal.returns-in_default
-returns-in_default c = λ segments T folded case. absurd (no_case segments T (rw c.in_default.is at folded).taken case)
+returns-in_default g c = λ segments T folded case. absurd (no_case segments T (rw c.in_default.is at folded).taken case)
 
 pub returns : goal.returns
-returns c =
+returns g c =
     IfOk-weaker c.lines.result _ _ (λ text is segments T folded case. (
       None,
       rw (all_count c.args.job.now c.requires).1 refl,

@@ -6,10 +6,10 @@ use Rattle.htl_main.proofs.FoldLaws.{gaps_of_case, parts_of_case, right_of_case}
 use Rattle.htl_main.proofs.folded_answers.summary.Goals as goal
 
 pub summarize-requires : goal.summarize-requires
-summarize-requires c = c.parts.ensures.few
+summarize-requires g c = c.parts.ensures.few
 
 pub returns : goal.returns
-returns c = λ segments T folded case.
+returns g c = λ segments T folded case.
     let a = c.args.analyst.now in
     let some = folded.taken.0 in
     let took = folded.taken.1 in

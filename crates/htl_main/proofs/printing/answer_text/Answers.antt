@@ -2,7 +2,7 @@
 use Rattle.htl_main.proofs.printing.answer_text.Goals as goal
 
 pub returns-clause-lines : goal.returns-clause-lines
-returns-clause-lines c = λ known. (
+returns-clause-lines g c = λ known. (
   c.moment-until.result,
   c.moment-until.ensures known,
   c.in_ok-answer.answer,
@@ -11,7 +11,7 @@ returns-clause-lines c = λ known. (
 )
 
 pub returns-clause-finding : goal.returns-clause-finding
-returns-clause-finding c = λ known. (
+returns-clause-finding g c = λ known. (
   c.moment-until.result,
   c.moment-until.ensures known,
   c.in_ok-answer.answer,

@@ -4,18 +4,18 @@ use Rattle.htl_main.proofs.UntilLaws.{few_counted, own_counted}
 use Rattle.htl_main.proofs.summarizing.summary.Goals as goal
 
 pub summary_of_lists-requires : goal.summary_of_lists-requires
-summary_of_lists-requires c =
+summary_of_lists-requires g c =
     rw (c.deref.ensures.value, c.in_ok-lists.ensures.value) (few_counted c.args.case.now c.args.until c.in_ok-lists.ensures.is_case.trace)
 
 pub event_count-requires : goal.event_count-requires
-event_count-requires c =
+event_count-requires g c =
     rw (c.deref-2.ensures.value, c.in_ok-lists.ensures.value) (few_counted c.args.case.now c.args.until c.in_ok-lists.ensures.is_case.trace)
 
 pub totals-requires : goal.totals-requires
-totals-requires c = record { complete_to = c.in_ok-gaps.ensures.complete_to }
+totals-requires g c = record { complete_to = c.in_ok-gaps.ensures.complete_to }
 
 pub returns : goal.returns
-returns c =
+returns g c =
     let until = c.args.until in
     let events = all_events c.args.case.now.segments in
     let own = own_counted until events c.in_ok-lists.ensures.is_case.trace.sequences in

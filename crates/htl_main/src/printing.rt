@@ -157,7 +157,7 @@ pub struct AnswerText {
 }
 
 /// Answers the job's question over what was loaded. A run over the same inputs prints exactly these
-/// lines.
+/// lines, for every number of workers.
 pub fn answer_text(
     rt: &(impl Threads + Sync),
     alloc: Global,

@@ -1,6 +1,7 @@
 -- An answer over what was picked is that of the run, and so is a fault.
 use Rattle.std.proofs.Common.{◌≡◌, ◌∙◌, Err, ap, drop, [], false, length, refl, rules, sym}
-use Rattle.htl_program.proofs.Lent.{no_fault, same_fault, take_front}
+use Rattle.htl_lemmas.proofs.Lists.{take_front}
+use Rattle.htl_program.proofs.Lent.{no_fault, same_fault}
 use Rattle.htl_program.proofs.SourcesRead.{as_answered, as_refused, picks_bytes}
 use Rattle.htl_program.proofs.running.pick_opened.Goals as goal
 

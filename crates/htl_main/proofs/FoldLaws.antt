@@ -53,6 +53,7 @@ use Rattle.htl_command.specs.declared.question.Question.{Question}
 use Rattle.htl_command.specs.declared.question.Question.TheVariants as questions
 use Rattle.htl_main.specs.Questions.{IsOfParts}
 use Rattle.htl_main.proofs.Covered.{one_first}
+use Rattle.htl_main.proofs.Missing.{no_later}
 
 abbrev AreIdsOf : State → Content → Type 0
 AreIdsOf a s = (s.trace_id ≡ a.trace_id) × (s.processors ≡ a.processors)
@@ -144,10 +145,6 @@ module _ (segments : List Content) (a : State) (T : Trace) (took : HasTakenAll s
     reached = (front_at a.taken least.processor, front_missing far least.processor, least.reached);
   }
 
-  no_earlier : (one other : Gap) → IsGapBefore one other → processor_of one ≤ processor_of other
-  no_earlier one other (inl lt) = omega (arith, lt)
-  no_earlier one other (inr both) = let e = both.0 in omega (arith, e)
-
   -- the first gap is of the processor whose front is the least missing number
   pub least_of_gaps : IsFoldedFar (Some a) → (gap : Gap) (more : List Gap) → IsGaps (HasTaken a) a.processors (gap ∷ more)
       → IsLeastMissing T (processor_of gap) (front_at a.taken (processor_of gap))
@@ -160,7 +157,7 @@ module _ (segments : List Content) (a : State) (T : Trace) (took : HasTakenAll s
         first = front_missing far (processor_of gap);
         before = λ other there. elim (Contains-cases gap more other ((all.members other).1 there)) [
           | inl same ↦ let e = ap processor_of same in omega (arith, e)
-          | inr later ↦ no_earlier gap other (at_member (IsGapBefore gap) more other all.rising.0 later)
+          | inr later ↦ no_later gap other (at_member (IsGapBefore gap) more other all.rising.0 later)
         ];
       }
 
@@ -362,11 +359,6 @@ module _ (segments : List Content) (a : State) (s : Content) (took : HasTakenAll
         (λ t has. (let ids = at_member (AreIdsOf a) segments t took.ids has in
         (ids.0 ∙ sym same, λ equal. differ (sym equal ∙ ids.1)))),
   )
-
--- the first of a list
-pub first_at : (gaps : List Gap) (gap : Gap) → slice_get gaps 0 ≡ Some gap → (more : List Gap) × (gaps ≡ gap ∷ more)
-first_at [] gap at = absurd (cc at)
-first_at (g ∷ gs) gap at = let same : g ≡ gap = cc at in (gs, ap (λ (x : Gap). x ∷ gs) same)
 
 -- nothing is no case
 pub no_case : (segments : List Content) (T : Trace) → segments ≡ [] → IsCaseOf segments T → ⊥

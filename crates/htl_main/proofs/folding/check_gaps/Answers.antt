@@ -3,7 +3,8 @@ use Rattle.std.proofs.Common.{List, refl, subst, sym}
 use Rattle.htl_analyst.specs.Keys.{HasTaken}
 use Rattle.htl_taken.specs.Gaps.{IsGaps}
 use Rattle.htl_taken.specs.declared.gap.Gap.{Gap}
-use Rattle.htl_main.proofs.FoldLaws.{first_at, least_of_gaps, no_first}
+use Rattle.htl_main.proofs.FoldLaws.{least_of_gaps, no_first}
+use Rattle.htl_main.proofs.Missing.{first_at}
 use Rattle.htl_main.proofs.folding.check_gaps.Goals as goal
 
 pub returns-clause-err : goal.returns-clause-err

@@ -18,8 +18,7 @@ use crate::origin::{Between, Origin};
 use crate::pairing::pair;
 use crate::refused::Refused;
 use htl_case::{Case, CaseFault};
-use htl_event::NoMemory;
-use htl_segment::Segment;
+use htl_segment::{Segment, copies};
 use std::alloc::Global;
 
 /// The case of decoded segments. `Case::of` drops segments that it refuses, so copies (32 bytes
@@ -52,17 +51,6 @@ pub(crate) fn case_of(alloc: Global, decoded: Decoded) -> Result<Case, Refused>
             },
         }),
     }
-}
-
-/// The same segments, in the same memory.
-pub(crate) fn copies(alloc: Global, segments: &[Segment]) -> Result<Vec<Segment>, NoMemory>
-    ensures { IfOk result (λ copies. copies.items ≡ segments.now) }
-{
-    let mut copies = Vec::with_capacity(alloc, segments.len())?;
-    for segment in segments {
-        copies.push(segment.copy()?)?;
-    }
-    Ok(copies)
 }
 
 /// The origins of the two segments that break the rule of the fault.

@@ -4,7 +4,7 @@ ghost use Rattle.std.specs.Prelude.{◌≡◌, ◌≢◌, [], ℕ, List, All, So
 ghost use Rattle.std.specs.Prelude.{IfErr, IfOk, IfSome, OnErr, OnOk};
 ghost use Rattle.std.specs.Option.{option_copied};
 ghost use Rattle.htl_analyst.specs.Keys.{HasTaken};
-ghost use Rattle.htl_taken.specs.Gaps.{IsGaps, processor_of};
+ghost use Rattle.htl_taken.specs.Gaps.{IsGaps};
 ghost use Rattle.htl_segment.specs.Content.{Content};
 ghost use Rattle.htl_segment.specs.Traces.{Trace};
 ghost use Rattle.htl_case.specs.Cases.{IsCaseOf};
@@ -419,18 +419,9 @@ fn check_gaps(analyst: &Analyst<Global>, gaps: &[Gap]) -> Result<(), RunFault>
     let Some(gap) = gaps.first() else {
         return Ok(());
     };
-    let processor = processor_of(*gap);
+    let processor = gap.processor();
     Err(RunFault::Incomplete {
         processor,
         number: analyst.front(processor),
     })
-}
-
-/// The processor that a gap is of.
-fn processor_of(gap: Gap) -> u16
-    ensures { result ≡ processor_of gap }
-{
-    match gap {
-        Gap::Between { processor, .. } | Gap::Absent { processor } => processor,
-    }
 }

@@ -8,6 +8,8 @@ ghost use Rattle.htl_case.specs.Faults.{IsRefusal};
 ghost use Rattle.htl_command.specs.declared.question.InputForm.{InputForm};
 ghost use Rattle.htl_command.specs.declared.question.Job.{Job};
 ghost use Rattle.htl_main.specs.Causes.{IsCauseAfter};
+ghost use Rattle.htl_main.specs.Faults.{of_case};
+ghost use Rattle.htl_main.specs.Folding.{IsHalfKnown};
 ghost use Rattle.htl_main.specs.Inputs.{DecodeAll};
 ghost use Rattle.htl_main.specs.Origins.{IsBetween, IsBetweenOf, IsOriginOf};
 ghost use Rattle.htl_main.specs.Spans.{AreSpans};
@@ -72,9 +74,10 @@ fn between(segments: &[Segment], spans: &[InputSpan], fault: CaseFault) -> Betwe
 }
 
 /// What is reported of a fault's two segments if no copies were kept.
-fn unknown(fault: CaseFault) -> Between
-    ensures { (form : InputForm) (inputs : List (List ℕ)) (segments : List Content)
+pub(crate) fn unknown(fault: CaseFault) -> Between
+    ensures between { (form : InputForm) (inputs : List (List ℕ)) (segments : List Content)
         → IsBetweenOf form inputs segments fault result }
+    ensures half { IsHalfKnown (of_case fault) result }
 {
     match fault {
         CaseFault::Empty | CaseFault::NoMemory => Between::Nothing,

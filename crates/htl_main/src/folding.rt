@@ -27,11 +27,11 @@ ghost use Rattle.htl_main.specs.Reads.{IsRead, NamesOnly, NeverRead, NeverWrite}
 ghost use Rattle.htl_main.specs.Sources.{IsReportedAt, IsReportedOfSource};
 
 use crate::adding::Added;
+use crate::casing::unknown;
 use crate::coverage::Coverage;
 use crate::cut_inputs::{CutInputs, check_end, with_input};
 use crate::fault::RunFault;
 use crate::folder::Folder;
-use crate::origin::Between;
 use crate::printing::{check_workers, read_symbols};
 use crate::refused::Refused;
 use htl_analyst::Analyst;
@@ -379,13 +379,9 @@ fn half_known(fault: CaseFault) -> Refused
     ensures fault { result.fault ≡ of_case fault }
     ensures between { IsHalfKnown result.fault result.between }
 {
-    let between = match fault {
-        CaseFault::Empty | CaseFault::NoMemory => Between::Nothing,
-        _ => Between::Unknown,
-    };
     Refused {
         fault: RunFault::from(fault),
-        between,
+        between: unknown(fault),
     }
 }
 

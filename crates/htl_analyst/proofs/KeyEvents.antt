@@ -4,7 +4,7 @@ use Rattle.std.proofs.Common.{eqb-true, eq-eqb, refl, sym, ap, ◌∙◌, subst,
 use Rattle.std.specs.Prelude.{Contains, ◌==◌, nat_lt, if◌then◌else◌, filter}
 use Rattle.std.specs.List.{AllByRecursion, list_any}
 use Rattle.std.specs.Cmp.{both_ways}
-use Rattle.std.proofs.lemmas.Bool.{cases_Bool, cases_eq, cases_lt, false≢true, lt-ltb, le-ltb, ltb-true, and_from, and_parts, or_left}
+use Rattle.std.proofs.lemmas.Bool.{cases_eq, cases_lt, false≢true, lt-ltb, le-ltb, ltb-true, and_from, and_parts, or_left}
 use Rattle.std.proofs.lemmas.Bool.{or_right, or_cases}
 use Rattle.std.proofs.lemmas.Grind.{flat_map-append}
 use Rattle.std.proofs.lemmas.List.Elements.{Contains-append_cases, Contains-append_left, Contains-append_right}
@@ -14,7 +14,7 @@ use Rattle.htl_event.proofs.Members.{Contains-map, Contains-from_map, at_member,
 use Rattle.htl_segment.specs.Content.{Content, Fits}
 use Rattle.htl_segment.specs.Keys.{run_below}
 use Rattle.htl_segment.specs.Traces.{Trace, AreInOrder, IsBefore, key_is_in, all_events, events_of}
-use Rattle.htl_segment.proofs.Traces.{events_of-agree, events_of-skip}
+use Rattle.htl_segment.proofs.Traces.{events_of-agree, events_of-skip, filter_in_order}
 use Rattle.htl_taken.specs.Numbers.{Numbers, numbers_at, front_at, loose_at}
 use Rattle.htl_taken.specs.declared.TheConstants.{MAX_FRONT}
 use Rattle.htl_taken.specs.Rising.{Rises}
@@ -106,18 +106,6 @@ ordered_same (x ∷ xs) (y ∷ ys) rx ry f g =
     let tails : xs ≡ ys = ordered_same xs ys rx.1 ry.1 (tail_in x xs y ys rx same f) (tail_in y ys x xs ry (sym same) g) in
     cc
 
-filter_ordered : (p : Content → Bool) (ss : List Content) → AreInOrder ss → AreInOrder (filter p ss)
-filter_ordered p [] o = tt
-filter_ordered p (s ∷ ss) o =
-    elim (cases_Bool (p s)) [
-      | inl so ↦
-          rw so (
-            each_member (IsBefore s) (filter p ss) (λ x h. at_member (IsBefore s) ss x o.0 (Contains-from_filter p ss x h).0),
-            filter_ordered p ss o.1,
-          )
-      | inr not_so ↦ rw not_so (filter_ordered p ss o.1)
-    ]
-
 append_ordered : (xs ys : List Content) → AreInOrder xs → AreInOrder ys
     → ((x y : Content) → Contains xs x → Contains ys y → IsBefore x y) → AreInOrder (xs ++ ys)
 append_ordered [] ys ox oy before = oy
@@ -202,7 +190,7 @@ module _ (T : Trace) (a : State) (right : IsRight a T) (p : ℕ) (lt : p < a.pro
       append_ordered held rest
       (held_ordered p q.front MAX_FRONT held (subst (Rises q.front MAX_FRONT) (sym is.numbers) is.proper.rises)
       (each_member (λ s. s.processor ≡ p) held owner))
-      (filter_ordered (key_is_in (from_on (p + 1) (keys a))) ss right.collection.in_order)
+      (filter_in_order (key_is_in (from_on (p + 1) (keys a))) ss right.collection.in_order)
       (λ x y h k. let e = owner x h in let r = in_rest y k in inl (omega (arith, e, r.1)))
 
   after_run : (x y : Content) → Contains run x → Contains (held ++ rest) y → IsBefore x y
@@ -218,7 +206,7 @@ module _ (T : Trace) (a : State) (right : IsRight a T) (p : ℕ) (lt : p < a.pro
 
   whole_ordered : AreInOrder (run ++ (held ++ rest))
   whole_ordered =
-      append_ordered run (held ++ rest) (filter_ordered (key_is_in (run_below p q.front)) ss right.collection.in_order) tail_ordered after_run
+      append_ordered run (held ++ rest) (filter_in_order (key_is_in (run_below p q.front)) ss right.collection.in_order) tail_ordered after_run
 
   -- a segment of a loose number is held
   found : (s : Content) → Contains ss s → s.processor ≡ p → Contains q.loose s.number → Contains held s
@@ -270,7 +258,7 @@ module _ (T : Trace) (a : State) (right : IsRight a T) (p : ℕ) (lt : p < a.pro
       (all_events held ++ events_of (from_on (p + 1) (keys a)) ss)
   events_from =
       ap all_events (ordered_same (filter (key_is_in (from_on p (keys a))) ss) (run ++ (held ++ rest))
-      (filter_ordered (key_is_in (from_on p (keys a))) ss right.collection.in_order) whole_ordered into from)
+      (filter_in_order (key_is_in (from_on p (keys a))) ss right.collection.in_order) whole_ordered into from)
       ∙ flat_map-append (λ (s : Content). s.events) run (held ++ rest)
       ∙ ap (λ (es : List Event). run_events T p q.front ++ es) (flat_map-append (λ (s : Content). s.events) held rest)
 

@@ -1,5 +1,5 @@
 -- Parts that several workers folded, and the fronts moved over them, make a state that is further and otherwise the same.
-use Rattle.std.proofs.Common.{◌≡◌, ℕ, zero, suc, ◌-◌, ◌*◌, ◌<◌, ◌≤◌, List, [], ◌∷◌, ◌++◌, length, take, drop}
+use Rattle.std.proofs.Common.{◌≡◌, ℕ, ◌-◌, ◌*◌, ◌<◌, ◌≤◌, List, length, drop}
 use Rattle.std.proofs.Common.{refl, sym, ap, ◌∙◌, subst, arith, inl, inr, ◌⊎◌}
 use Rattle.std.specs.Prelude.{Contains, ◌↔◌}
 use Rattle.std.proofs.lemmas.Bool.{cases_lt, lt-ltb, le-ltb}
@@ -45,13 +45,6 @@ module _ {old : State} (a : State) (p reach front : ℕ) (k : Part) (d : Folded)
       subst (λ (n : ℕ). IsFoldedWith n (run_length a p) (part_at a.parts p) d) (f ∙ ap (λ (x : State). front_at x.taken p) is)
       (subst (λ (n : ℕ). IsFoldedWith front n (part_at a.parts p) d) (run_read a p reach front is r f)
       (subst (λ (l : Part). IsFoldedWith front (reach - front) l d) ek w))
-
--- a list that is lent whole comes back whole
-pub take_front : {X : Type 0} (xs zs : List X) (n : ℕ) → length xs ≡ n → take n (xs ++ zs) ≡ xs
-take_front [] zs zero e = refl
-take_front [] zs (suc n) e = absurd (omega (arith, e))
-take_front (x ∷ xs) zs zero e = absurd (omega (arith, e))
-take_front (x ∷ xs) zs (suc n) e = ap (λ l. x ∷ l) (take_front xs zs n (omega (arith, e)))
 
 -- ---- the fronts
 

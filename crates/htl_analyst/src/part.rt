@@ -1,7 +1,7 @@
 //! Parts: what an analyst keeps of one processor.
 use crate::folded::{Folded, events_in};
 use htl_event::NoMemory;
-use htl_segment::Segment;
+use htl_segment::{Segment, copies};
 use std::alloc::Allocator;
 use std::marker::Model;
 use std::mem;
@@ -94,7 +94,7 @@ impl<A: Allocator + Clone> Part<A> {
     }
 }
 
-ghost use Rattle.std.specs.Prelude.{◌≡◌, ◌↔◌, IsTrue, IfOk};
+ghost use Rattle.std.specs.Prelude.{◌≡◌, ◌↔◌, IsTrue};
 
 /// Whether the lists have the same segments.
 fn are_same(segments: &[Segment], others: &[Segment]) -> bool
@@ -109,15 +109,4 @@ fn are_same(segments: &[Segment], others: &[Segment]) -> bool
         }
     }
     true
-}
-
-/// The same segments, in the same memory.
-fn copies<A: Allocator>(alloc: A, segments: &[Segment]) -> Result<Vec<Segment, A>, NoMemory>
-    ensures { IfOk result (λ copies. copies.items ≡ segments.now) }
-{
-    let mut copies = Vec::with_capacity(alloc, segments.len())?;
-    for segment in segments {
-        copies.push(segment.copy()?)?;
-    }
-    Ok(copies)
 }

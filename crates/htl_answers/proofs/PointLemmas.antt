@@ -7,6 +7,7 @@ use Rattle.std.specs.declared.cmp.Ordering.TheVariants.{Less}
 use Rattle.std.proofs.lemmas.List.{map-id}
 use Rattle.std.proofs.lemmas.List.Elements.{Contains-get_or}
 use Rattle.std.proofs.lemmas.List.FromFn.{length-range_with_len, get_or-range_with_len}
+use Rattle.htl_lemmas.proofs.Lists.{range_below}
 use Rattle.htl_lemmas.proofs.Tests.{lower}
 use Rattle.htl_event.specs.Events.{Event}
 use Rattle.htl_event.specs.declared.growth.Point.{Point}
@@ -23,14 +24,6 @@ use Rattle.htl_answers.proofs.Opens.{IsRising-map}
 
 -- ---- moments
 
-below_from : (n i : ℕ) → Contains (range_with_len 0 n) i → i < n
-below_from n i h =
-    let len = length-range_with_len 0 n in
-    let lt = h.1 in
-    let at = get_or-range_with_len 0 n h.0 i (omega (arith, len, lt)) in
-    let is = h.2 in
-    omega (arith, len, lt, at, is)
-
 below_into : (n i : ℕ) → i < n → Contains (range_with_len 0 n) i
 below_into n i lt =
     let len = length-range_with_len 0 n in
@@ -43,7 +36,7 @@ pub moments_are : (span : Span) (points moment : ℕ)
     → Contains (map (moment_at span points) (range_with_len 0 points)) moment ↔ IsMomentOf span points moment
 moments_are span points moment = (
   λ h. (let from = Contains-from_map (moment_at span points) (range_with_len 0 points) moment h in
-      (from.0, below_from points from.0 from.1, sym from.2)),
+      (from.0, range_below points from.0 from.1, sym from.2)),
   λ is. subst (Contains (map (moment_at span points) (range_with_len 0 points))) (sym is.2)
       (Contains-map (moment_at span points) (range_with_len 0 points) is.0 (below_into points is.0 is.1)),
 )

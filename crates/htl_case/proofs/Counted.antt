@@ -44,7 +44,7 @@ fits_at ss all i s same fit lt is = at_member Fits all s fit (subst (λ (l : Lis
 
 -- ---- of one segment more
 
-counted-append : (until : Option ℕ) (xs ys : List Event) → counted_events until (xs ++ ys) ≡ counted_events until xs ++ counted_events until ys
+pub counted-append : (until : Option ℕ) (xs ys : List Event) → counted_events until (xs ++ ys) ≡ counted_events until xs ++ counted_events until ys
 counted-append None xs ys = refl
 counted-append (Some moment) xs ys = filter-append (λ e. nat_le e.sequence moment) xs ys
 

@@ -1,18 +1,14 @@
 -- The events of lists, one list after another.
-use Rattle.std.proofs.Common.{◌≡◌, ℕ, ◌+◌, ◌<◌, ◌≤◌, Bool, List, [], ◌∷◌, ◌++◌, length, get_or, set, take, Vec, Global}
+use Rattle.std.proofs.Common.{◌≡◌, ℕ, ◌+◌, ◌<◌, ◌≤◌, Bool, List, ◌++◌, length, get_or, set, take, Vec, Global}
 use Rattle.std.proofs.Common.{refl, sym, ap, ◌∙◌, arith}
 use Rattle.std.specs.Prelude.{filter}
-use Rattle.std.proofs.lemmas.Grind.{flat_map-append}
-use Rattle.std.proofs.lemmas.List.{append-nil, get_or-set_other, length-set, take_all, take_more, take_more_set}
+use Rattle.std.proofs.lemmas.List.{get_or-set_other, length-set, take_all, take_more, take_more_set}
 use Rattle.std.proofs.lemmas.List.Elements.{filter-append}
 use Rattle.htl_event.specs.Events.{Event}
 use Rattle.htl_segment.specs.Picks.{events_in}
+use Rattle.htl_segment.proofs.PicksLaws.{list_more}
 
 -- one list more
-list_more : (lists : List (Vec Event Global)) (list : Vec Event Global) → events_in (lists ++ list ∷ []) ≡ events_in lists ++ list.items
-list_more lists list =
-    flat_map-append (λ (l : Vec Event Global). l.items) lists (list ∷ []) ∙ ap (λ (es : List Event). events_in lists ++ es) (append-nil list.items)
-
 list_at : (lists : List (Vec Event Global)) (i : ℕ) (list : Vec Event Global) → i < length lists
     → events_in (take (i + 1) lists) ≡ events_in (take i lists) ++ (get_or lists i list).items
 list_at lists i list lt = ap events_in (take_more lists i list lt) ∙ list_more (take i lists) (get_or lists i list)

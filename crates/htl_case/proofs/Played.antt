@@ -1,7 +1,7 @@
 -- One step as the code does it, and the steps that were done with one more.
-use Rattle.std.proofs.Common.{◌≡◌, ℕ, ◌+◌, ◌<◌, ◌≤◌, Bool, false, List, ◌++◌, length, get_or, take, replicate, Result, Ok, Err}
+use Rattle.std.proofs.Common.{◌≡◌, ℕ, ◌+◌, ◌<◌, ◌≤◌, Bool, false, List, ◌++◌, length, get_or, take, replicate}
 use Rattle.std.proofs.Common.{Some, refl, sym, ap, ◌∙◌, subst, inl, inr, arith}
-use Rattle.std.specs.Prelude.{slice_get, slice_set, OnOk}
+use Rattle.std.specs.Prelude.{slice_get, slice_set}
 use Rattle.std.proofs.lemmas.List.{take_all, length-set, length-replicate, get_or-replicate}
 use Rattle.std.proofs.lemmas.List.Sums.{fold_more}
 use Rattle.std.proofs.Math.Seq.{take-append_seam}
@@ -23,10 +23,6 @@ use Rattle.htl_case.specs.Reached.{after_step, reached}
 use Rattle.htl_case.specs.Histories.{History, begun, Leaves, history_after, history, AreRight, HaveReached, HaveHistories}
 use Rattle.htl_case.specs.Changes.{Changes, IsMergeFrom, IsStep, IsTriedStep}
 use Rattle.htl_case.proofs.Stepped.{step_histories, tried_keys}
-
-pub on_ok : {X E : Type 0} (r : Result X E) (P Q : Type 0) → OnOk r P → (P → Q) → OnOk r Q
-on_ok (Ok x) P Q h f = f h
-on_ok (Err e) P Q h f = tt
 
 -- ---- a case has 1 to 256 processors
 

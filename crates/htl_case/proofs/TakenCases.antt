@@ -1,12 +1,13 @@
 -- The segments of a trace with the keys of a case are those of the case.
-use Rattle.std.proofs.Common.{◌≡◌, ℕ, Bool, true, List, [], ◌∷◌, Vec, Global, length, refl, sym, ap, ◌∙◌, subst, inl, inr}
+use Rattle.std.proofs.Common.{◌≡◌, ℕ, Bool, true, List, Vec, Global, length, refl, sym, ap, ◌∙◌, subst, inl, inr}
 use Rattle.std.specs.Prelude.{Contains, ◌↔◌, filter}
 use Rattle.std.proofs.lemmas.Bool.{cases_Bool, both_ways}
 use Rattle.std.proofs.lemmas.List.Sums.{length-filter}
 use Rattle.htl_event.specs.Events.{Event}
-use Rattle.htl_event.proofs.Members.{at_member, each_member, Contains-filter, Contains-from_filter, same_members}
+use Rattle.htl_event.proofs.Members.{Contains-filter, Contains-from_filter, same_members}
 use Rattle.htl_segment.specs.Content.{Content}
-use Rattle.htl_segment.specs.Traces.{Trace, AreInOrder, HasKey, IsBefore, all_events, events_of, key_is_in}
+use Rattle.htl_segment.specs.Traces.{Trace, HasKey, IsBefore, all_events, events_of, key_is_in}
+use Rattle.htl_segment.proofs.Traces.{filter_in_order}
 use Rattle.htl_taken.specs.Gaps.{IsGaps}
 use Rattle.htl_taken.specs.declared.gap.Gap.{Gap}
 use Rattle.htl_taken.proofs.Gaps.{gaps_agree}
@@ -18,19 +19,6 @@ use Rattle.htl_case.specs.declared.question.AnalystQuestion.TheVariants as quest
 use Rattle.htl_case.specs.declared.question.AnalystAnswer.{AnalystAnswer}
 use Rattle.htl_case.specs.declared.question.AnalystAnswer.TheVariants as answers
 use Rattle.htl_case.proofs.Outcomes.{in_order_strict, in_order_rises}
-
-filter_in_order : (passes : Content → Bool) (ss : List Content) → AreInOrder ss → AreInOrder (filter passes ss)
-filter_in_order passes [] ordered = tt
-filter_in_order passes (s ∷ ss) ordered =
-    elim (cases_Bool (passes s)) [
-      | inl t ↦
-          rw t (
-            each_member (IsBefore s) (filter passes ss)
-                (λ x h. at_member (IsBefore s) ss x ordered.0 (Contains-from_filter passes ss x h).0),
-            filter_in_order passes ss ordered.1,
-          )
-      | inr f ↦ rw f (filter_in_order passes ss ordered.1)
-    ]
 
 module _ (T : Trace) (S : ℕ → ℕ → Bool) (C : Trace) (is : IsTakenCase T S C) where
   in_case : (s : Content) → Contains (filter (key_is_in S) T.segments) s → Contains C.segments s

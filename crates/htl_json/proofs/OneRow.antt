@@ -1,5 +1,5 @@
 -- A value is that of one row: its numbers are read back from their digits.
-use Rattle.std.proofs.Common.{◌≡◌, ℕ, zero, suc, ◌-◌, ◌<◌, ◌^◌, List, [], ◌∷◌, ◌++◌, drop, length, map, replicate}
+use Rattle.std.proofs.Common.{◌≡◌, ℕ, zero, suc, ◌-◌, ◌<◌, ◌^◌, List, [], ◌∷◌, drop, length, map}
 use Rattle.std.proofs.Common.{refl, sym, ap, ◌∙◌, arith, false}
 use Rattle.std.specs.Prelude.{◌==◌, if◌then◌else◌, slice_index}
 use Rattle.std.specs.Str.Parse.{digits_value}
@@ -9,6 +9,7 @@ use Rattle.json.specs.Json.{Json, Items, Members, null, string, number, array, o
 use Rattle.json.specs.Value.{items_of}
 use Rattle.hex.specs.Hex.{IsBytes, decode_of, encode_lower}
 use Rattle.hex.proofs.HexLemmas.{decode_of-encode_lower}
+use Rattle.htl_lemmas.proofs.Padding.{after_zeros}
 use Rattle.htl_event.specs.Events.{Event}
 use Rattle.htl_event.specs.Ranges.{InRange}
 use Rattle.htl_event.specs.Slots.{base_of}
@@ -66,11 +67,6 @@ one_number m n fit also same = decimal_injective m n fit also (ap text_in same)
 
 hex_value : (n : ℕ) → IsNumber n → digits_value 16 (hex n) ≡ n
 hex_value n fit = (digits_is_IsNumeral 16 false (omega arith) (omega arith) n (omega arith)).1
-
--- zeros before digits change nothing
-after_zeros : (k : ℕ) (ds : List ℕ) → digits_value 16 (replicate k 48 ++ ds) ≡ digits_value 16 ds
-after_zeros zero ds = refl
-after_zeros (suc k) ds = after_zeros k ds
 
 padded_value : (n : ℕ) → IsNumber n → digits_value 16 (padded 16 n) ≡ n
 padded_value n fit = after_zeros (16 - length (hex n)) (hex n) ∙ hex_value n fit

@@ -1,3 +1,4 @@
 pub mod Members
 pub mod Tests
 pub mod Padding
+pub mod Lists

@@ -29,6 +29,7 @@ use Rattle.htl_main.proofs.AfterDecoding.{sources_cause_of}
 
 -- ---- what was picked
 
+-- what is asked about is picked of bytes alone
 pub bytes_of : (hex : Bool) (question : Question) (interest : Interest) → asks_about hex question ≡ Some interest → hex ≡ false
 bytes_of true question interest is = absurd (cc is)
 bytes_of false question interest is = refl

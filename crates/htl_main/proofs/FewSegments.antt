@@ -1,7 +1,6 @@
 -- A trace has at most 2^40 segments, and so at most 2^52 events.
-use Rattle.std.proofs.Common.{◌≡◌, ℕ, ◌+◌, ◌*◌, ◌^◌, ◌<◌, ◌≤◌, zero, suc, List, [], ◌∷◌, flat_map, get_or, length, take, ap, arith, length-append, inl, inr}
+use Rattle.std.proofs.Common.{ℕ, ◌+◌, ◌*◌, ◌^◌, ◌<◌, ◌≤◌, List, [], ◌∷◌, length, arith, length-append, inl, inr}
 use Rattle.std.specs.List.{AllByRecursion}
-use Rattle.htl_event.specs.Events.{Event}
 use Rattle.htl_segment.specs.Content.{Content, Fits}
 use Rattle.htl_segment.specs.Traces.{Trace, IsTrace, AreInOrder, IsBefore, all_events}
 use Rattle.htl_segment.proofs.HeaderLaws.{processors≤256}
@@ -54,17 +53,3 @@ few_events T is =
     let segments = few_segments T.segments is.in_order is.fit in
     let events = few_each T.segments is.fit in
     omega (arith, segments, events)
-
--- a first part of some lists, and the one after it, have no more events
-pub with_next : {X : Type 0} (events_of : X → List Event) (i : ℕ) (xs : List X) (x : X) → i < length xs → x ≡ get_or xs i x
-    → length (flat_map events_of (take i xs)) + length (events_of x) ≤ length (flat_map events_of xs)
-with_next events_of i [] x lt is = absurd (omega (arith, lt))
-with_next events_of zero (y ∷ ys) x lt is =
-    let same : length (events_of x) ≡ length (events_of y) = ap (λ t. length (events_of t)) is in
-    let both = length-append (events_of y) (flat_map events_of ys) in
-    omega (arith, same, both)
-with_next events_of (suc i) (y ∷ ys) x lt is =
-    let rest = with_next events_of i ys x (omega (arith, lt)) is in
-    let some = length-append (events_of y) (flat_map events_of (take i ys)) in
-    let all = length-append (events_of y) (flat_map events_of ys) in
-    omega (arith, rest, some, all)

@@ -2,7 +2,8 @@
 use Rattle.std.proofs.Common.{◌≡◌, ◌≢◌, ◌⊎◌, ◌+◌, ◌-◌, ◌<◌, ◌≤◌, ℕ, Bool, true, false, List, [], ◌∷◌, ◌++◌, length, take}
 use Rattle.std.proofs.Common.{refl, sym, ap, ◌∙◌, subst, arith, inl, inr, append_assoc, append-nil, length-append}
 use Rattle.std.proofs.Common.{Option, Some, None, IfErr, IfOk, IfSome, Result, Ok, Err}
-use Rattle.std.specs.Prelude.{Contains, OnErr, OnOk, slice_get}
+use Rattle.std.specs.Prelude.{Contains, OnOk, slice_get}
+use Rattle.std.proofs.lemmas.Result.{on_ok_weaker}
 use Rattle.htl_event.proofs.Members.{Contains-here, Contains-nil}
 use Rattle.htl_analyst.specs.States.{State}
 use Rattle.htl_case.specs.declared.fault.CaseFault.{CaseFault}
@@ -202,14 +203,6 @@ module _ (form : InputForm) (inputs : List (List ℕ)) (lefts : List (Option (Li
 
 -- ---- what was taken of all inputs
 
-on_ok : {U E P Q : Type 0} (result : Result U E) → OnOk result P → (P → Q) → OnOk result Q
-on_ok (Ok value) holds then = then holds
-on_ok (Err fault) holds then = tt
-
-pub on_err : {U E P Q : Type 0} (result : Result U E) → OnErr result P → (P → Q) → OnErr result Q
-on_err (Ok value) holds then = tt
-on_err (Err fault) holds then = then holds
-
 module _ (first now : Option State) (n : ℕ) (given before : List Content) (was : AreFolded first before) where
   taken_all : Folds first now None n given → (form : InputForm) (texts : List (List ℕ)) (cut : Option CutInputs)
       → DecodeAll form texts given → IsFoldedFar now → AreCut form.hex texts cut → AreAllTaken form before texts first now n cut
@@ -233,7 +226,7 @@ module _ (first now : Option State) (n : ℕ) (given before : List Content) (was
       (cut : Option CutInputs) → DecodeAll form texts given → OnOk ended (IsFoldedFar now) → AreCut form.hex texts cut
       → OnOk ended (AreAllTaken form before texts first now n cut)
   all_taken ended folds form texts cut decoded far cut_is =
-      on_ok ended far (λ is_far. taken_all folds form texts cut decoded is_far cut_is)
+      on_ok_weaker ended (λ is_far. taken_all folds form texts cut decoded is_far cut_is) far
 
   pub some_given : (unfit : Option CaseFault) → Folds first now unfit n given → 0 < n → given ≢ []
   some_given unfit folds some none =
@@ -310,7 +303,7 @@ module _ (setting : Setting) (before : List Content) (texts : List (List ℕ)) (
       taken = folds.taken;
       unfit = unfit;
       takes = folds.takes before was;
-      kept = on_ok ended far (λ is_far. record { taken = folds.kept before was; far = is_far });
+      kept = on_ok_weaker ended (λ is_far. record { taken = folds.kept before was; far = is_far }) far;
       why = why;
     }
 

@@ -14,6 +14,7 @@ use Rattle.htl_segment.specs.Content.{Content, EventsFit, Fits}
 use Rattle.htl_segment.specs.Keys.{run_below}
 use Rattle.htl_segment.specs.Traces.{Trace, HasKey, all_events, key_is_in}
 use Rattle.htl_segment.specs.declared.version.Version.{Version}
+use Rattle.htl_segment.proofs.Spans.{above}
 use Rattle.htl_segment.proofs.Traces.{members_agree}
 use Rattle.htl_taken.specs.Gaps.{IsGapBefore, IsGaps, processor_of}
 use Rattle.htl_taken.specs.Numbers.{Numbers, front_at, numbers_at, with_loose}
@@ -52,6 +53,7 @@ use Rattle.htl_command.specs.declared.question.Question.{Question}
 use Rattle.htl_command.specs.declared.question.Question.TheVariants as questions
 use Rattle.htl_main.specs.Questions.{IsOfParts}
 use Rattle.htl_main.proofs.Covered.{one_first}
+use Rattle.htl_main.proofs.Missing.{no_later}
 
 abbrev AreIdsOf : State → Content → Type 0
 AreIdsOf a s = (s.trace_id ≡ a.trace_id) × (s.processors ≡ a.processors)
@@ -143,10 +145,6 @@ module _ (segments : List Content) (a : State) (T : Trace) (took : HasTakenAll s
     reached = (front_at a.taken least.processor, front_missing far least.processor, least.reached);
   }
 
-  no_earlier : (one other : Gap) → IsGapBefore one other → processor_of one ≤ processor_of other
-  no_earlier one other (inl lt) = omega (arith, lt)
-  no_earlier one other (inr both) = let e = both.0 in omega (arith, e)
-
   -- the first gap is of the processor whose front is the least missing number
   pub least_of_gaps : IsFoldedFar (Some a) → (gap : Gap) (more : List Gap) → IsGaps (HasTaken a) a.processors (gap ∷ more)
       → IsLeastMissing T (processor_of gap) (front_at a.taken (processor_of gap))
@@ -159,7 +157,7 @@ module _ (segments : List Content) (a : State) (T : Trace) (took : HasTakenAll s
         first = front_missing far (processor_of gap);
         before = λ other there. elim (Contains-cases gap more other ((all.members other).1 there)) [
           | inl same ↦ let e = ap processor_of same in omega (arith, e)
-          | inr later ↦ no_earlier gap other (at_member (IsGapBefore gap) more other all.rising.0 later)
+          | inr later ↦ no_later gap other (at_member (IsGapBefore gap) more other all.rising.0 later)
         ];
       }
 
@@ -309,16 +307,6 @@ module _ (before earlier : List Content) (a : State) where
 
 -- ---- a segment that is not taken
 
--- every event of what fits has a sequence above 0
-above_last : (version : Version) (last : ℕ) (es : List Event) → EventsFit version last es → (e : Event) → Contains es e
-    → last < e.sequence
-above_last version last [] fit e has = absurd (Contains-nil e has)
-above_last version last (x ∷ xs) fit e has =
-    elim (Contains-cases x xs e has) [
-      | inl same ↦ subst (λ (y : Event). last < y.sequence) same fit.1
-      | inr later ↦ (let low = fit.1 in let high = above_last version x.sequence xs fit.2 e later in omega (arith, low, high))
-    ]
-
 module _ (segments : List Content) (a : State) (s : Content) (took : HasTakenAll segments a) (some : segments ≢ []) where
   -- an event that isn't above all that was folded
   pub falls : (fits : Fits s) → IsFallen a s true → IsUnfit segments s (cases.Falling s.processor s.number)
@@ -327,12 +315,12 @@ module _ (segments : List Content) (a : State) (s : Content) (took : HasTakenAll
     λ T of.
         (let e = fallen.1 in
         let right = right_of_some segments a T took some of in
-        let above = above_last s.version 0 s.events fits.events e fallen.2 in
+        let high = above s.version 0 s.events fits.events e fallen.2 in
         let low = fallen.3 in
         let count = fallen.0.processors in
         let own = fits.processor in
         let within : s.processor < a.processors = omega (arith, own, count) in
-        let last = last_is_of segments a T took some of s.processor within (omega (arith, above, low)) in
+        let last = last_is_of segments a T took some of s.processor within (omega (arith, high, low)) in
         let t = last.0 in
         let behind : t.number < s.number =
         elim (cases_lt t.number s.number) [
@@ -372,11 +360,6 @@ module _ (segments : List Content) (a : State) (s : Content) (took : HasTakenAll
         (ids.0 ∙ sym same, λ equal. differ (sym equal ∙ ids.1)))),
   )
 
--- the first of a list
-pub first_at : (gaps : List Gap) (gap : Gap) → slice_get gaps 0 ≡ Some gap → (more : List Gap) × (gaps ≡ gap ∷ more)
-first_at [] gap at = absurd (cc at)
-first_at (g ∷ gs) gap at = let same : g ≡ gap = cc at in (gs, ap (λ (x : Gap). x ∷ gs) same)
-
 -- nothing is no case
 pub no_case : (segments : List Content) (T : Trace) → segments ≡ [] → IsCaseOf segments T → ⊥
 no_case segments T none case =
@@ -400,7 +383,7 @@ pub first_least : (version : Version) (e : Event) (es : List Event) → EventsFi
 first_least version e es fit x has =
     elim (Contains-cases e es x has) [
       | inl same ↦ subst (λ (y : Event). e.sequence ≤ y.sequence) same (omega arith)
-      | inr later ↦ (let above = above_last version e.sequence es fit.2 x later in omega (arith, above))
+      | inr later ↦ (let high = above version e.sequence es fit.2 x later in omega (arith, high))
     ]
 
 -- where the first event is above what was folded, all are; where it isn't, the segment falls

@@ -74,11 +74,12 @@ begin_more T is p own mine gaps so_far = joined T gaps (gaps_of p 0 (numbers_of 
     let found = begin_of p (2 ^ 32) (numbers_of own) gap more (own_rise T is p own mine) here in
     rw (found.0, found.1) (own_first T is p own mine))
 
-no_later : (a b : Gap) → IsGapBefore a b → processor_of a ≤ processor_of b
+pub no_later : (a b : Gap) → IsGapBefore a b → processor_of a ≤ processor_of b
 no_later a b (inl lt) = omega (arith, lt)
 no_later a b (inr both) = let e = both.0 in omega (arith, e)
 
-first_at : (gaps : List Gap) (gap : Gap) → slice_get gaps 0 ≡ Some gap → (more : List Gap) × (gaps ≡ gap ∷ more)
+-- the first of a list
+pub first_at : (gaps : List Gap) (gap : Gap) → slice_get gaps 0 ≡ Some gap → (more : List Gap) × (gaps ≡ gap ∷ more)
 first_at [] gap at = absurd (cc at)
 first_at (g ∷ gs) gap at = let same : g ≡ gap = cc at in (gs, ap (λ (x : Gap). x ∷ gs) same)
 

@@ -1,18 +1,15 @@
--- The events of a trace up to a moment are few enough to count, and have their own sequences.
-use Rattle.std.proofs.Common.{◌≡◌, ◌<◌, ◌^◌, ℕ, Bool, List, [], ◌∷◌, ◌++◌, Option, Some, None, length, refl, ap, ◌∙◌, arith, inl, inr, Vec, Global}
-use Rattle.std.specs.Prelude.{filter, nat_le, ◌≢◌}
+-- The events of a trace up to a moment are few enough to count, and are found in the segments and in lists of them.
+use Rattle.std.proofs.Common.{◌≡◌, ◌<◌, ◌^◌, ℕ, Bool, List, [], ◌∷◌, Option, Some, None, length, refl, ap, ◌∙◌, arith, Vec, Global}
+use Rattle.std.specs.Prelude.{nat_le}
 use Rattle.std.specs.List.{list_any}
-use Rattle.std.proofs.lemmas.Bool.{cases_Bool}
-use Rattle.std.proofs.lemmas.List.Elements.{filter-append}
 use Rattle.std.proofs.lemmas.List.Folds.{list_any-append}
 use Rattle.std.proofs.lemmas.List.Sums.{count_by-le-length, length-filter}
 use Rattle.htl_event.specs.Events.{Event}
-use Rattle.htl_event.specs.Handles.{HaveOwnSequences}
 use Rattle.htl_event.specs.Moments.{counted_events}
-use Rattle.htl_event.proofs.Members.{at_member, each_member, filter-pass, filter-skip, Contains-from_filter}
 use Rattle.htl_segment.specs.Content.{Content}
 use Rattle.htl_segment.specs.Picks.{events_in}
 use Rattle.htl_segment.specs.Traces.{Trace, IsTrace, all_events}
+use Rattle.htl_case.proofs.Counted.{counted-append}
 use Rattle.htl_main.proofs.FewSegments.{few_events}
 
 pub few_counted : (T : Trace) (until : Option ℕ) → IsTrace T → length (counted_events until (all_events T.segments)) < 2 ^ 64
@@ -23,25 +20,6 @@ few_counted T (Some moment) trace =
     let kept = length-filter test (all_events T.segments) in
     let some = count_by-le-length test (all_events T.segments) in
     omega (arith, all, kept, some)
-
-own_filtered : (test : Event → Bool) (es : List Event) → HaveOwnSequences es → HaveOwnSequences (filter test es)
-own_filtered test [] own = tt
-own_filtered test (e ∷ es) own = elim (cases_Bool (test e)) [
-  | inl kept ↦ rw (filter-pass test e es kept) (
-    each_member (λ x. e.sequence ≢ x.sequence) (filter test es) (λ x h.
-        at_member (λ y. e.sequence ≢ y.sequence) es x own.0 (Contains-from_filter test es x h).0),
-    own_filtered test es own.1,
-  )
-  | inr left ↦ rw (filter-skip test e es left) (own_filtered test es own.1)
-]
-
-pub own_counted : (until : Option ℕ) (es : List Event) → HaveOwnSequences es → HaveOwnSequences (counted_events until es)
-own_counted None es own = own
-own_counted (Some moment) es own = own_filtered (λ e. nat_le e.sequence moment) es own
-
-counted-append : (until : Option ℕ) (xs ys : List Event) → counted_events until (xs ++ ys) ≡ counted_events until xs ++ counted_events until ys
-counted-append None xs ys = refl
-counted-append (Some moment) xs ys = filter-append (λ e. nat_le e.sequence moment) xs ys
 
 counted-none : (until : Option ℕ) → counted_events until [] ≡ []
 counted-none None = refl

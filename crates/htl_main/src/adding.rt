@@ -16,7 +16,7 @@ ghost use Rattle.htl_main.specs.Printed.{WorkersFit};
 ghost use Rattle.htl_main.specs.Reads.{NeverWrite};
 ghost use Rattle.htl_main.specs.Readings.{AreRead};
 
-use crate::casing::{case_of, copies};
+use crate::casing::case_of;
 use crate::coverage::Coverage;
 use crate::cut_inputs::CutInputs;
 use crate::decoded::Decoded;
@@ -28,6 +28,7 @@ use crate::sources::read_all;
 use htl_case::Case;
 use htl_command::Setting;
 use htl_device::Parted;
+use htl_segment::copies;
 use std::alloc::Global;
 use std::fmt;
 use std::thread::Threads;

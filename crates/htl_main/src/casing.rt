@@ -8,6 +8,8 @@ ghost use Rattle.htl_case.specs.Faults.{IsRefusal};
 ghost use Rattle.htl_command.specs.declared.question.InputForm.{InputForm};
 ghost use Rattle.htl_command.specs.declared.question.Job.{Job};
 ghost use Rattle.htl_main.specs.Causes.{IsCauseAfter};
+ghost use Rattle.htl_main.specs.Faults.{of_case};
+ghost use Rattle.htl_main.specs.Folding.{IsHalfKnown};
 ghost use Rattle.htl_main.specs.Inputs.{DecodeAll};
 ghost use Rattle.htl_main.specs.Origins.{IsBetween, IsBetweenOf, IsOriginOf};
 ghost use Rattle.htl_main.specs.Spans.{AreSpans};
@@ -18,8 +20,7 @@ use crate::origin::{Between, Origin};
 use crate::pairing::pair;
 use crate::refused::Refused;
 use htl_case::{Case, CaseFault};
-use htl_event::NoMemory;
-use htl_segment::Segment;
+use htl_segment::{Segment, copies};
 use std::alloc::Global;
 
 /// The case of decoded segments. `Case::of` drops segments that it refuses, so copies (32 bytes
@@ -54,17 +55,6 @@ pub(crate) fn case_of(alloc: Global, decoded: Decoded) -> Result<Case, Refused>
     }
 }
 
-/// The same segments, in the same memory.
-pub(crate) fn copies(alloc: Global, segments: &[Segment]) -> Result<Vec<Segment>, NoMemory>
-    ensures { IfOk result (λ copies. copies.items ≡ segments.now) }
-{
-    let mut copies = Vec::with_capacity(alloc, segments.len())?;
-    for segment in segments {
-        copies.push(segment.copy()?)?;
-    }
-    Ok(copies)
-}
-
 /// The origins of the two segments that break the rule of the fault.
 fn between(segments: &[Segment], spans: &[InputSpan], fault: CaseFault) -> Between
     requires { IsRefusal segments.now fault }
@@ -84,9 +74,10 @@ fn between(segments: &[Segment], spans: &[InputSpan], fault: CaseFault) -> Betwe
 }
 
 /// What is reported of a fault's two segments if no copies were kept.
-fn unknown(fault: CaseFault) -> Between
-    ensures { (form : InputForm) (inputs : List (List ℕ)) (segments : List Content)
+pub(crate) fn unknown(fault: CaseFault) -> Between
+    ensures between { (form : InputForm) (inputs : List (List ℕ)) (segments : List Content)
         → IsBetweenOf form inputs segments fault result }
+    ensures half { IsHalfKnown (of_case fault) result }
 {
     match fault {
         CaseFault::Empty | CaseFault::NoMemory => Between::Nothing,

@@ -2,7 +2,6 @@
 
 ghost use Rattle.std.specs.Prelude.{◌≡◌, ◌<◌, ◌≤◌, ◌++◌, take, All, OnOk};
 ghost use Rattle.std.specs.List.Sorted.{IsNonDecreasingBy};
-ghost use Rattle.htl_taken.specs.Gaps.{first_of, processor_of};
 ghost use Rattle.htl_taken.specs.GapLists.{gaps_from, gaps_of};
 ghost use Rattle.htl_taken.specs.Rising.{reach_from};
 ghost use Rattle.htl_main.specs.CaseOutlines.{greatest_from, numbers_of};
@@ -125,21 +124,8 @@ impl Missed {
         ensures none { IfNone result ((T : Trace) → IsMissed T self.now → IsComplete T) }
     {
         let gap = self.gaps.first()?;
-        Some(first_key(*gap))
-    }
-}
-
-/// The first key of a gap.
-fn first_key(gap: Gap) -> (u16, u32)
-    ensures { result ≡ (processor_of gap, first_of gap) }
-{
-    match gap {
-        Gap::Between {
-            processor,
-            from,
-            ..
-        } => (processor, from),
-        Gap::Absent { processor } => (processor, 0),
+        let number = gap.first();
+        Some((gap.processor(), number))
     }
 }
 

@@ -4,7 +4,7 @@ ghost use Rattle.std.specs.Prelude.{◌≡◌, ◌≢◌, [], ℕ, List, All, So
 ghost use Rattle.std.specs.Prelude.{IfErr, IfOk, IfSome, OnErr, OnOk};
 ghost use Rattle.std.specs.Option.{option_copied};
 ghost use Rattle.htl_analyst.specs.Keys.{HasTaken};
-ghost use Rattle.htl_taken.specs.Gaps.{IsGaps, processor_of};
+ghost use Rattle.htl_taken.specs.Gaps.{IsGaps};
 ghost use Rattle.htl_segment.specs.Content.{Content};
 ghost use Rattle.htl_segment.specs.Traces.{Trace};
 ghost use Rattle.htl_case.specs.Cases.{IsCaseOf};
@@ -27,11 +27,11 @@ ghost use Rattle.htl_main.specs.Reads.{IsRead, NamesOnly, NeverRead, NeverWrite}
 ghost use Rattle.htl_main.specs.Sources.{IsReportedAt, IsReportedOfSource};
 
 use crate::adding::Added;
+use crate::casing::unknown;
 use crate::coverage::Coverage;
 use crate::cut_inputs::{CutInputs, check_end, with_input};
 use crate::fault::RunFault;
 use crate::folder::Folder;
-use crate::origin::Between;
 use crate::printing::{check_workers, read_symbols};
 use crate::refused::Refused;
 use htl_analyst::Analyst;
@@ -379,13 +379,9 @@ fn half_known(fault: CaseFault) -> Refused
     ensures fault { result.fault ≡ of_case fault }
     ensures between { IsHalfKnown result.fault result.between }
 {
-    let between = match fault {
-        CaseFault::Empty | CaseFault::NoMemory => Between::Nothing,
-        _ => Between::Unknown,
-    };
     Refused {
         fault: RunFault::from(fault),
-        between,
+        between: unknown(fault),
     }
 }
 
@@ -419,18 +415,9 @@ fn check_gaps(analyst: &Analyst<Global>, gaps: &[Gap]) -> Result<(), RunFault>
     let Some(gap) = gaps.first() else {
         return Ok(());
     };
-    let processor = processor_of(*gap);
+    let processor = gap.processor();
     Err(RunFault::Incomplete {
         processor,
         number: analyst.front(processor),
     })
-}
-
-/// The processor that a gap is of.
-fn processor_of(gap: Gap) -> u16
-    ensures { result ≡ processor_of gap }
-{
-    match gap {
-        Gap::Between { processor, .. } | Gap::Absent { processor } => processor,
-    }
 }

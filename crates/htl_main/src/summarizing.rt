@@ -13,7 +13,7 @@ ghost use Rattle.htl_command.specs.declared.question.Question.TheVariants as que
 use crate::coverage::Missed;
 use crate::unfolded::Unfolded;
 use htl_case::Case;
-use htl_event::{EventList, NoMemory};
+use htl_event::{EventList, NoMemory, number_of_events};
 use htl_report::{Answer, Totals};
 use htl_summary::{Objects, Summary, summarize};
 use std::alloc::Global;
@@ -82,9 +82,8 @@ fn event_count<E: EventList>(lists: &[E]) -> u64
     requires { length (flat_map E.events_of lists.now) < 2 ^ 64 }
     ensures { result ≡ length (flat_map E.events_of lists.now) }
 {
-    let mut count = 0;
-    for list in lists {
-        count += list.events().len() as u64;
+    match number_of_events(lists) {
+        Some(events) => events as u64,
+        None => unreachable!(),
     }
-    count
 }

@@ -1,15 +1,9 @@
--- Inputs that are lent come back with nothing behind them, and a fault is passed on.
-use Rattle.std.proofs.Common.{◌≡◌, ◌∙◌, Bool, false, inl, inr, true, ◌++◌, ◌∷◌, [], List, ℕ, ap, arith, length, refl, suc, sym, take, zero}
+-- A fault is passed on, and inputs that were opened are all there.
+use Rattle.std.proofs.Common.{◌≡◌, ◌∙◌, Bool, false, inl, inr, true, ℕ, ap, refl, sym}
 use Rattle.std.specs.Prelude.{Result, Ok, Err}
 use mathlib.Core.Bool.{true≢false}
 use Rattle.htl_main.specs.declared.fault.RunFault.{RunFault}
 use Rattle.htl_program.specs.Endings.{IsUnopened}
-
-pub take_front : {X : Type 0} (xs zs : List X) (n : ℕ) → length xs ≡ n → take n (xs ++ zs) ≡ xs
-take_front [] zs zero e = refl
-take_front [] zs (suc n) e = absurd (omega (arith, e))
-take_front (x ∷ xs) zs zero e = absurd (omega (arith, e))
-take_front (x ∷ xs) zs (suc n) e = ap (λ l. x ∷ l) (take_front xs zs n (omega (arith, e)))
 
 fault_or : {S E : Type 0} → E → Result S E → E
 fault_or other (Ok done) = other

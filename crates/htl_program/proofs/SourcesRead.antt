@@ -1,10 +1,6 @@
 -- How sources were read doesn't depend on what a run that ended well answers, or on what a run that ended by a fault would have.
-use Rattle.std.proofs.Common.{◌≡◌, Bool, List, ℕ, ap, false, refl, true}
-use Rattle.std.proofs.lemmas.Option.{none-some}
-use Rattle.std.specs.Prelude.{Option, Some, Ok, Err}
-use Rattle.htl_event.specs.declared.interest.Interest.{Interest}
-use Rattle.htl_command.specs.declared.question.Question.{Question}
-use Rattle.htl_main.specs.Picked.{asks_about}
+use Rattle.std.proofs.Common.{Bool, List, ℕ, ap, refl}
+use Rattle.std.specs.Prelude.{Option, Ok, Err}
 use Rattle.htl_main.specs.Readings.{AreRead}
 use Rattle.htl_main.specs.declared.fault.RunFault.{RunFault}
 use Rattle.htl_program.proofs.Lent.{no_fault, same_fault}
@@ -38,8 +34,3 @@ as_refused is_text has_failed has_ended good_reads remaining old new fault read 
   unread = read.unread;
   to_fault = read.to_fault;
 }
-
--- What is asked about is picked of bytes alone.
-pub picks_bytes : (hex : Bool) (question : Question) (interest : Interest) → asks_about hex question ≡ Some interest → hex ≡ false
-picks_bytes false question interest is = refl
-picks_bytes true question interest is = absurd (none-some _ is)

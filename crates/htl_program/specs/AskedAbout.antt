@@ -1,6 +1,7 @@
 -- What a question is about, as a person reads it (this project's own).
-use Rattle.std.specs.Prelude.{◌-◌, ◌%◌, ◌++◌, ℕ, List, Option, Some, None, codes}
+use Rattle.std.specs.Prelude.{◌++◌, ℕ, List, Option, Some, None, codes}
 use Rattle.std.specs.Fmt.{decimal}
+use Rattle.htl_event.specs.Slots.{base_of}
 use Rattle.htl_numbers.specs.Written.{hex, padded}
 use Rattle.htl_report.specs.Parts.{shown_tag}
 use Rattle.htl_command.specs.declared.question.Question.{Question}
@@ -17,7 +18,7 @@ subject_of_question (asked.Bad process) = Some (Process process)
 subject_of_question (asked.Leaks process since at_least) = Some (Process process)
 subject_of_question (asked.Tags object) = Some (Object object)
 subject_of_question (asked.Stacks object tag) = Some (Tag object tag)
-subject_of_question (asked.Trace process handle) = Some (Handle process (handle - handle % 4))
+subject_of_question (asked.Trace process handle) = Some (Handle process (base_of handle))
 subject_of_question (asked.Growth process points) = Some (Process process)
 
 -- an object in all of its 16 digits, and a tag in display order

@@ -4,6 +4,7 @@ ghost use Rattle.std.specs.Prelude.{◌≡◌};
 ghost use Rattle.htl_program.specs.AskedAbout.{subject_of_question};
 
 use htl_command::Question;
+use htl_event::base;
 use htl_report::shown_byte;
 use std::fmt;
 
@@ -30,13 +31,10 @@ impl Subject {
             | Question::Growth { process, .. } => Some(Subject::Process(process)),
             Question::Tags { object } => Some(Subject::Object(object)),
             Question::Stacks { object, tag } => Some(Subject::Tag { object, tag }),
-            Question::Trace { process, handle } => {
-                let base = handle - handle % 4;
-                Some(Subject::Handle {
-                    process,
-                    handle: base,
-                })
-            }
+            Question::Trace { process, handle } => Some(Subject::Handle {
+                process,
+                handle: base(handle),
+            }),
         }
     }
 }

@@ -45,7 +45,8 @@ events_more interest asked events next segments s same so_far pushed =
 
 -- ---- lists of events
 
-list_more : (lists : List (Vec Event Global)) (list : Vec Event Global) → events_in (lists ++ list ∷ []) ≡ events_in lists ++ list.items
+-- one list more
+pub list_more : (lists : List (Vec Event Global)) (list : Vec Event Global) → events_in (lists ++ list ∷ []) ≡ events_in lists ++ list.items
 list_more lists list =
     flat_map-append (λ (l : Vec Event Global). l.items) lists (list ∷ []) ∙ ap (λ (es : List Event). events_in lists ++ es) (append-nil list.items)
 

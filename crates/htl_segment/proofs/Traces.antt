@@ -1,4 +1,4 @@
--- The events of a set of keys.
+-- The events of a set of keys, and segments in order.
 use Rattle.std.proofs.Common.{◌≡◌, ℕ, ◌+◌, ◌<◌, ◌≤◌, Bool, true, false, ltb, eqb, ◌&&◌, List, [], ◌∷◌, ◌++◌, refl, sym, ap, ◌∙◌, subst}
 use Rattle.std.proofs.Common.{arith, inl, inr, ◌⊎◌, append_assoc, append-nil}
 use Rattle.std.specs.Prelude.{Contains, ◌↔◌, ◌≢◌, filter, count_by}
@@ -31,6 +31,20 @@ events_of-pass S s ss e = ap all_events (filter-pass (key_is_in S) s ss e)
 
 pub events_of-skip : (S : ℕ → ℕ → Bool) (s : Content) (ss : List Content) → key_is_in S s ≡ false → events_of S (s ∷ ss) ≡ events_of S ss
 events_of-skip S s ss e = ap all_events (filter-skip (key_is_in S) s ss e)
+
+-- segments in order that pass a test are in order
+pub filter_in_order : (passes : Content → Bool) (ss : List Content) → AreInOrder ss → AreInOrder (filter passes ss)
+filter_in_order passes [] ordered = tt
+filter_in_order passes (s ∷ ss) ordered =
+    elim (cases_Bool (passes s)) [
+      | inl t ↦
+          rw t (
+            each_member (IsBefore s) (filter passes ss)
+                (λ x h. at_member (IsBefore s) ss x ordered.0 (Contains-from_filter passes ss x h).0),
+            filter_in_order passes ss ordered.1,
+          )
+      | inr f ↦ rw f (filter_in_order passes ss ordered.1)
+    ]
 
 -- ---- members
 

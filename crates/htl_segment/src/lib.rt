@@ -62,7 +62,7 @@ pub use records::Records;
 pub use repeated::first_repeated;
 pub use rising::greatest_sequence;
 pub use seen::Seen;
-pub use segment::Segment;
+pub use segment::{Segment, copies};
 pub use segment_bytes::SegmentBytes;
 pub use splitter::{Splitter, decode_pieces};
 pub use stack_cache::StackCache;

@@ -3,6 +3,7 @@ ghost use Rattle.std.specs.Prelude.{◌≡◌, IfOk};
 
 use crate::version::Version;
 use htl_event::{EventList, NoMemory, SharedEvent};
+use std::alloc::Allocator;
 use std::marker::Model;
 use std::sync::Arc;
 
@@ -146,4 +147,15 @@ impl EventList for Segment {
     fn events(&self) -> &[SharedEvent] {
         self.events()
     }
+}
+
+/// The same segments, in the same memory.
+pub fn copies<A: Allocator>(alloc: A, segments: &[Segment]) -> Result<Vec<Segment, A>, NoMemory>
+    ensures { IfOk result (λ copies. copies.items ≡ segments.now) }
+{
+    let mut copies = Vec::with_capacity(alloc, segments.len())?;
+    for segment in segments {
+        copies.push(segment.copy()?)?;
+    }
+    Ok(copies)
 }

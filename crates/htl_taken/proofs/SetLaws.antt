@@ -1,10 +1,11 @@
 -- The laws of sets of taken segments.
-use Rattle.std.proofs.Common.{◌≡◌, ◌+◌, ◌<◌, ◌≤◌, ℕ, zero, suc, List, [], ◌++◌, length}
-use Rattle.std.proofs.Common.{sym, ap, ◌∙◌, subst, arith, inl, inr, length-append, append-nil, add-zero, Contains}
+use Rattle.std.proofs.Common.{◌≡◌, ◌+◌, ◌<◌, ◌≤◌, ℕ, zero, suc, List, ◌++◌, length}
+use Rattle.std.proofs.Common.{sym, ap, ◌∙◌, subst, arith, inl, inr, length-append, add-zero, Contains}
 use Rattle.std.specs.List.{range_with_len}
 use Rattle.std.proofs.lemmas.List.FromFn.{length-range_with_len}
 use Rattle.std.proofs.lemmas.Bool.{cases_lt, cases_eq}
 use Rattle.std.proofs.lemmas.List.Elements.{Contains-append_left, Contains-append_right, Contains-append_cases}
+use Rattle.htl_lemmas.proofs.Lists.{range_below}
 use Rattle.htl_taken.specs.declared.TheConstants.{MAX_FRONT}
 use Rattle.htl_taken.specs.Rising.{Rises}
 use Rattle.htl_taken.specs.Numbers.{Numbers, numbers_at, IsProper, IsUnion, reach_of, settled}
@@ -133,11 +134,6 @@ in_range a (suc n) m le lt =
       | inl e ↦ Contains-head a (range_with_len (a + 1) n) m e
       | inr ne ↦ Contains-there a (range_with_len (a + 1) n) m (in_range (a + 1) n m (omega (arith, ne, le)) (omega (arith, lt)))
     ]
-
-range_below : (n m : ℕ) → Contains (range_with_len 0 n) m → m < n
-range_below n m h =
-    let rises = rw append-nil at (Rises-range n 0 n [] (omega arith)) in
-    (Rises-member 0 n (range_with_len 0 n) m rises h).1
 
 pub counts_numbers : CountsNumbers
 counts_numbers q proper =

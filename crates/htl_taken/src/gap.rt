@@ -9,3 +9,27 @@ pub enum Gap {
     /// No number of the processor is there.
     Absent { processor: u16 },
 }
+
+impl Gap {
+    ghost use Rattle.std.specs.Prelude.{◌≡◌};
+    ghost use Rattle.htl_taken.specs.Gaps.{first_of, processor_of};
+
+    /// The processor whose segments are missing.
+    pub fn processor(self) -> u16
+        ensures { result ≡ processor_of self }
+    {
+        match self {
+            Gap::Between { processor, .. } | Gap::Absent { processor } => processor,
+        }
+    }
+
+    /// The first missing number: 0 where no number of the processor is there.
+    pub fn first(self) -> u32
+        ensures { result ≡ first_of self }
+    {
+        match self {
+            Gap::Between { from, .. } => from,
+            Gap::Absent { .. } => 0,
+        }
+    }
+}

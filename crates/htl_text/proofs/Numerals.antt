@@ -10,6 +10,7 @@ use Rattle.std.proofs.lemmas.Fmt.{digits_is_IsNumeral}
 use Rattle.std.proofs.lemmas.Bool.{lt-ltb, le-leb}
 use Rattle.std.proofs.lemmas.Bool.Decides.{nat_tests}
 use Rattle.std.proofs.lemmas.List.{length-replicate}
+use Rattle.htl_lemmas.proofs.Padding.{after_zeros}
 use Rattle.htl_numbers.specs.Numbers.{number_of, hexadecimal_number, without_0x}
 use Rattle.htl_numbers.specs.Written.{hex, padded}
 use Rattle.htl_text.specs.Texts.{is_visible}
@@ -43,11 +44,7 @@ decimal_writes n low = let w = digits_is_IsNumeral 10 false (omega arith) (omega
 pub hex_writes : (n : ℕ) → n < 2 ^ 64 → Writes 16 n (hex n)
 hex_writes n low = let w = digits_is_IsNumeral 16 false (omega arith) (omega arith) n (omega arith) in record { numeral = w.0; value = w.1 }
 
--- zeros before digits change nothing
-zeros_pass : (k : ℕ) (ds : List ℕ) → digits_value 16 (replicate k 48 ++ ds) ≡ digits_value 16 ds
-zeros_pass zero ds = refl
-zeros_pass (suc k) ds = zeros_pass k ds
-
+-- zeros before digits are digits
 zeros_digits : (k : ℕ) (ds : List ℕ) → AllDigits 16 ds → AllDigits 16 (replicate k 48 ++ ds)
 zeros_digits zero ds h = h
 zeros_digits (suc k) ds h = (omega arith, zeros_digits k ds h)
@@ -58,7 +55,7 @@ padded_writes width n low =
     let zeros : List ℕ = replicate (width - length (hex n)) 48 in
     record {
       numeral = (omega (arith, length-append zeros (hex n), w.numeral.0), zeros_digits (width - length (hex n)) (hex n) w.numeral.1);
-      value = zeros_pass (width - length (hex n)) (hex n) ∙ w.value;
+      value = after_zeros (width - length (hex n)) (hex n) ∙ w.value;
     }
 
 -- a number below a power of 16 has no more digits than the exponent

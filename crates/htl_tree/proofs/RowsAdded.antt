@@ -1,6 +1,6 @@
 -- Positions before and after rows were added.
 use Rattle.std.proofs.Common.{◌≡◌, ℕ, zero, suc, ◌+◌, ◌<◌, ◌≤◌, ◌≢◌, List, [], ◌∷◌, ◌++◌, length, get_or, take, Option}
-use Rattle.std.proofs.Common.{Some, None, Result, Ok, Err, OnOk, true, false, cond, unwrap_or, refl, sym, inl, inr, ◌∙◌, ap, subst, arith}
+use Rattle.std.proofs.Common.{Some, None, true, false, cond, unwrap_or, refl, sym, inl, inr, ◌∙◌, ap, subst, arith}
 use Rattle.std.specs.Cmp.{tied_itself, nat_cmp_total}
 use Rattle.std.specs.Ordering.{nat_cmp, is_eq, eq_by_cmp}
 use Rattle.std.specs.declared.cmp.Ordering.TheVariants.{Less, Equal, Greater}
@@ -146,10 +146,6 @@ module _ {A : Type 0} (n m : Position A) (rows : List Row) where
       normal = normal_with_child n m f c o w k h new.normal (filled path no_tally new.counts);
       counts = adds_below path (rw none new.counts);
     }
-
-pub on_ok : {X E P Q : Type 0} (r : Result X E) → OnOk r P → (P → Q) → OnOk r Q
-on_ok (Ok x) h f = f h
-on_ok (Err e) h f = tt
 
 -- ---- chains
 

@@ -14,5 +14,5 @@ returns-clause-between c = λ form inputs decoded are.
           let same = w.deref-in-Ok-kept.ensures.value ∙ w.in-Ok-kept.ensures ∙ c.deref.ensures.value in
           rw (w.result-is) (subst (λ (ss : List Content). IsBetweenOf form inputs ss c.in-Err.fault w.between.result) same
           (w.between.ensures form inputs (rw (same, w.deref-in-Ok-kept-2.ensures.value) are)))
-      | in-Err-kept w ↦ rw (w.result-is) (w.unknown.ensures form inputs c.args.decoded.segments.items)
+      | in-Err-kept w ↦ rw (w.result-is) (w.unknown.ensures.between form inputs c.args.decoded.segments.items)
     ]))

@@ -3,7 +3,8 @@ use Rattle.std.proofs.Common.{List, refl, subst, sym}
 use Rattle.htl_analyst.specs.Keys.{HasTaken}
 use Rattle.htl_taken.specs.Gaps.{IsGaps}
 use Rattle.htl_taken.specs.declared.gap.Gap.{Gap}
-use Rattle.htl_main.proofs.FoldLaws.{first_at, least_of_gaps, no_first}
+use Rattle.htl_main.proofs.FoldLaws.{least_of_gaps, no_first}
+use Rattle.htl_main.proofs.Missing.{first_at}
 use Rattle.htl_main.proofs.folding.check_gaps.Goals as goal
 
 pub returns-clause-err : goal.returns-clause-err
@@ -13,7 +14,7 @@ returns-clause-err c =
     let found = first_at c.args.gaps.now gap (sym c.in-Some.ensures.value) in
     let listed = subst (λ (gaps : List Gap). IsGaps (HasTaken a) a.processors gaps) found.1 c.requires in (
       refl,
-      λ segments T folded case. rw (c.front.ensures, c.processor_of-processor.ensures)
+      λ segments T folded case. rw (c.front.ensures, c.processor-processor.ensures)
           (least_of_gaps segments a T folded.taken.1 folded.taken.0 case folded.far gap found.0 listed),
     )
 

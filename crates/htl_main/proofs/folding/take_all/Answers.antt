@@ -1,9 +1,10 @@
 -- What take_all took, why it ends, and how it reads its sources.
 use Rattle.std.proofs.Common.{[], ◌∙◌, Option, map, subst}
+use Rattle.std.proofs.lemmas.Result.{on_err_weaker}
 use Rattle.htl_analyst.specs.States.{State}
 use Rattle.htl_case.specs.declared.fault.CaseFault.{CaseFault}
 use Rattle.htl_main.specs.Folders.{Folds}
-use Rattle.htl_main.proofs.FoldInputs.{all_taken, on_err, refused_fold, refused_read, refused_unfit, since}
+use Rattle.htl_main.proofs.FoldInputs.{all_taken, refused_fold, refused_read, refused_unfit, since}
 use Rattle.htl_main.proofs.folding.take_all.Goals as goal
 
 pub returns-in-Err-clause-err : goal.returns-in-Err-clause-err
@@ -25,10 +26,11 @@ returns-in-Err-clause-memory g c =
     let old = c.new-folder.result in
     let is = c.replace-analyst.ensures.value in
     let none = subst (λ (a : Option State). Folds a old.analyst old.unfit old.segments []) is c.new-folder.ensures.none in
-    λ before texts was all fit. on_err c.fold_by-far.result c.fold_by-far.ensures.some (λ some. refused_fold c.args.setting before texts
+    λ before texts was all fit. on_err_weaker c.fold_by-far.result (λ some. refused_fold c.args.setting before texts
     (map g.R.Source.remaining c.read_all-read.new.sources) (map g.R.Source.has_ended c.read_all-read.new.sources) fit first was c.fold_by-far.result
     old c.read_all-read.new.folder none (c.new-folder.ensures.same ∙ is) c.read_all-read.result some (c.read_all-read.ensures.ok texts all)
     (c.read_all-read.ensures.err texts all) (c.read_all-read.ensures.kept texts all))
+    c.fold_by-far.ensures.some
 
 pub returns-in-Some-clause-err : goal.returns-in-Some-clause-err
 returns-in-Some-clause-err g c =
@@ -52,10 +54,11 @@ returns-in-Some-clause-memory g c =
     let old = c.new-folder.result in
     let is = c.replace-analyst.ensures.value in
     let none = subst (λ (a : Option State). Folds a old.analyst old.unfit old.segments []) is c.new-folder.ensures.none in
-    λ before texts was all fit. on_err c.fold_by-far.result c.fold_by-far.ensures.some (λ some. refused_fold c.args.setting before texts
+    λ before texts was all fit. on_err_weaker c.fold_by-far.result (λ some. refused_fold c.args.setting before texts
     (map g.R.Source.remaining c.read_all-read.new.sources) (map g.R.Source.has_ended c.read_all-read.new.sources) fit first was c.fold_by-far.result
     old c.read_all-read.new.folder none (c.new-folder.ensures.same ∙ is) c.read_all-read.result some (c.read_all-read.ensures.ok texts all)
     (c.read_all-read.ensures.err texts all) (c.read_all-read.ensures.kept texts all))
+    c.fold_by-far.ensures.some
 
 pub returns-clause-ok : goal.returns-clause-ok
 returns-clause-ok g c =
@@ -77,7 +80,8 @@ returns-clause-memory g c =
     let old = c.new-folder.result in
     let is = c.replace-analyst.ensures.value in
     let none = subst (λ (a : Option State). Folds a old.analyst old.unfit old.segments []) is c.new-folder.ensures.none in
-    λ before texts was all fit. on_err c.fold_by-far.result c.fold_by-far.ensures.some (λ some. refused_fold c.args.setting before texts
+    λ before texts was all fit. on_err_weaker c.fold_by-far.result (λ some. refused_fold c.args.setting before texts
     (map g.R.Source.remaining c.read_all-read.new.sources) (map g.R.Source.has_ended c.read_all-read.new.sources) fit first was c.fold_by-far.result
     old c.read_all-read.new.folder none (c.new-folder.ensures.same ∙ is) c.read_all-read.result some (c.read_all-read.ensures.ok texts all)
     (c.read_all-read.ensures.err texts all) (c.read_all-read.ensures.kept texts all))
+    c.fold_by-far.ensures.some

@@ -1,6 +1,7 @@
 -- The rows of the summary are those of all events up to the moment.
 use Rattle.htl_segment.specs.Traces.{all_events}
-use Rattle.htl_main.proofs.UntilLaws.{few_counted, own_counted}
+use Rattle.htl_case.proofs.Counted.{own_until}
+use Rattle.htl_main.proofs.UntilLaws.{few_counted}
 use Rattle.htl_main.proofs.summarizing.summary.Goals as goal
 
 pub summary_of_lists-requires : goal.summary_of_lists-requires
@@ -18,7 +19,7 @@ pub returns : goal.returns
 returns g c =
     let until = c.args.until in
     let events = all_events c.args.case.now.segments in
-    let own = own_counted until events c.in_ok-lists.ensures.is_case.trace.sequences in
+    let own = own_until until events c.in_ok-lists.ensures.is_case.trace.sequences in
     let of = rw (c.deref.ensures.value, c.in_ok-lists.ensures.value) at c.in_ok-objects.ensures in
     let counted = rw (c.deref-2.ensures.value, c.in_ok-lists.ensures.value) at c.event_count.ensures in
     record {

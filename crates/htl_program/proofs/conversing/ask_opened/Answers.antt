@@ -2,13 +2,13 @@
 use Rattle.std.proofs.Common.{◌≡◌, drop, length, rules, Some}
 use Rattle.std.proofs.lemmas.Result.{err_from_is_err_and}
 use Rattle.std.specs.Option.{option_copied}
+use Rattle.htl_lemmas.proofs.Lists.{take_front}
 use Rattle.htl_main.proofs.ReadingLaws.{ends_too, read_then, well}
 use Rattle.htl_dialogue.proofs.Simulated.{converses_too, stops_too}
 use Rattle.htl_program.specs.Asking.{Opening, answers_over}
 use Rattle.htl_program.specs.Loads.{answers_from, is_state}
 use Rattle.htl_program.specs.Opened.{known, ways}
 use Rattle.htl_program.proofs.Begun.{converses_begun, ended_by, stops_begun}
-use Rattle.htl_program.proofs.Lent.{take_front}
 use Rattle.htl_program.proofs.KeptLaws.{Holds, holds_subject, holds_text, reading_more}
 use Rattle.htl_program.proofs.conversing.ask_opened.Goals as goal
 

@@ -1,7 +1,9 @@
 -- An answer over what was picked is that of the run, and so is a fault.
 use Rattle.std.proofs.Common.{◌≡◌, ◌∙◌, Err, ap, drop, [], false, length, refl, rules, sym}
-use Rattle.htl_program.proofs.Lent.{no_fault, same_fault, take_front}
-use Rattle.htl_program.proofs.SourcesRead.{as_answered, as_refused, picks_bytes}
+use Rattle.htl_lemmas.proofs.Lists.{take_front}
+use Rattle.htl_main.proofs.AfterPicking.{bytes_of}
+use Rattle.htl_program.proofs.Lent.{no_fault, same_fault}
+use Rattle.htl_program.proofs.SourcesRead.{as_answered, as_refused}
 use Rattle.htl_program.proofs.running.pick_opened.Goals as goal
 
 pub returns-in-Some-clause-ended : goal.returns-in-Some-clause-ended
@@ -15,7 +17,7 @@ returns-in-Some-clause-ended g c =
         between = rw (same) (c.in-Some.ensures.some c.args.job.now.setting.form texts).1;
         written = λ is. c.in-Err.ensures.write texts all (ap Err (sym same ∙ is));
       };
-      reading = rw (same, picks_bytes _ _ _ c.requires.about) (as_refused false _ _ _ _ _ _ _ c.in-Err.ensures.reading);
+      reading = rw (same, bytes_of _ _ _ c.requires.about) (as_refused false _ _ _ _ _ _ _ c.in-Err.ensures.reading);
       untouched = rw (same) c.in-Err.ensures.untouched;
       failed = λ is. c.in-Err.ensures.failed (ap Err (sym same ∙ same_fault _ _ _ refl is));
       fine = tt;
@@ -30,7 +32,7 @@ returns-in-Ok-Some-clause-ended g c =
         rw c.in-Ok-Some.field-0-is at (c.in-Ok-Some.ensures.ok texts all),
         rw c.in-Ok-Some.field-0-is at (c.in-Ok-Some.ensures.reports texts all),
       );
-      reading = rw (picks_bytes _ _ _ c.requires.about)
+      reading = rw (bytes_of _ _ _ c.requires.about)
           (as_answered false _ _ _ _ _ _ _ _ c.in-Ok-Some.ensures.reading);
       untouched = tt;
       failed = λ is. absurd (no_fault _ _ is);

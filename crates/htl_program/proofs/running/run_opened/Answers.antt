@@ -1,7 +1,7 @@
 -- The clauses of the run are what is said of inputs that were opened.
 use Rattle.std.proofs.Common.{◌≡◌, drop, length, map, rules}
 use Rattle.std.specs.Option.{option_copied}
-use Rattle.htl_program.proofs.Lent.{take_front}
+use Rattle.htl_lemmas.proofs.Lists.{take_front}
 use Rattle.htl_program.proofs.RunEnds.{run_ends}
 use Rattle.htl_program.proofs.running.run_opened.Goals as goal
 

@@ -1,9 +1,10 @@
 -- The runs may be folded, and what the workers made of the parts is further.
 use Rattle.std.proofs.Common.{rules, ◌≡◌, ◌<◌, ℕ, List, ◌++◌, length, take, drop, ap, sym, ◌∙◌, subst, arith}
+use Rattle.htl_lemmas.proofs.Lists.{take_front}
 use Rattle.htl_taken.specs.Numbers.{numbers_at}
 use Rattle.htl_analyst.specs.States.{State, state, Part, part_at}
 use Rattle.htl_analyst.specs.StepParts.{CanFold, IsWorked, IsFurther, run_at, moved}
-use Rattle.htl_analyst.proofs.Workers.{can_fold, take_front, IsFurther-made, IsState-further}
+use Rattle.htl_analyst.proofs.Workers.{can_fold, IsFurther-made, IsState-further}
 use Rattle.htl_analyst.proofs.compacting.Analyst+Global.fold_by.Goals as goal
 
 abbrev before : (g : _) (c : goal.After-move_fronts g) → State

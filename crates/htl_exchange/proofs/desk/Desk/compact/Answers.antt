@@ -1,6 +1,6 @@
 -- Folding changes no key of the desk.
-use Rattle.htl_case.proofs.Played.{on_ok}
 use Rattle.std.proofs.Common.{sym, subst}
+use Rattle.std.proofs.lemmas.Result.{on_ok_weaker}
 use Rattle.htl_exchange.specs.Moves.{known_of}
 use Rattle.htl_exchange.proofs.Following.{compacts}
 use Rattle.htl_analyst.specs.Keys.{HasTaken}
@@ -24,8 +24,8 @@ returns-clause-follows c =
 
 pub returns-clause-standing : goal.returns-clause-standing
 returns-clause-standing c =
-    on_ok c.compact.result _ _ c.compact.ensures.standing
-    (λ standing. standing (known_of c.self.inside.pass).trace c.self.invariant.2.right)
+    on_ok_weaker c.compact.result (λ standing. standing (known_of c.self.inside.pass).trace c.self.invariant.2.right)
+    c.compact.ensures.standing
 
 pub returns-clause-grows : goal.returns-clause-grows
 returns-clause-grows c = λ p n h.

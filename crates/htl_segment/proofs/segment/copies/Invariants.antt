@@ -1,6 +1,6 @@
 -- The copies so far are the segments so far.
 use Rattle.std.proofs.Common.{◌≡◌, take}
-use Rattle.htl_main.proofs.casing.copies.Given as goal
+use Rattle.htl_segment.proofs.segment.copies.Given as goal
 
 abbrev pub invariant-loop-segment : goal.invariant-loop-segment
-invariant-loop-segment l = l.copies.items ≡ take l.segment-index l.segments
+invariant-loop-segment g l = l.copies.items ≡ take l.segment-index l.segments

@@ -16,7 +16,7 @@ ghost use Rattle.htl_command.specs.declared.names.CommandName.TheVariants as com
 ghost use Rattle.htl_command.specs.declared.names.CommandOption.TheVariants as option;
 
 use crate::builder::{Place, program};
-use crate::fault::{ParseFault, no_command, of_clap, of_code, of_entries};
+use crate::fault::{ParseFault, from_clap, no_command, refused_entries, unknown_code};
 use crate::names::{CommandFlag, CommandName, QuestionName};
 use crate::printed::PrintedFault;
 use crate::question::{Format, InputForm, Job, Question, Setting};
@@ -157,7 +157,7 @@ pub(crate) fn matches<'a>(
 {
     match program(alloc, place)?.try_get_matches_from(arguments) {
         Ok(matches) => Ok(matches),
-        Err(error) => Err(of_clap(alloc, &error, tip(arguments, place))),
+        Err(error) => Err(from_clap(alloc, &error, tip(arguments, place))),
     }
 }
 
@@ -264,7 +264,7 @@ fn read_command(
         }
         CommandName::Explain => match printed_fault(entries) {
             Ok(fault) => Ok(Command::Explain(fault)),
-            Err(given) => Err(of_code(alloc, given)),
+            Err(given) => Err(unknown_code(alloc, given)),
         },
         CommandName::Dump => Ok(read_dump(alloc, entries)?),
         CommandName::Encode => Ok(read_encode(alloc, entries)?),
@@ -283,7 +283,7 @@ fn read_question(alloc: Global, name: QuestionName, entries: &ArgMatches) -> Res
 {
     match job(name, entries) {
         Ok(job) => Ok(with_files(alloc, job, entries)?),
-        Err(refused) => Err(of_entries(alloc, "hleak ", CommandName::Question(name), refused)),
+        Err(refused) => Err(refused_entries(alloc, "hleak ", CommandName::Question(name), refused)),
     }
 }
 
@@ -296,7 +296,7 @@ fn read_dialogue(alloc: Global, entries: &ArgMatches) -> Result<Dialogue, ParseF
         Ok(setting) => Ok(with_inputs(alloc, setting, entries)?),
         Err(refused) => {
             let why = NoJob::Value(refused);
-            Err(of_entries(alloc, "hleak ", CommandName::Ask, why))
+            Err(refused_entries(alloc, "hleak ", CommandName::Ask, why))
         }
     }
 }

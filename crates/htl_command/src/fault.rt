@@ -57,21 +57,21 @@ For more information, try 'hleak encode --help'.";
     pub fn open_quote(alloc: Global) -> ParseFault
         ensures { IsUsageWith ⊤ result }
     {
-        of_line(alloc, "a quote is not ended")
+        wrong_line(alloc, "a quote is not ended")
     }
 
     /// The fault of a line that is too long.
     pub fn long_line(alloc: Global) -> ParseFault
         ensures { IsUsageWith ⊤ result }
     {
-        of_line(alloc, "a line has at most 65536 bytes")
+        wrong_line(alloc, "a line has at most 65536 bytes")
     }
 
     /// The fault of a line that is to read files and names none, or has an option.
     pub fn no_files(alloc: Global) -> ParseFault
         ensures { IsUsageWith ⊤ result }
     {
-        of_line(alloc, "'read' takes files, and no option")
+        wrong_line(alloc, "'read' takes files, and no option")
     }
 
     /// The fault of a question that needs the events where these are forgotten.
@@ -79,7 +79,7 @@ For more information, try 'hleak encode --help'.";
         ensures { IsUsageWith ⊤ result }
     {
         let why = "'--fold' keeps no events, which 'trace', 'growth' and '--until' need";
-        of_line(alloc, why)
+        wrong_line(alloc, why)
     }
 
     /// The exit status of the program: 0 for help, 2 for arguments that are no command line, 6 for
@@ -108,7 +108,7 @@ impl From<AllocError> for ParseFault {
 
 /// The fault that `clap` reports, in its own words. Where there is a tip, it stands in a mistake in
 /// the place of `clap`'s own tip to pass a word as a file.
-pub(crate) fn of_clap(alloc: Global, error: &clap::Error, tip: Option<&str>) -> ParseFault
+pub(crate) fn from_clap(alloc: Global, error: &clap::Error, tip: Option<&str>) -> ParseFault
     ensures { Reports (kind_of error.now) result }
 {
     if matches!(error.kind(), ErrorKind::OutOfMemory) {
@@ -116,13 +116,13 @@ pub(crate) fn of_clap(alloc: Global, error: &clap::Error, tip: Option<&str>) -> 
     }
     match error.to_string(alloc) {
         Err(_) => ParseFault::Memory,
-        Ok(text) if error.use_stderr() => of_mistake(alloc, why_of(&text), tip),
+        Ok(text) if error.use_stderr() => mistake(alloc, why_of(&text), tip),
         Ok(text) => ParseFault::Help(text),
     }
 }
 
 /// The fault of a mistake, without a tip that would lead to another one.
-fn of_mistake(alloc: Global, why: &str, tip: Option<&str>) -> ParseFault
+fn mistake(alloc: Global, why: &str, tip: Option<&str>) -> ParseFault
     ensures { IsUsageWith ⊤ result }
 {
     let (before, after) = around_tip(why, tip.is_some());
@@ -163,7 +163,7 @@ fn is_fold_tip(before: &str, tip: &str) -> bool {
 
 /// The fault of entries that are no job, in the form of `clap`'s texts. The program's name is empty
 /// in a dialogue.
-pub(crate) fn of_entries(
+pub(crate) fn refused_entries(
     alloc: Global,
     program: &str,
     name: CommandName,
@@ -182,7 +182,7 @@ pub(crate) fn of_entries(
 }
 
 /// The fault of a text that is no code.
-pub(crate) fn of_code(alloc: Global, given: &str) -> ParseFault
+pub(crate) fn unknown_code(alloc: Global, given: &str) -> ParseFault
     ensures { IsUsageWith ⊤ result }
 {
     let why = format!(in alloc;
@@ -212,11 +212,11 @@ a line is a question with its own options
 
   tip: files, --symbols, --workers, --fold, --complete, --hex, --partial and
   --notes stand after 'hleak ask'";
-    of_line(alloc, why)
+    wrong_line(alloc, why)
 }
 
 /// The fault of a line of a dialogue.
-fn of_line(alloc: Global, why: &str) -> ParseFault
+fn wrong_line(alloc: Global, why: &str) -> ParseFault
     ensures { IsUsageWith ⊤ result }
 {
     usage(

@@ -8,7 +8,7 @@ ghost use Rattle.htl_command.specs.declared.names.CommandName.TheVariants as com
 
 use crate::builder::Place;
 use crate::command::matches;
-use crate::fault::{ParseFault, no_command, no_question, of_entries};
+use crate::fault::{ParseFault, no_command, no_question, refused_entries};
 use crate::names::{CommandName, QuestionName};
 use crate::question::Job;
 use crate::reading::{is_of_run, job};
@@ -58,7 +58,7 @@ fn read_entries(
         Ok(job) => Ok(job),
         Err(refused) => {
             let name = CommandName::Question(question);
-            Err(of_entries(alloc, "", name, refused))
+            Err(refused_entries(alloc, "", name, refused))
         }
     }
 }

@@ -18,4 +18,4 @@ returns-in-Err-clause-err c =
     let arguments = map string_bytes c.args.arguments.now in
     let app = app_of c.in_ok-program.field-0 in
     let same = c.in_ok-program.ensures.app in
-    refused-arguments app arguments c.in-Err.error c.of_clap.result same c.in-Err.ensures.kinds c.of_clap.ensures
+    refused-arguments app arguments c.in-Err.error c.from_clap.result same c.in-Err.ensures.kinds c.from_clap.ensures

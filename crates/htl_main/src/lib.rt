@@ -9,21 +9,22 @@
 //! `run_from` loads its sources, answers and writes. Where many questions come, a caller does the
 //! same: `load` reads the sources once, and `answer_text` answers each question.
 //!
-//! Files, in reading order: `streaming.rt` (the run over sources), `loading.rt` (what is loaded before
-//! a question is answered), `printing.rt` (the run over bytes in memory, and the steps of all runs),
-//! `adding.rt` (more sources, added to what was loaded), `sources.rt` and `inputs.rt` (the segments of
-//! sources and of inputs in memory), `decoded.rt` (which input each segment is of), `casing.rt` and
-//! `pairing.rt` (the case of all segments, or the two that a fault is about), `origin.rt` (where these
-//! two came from), `coverage.rt` (what a case misses of its trace), `cut_inputs.rt` (which inputs end
-//! within a segment), `answering.rt` (the answer over a case), `unfolded.rt` (segments as they are,
-//! over which a run answers), `summarizing.rt` (the summary of a case), `completed.rt` (what a run
-//! reports beside its answer), `picked_run.rt`, `picking.rt` and `picked.rt` (the run that keeps only
-//! what its question asks about), `folding.rt` (sources that are read and forgotten), `folder.rt` (how
-//! their segments are taken and folded), `folded_answers.rt` (answers over what was folded),
-//! `dumping.rt` and `encoding.rt` (the runs of `dump` and `encode`), `fault.rt` (the faults, their
-//! lines and statuses), `refused.rt` (a fault and the two segments it is about), `laws.rt` (a run has
-//! one outcome, inputs have one coverage, runs and analysts give the same answers and summaries, and
-//! there are analysts of every history).
+//! Files, in reading order: `streaming.rt` (the run over sources), `loading.rt` (what is loaded
+//! before a question is answered), `printing.rt` (the run over bytes in memory, and the steps of
+//! all runs), `adding.rt` (more sources, added to what was loaded), `sources.rt` and `inputs.rt`
+//! (the segments of sources and of inputs in memory), `decoded.rt` (which input each segment is
+//! of), `casing.rt` and `pairing.rt` (the case of all segments, or the two that a fault is about),
+//! `origin.rt` (where these two came from), `coverage.rt` (what a case misses of its trace),
+//! `cut_inputs.rt` (which inputs end within a segment), `answering.rt` (the answer over a case),
+//! `unfolded.rt` (segments as they are, over which a run answers), `summarizing.rt` (the summary of
+//! a case), `completed.rt` (what a run reports beside its answer), `picked_run.rt`, `picking.rt`
+//! and `picked.rt` (the run that keeps only what its question asks about), `folding.rt` and
+//! `taking.rt` (sources that are read and forgotten), `folder.rt` (how their segments are taken and
+//! folded), `folded_answers.rt` (answers over what was folded), `dumping.rt` and `encoding.rt` (the
+//! runs of `dump` and `encode`), `fault.rt` (the faults, their lines and statuses), `refused.rt` (a
+//! fault and the two segments it is about), `laws.rt` (a run has one outcome, inputs have one
+//! coverage, runs and analysts give the same answers and summaries, and there are analysts of every
+//! history).
 //!
 //! `specs/` is read in this order: `Inputs` (which segments the inputs encode, and which input is
 //! refused first), `CutInputs` (which of them end within a segment), `Summaries` (what a summary says
@@ -64,6 +65,7 @@ mod refused;
 mod sources;
 mod streaming;
 mod summarizing;
+mod taking;
 mod unfolded;
 
 pub use adding::{Added, add};

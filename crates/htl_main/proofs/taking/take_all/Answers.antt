@@ -5,7 +5,7 @@ use Rattle.htl_analyst.specs.States.{State}
 use Rattle.htl_case.specs.declared.fault.CaseFault.{CaseFault}
 use Rattle.htl_main.specs.Folders.{Folds}
 use Rattle.htl_main.proofs.FoldInputs.{all_taken, refused_fold, refused_read, refused_unfit, since}
-use Rattle.htl_main.proofs.folding.take_all.Goals as goal
+use Rattle.htl_main.proofs.taking.take_all.Goals as goal
 
 pub returns-in-Err-clause-err : goal.returns-in-Err-clause-err
 returns-in-Err-clause-err g c =

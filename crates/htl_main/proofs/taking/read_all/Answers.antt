@@ -9,7 +9,7 @@ use Rattle.htl_main.proofs.FoldInputs.{TookInput, TookOwn, given_before, took_bo
 use Rattle.htl_main.proofs.InputLaws.{decode_next}
 use Rattle.htl_main.proofs.ReadingLaws.{all_read, none_before, one_before, read_to}
 use Rattle.htl_main.proofs.SourceLaws.{at_known, knows_now, reported_at, value_there}
-use Rattle.htl_main.proofs.folding.read_all.Goals as goal
+use Rattle.htl_main.proofs.taking.read_all.Goals as goal
 
 pub loop-place-init : goal.loop-place-init
 loop-place-init g c = record {

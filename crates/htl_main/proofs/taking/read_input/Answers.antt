@@ -2,7 +2,7 @@
 use Rattle.htl_main.specs.Folders.{folds_of}
 use Rattle.htl_main.proofs.FoldInputs.{fault_kept, known_kept, known_ok, source_err, source_kept, source_ok, unread_kept}
 use Rattle.htl_main.proofs.OneSource.{accepted_read, decoded_ill, reported_bytes_of}
-use Rattle.htl_main.proofs.folding.read_input.Goals as goal
+use Rattle.htl_main.proofs.taking.read_input.Goals as goal
 
 pub returns-in-Ok-clause-ok : goal.returns-in-Ok-clause-ok
 returns-in-Ok-clause-ok g c =

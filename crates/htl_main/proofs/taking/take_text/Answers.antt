@@ -2,7 +2,7 @@
 use Rattle.std.proofs.Common.{None}
 use Rattle.htl_main.specs.Folders.{folds_of}
 use Rattle.htl_main.proofs.FoldInputs.{digits_kept}
-use Rattle.htl_main.proofs.folding.take_text.Goals as goal
+use Rattle.htl_main.proofs.taking.take_text.Goals as goal
 
 pub returns-in-Err-clause-kept : goal.returns-in-Err-clause-kept
 returns-in-Err-clause-kept c =

@@ -7,7 +7,7 @@ use Rattle.htl_main.specs.Ends.{OthersFit}
 use Rattle.htl_main.specs.Inputs.{DecodeAll}
 use Rattle.htl_main.specs.Folders.{folds_of}
 use Rattle.htl_main.proofs.ReadingLaws.{ReadBefore}
-use Rattle.htl_main.proofs.folding.read_all.Given as goal
+use Rattle.htl_main.proofs.taking.read_all.Given as goal
 
 abbrev pub invariant-loop-place : goal.invariant-loop-place
 invariant-loop-place g l = record {

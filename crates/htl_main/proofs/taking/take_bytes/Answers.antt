@@ -5,7 +5,7 @@ use Rattle.htl_main.proofs.EndLaws.{refused_input}
 use Rattle.htl_main.specs.Folders.{folds_of}
 use Rattle.htl_main.proofs.FoldInputs.{kept_before, text_kept, text_ok}
 use Rattle.htl_main.proofs.InputLaws.{refused_bytes}
-use Rattle.htl_main.proofs.folding.take_bytes.Goals as goal
+use Rattle.htl_main.proofs.taking.take_bytes.Goals as goal
 
 pub returns-clause-ok : goal.returns-clause-ok
 returns-clause-ok c = λ input has.

@@ -1,0 +1,237 @@
+//! Takes the segments of sources into a folder, up to the first fault.
+
+ghost use Rattle.std.specs.Prelude.{◌≡◌, ◌≢◌, [], ℕ, List, All, Some, None, false, true, map};
+ghost use Rattle.std.specs.Prelude.{IfErr, IfOk, IfSome, OnErr, OnOk};
+ghost use Rattle.htl_segment.specs.Content.{Content};
+ghost use Rattle.htl_device.specs.declared.whole.TheConstants.{MAX_READS};
+ghost use Rattle.htl_segment.specs.Keepers.{Took};
+ghost use Rattle.htl_main.specs.CutInputs.{AreCut};
+ghost use Rattle.htl_main.specs.Ends.{IsInput};
+ghost use Rattle.htl_main.specs.Folders.{AreAllTaken, GaveOwn, IsOfInput, folds_of};
+ghost use Rattle.htl_main.specs.Folding.{AreFolded, AreGiven, AsksFoldsMemory};
+ghost use Rattle.htl_main.specs.Folding.{IsFoldingRefused, IsHalfKnown};
+ghost use Rattle.htl_main.specs.Inputs.{DecodeAll, HasBytes, IsReportedOfInput, StopsAtInput};
+ghost use Rattle.htl_main.specs.Faults.{of_case};
+ghost use Rattle.htl_main.specs.Origins.{by_fault};
+ghost use Rattle.htl_main.specs.Printed.{WorkersFit};
+ghost use Rattle.htl_main.specs.Readings.{AreRead};
+ghost use Rattle.htl_main.specs.Reads.{IsRead, NamesOnly, NeverRead, NeverWrite};
+ghost use Rattle.htl_main.specs.Sources.{IsReportedAt, IsReportedOfSource};
+
+use crate::casing::unknown;
+use crate::cut_inputs::{CutInputs, check_end, with_input};
+use crate::fault::RunFault;
+use crate::folder::Folder;
+use crate::folding::Folded;
+use crate::refused::Refused;
+use htl_case::CaseFault;
+use htl_command::{InputForm, Setting};
+use htl_device::{Parted, read_whole};
+use htl_event::NoMemory;
+use htl_reading::{early_end, take_source};
+use htl_segment::{from_hex, split};
+use std::alloc::Global;
+use std::mem;
+use std::thread::Threads;
+
+/// What was taken from all sources.
+#[derive(Clone, Copy)]
+pub(crate) struct Taken {
+    /// How many segments they have, up to the greatest number.
+    pub segments: u64,
+    /// Which of them end within another segment.
+    pub cut: Option<CutInputs>,
+}
+
+/// Takes the segments of all sources, and then folds all that can be folded, even after a fault.
+/// Returns what was taken or why the reading ended, and whether memory was refused for that fold.
+pub(crate) fn take_all<Rt: Threads + Sync, R: Parted>(
+    rt: &Rt,
+    alloc: Global,
+    setting: Setting,
+    folded: &mut Folded,
+    inputs: &mut [R],
+) -> (Result<Taken, Refused>, Result<(), NoMemory>)
+    requires fresh { All (λ source. R.has_failed source ≡ false) inputs.old }
+    requires inside { All (λ source. R.has_ended source ≡ false) inputs.old }
+    ensures ok { (before : List Content) (texts : List (List ℕ))
+        → AreFolded folded.old.analyst before → map R.remaining inputs.old ≡ map Some texts
+        → OnOk result.1 (IfOk result.0 (λ taken. AreAllTaken setting.form before texts
+        folded.old.analyst folded.new.analyst taken.segments taken.cut)) }
+    ensures err { (before : List Content) (texts : List (List ℕ))
+        → AreFolded folded.old.analyst before → map R.remaining inputs.old ≡ map Some texts
+        → WorkersFit setting.workers
+        → IfErr result.0 (λ refused. IsFoldingRefused setting before texts
+        (map R.remaining inputs.new) (map R.has_ended inputs.new)
+        (λ taken. OnOk result.1 (AreFolded folded.new.analyst taken)) refused.fault) }
+    ensures memory { (before : List Content) (texts : List (List ℕ))
+        → AreFolded folded.old.analyst before → map R.remaining inputs.old ≡ map Some texts
+        → WorkersFit setting.workers
+        → OnErr result.1 (AsksFoldsMemory setting before texts
+        (map R.remaining inputs.new) (map R.has_ended inputs.new)) }
+    ensures between { IfErr result.0 (λ refused. IsHalfKnown refused.fault refused.between) }
+    ensures symbols { folded.new.symbols ≡ folded.old.symbols }
+    ensures reading { AreRead setting.form.hex R.has_failed R.has_ended R.good_reads
+        R.remaining inputs.old inputs.new (by_fault result.0) }
+    ensures no_write { NeverWrite (by_fault result.0) }
+{
+    let analyst = mem::replace(&mut folded.analyst, None);
+    let mut folder = Folder::new(alloc, analyst);
+    let read = read_all(rt, alloc, setting, inputs, &mut folder);
+    let far = folder.fold_by(rt, setting.workers);
+    folded.analyst = folder.analyst;
+    let cut = match read {
+        Ok(cut) => cut,
+        Err(fault) => return (Err(Refused::from(fault)), far),
+    };
+    if let Some(fault) = folder.unfit {
+        return (Err(half_known(fault)), far);
+    }
+    let taken = Taken {
+        segments: folder.segments,
+        cut,
+    };
+    (Ok(taken), far)
+}
+
+/// Has a folder take the segments of all sources. The first source that can't be read to its end ends
+/// the reading.
+fn read_all<Rt: Threads + Sync, R: Parted>(
+    rt: &Rt,
+    alloc: Global,
+    setting: Setting,
+    sources: &mut [R],
+    folder: &mut Folder,
+) -> Result<Option<CutInputs>, RunFault>
+    requires fresh { All (λ source. R.has_failed source ≡ false) sources.old }
+    requires inside { All (λ source. R.has_ended source ≡ false) sources.old }
+    ensures ok { (inputs : List (List ℕ)) → map R.remaining sources.old ≡ map Some inputs
+        → OnOk result ((given : List Content) × DecodeAll setting.form inputs given
+        × Took folds_of folder.old folder.new given) }
+    ensures cut { (inputs : List (List ℕ)) → map R.remaining sources.old ≡ map Some inputs
+        → IfOk result (AreCut setting.form.hex inputs) }
+    ensures err { (inputs : List (List ℕ)) → map R.remaining sources.old ≡ map Some inputs
+        → IfErr result (StopsAtInput setting.form (IsReportedAt setting.form
+        (map R.remaining sources.new) (map R.has_ended sources.new)) inputs) }
+    ensures kept { (inputs : List (List ℕ)) → map R.remaining sources.old ≡ map Some inputs
+        → IfErr result (λ fault. fault ≢ RunFault.Memory → (given : List Content)
+        × AreGiven setting.form inputs (map R.remaining sources.new) fault given
+        × Took folds_of folder.old folder.new given) }
+    ensures of_input { IfErr result IsOfInput }
+    ensures reading { AreRead setting.form.hex R.has_failed R.has_ended R.good_reads R.remaining
+        sources.old sources.new result }
+{
+    let mut cut = None;
+    for (place, source) in sources.iter_mut().enumerate() {
+        let is_cut = read_input(rt, alloc, setting, place as u64, source, folder)?;
+        cut = with_input(cut, place as u64, is_cut);
+    }
+    Ok(cut)
+}
+
+/// Has a folder take the segments of the source at a place, and says whether the source ends within
+/// another segment. What the folder holds is folded between reads.
+fn read_input<Rt: Threads + Sync, R: Parted>(
+    rt: &Rt,
+    alloc: Global,
+    setting: Setting,
+    place: u64,
+    source: &mut R,
+    folder: &mut Folder,
+) -> Result<bool, RunFault>
+    requires fresh { R.has_failed source.old ≡ false }
+    requires inside { R.has_ended source.old ≡ false }
+    ensures ok { IfOk result (λ is_cut. IfSome (R.remaining source.old) (λ text.
+        (given : List Content) × IsInput setting.form text given is_cut
+        × Took folds_of folder.old folder.new given)) }
+    ensures err { IfErr result (λ fault. IfSome (R.remaining source.old) (λ text.
+        IsReportedOfSource setting.form (R.remaining source.new) (R.has_ended source.new)
+        place text fault)) }
+    ensures kept { IfErr result (λ fault. IfSome (R.remaining source.old) (λ text.
+        fault ≢ RunFault.Memory → (given : List Content)
+        × GaveOwn setting.form (R.remaining source.new) text fault given
+        × Took folds_of folder.old folder.new given)) }
+    ensures of_input { IfErr result IsOfInput }
+    ensures reading { IsRead setting.form.hex MAX_READS R.has_failed R.has_ended R.good_reads R.remaining
+        place source.old source.new result }
+{
+    if setting.form.hex {
+        return match read_whole(alloc, source) {
+            Ok(text) => take_text(alloc, setting.form, place, &text, folder),
+            Err(fault) => Err(RunFault::from_read(place, fault)),
+        };
+    }
+    let fold = |folder: &mut Folder| -> Result<(), NoMemory>
+        ensures { OnOk result (Took folds_of folder.old folder.new []) }
+    { folder.fold_if_full(rt, setting.workers) };
+    match take_source(rt, alloc, setting.workers, source, folder, &fold) {
+        Ok(end) => check_end(setting.form, place, end),
+        Err(fault) => Err(RunFault::from_source(place, fault)),
+    }
+}
+
+/// Has a folder take the segments of a text in hexadecimal.
+fn take_text(
+    alloc: Global,
+    form: InputForm,
+    place: u64,
+    text: &[u8],
+    folder: &mut Folder,
+) -> Result<bool, RunFault>
+    requires { form.hex ≡ true }
+    ensures ok { IfOk result (λ is_cut. (given : List Content) × IsInput form text.now given is_cut
+        × Took folds_of folder.old folder.new given) }
+    ensures err { IfErr result (IsReportedOfInput form place text.now) }
+    ensures kept { IfErr result (λ fault. fault ≢ RunFault.Memory → (given : List Content)
+        × GaveOwn form None text.now fault given
+        × Took folds_of folder.old folder.new given) }
+    ensures no_read { NeverRead result }
+    ensures named { NamesOnly place result }
+    ensures of_input { IfErr result IsOfInput }
+{
+    match from_hex(alloc, text) {
+        Ok(bytes) => take_bytes(alloc, form, place, &bytes, folder),
+        Err(fault) => Err(RunFault::from_hex(place, fault)),
+    }
+}
+
+/// Has a folder take the segments that the bytes of the input at a place encode.
+fn take_bytes(
+    alloc: Global,
+    form: InputForm,
+    place: u64,
+    bytes: &[u8],
+    folder: &mut Folder,
+) -> Result<bool, RunFault>
+    ensures ok { (input : List ℕ) → HasBytes form.hex input bytes.now
+        → IfOk result (λ is_cut. (given : List Content) × IsInput form input given is_cut
+        × Took folds_of folder.old folder.new given) }
+    ensures err { (input : List ℕ) → HasBytes form.hex input bytes.now
+        → IfErr result (IsReportedOfInput form place input) }
+    ensures kept { (input : List ℕ) → HasBytes form.hex input bytes.now
+        → IfErr result (λ fault. fault ≢ RunFault.Memory → (given : List Content)
+        × GaveOwn form None input fault given
+        × Took folds_of folder.old folder.new given) }
+    ensures no_read { NeverRead result }
+    ensures named { NamesOnly place result }
+    ensures of_input { IfErr result IsOfInput }
+{
+    let rest = match split(alloc, folder, bytes) {
+        Ok(rest) => rest,
+        Err((offset, fault)) => return Err(RunFault::from_segment(place, offset, fault)),
+    };
+    let offset = (bytes.len() - rest.len()) as u64;
+    check_end(form, place, early_end(offset, rest))
+}
+
+/// The fault for an unfit segment. It names neither of the two segments that conflict, since one of
+/// them may be forgotten.
+fn half_known(fault: CaseFault) -> Refused
+    ensures fault { result.fault ≡ of_case fault }
+    ensures between { IsHalfKnown result.fault result.between }
+{
+    Refused {
+        fault: RunFault::from(fault),
+        between: unknown(fault),
+    }
+}

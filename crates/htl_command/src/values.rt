@@ -18,14 +18,14 @@ const MOST_POINTS: u32 = 1000;
 pub(crate) fn process(text: &str) -> Option<u32>
     ensures { result ≡ process_in text.now }
 {
-    let number = decimal(text, u64::from(u32::MAX))?;
+    let number = decimal(text.as_bytes(), u64::from(u32::MAX))?;
     Some(number as u32)
 }
 
 pub(crate) fn sequence(text: &str) -> Option<u64>
     ensures { result ≡ sequence_in text.now }
 {
-    decimal(text, u64::MAX)
+    decimal(text.as_bytes(), u64::MAX)
 }
 
 /// Since when handles count.
@@ -59,13 +59,13 @@ pub(crate) fn moment(text: &str) -> Option<Moment>
 pub(crate) fn object(text: &str) -> Option<u64>
     ensures { result ≡ object_in text.now }
 {
-    hexadecimal(text, u64::MAX)
+    hexadecimal(text.as_bytes(), u64::MAX)
 }
 
 pub(crate) fn handle(text: &str) -> Option<u32>
     ensures { result ≡ handle_in text.now }
 {
-    let number = hexadecimal(text, u64::from(u32::MAX))?;
+    let number = hexadecimal(text.as_bytes(), u64::from(u32::MAX))?;
     Some(number as u32)
 }
 
@@ -79,7 +79,7 @@ pub(crate) fn tag(text: &str) -> Option<[u8; 4]>
         return Some(tag);
     }
     if bytes.len() == 10 && bytes.starts_with(b"0x") {
-        let in_order = hexadecimal(text, u64::from(u32::MAX))?;
+        let in_order = hexadecimal(bytes, u64::from(u32::MAX))?;
         return Some((in_order as u32).to_be_bytes());
     }
     None
@@ -108,6 +108,6 @@ pub(crate) fn points(text: &str) -> Option<u32>
 fn number(text: &str, least: u32, most: u32) -> Option<u32>
     ensures { result ≡ number_in least most text.now }
 {
-    let number = decimal(text, u64::from(most))? as u32;
+    let number = decimal(text.as_bytes(), u64::from(most))? as u32;
     if number < least { None } else { Some(number) }
 }

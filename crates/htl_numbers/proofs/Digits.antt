@@ -1,49 +1,92 @@
--- A text of digits that `from_str_radix` refuses.
-use Rattle.std.proofs.Common.{◌≡◌, ◌<◌, ◌≤◌, ◌^◌, ◌≢◌, ℕ, Bool, true, List, [], ◌∷◌, length, refl, arith, get_or, ltb, leb}
-use Rattle.std.specs.Prelude.{Err, Some, None, ◌&&◌, if◌then◌else◌}
+-- Digits and the number that they write, as they are read one after another; and texts that write none.
+use Rattle.std.proofs.Common.{◌≡◌, ◌≤◌, ◌<◌, ◌+◌, ◌*◌, ℕ, zero, suc, Bool, true, false, List}
+use Rattle.std.proofs.Common.{[], ◌∷◌, length, take, drop, get_or, refl, sym, ap, ◌∙◌, arith}
+use Rattle.std.proofs.Common.{◌++◌, take-append-drop, mul-le-mul, le_refl, le_trans}
+use Rattle.std.specs.Prelude.{Some, None, ◌&&◌, if◌then◌else◌}
 use Rattle.std.specs.List.{list_all}
 use Rattle.std.specs.Char.{digit_value, is_digit}
-use Rattle.std.specs.Str.Parse.{AllDigits, IsNumeral, ParsesUnsigned, digits_value, without_leading_plus}
-use Rattle.std.proofs.lemmas.Str.Parse.{without_leading_plus_none}
-use Rattle.std.proofs.lemmas.Bool.{lt-ltb, ltb-true, and_parts, lt-leb}
+use Rattle.std.specs.Str.Parse.{AllDigits, IsNumeral, digits_value, digits_value_after}
+use Rattle.std.proofs.lemmas.Bool.{le-leb, le-ltb, and_right, lt-leb, lt-ltb}
+use Rattle.std.proofs.lemmas.Int.Digits.{digits_more, digits_value_more}
 use Rattle.htl_numbers.specs.Numbers.{number_of}
 
--- each byte of the text is a digit of the radix
-abbrev pub all_digits : ℕ → List ℕ → Bool
-all_digits radix text = list_all (λ c. is_digit c radix) text
+-- a text of digits that writes a number
+pub record Writes (radix n : ℕ) (ds : List ℕ) : Type 0 where
+  pub numeral : IsNumeral radix ds
+  pub value : digits_value radix ds ≡ n
 
--- the test of each byte as a fact of each
-AllDigits-from_test : (radix : ℕ) (text : List ℕ) → all_digits radix text ≡ true → AllDigits radix text
-AllDigits-from_test radix [] h = tt
-AllDigits-from_test radix (c ∷ cs) h =
-    let parts = and_parts (is_digit c radix) (all_digits radix cs) h in
-    (ltb-true (digit_value c) radix parts.0, AllDigits-from_test radix cs parts.1)
+all_tested : (radix : ℕ) (ds : List ℕ) → AllDigits radix ds → list_all (λ c. is_digit c radix) ds ≡ true
+all_tested radix [] h = refl
+all_tested radix (c ∷ cs) h = rw (lt-ltb (digit_value c) radix h.0, all_tested radix cs h.1) refl
 
--- a plus sign is no digit
-no-plus : (radix : ℕ) (text : List ℕ) → radix ≤ 16 → all_digits radix text ≡ true → get_or text 0 0 ≢ 43
-no-plus radix [] low h e = cc
-no-plus radix (c ∷ cs) low h e =
-    let parts = and_parts (is_digit c radix) (all_digits radix cs) h in
-    let at : c ≡ 43 = e in
-    let past : 36 < radix = rw at at (ltb-true (digit_value c) radix parts.0) in
-    omega arith
-
--- so digits have no sign before them
-no-sign : (radix : ℕ) (text : List ℕ) → radix ≤ 16 → all_digits radix text ≡ true → without_leading_plus text ≡ text
-no-sign radix text low h = without_leading_plus_none text (no-plus radix text low h)
-
--- a text of digits that is refused has no digit or a number above every `most`
-pub number-refused : {E : Type 0} (radix most : ℕ) (e : E) (text : List ℕ) → radix ≤ 16 → most < 2 ^ 64 → all_digits radix text ≡ true
-    → ParsesUnsigned 64 radix text (Err e) → None ≡ number_of radix most text
+pub number_read : (radix most n : ℕ) (ds : List ℕ) → Writes radix n ds → n ≤ most → number_of radix most ds ≡ Some n
 unfolding number_of
-number-refused radix most e text low small h refused =
-    let none = rw (no-sign radix text low h) at refused in
-    rw h (nothing text h none)
-  where
-    nothing : (text : List ℕ) → all_digits radix text ≡ true → ¬ (IsNumeral radix text × (digits_value radix text < 2 ^ 64))
-        → None ≡ (if◌then◌else◌ (ltb 0 (length text) && leb (digits_value radix text) most) (Some (digits_value radix text)) None)
-    nothing [] h none = refl
-    nothing (c ∷ cs) h none =
-        let some : 0 < length (c ∷ cs) = omega arith in
-        let large : ¬ (digits_value radix (c ∷ cs) < 2 ^ 64) = λ less. none ((some, AllDigits-from_test radix (c ∷ cs) h), less) in
-        rw (lt-ltb 0 (length (c ∷ cs)) some, lt-leb (digits_value radix (c ∷ cs)) most (omega arith)) refl
+number_read radix most n ds w low =
+    rw (all_tested radix ds w.numeral.1, lt-ltb 0 (length ds) w.numeral.0, w.value, le-leb n most low) refl
+
+not_all : (radix : ℕ) (text : List ℕ) (i : ℕ) → i < length text → radix ≤ digit_value (get_or text i 0)
+    → list_all (λ c. is_digit c radix) text ≡ false
+not_all radix [] i within other = absurd (omega arith)
+not_all radix (c ∷ cs) zero within other = rw (le-ltb (digit_value c) radix other) refl
+not_all radix (c ∷ cs) (suc i) within other = rw (not_all radix cs i (omega arith) other) (and_right (is_digit c radix) false refl)
+
+-- a byte is no digit
+pub other_byte : (radix most : ℕ) (text : List ℕ) (i : ℕ) → i < length text → radix ≤ digit_value (get_or text i 0)
+    → None ≡ number_of radix most text
+unfolding number_of
+other_byte radix most text i within other = rw (not_all radix text i within other) refl
+
+value_after : (radix n : ℕ) (ds es : List ℕ)
+    → digits_value_after radix n (ds ++ es) ≡ digits_value_after radix (digits_value_after radix n ds) es
+value_after radix n [] es = refl
+value_after radix n (d ∷ ds) es = value_after radix (n * radix + digit_value d) ds es
+
+value_grows : (radix n : ℕ) (es : List ℕ) → 1 ≤ radix → n ≤ digits_value_after radix n es
+value_grows radix n [] one = omega arith
+value_grows radix n (e ∷ es) one =
+    let step : n * 1 ≤ n * radix = mul-le-mul (le_refl n) one in
+    let rest = value_grows radix (n * radix + digit_value e) es one in
+    let d = digit_value e in le_trans (omega (arith, step)) rest
+
+front_value : (radix : ℕ) (text : List ℕ) (i : ℕ) → 1 ≤ radix → digits_value radix (take i text) ≤ digits_value radix text
+front_value radix text i one =
+    let whole = ap (digits_value radix) (sym (take-append-drop i text)) ∙ value_after radix 0 (take i text) (drop i text) in
+    rw whole (value_grows radix (digits_value radix (take i text)) (drop i text) one)
+
+no_number : (a b : Bool) (n : ℕ) → None ≡ (if a && (b && false) then Some n else None)
+no_number a true n = rw (and_right a false refl) refl
+no_number a false n = rw (and_right a false refl) refl
+
+-- the first digits write too great a number
+pub too_great : (radix most : ℕ) (text : List ℕ) (i : ℕ) → 1 ≤ radix → most < digits_value radix (take i text)
+    → None ≡ number_of radix most text
+unfolding number_of
+too_great radix most text i one great =
+    let more = front_value radix text i one in
+    rw (lt-leb (digits_value radix text) most (omega (arith, great, more))) (no_number _ _ _)
+
+-- one digit more
+pub digit_next : (radix : ℕ) (text : List ℕ) (i number digit : ℕ) → i < length text → AllDigits radix (take i text)
+    → number ≡ digits_value radix (take i text) → digit ≡ digit_value (get_or text i 0) → digit < radix
+    → AllDigits radix (take (i + 1) text) × (number * radix + digit ≡ digits_value radix (take (i + 1) text))
+digit_next radix text i number digit within all is value low =
+    (digits_more radix text i within all (rw (← value) low), rw (digits_value_more radix text i within, ← is, ← value) refl)
+
+-- one digit more is too much
+pub overflow : (radix most : ℕ) (text : List ℕ) (i number digit : ℕ) → i < length text → AllDigits radix (take i text)
+    → number ≡ digits_value radix (take i text) → digit ≡ digit_value (get_or text i 0) → digit < radix → 1 ≤ radix
+    → most < number * radix + digit → None ≡ number_of radix most text
+overflow radix most text i number digit within all is value low one great =
+    let next = digit_next radix text i number digit within all is value low in
+    too_great radix most text (i + 1) one (rw (← next.1) great)
+
+-- all are read
+pub all_digits_read : (radix most : ℕ) (text : List ℕ) (number : ℕ) → 0 < length text → AllDigits radix text
+    → number ≡ digits_value radix text → number ≤ most → Some number ≡ number_of radix most text
+all_digits_read radix most text number some all is low =
+    sym (number_read radix most number text (record { numeral = (some, all); value = sym is }) low)
+
+pub no_digits : (radix most : ℕ) (text : List ℕ) → length text ≡ 0 → None ≡ number_of radix most text
+unfolding number_of
+no_digits radix most [] none = refl
+no_digits radix most (c ∷ cs) none = absurd (omega (arith, none))

@@ -1,13 +1,12 @@
-//! Numbers as they stand in a text: the arguments of a command line and the fields of a symbol
-//! table.
+//! Numbers as they stand in a text: the arguments of a command line, the fields of a symbol table
+//! and those of the text form of segments.
 //!
 //! `specs/Numbers` defines the texts that are numbers, and the number of each. They have digits and
-//! nothing else: no sign, no blank and no separator.
+//! nothing else: no sign, no blank and no separator. A text is its bytes.
 #![tactic(auto)]
 
 ghost use Rattle.std.specs.Prelude.{◌≡◌, ◌≤◌, ◌⊎◌, IfSome};
-ghost use Rattle.std.specs.List.{list_all};
-ghost use Rattle.std.specs.Char.{is_digit};
+ghost use Rattle.std.specs.Char.{digit_value};
 ghost use Rattle.htl_numbers.specs.Numbers.{decimal_number, hexadecimal_number};
 ghost use Rattle.htl_numbers.specs.Numbers.{number_of, without_0x};
 
@@ -16,7 +15,7 @@ const MAX_HEX_DIGITS: usize = 16;
 
 /// The number of a text of decimal digits, of any length, if it is at most `most`. There is none for
 /// any other text: one that is empty, or has a sign, a blank, another character or a greater number.
-pub fn decimal(text: &str, most: u64) -> Option<u64>
+pub fn decimal(text: &[u8], most: u64) -> Option<u64>
     ensures value { result ≡ decimal_number most text.now }
     ensures bound { IfSome result (λ n. n ≤ most) }
 {
@@ -27,7 +26,7 @@ pub fn decimal(text: &str, most: u64) -> Option<u64>
 /// them, if it is at most `most`. There is none for any other text: `0x` alone, or one that has `0X`, a
 /// seventeenth digit, a sign, a blank or a greater number.
 #[tactic(auto, unfolding(crate::specs::Numbers::hexadecimal_number))]
-pub fn hexadecimal(text: &str, most: u64) -> Option<u64>
+pub fn hexadecimal(text: &[u8], most: u64) -> Option<u64>
     ensures value { result ≡ hexadecimal_number most text.now }
     ensures bound { IfSome result (λ n. n ≤ most) }
 {
@@ -39,34 +38,44 @@ pub fn hexadecimal(text: &str, most: u64) -> Option<u64>
     }
 }
 
-/// `from_str_radix` takes a `+` before the digits too, so the digits are looked at first.
-#[tactic(auto, unfolding(crate::specs::Numbers::number_of))]
-fn number(text: &str, radix: u32, most: u64) -> Option<u64>
+#[tactic(auto, unfolding(crate::specs::Numbers::without_0x))]
+fn without_prefix(text: &[u8]) -> &[u8]
+    ensures { result.now ≡ without_0x text.entry.now }
+{
+    text.strip_prefix(b"0x").unwrap_or(text)
+}
+
+/// The number of one or more digits of the radix, if it is at most `most`.
+fn number(text: &[u8], radix: u64, most: u64) -> Option<u64>
     requires { (radix ≡ 10) ⊎ (radix ≡ 16) }
     ensures value { result ≡ number_of radix most text.now }
     ensures bound { IfSome result (λ n. n ≤ most) }
 {
-    if !all_digits(text, radix) {
+    if text.is_empty() {
         return None;
     }
-    match u64::from_str_radix(text, radix) {
-        Ok(number) if number <= most => Some(number),
-        _ => None,
+    let mut number: u64 = 0;
+    for byte in text {
+        let digit = digit_value(*byte);
+        if digit >= radix {
+            return None;
+        }
+        number = number.checked_mul(radix)?.checked_add(digit)?;
     }
+    if number <= most { Some(number) } else { None }
 }
 
-fn all_digits(text: &str, radix: u32) -> bool
-    requires { (radix ≡ 10) ⊎ (radix ≡ 16) }
-    ensures { result ≡ list_all (λ c. is_digit c radix) text.now }
+/// The value of a digit or a letter, and 36 of any other byte.
+fn digit_value(byte: u8) -> u64
+    ensures { result ≡ digit_value byte }
 {
-    text.bytes().all(|byte| char::from(byte).is_digit(radix))
-}
-
-#[tactic(auto, unfolding(crate::specs::Numbers::without_0x))]
-fn without_prefix(text: &str) -> &str
-    ensures { result.now ≡ without_0x text.entry.now }
-{
-    text.strip_prefix("0x").unwrap_or(text)
+    let value = match byte {
+        b'0'..=b'9' => byte - b'0',
+        b'A'..=b'Z' => byte - b'A' + 10,
+        b'a'..=b'z' => byte - b'a' + 10,
+        _ => 36,
+    };
+    u64::from(value)
 }
 
 #[cfg(test)]
@@ -91,7 +100,7 @@ mod tests {
             ("0x1", u64::MAX, None),
         ];
         for (text, most, number) in rows {
-            assert_eq!(rt; decimal(text, most), number, "of {text}");
+            assert_eq!(rt; decimal(text.as_bytes(), most), number, "of {text}");
         }
     }
 
@@ -111,9 +120,9 @@ mod tests {
             ("0x+1", None),
         ];
         for (text, number) in rows {
-            assert_eq!(rt; hexadecimal(text, u64::MAX), number, "of {text}");
+            assert_eq!(rt; hexadecimal(text.as_bytes(), u64::MAX), number, "of {text}");
         }
-        assert_eq!(rt; hexadecimal("0xffffffff", 0xffff_ffff), Some(0xffff_ffff));
-        assert_eq!(rt; hexadecimal("100000000", 0xffff_ffff), None);
+        assert_eq!(rt; hexadecimal(b"0xffffffff", 0xffff_ffff), Some(0xffff_ffff));
+        assert_eq!(rt; hexadecimal(b"100000000", 0xffff_ffff), None);
     }
 }

@@ -3,7 +3,7 @@
 ghost use Rattle.std.specs.Prelude.{◌≡◌, ◌≢◌, ◌∷◌, [], ◌↔◌, ◌<◌, Err, IfOk, IsTrue};
 ghost use Rattle.std.specs.Prelude.{MatchOption, MatchResult, Ok, length};
 ghost use Rattle.csv.specs.Records.{fields_of};
-ghost use Rattle.htl_symbols.specs.Rows.{header, range_of_row};
+ghost use Rattle.htl_symbols.specs.Rows.{address_of, header, range_of_row};
 ghost use Rattle.htl_symbols.specs.Steps.{columns_eq};
 ghost use Rattle.htl_symbols.specs.Symbols.{row_range};
 
@@ -30,10 +30,10 @@ pub(crate) fn row_of(fields: &StringRecord, number: u64) -> Result<Row<'_>, Symb
     let Some((start, end, module, name)) = four_fields(fields) else {
         return Err(SymbolFault::Fields(number));
     };
-    let Some(start) = hexadecimal(start, u64::MAX) else {
+    let Some(start) = address(start) else {
         return Err(SymbolFault::Number(number));
     };
-    let Some(end) = hexadecimal(end, u64::MAX) else {
+    let Some(end) = address(end) else {
         return Err(SymbolFault::Number(number));
     };
     if start < end {
@@ -46,6 +46,12 @@ pub(crate) fn row_of(fields: &StringRecord, number: u64) -> Result<Row<'_>, Symb
     } else {
         Err(SymbolFault::EmptyRange(number))
     }
+}
+
+fn address(text: &str) -> Option<u64>
+    ensures { result ≡ address_of text.now }
+{
+    hexadecimal(text.as_bytes(), u64::MAX)
 }
 
 pub(crate) fn is_header(fields: &StringRecord) -> bool

@@ -8,6 +8,7 @@ use Rattle.std.proofs.lemmas.Bool.{eq-eqb}
 use Rattle.std.proofs.lemmas.List.{append_assoc}
 use Rattle.htl_numbers.specs.Numbers.{decimal_number}
 use Rattle.htl_numbers.specs.Written.{hex, padded}
+use Rattle.htl_numbers.proofs.Digits.{number_read}
 use Rattle.htl_text.specs.declared.item.Item.{Item}
 use Rattle.htl_text.specs.Fields.{address_value, after_bytes, field_name, first_text, first_value, frame_value, handle_value}
 use Rattle.htl_text.specs.Lines.{item_in, is_skipped, lines_of_text, words_of}
@@ -16,7 +17,7 @@ use Rattle.htl_text.specs.Encoded.{Write}
 use Rattle.htl_text.specs.Texts.{is_visible, line_feed}
 use Rattle.htl_text.proofs.DumpedLines.{AllShown, IsShown, continued, continued_end, is_plain, line_first, plain_spaced, words_spaced}
 use Rattle.htl_text.proofs.Numerals.{decimal_writes, hex_short, hex_writes, hexadecimal_read, length_padded, marked_read}
-use Rattle.htl_text.proofs.Numerals.{number_read, padded_writes, visible_digits}
+use Rattle.htl_text.proofs.Numerals.{padded_writes, visible_digits}
 use Rattle.htl_text.proofs.Writing.{write_append, write_one}
 
 -- texts and their items, whatever follows them

@@ -9,7 +9,6 @@ pub mod Sound
 pub mod Complete
 pub mod Outcomes
 pub mod Numerals
-pub mod DigitLoop
 pub mod DumpedLines
 pub mod DumpedFields
 pub mod Dumped

@@ -4,31 +4,18 @@ use Rattle.std.proofs.Common.{◌∙◌, length-append, pow-suc}
 use Rattle.std.specs.Prelude.{Some, codes, ◌==◌}
 use Rattle.std.specs.List.{list_all}
 use Rattle.std.specs.Fmt.{decimal, digits, digit_glyph, digits_onto}
-use Rattle.std.specs.Char.{digit_value, is_digit}
-use Rattle.std.specs.Str.Parse.{AllDigits, IsNumeral, digits_value}
+use Rattle.std.specs.Char.{digit_value}
+use Rattle.std.specs.Str.Parse.{AllDigits, digits_value}
 use Rattle.std.proofs.lemmas.Fmt.{digits_is_IsNumeral}
-use Rattle.std.proofs.lemmas.Bool.{lt-ltb, le-leb}
+use Rattle.std.proofs.lemmas.Bool.{le-leb}
 use Rattle.std.proofs.lemmas.Bool.Decides.{nat_tests}
 use Rattle.std.proofs.lemmas.List.{length-replicate}
 use Rattle.htl_lemmas.proofs.Padding.{after_zeros}
-use Rattle.htl_numbers.specs.Numbers.{number_of, hexadecimal_number, without_0x}
+use Rattle.htl_numbers.specs.Numbers.{hexadecimal_number, without_0x}
 use Rattle.htl_numbers.specs.Written.{hex, padded}
+use Rattle.htl_numbers.proofs.Digits.{Writes, number_read}
 use Rattle.htl_text.specs.Texts.{is_visible}
 use Rattle.htl_text.specs.Fields.{marked_value}
-
--- a text of digits that writes a number
-pub record Writes (radix n : ℕ) (ds : List ℕ) : Type 0 where
-  pub numeral : IsNumeral radix ds
-  pub value : digits_value radix ds ≡ n
-
-all_tested : (radix : ℕ) (ds : List ℕ) → AllDigits radix ds → list_all (λ c. is_digit c radix) ds ≡ true
-all_tested radix [] h = refl
-all_tested radix (c ∷ cs) h = rw (lt-ltb (digit_value c) radix h.0, all_tested radix cs h.1) refl
-
-pub number_read : (radix most n : ℕ) (ds : List ℕ) → Writes radix n ds → n ≤ most → number_of radix most ds ≡ Some n
-unfolding number_of
-number_read radix most n ds w low =
-    rw (all_tested radix ds w.numeral.1, lt-ltb 0 (length ds) w.numeral.0, w.value, le-leb n most low) refl
 
 -- digits can be seen
 visible_digit : (c : ℕ) → digit_value c < 16 → is_visible c ≡ true

@@ -9,13 +9,12 @@
 //! that a whole text encodes, or else its first fault (`Encoded`).
 //!
 //! Files, in reading order: `item.rt` (what a line says), `dumping.rt` (segments to text),
-//! `field.rt`, `digits.rt`, `words.rt`, `values.rt` and `lines.rt` (from a line to its item),
-//! `fault.rt`, `draft.rt` (a segment whose lines are being read), `encoding.rt` (a text to bytes),
-//! `places.rt` (the lines of events), `laws.rt` (a text is read in one way, dumped text as the
-//! segments that it was made of, and the line of an event has it).
+//! `field.rt`, `words.rt`, `values.rt` and `lines.rt` (from a line to its item), `fault.rt`,
+//! `draft.rt` (a segment whose lines are being read), `encoding.rt` (a text to bytes), `places.rt`
+//! (the lines of events), `laws.rt` (a text is read in one way, dumped text as the segments that it
+//! was made of, and the line of an event has it).
 #![tactic(auto)]
 
-mod digits;
 mod draft;
 mod dumping;
 mod encoding;

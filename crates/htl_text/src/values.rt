@@ -1,50 +1,17 @@
 //! The values of words, and words that are a field and its value.
 ghost use Rattle.std.specs.Prelude.{◌≡◌, ◌≤◌, IfOk, IfSome, MatchOption, MatchResult, None, Some};
-ghost use Rattle.htl_numbers.specs.Numbers.{decimal_number, hexadecimal_number, without_0x};
+ghost use Rattle.htl_numbers.specs.Numbers.{decimal_number};
 ghost use Rattle.htl_text.specs.declared.fault.FormFault.{FormFault};
 ghost use Rattle.htl_text.specs.declared.field.Field.TheVariants.{Handle, Tag};
 ghost use Rattle.htl_text.specs.Fields.{address_value, first_text, first_value, frame_value};
 ghost use Rattle.htl_text.specs.Fields.{handle_value, marked_value, tag_value};
 ghost use Rattle.htl_text.specs.Lines.{words_of};
 
-use crate::digits;
 use crate::dumping::all_visible;
 use crate::fault::FormFault;
 use crate::field::Field;
 use crate::words::{after_bytes, first_word};
-
-/// The most digits of a hexadecimal number.
-const MAX_HEX_DIGITS: usize = 16;
-
-/// The number that decimal digits write, if it is at most `most`.
-fn decimal_value(text: &[u8], most: u64) -> Option<u64>
-    ensures value { result ≡ decimal_number most text.now }
-    ensures bound { IfSome result (λ n. n ≤ most) }
-{
-    digits::number(text, 10, most)
-}
-
-/// The number that 1 to 16 hexadecimal digits write, with or without `0x` before them, if it is at
-/// most `most`.
-#[tactic(auto, unfolding(htl_numbers::specs::Numbers::hexadecimal_number))]
-fn hexadecimal_value(text: &[u8], most: u64) -> Option<u64>
-    ensures value { result ≡ hexadecimal_number most text.now }
-    ensures bound { IfSome result (λ n. n ≤ most) }
-{
-    let digits = without_0x(text);
-    if digits.len() <= MAX_HEX_DIGITS {
-        digits::number(digits, 16, most)
-    } else {
-        None
-    }
-}
-
-#[tactic(auto, unfolding(htl_numbers::specs::Numbers::without_0x))]
-fn without_0x(text: &[u8]) -> &[u8]
-    ensures { result.now ≡ without_0x text.entry.now }
-{
-    text.strip_prefix(b"0x").unwrap_or(text)
-}
+use htl_numbers::{decimal, hexadecimal};
 
 /// The number of hexadecimal digits that have `0x` before them.
 #[tactic(auto, unfolding(crate::specs::Fields::marked_value))]
@@ -53,7 +20,7 @@ fn marked_value(text: &[u8], most: u64) -> Option<u64>
     ensures bound { IfSome result (λ n. n ≤ most) }
 {
     if text.starts_with(b"0x") {
-        hexadecimal_value(text, most)
+        hexadecimal(text, most)
     } else {
         None
     }
@@ -63,13 +30,13 @@ fn marked_value(text: &[u8], most: u64) -> Option<u64>
 fn address_value(text: &[u8]) -> Option<u64>
     ensures { result ≡ address_value text.now }
 {
-    hexadecimal_value(text, u64::MAX)
+    hexadecimal(text, u64::MAX)
 }
 
 fn handle_value(text: &[u8]) -> Option<u32>
     ensures { result ≡ handle_value text.now }
 {
-    let handle = hexadecimal_value(text, u64::from(u32::MAX))?;
+    let handle = hexadecimal(text, u64::from(u32::MAX))?;
     Some(handle as u32)
 }
 
@@ -125,7 +92,7 @@ pub(crate) fn number<'a>(
 {
     let missing = FormFault::Field(field);
     let (text, words) = first_text(words, field).ok_or(missing)?;
-    Ok((decimal_value(text, most).ok_or(missing)?, words))
+    Ok((decimal(text, most).ok_or(missing)?, words))
 }
 
 /// The value that the first word gives a field that is an object or a trace, and the words that follow;

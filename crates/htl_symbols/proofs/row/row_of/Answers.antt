@@ -9,23 +9,23 @@ use Rattle.htl_symbols.proofs.row.row_of.Goals as goal
 pub returns-in_default-clause-row : goal.returns-in_default-clause-row
 returns-in_default-clause-row c = fields-wrong c.args.number (fields_of c.args.fields.now) c.in_default.ensures
 
-pub returns-in_default-hexadecimal-clause-row : goal.returns-in_default-hexadecimal-clause-row
-returns-in_default-hexadecimal-clause-row c =
-    fields-right c.args.number (fields_of c.args.fields.now) _ _ _ _ None _ c.in-Some.ensures c.in_default-hexadecimal.ensures.value refl
+pub returns-in_default-address-clause-row : goal.returns-in_default-address-clause-row
+returns-in_default-address-clause-row c =
+    fields-right c.args.number (fields_of c.args.fields.now) _ _ _ _ None _ c.in-Some.ensures c.in_default-address.ensures refl
 
-pub returns-in_default-hexadecimal-2-clause-row : goal.returns-in_default-hexadecimal-2-clause-row
-returns-in_default-hexadecimal-2-clause-row c =
-    fields-right c.args.number (fields_of c.args.fields.now) _ _ _ _ (Some c.in-Some-hexadecimal.start) None c.in-Some.ensures
-    c.in-Some-hexadecimal.ensures.value c.in_default-hexadecimal-2.ensures.value
+pub returns-in_default-address-2-clause-row : goal.returns-in_default-address-2-clause-row
+returns-in_default-address-2-clause-row c =
+    fields-right c.args.number (fields_of c.args.fields.now) _ _ _ _ (Some c.in-Some-address.start) None c.in-Some.ensures
+    c.in-Some-address.ensures c.in_default-address-2.ensures
 
 pub returns-then-start-end-clause-row : goal.returns-then-start-end-clause-row
 returns-then-start-end-clause-row c =
-    fields-right c.args.number (fields_of c.args.fields.now) _ _ _ _ (Some c.in-Some-hexadecimal.start)
-    (Some c.in-Some-hexadecimal-2.end) c.in-Some.ensures c.in-Some-hexadecimal.ensures.value c.in-Some-hexadecimal-2.ensures.value
-    ∙ rw (lt-ltb c.in-Some-hexadecimal.start c.in-Some-hexadecimal-2.end c.if-start-end.true) refl
+    fields-right c.args.number (fields_of c.args.fields.now) _ _ _ _ (Some c.in-Some-address.start)
+    (Some c.in-Some-address-2.end) c.in-Some.ensures c.in-Some-address.ensures c.in-Some-address-2.ensures
+    ∙ rw (lt-ltb c.in-Some-address.start c.in-Some-address-2.end c.if-start-end.true) refl
 
 pub returns-else-start-end-clause-row : goal.returns-else-start-end-clause-row
 returns-else-start-end-clause-row c =
-    fields-right c.args.number (fields_of c.args.fields.now) _ _ _ _ (Some c.in-Some-hexadecimal.start)
-    (Some c.in-Some-hexadecimal-2.end) c.in-Some.ensures c.in-Some-hexadecimal.ensures.value c.in-Some-hexadecimal-2.ensures.value
-    ∙ rw (le-ltb c.in-Some-hexadecimal.start c.in-Some-hexadecimal-2.end c.if-start-end.false) refl
+    fields-right c.args.number (fields_of c.args.fields.now) _ _ _ _ (Some c.in-Some-address.start)
+    (Some c.in-Some-address-2.end) c.in-Some.ensures c.in-Some-address.ensures c.in-Some-address-2.ensures
+    ∙ rw (le-ltb c.in-Some-address.start c.in-Some-address-2.end c.if-start-end.false) refl

@@ -1,7 +1,7 @@
 -- The digits so far write the number.
 use Rattle.std.proofs.Common.{◌≡◌, take}
 use Rattle.std.specs.Str.Parse.{AllDigits, digits_value}
-use Rattle.htl_text.proofs.digits.number.Given as goal
+use Rattle.htl_numbers.proofs.number.Given as goal
 
 abbrev pub invariant-loop-byte : goal.invariant-loop-byte
 invariant-loop-byte l = record {

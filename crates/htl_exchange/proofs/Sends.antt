@@ -16,10 +16,7 @@ use Rattle.atomic_table.proofs.Sent.{seat_keyless, shares_keyless}
 use Rattle.atomic_table.proofs.Rights.{right_send}
 use Rattle.atomic_table.specs.declared.shared.TableRule.{Ghosts}
 use Rattle.std.specs.declared.alloc.Allocator as alloc
-use Rattle.htl_event.specs.contracts.shared_stack.Frames as frames
-use Rattle.htl_event.specs.contracts.shared_stack.SharedStack as stack
-use Rattle.htl_event.specs.contracts.event.Event as event
-use Rattle.htl_segment.specs.contracts.segment.Segment as segment
+use Rattle.htl_segment.proofs.Threads.{event_send, segment_send}
 use Rattle.htl_tree.specs.contracts.tree.StackTree as tree
 use Rattle.htl_tables.specs.contracts.latest.Latest as latest
 use Rattle.htl_taken.specs.contracts.number_set.NumberSet as numbers
@@ -66,30 +63,6 @@ node_send = search (sendable, crosses, slot_send, count_send, knot_send) depth 2
 -- so may a tree
 pub tree_send : IsSend (tree.the_row Heap.the_row ghosts)
 tree_send = search (sendable, crosses, send, node_send) depth 20
-
--- ---- segments
-
-frames_send : IsSend frames.the_row
-frames_send = search (sendable, crosses) depth 20
-
-frames_sync : IsSync frames.the_row
-frames_sync = search (sendable, crosses) depth 20
-
-stack_send : IsSend stack.the_row
-stack_send = search (sendable, crosses, frames_send, frames_sync) depth 20
-
-stack_sync : IsSync stack.the_row
-stack_sync = search (sendable, crosses, frames_send, frames_sync) depth 20
-
-event_send : IsSend (event.the_row stack.the_row)
-event_send = search (sendable, stack_send) depth 20
-
-event_sync : IsSync (event.the_row stack.the_row)
-event_sync = search (sendable, stack_sync) depth 20
-
--- and a segment
-pub segment_send : IsSend segment.the_row
-segment_send = search (sendable, crosses, event_send, event_sync) depth 20
 
 -- ---- analysts
 

@@ -33,3 +33,4 @@ pub mod MomentLaws
 pub mod UntilLaws
 pub mod AnalystAnswers
 pub mod Foldable
+mod Shared

@@ -21,3 +21,4 @@ pub mod Times
 pub mod SeenLaws
 pub mod PicksLaws
 pub mod OutlineLaws
+pub mod Threads

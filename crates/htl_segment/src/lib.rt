@@ -18,7 +18,7 @@
 //! `specs/Lib` names the definitions in the order in which they are read. In `proofs/`,
 //! `RecordLaws`, `HeaderLaws` and `SegmentLaws` show both directions between bytes and segments,
 //! and `BundleLaws` and `PiecesLaws` what follows for bundles; `Traces` has the events of key
-//! sets.
+//! sets, and `Threads` shows that segments may cross threads.
 #![tactic(auto)]
 
 mod building;

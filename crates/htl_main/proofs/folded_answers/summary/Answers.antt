@@ -1,12 +1,19 @@
 -- The rows are those of all events of the case of what was taken.
+use denote.Param.Send.{sendable}
 use Rattle.std.proofs.Common.{map}
+use Rattle.std.proofs.Crossing.{crosses}
 use Rattle.htl_analyst.specs.TakenEvents.{contents_of}
 use Rattle.htl_segment.specs.Traces.{all_events}
+use Rattle.htl_segment.proofs.Threads.{segment_sync}
+use Rattle.htl_main.proofs.Shared.{part_sync}
 use Rattle.htl_main.proofs.FoldLaws.{gaps_of_case, parts_of_case, right_of_case}
 use Rattle.htl_main.proofs.folded_answers.summary.Goals as goal
 
 pub summarize-requires : goal.summarize-requires
-summarize-requires g c = c.parts.ensures.few
+summarize-requires g c = (
+  search (sendable, crosses) depth 20,
+  (search (sendable, crosses, part_sync) depth 20, (search (sendable, crosses, segment_sync) depth 20, c.parts.ensures.few)),
+)
 
 pub returns : goal.returns
 returns g c = λ segments T folded case.

@@ -131,7 +131,7 @@ impl SegmentKeeper for Folder {
     }
 }
 
-/// The number of held records that starts a fold: two for each handle whose latest event is kept,
+/// The number of held records that starts a fold: three for each handle whose latest event is kept,
 /// since each fold copies these, but at least `FEW_HELD`.
 fn most_held(analyst: &Option<Analyst<Global>>) -> u64 {
     let mut latest = 0u64;
@@ -140,7 +140,7 @@ fn most_held(analyst: &Option<Analyst<Global>>) -> u64 {
             latest = latest.saturating_add(part.latest().rows().len() as u64);
         }
     }
-    latest.saturating_mul(2).max(FEW_HELD)
+    latest.saturating_mul(3).max(FEW_HELD)
 }
 
 /// A new analyst that has taken this segment.

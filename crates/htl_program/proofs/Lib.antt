@@ -2,7 +2,7 @@ pub mod ShownTags
 pub mod Names
 pub mod Told
 pub mod FirstAbsent
-pub mod Lent
+pub mod PassedOn
 pub mod RanOut
 mod SourcesRead
 mod RunEnds

@@ -9,7 +9,7 @@ use Rattle.htl_program.specs.Asking.{ReadsNames}
 use Rattle.htl_program.specs.Opened.{Known, Opened}
 use Rattle.htl_program.specs.Openings.{AreOpened, IsUnopenedFor}
 use Rattle.htl_program.specs.Worlds.{IsFirstRefused, of_each}
-use Rattle.htl_program.proofs.Lent.{same_fault}
+use Rattle.htl_program.proofs.PassedOn.{same_fault}
 use Rattle.htl_program.proofs.FirstAbsent.{first_or_memory, none_absent}
 
 same_place : (one other : ℕ) → Read one ≡ Read other → one ≡ other

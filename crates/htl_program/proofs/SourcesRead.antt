@@ -3,7 +3,7 @@ use Rattle.std.proofs.Common.{Bool, List, ℕ, ap, refl}
 use Rattle.std.specs.Prelude.{Option, Ok, Err}
 use Rattle.htl_main.specs.Readings.{AreRead}
 use Rattle.htl_main.specs.declared.fault.RunFault.{RunFault}
-use Rattle.htl_program.proofs.Lent.{no_fault, same_fault}
+use Rattle.htl_program.proofs.PassedOn.{no_fault, same_fault}
 
 pub as_answered : {R S T : Type 0} (is_text : Bool) (has_failed has_ended : R → Bool) (good_reads : R → ℕ)
     (remaining : R → Option (List ℕ)) (old new : List R) (done : S) (other : T)

@@ -2,7 +2,7 @@
 use Rattle.std.proofs.Common.{◌∙◌, inr, rules}
 use Rattle.htl_main.specs.Origins.{by_fault}
 use Rattle.htl_program.specs.Asking.{before_dialogue}
-use Rattle.htl_program.proofs.Lent.{all_opened, same_end}
+use Rattle.htl_program.proofs.PassedOn.{all_opened, same_end}
 use Rattle.htl_program.proofs.RunEnds.{or_memory}
 use Rattle.htl_program.proofs.conversing.converse.Goals as goal
 

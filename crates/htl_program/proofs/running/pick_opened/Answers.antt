@@ -2,7 +2,7 @@
 use Rattle.std.proofs.Common.{◌≡◌, ◌∙◌, Err, ap, drop, [], false, length, refl, rules, sym}
 use Rattle.htl_lemmas.proofs.Lists.{take_front}
 use Rattle.htl_main.proofs.AfterPicking.{bytes_of}
-use Rattle.htl_program.proofs.Lent.{no_fault, same_fault}
+use Rattle.htl_program.proofs.PassedOn.{no_fault, same_fault}
 use Rattle.htl_program.proofs.SourcesRead.{as_answered, as_refused}
 use Rattle.htl_program.proofs.running.pick_opened.Goals as goal
 

@@ -1,6 +1,7 @@
 //! A file that is open only while it is read.
 
-ghost use Rattle.std.specs.Prelude.{◌≡◌, ◌≤◌, IfOk, OnErr, OnOk, Ok, length, string_bytes};
+ghost use Rattle.std.specs.Prelude.{◌≡◌, ◌≤◌, ◌+◌, ◌-◌, ◌^◌, IfOk, OnErr, OnOk, Ok, length, min};
+ghost use Rattle.std.specs.Prelude.{option_map, string_bytes};
 ghost use Rattle.hleak.specs.Openings.{IsKnownLen, StaysOpen};
 ghost use Rattle.hleak.specs.Stages.{IsBegun, IsStageAfter, IsUnread, is_unread};
 
@@ -37,6 +38,7 @@ impl InputFile {
     pub fn find(rt: &HostRuntime, name: &str) -> io::Result<InputFile>
         ensures name { IfOk result (λ found. string_bytes found.name ≡ name.now) }
         ensures unread { IfOk result (λ found. IsUnread found.stage) }
+        ensures front { IfOk result (λ found. found.skipped ≡ 0) }
     {
         let file = File::open(rt, name)?;
         let name = String::from_str(rt.alloc(), name)?;
@@ -80,6 +82,8 @@ impl InputFile {
 
     /// Skips bytes of a file of which nothing was read: reading begins behind them.
     pub fn skip(&mut self, len: u64)
+        ensures front { self.new.skipped ≡ min (self.old.skipped + len) (2 ^ 64 - 1) }
+        ensures len { self.new.len ≡ option_map (λ left. left - len) self.old.len }
         ensures stage { self.new.stage ≡ self.old.stage }
         ensures name { self.new.name ≡ self.old.name }
     {
@@ -92,6 +96,7 @@ impl InputFile {
         ensures begun { OnOk result (IsBegun self.old.stage self.new.stage) }
         ensures refused { OnErr result ((self.new ≡ self.old) × (self.old.stage ≡ Stage.Found)) }
         ensures name { self.new.name ≡ self.old.name }
+        ensures front { self.new.skipped ≡ self.old.skipped }
     {
         if let Stage::Found = self.stage {
             self.stage = Stage::Open(self.tail(0)?);
@@ -107,6 +112,7 @@ impl InputFile {
             IsStageAfter self.old.stage (length buffer.old) count self.new.stage) }
         ensures ended { self.old.stage ≡ Stage.Ended → (result ≡ Ok 0) }
         ensures name { self.new.name ≡ self.old.name }
+        ensures front { self.new.skipped ≡ self.old.skipped }
     {
         self.begin()?;
         let Stage::Open(file) = &mut self.stage else {

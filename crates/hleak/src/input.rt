@@ -1,7 +1,7 @@
 //! What the program reads: files and standard input, as readers.
 
 ghost use Rattle.std.specs.Prelude.{◌≡◌, ◌⊎◌, None, option_map};
-ghost use Rattle.hleak.specs.Inputs.{unread_file};
+ghost use Rattle.hleak.specs.Inputs.{IsBehind, unread_file};
 
 use crate::file::{InputFile, known_len};
 use crate::progress::Progress;
@@ -62,7 +62,10 @@ impl<'a> Input<'a, Device> {
     }
 
     /// Skips bytes of a file, which count as read.
-    pub fn skip(&mut self, len: u64) {
+    pub fn skip(&mut self, len: u64)
+        ensures device { IsBehind self.old.device len self.new.device }
+        ensures watched { self.new.progress ≡ self.old.progress }
+    {
         if let Device::File(file) = &mut self.device {
             file.skip(len);
         }

@@ -13,5 +13,5 @@ returns c =
     let last = c.write_scratch.new.self in
     on_ok_weaker c.write_scratch.result
     (λ h. field_added c.args.name.now (string (string_bytes c.args.self.now.scratch)) c.args.self.now key last (omega arith) c.in_ok-key.ensures.added
-    (subst (λ text. AddsTokens key last (token.string (string_bytes text) ∷ [])) c.in_ok-key.ensures.room h))
+    (subst (λ text. AddsTokens key last (token.string (string_bytes text) ∷ [])) c.in_ok-key.ensures.scratch h))
     c.write_scratch.ensures

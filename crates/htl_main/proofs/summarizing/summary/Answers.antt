@@ -1,12 +1,20 @@
 -- The rows of the summary are those of all events up to the moment.
+use denote.Param.Send.{sendable}
+use Rattle.std.proofs.Crossing.{crosses}
 use Rattle.htl_segment.specs.Traces.{all_events}
+use Rattle.htl_segment.proofs.Threads.{event_sync}
 use Rattle.htl_case.proofs.Counted.{own_until}
 use Rattle.htl_main.proofs.UntilLaws.{few_counted}
 use Rattle.htl_main.proofs.summarizing.summary.Goals as goal
 
 pub summary_of_lists-requires : goal.summary_of_lists-requires
-summary_of_lists-requires g c =
-    rw (c.deref.ensures.value, c.in_ok-lists.ensures.value) (few_counted c.args.case.now c.args.until c.in_ok-lists.ensures.is_case.trace)
+summary_of_lists-requires g c = λ k. (
+  search (sendable, crosses) depth 20,
+  (
+    search (sendable, crosses, event_sync) depth 20,
+    rw (c.deref.ensures.value, c.in_ok-lists.ensures.value) (few_counted c.args.case.now c.args.until c.in_ok-lists.ensures.is_case.trace),
+  ),
+)
 
 pub event_count-requires : goal.event_count-requires
 event_count-requires g c =

@@ -6,4 +6,4 @@ use Rattle.htl_main.proofs.taking.take_text.Goals as goal
 
 pub returns-in-Err-clause-kept : goal.returns-in-Err-clause-kept
 returns-in-Err-clause-kept c =
-    rw (c.from_hex.ensures) (digits_kept folds_of c.args.folder.now c.args.form c.args.place None c.args.text.now c.in-Err.fault)
+    rw (c.from_hex-in-Err.ensures) (digits_kept folds_of c.args.folder.now c.args.form c.args.place None c.args.text.now c.in-Err.fault)

@@ -131,8 +131,9 @@ impl SegmentKeeper for Folder {
     }
 }
 
-/// The number of held records that starts a fold: three for each handle whose latest event is kept,
-/// since each fold copies these, but at least `FEW_HELD`.
+/// The number of held records that starts a fold: one for each handle whose latest event is kept,
+/// since each fold copies these, but at least `FEW_HELD`. With three, 10 GB took 4 % less time and a
+/// third more memory.
 fn most_held(analyst: &Option<Analyst<Global>>) -> u64 {
     let mut latest = 0u64;
     if let Some(analyst) = analyst {
@@ -140,7 +141,7 @@ fn most_held(analyst: &Option<Analyst<Global>>) -> u64 {
             latest = latest.saturating_add(part.latest().rows().len() as u64);
         }
     }
-    latest.saturating_mul(3).max(FEW_HELD)
+    latest.max(FEW_HELD)
 }
 
 /// A new analyst that has taken this segment.

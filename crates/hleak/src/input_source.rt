@@ -16,7 +16,7 @@ pub struct InputSource<'a> {
 impl<'a> InputSource<'a> {
     /// The input as a source that was not read yet.
     pub fn new(input: Input<'a, Device>) -> InputSource<'a>
-        ensures input { result.reading.reader ≡ input }
+        ensures input { result.reading.reader ≡ input.entry }
         ensures fresh { ⟦<InputSource<'a> as Source>⟧.has_failed result ≡ false }
         ensures inside { ⟦<InputSource<'a> as Source>⟧.has_ended result ≡ false }
     {

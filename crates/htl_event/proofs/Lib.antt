@@ -14,3 +14,4 @@ pub mod EventsEqual
 pub mod Sums
 pub mod Summarized
 pub mod Wanted
+pub mod WantedLists

@@ -1,6 +1,7 @@
 -- Answers over events that agree on a process or an object are the same.
-use Rattle.std.proofs.Common.{IsPermutation, ◌≡◌, ℕ, ◌+◌, ◌<◌, Bool, true, cond, List, [], ◌∷◌, Option, Some, None, refl, sym, ap, ◌∙◌, inl, inr, ◌&&◌, arith}
-use Rattle.std.specs.Prelude.{Contains, filter, count_by, nat_le, ◌↔◌}
+use Rattle.std.proofs.Common.{IsPermutation, ◌≡◌, ℕ, ◌+◌, ◌<◌, Bool, true, false, cond, List, [], ◌∷◌, map, Option, Some, None}
+use Rattle.std.proofs.Common.{refl, sym, ap, ◌∙◌, subst, inl, inr, ◌&&◌, arith}
+use Rattle.std.specs.Prelude.{Contains, filter, count_by, nat_le, if◌then◌else◌, ◌↔◌}
 use Rattle.std.proofs.lemmas.Bool.{cases_Bool, eqb-true, eq-eqb, and_parts}
 use Rattle.std.proofs.lemmas.List.Sorted.{Contains-permutation, IsPermutation-sym}
 use Rattle.std.proofs.lemmas.List.Sums.{sum_by-cons}
@@ -14,47 +15,81 @@ use Rattle.htl_event.specs.declared.slot.Sign.{Sign}
 use Rattle.htl_event.specs.declared.slot.Sign.TheVariants.{Plus, Minus}
 use Rattle.htl_event.specs.declared.slot.Count.{Count}
 use Rattle.htl_event.specs.Members.{Lists}
-use Rattle.htl_event.specs.Handles.{IsGreatestSequence, IsOf, IsLatest, IsOpen, IsOutstanding, IsDiff, IsOfHandle}
+use Rattle.htl_event.specs.Handles.{opens_or_closes, IsGreatestSequence, IsOf, IsLatest, IsOpen, IsOutstanding, IsDiff, IsOfHandle}
 use Rattle.htl_event.specs.Tallies.{count_where, times, has_stack, tally, balance, IsPositive, AreOpenSince, IsLeaksSince}
 use Rattle.htl_event.specs.Growth.{IsPoint, IsGrowth}
 use Rattle.htl_event.specs.Moments.{events_until}
 use Rattle.htl_event.specs.declared.growth.Point.{Point}
 use Rattle.htl_event.specs.declared.growth.Span.{Span}
 use Rattle.htl_event.proofs.Counts.{count_where-IsPermutation, same_rows}
-use Rattle.htl_event.proofs.Members.{filter-pass, filter-skip, Contains-filter, Contains-from_filter}
-use Rattle.htl_event.specs.declared.interest.Interest.TheVariants.{Process, Object}
-use Rattle.htl_event.specs.Interests.{wants, wanted, ProcessNeedsItsOwn, ObjectNeedsItsOwn}
+use Rattle.htl_event.proofs.Members.{filter-pass, filter-skip, Contains-filter, Contains-from_filter, Contains-map, Contains-from_map}
+use Rattle.htl_event.specs.declared.interest.Interest.{Interest}
+use Rattle.htl_event.specs.declared.interest.Interest.TheVariants.{Process, OpenHandles, Object}
+use Rattle.htl_event.specs.Interests.{tracks_handles, wants, needs_stack, without_stack, as_needed, wanted}
+use Rattle.htl_event.specs.Interests.{HaveSameOpenHandles, ProcessNeedsItsOwn, ObjectNeedsItsOwn}
 
--- ---- sets of events that have the same events of a process
+-- ---- sets of events that tell the same of a process's handles
+
+-- the events are the same, but for what no answer about open handles depends on
+record AreAlike (x y : Event) : Type 0 where
+  pub sequence : x.sequence ≡ y.sequence
+  pub kind : x.kind ≡ y.kind
+  pub process : x.process ≡ y.process
+  pub handle : x.handle ≡ y.handle
+
+-- what the first set tells of the open handles of the process, the second tells too
+record Tells (p : ℕ) (A B : Event → Type 0) : Type 0 where
+  pub opens : (x : Event) → x.process ≡ p → x.kind ≡ Opened → A x → B x
+  pub others : (x : Event) → x.process ≡ p → tracks_handles x.kind ≡ true → A x → (y : Event) × B y × AreAlike x y
 
 abbrev Agree : ℕ → (Event → Type 0) → (Event → Type 0) → Type 0
-Agree p A B = (x : Event) → x.process ≡ p → A x ↔ B x
+Agree p A B = Tells p A B × Tells p B A
 
 turned : (p : ℕ) (A B : Event → Type 0) → Agree p A B → Agree p B A
-turned p A B same = λ x owner. ((same x owner).1, (same x owner).0)
+turned p A B same = (same.1, same.0)
 
-greatest : (p : ℕ) (A B : Event → Type 0) (kind : Kind) (n : ℕ) → Agree p A B → IsGreatestSequence (λ e. A e × IsOf kind p e) n
-    → IsGreatestSequence (λ e. B e × IsOf kind p e) n
-greatest p A B kind n same g = record {
-  bound = λ x h. g.bound x ((same x h.1.1).1 h.0, h.1);
+tracked : (kind : Kind) → opens_or_closes kind ≡ true → tracks_handles kind ≡ true
+tracked Opened is = refl
+tracked Closed is = refl
+tracked BadRef is = absurd cc
+tracked Snapshot is = refl
+tracked Ref is = absurd cc
+tracked Deref is = absurd cc
+tracked Exited is = refl
+
+greatest : (p : ℕ) (A B : Event → Type 0) (kind : Kind) (n : ℕ) → tracks_handles kind ≡ true → Agree p A B
+    → IsGreatestSequence (λ e. A e × IsOf kind p e) n → IsGreatestSequence (λ e. B e × IsOf kind p e) n
+greatest p A B kind n tracks same g = record {
+  bound = λ x h.
+      let (y, there, alike) = same.1.others x h.1.1 (ap tracks_handles h.1.0 ∙ tracks) h.0 in
+      rw (alike.sequence) (g.bound y (there, (sym alike.kind ∙ h.1.0, sym alike.process ∙ h.1.1)));
   reached = elim (g.reached) [
     | inl zero ↦ inl zero
-    | inr found ↦ inr (found.0, ((same found.0 found.1.1.1).0 found.1.0, found.1.1), found.2)
+    | inr found ↦
+        let (x, (here, of), is) = found in
+        let (y, there, alike) = same.0.others x of.1 (ap tracks_handles of.0 ∙ tracks) here in
+        inr (y, (there, (sym alike.kind ∙ of.0, sym alike.process ∙ of.1)), sym alike.sequence ∙ is)
   ];
 }
 
-latest : (p base : ℕ) (A B : Event → Type 0) (e : Event) → Agree p A B → IsLatest A p base e → IsLatest B p base e
-latest p base A B e same l = record {
-  here = (same e l.of_handle.owner).0 l.here;
+latest : (p base : ℕ) (A B : Event → Type 0) (e : Event) → e.kind ≡ Opened → Agree p A B → IsLatest A p base e → IsLatest B p base e
+latest p base A B e opens same l = record {
+  here = same.0.opens e l.of_handle.owner opens l.here;
   of_handle = l.of_handle;
-  greatest = λ x here of. l.greatest x ((same x of.owner).1 here) of;
+  greatest = λ x here of.
+      let (y, there, alike) = same.1.others x of.owner (tracked x.kind of.kind) here in
+      rw (alike.sequence) (l.greatest y there (record {
+        kind = ap opens_or_closes (sym alike.kind) ∙ of.kind;
+        owner = sym alike.process ∙ of.owner;
+        handle = ap base_of (sym alike.handle) ∙ of.handle;
+      }));
 }
 
 open_too : (p : ℕ) (A B : Event → Type 0) (e : Event) → Agree p A B → IsOpen A p e → IsOpen B p e
 open_too p A B e same o = record {
   opens = o.opens;
-  latest = latest p (base_of e.handle) A B e same o.latest;
-  outlives = λ n last. o.outlives n (greatest p B A Exited n (turned p A B same) last);
+  latest = latest p (base_of e.handle) A B e o.opens same o.latest;
+  outlives = λ n last. o.outlives n (greatest p B A Exited n refl (turned p A B same) last);
 }
 
 open_same : (p : ℕ) (A B : Event → Type 0) (e : Event) → Agree p A B → IsOpen A p e ↔ IsOpen B p e
@@ -91,13 +126,23 @@ leaks_too p since least A B rows same l = record {
   stacks = l.stacks;
 }
 
+tells_until : (p moment : ℕ) (xs ys : List Event) → Tells p (Contains xs) (Contains ys)
+    → Tells p (Contains (events_until moment xs)) (Contains (events_until moment ys))
+tells_until p moment xs ys told =
+    let test : Event → Bool = λ e. nat_le e.sequence moment in
+    record {
+      opens = λ x owner opens h.
+          let of = Contains-from_filter test xs x h in
+          Contains-filter test ys x (told.opens x owner opens of.0) of.1;
+      others = λ x owner tracks h.
+          let of = Contains-from_filter test xs x h in
+          let (y, there, alike) = told.others x owner tracks of.0 in
+          (y, Contains-filter test ys y there (ap (λ n. nat_le n moment) (sym alike.sequence) ∙ of.1), alike);
+    }
+
 agree_until : (p moment : ℕ) (xs ys : List Event) → Agree p (Contains xs) (Contains ys)
     → Agree p (Contains (events_until moment xs)) (Contains (events_until moment ys))
-agree_until p moment xs ys same x owner =
-    let test : Event → Bool = λ e. nat_le e.sequence moment in (
-      λ h. (let of = Contains-from_filter test xs x h in Contains-filter test ys x ((same x owner).0 of.0) of.1),
-      λ h. (let of = Contains-from_filter test ys x h in Contains-filter test xs x ((same x owner).1 of.0) of.1),
-    )
+agree_until p moment xs ys same = (tells_until p moment xs ys same.0, tells_until p moment ys xs same.1)
 
 point_too : (p : ℕ) (span : Span) (points : ℕ) (xs ys : List Event) (point : Point) → Agree p (Contains xs) (Contains ys)
     → IsPoint span points xs p point → IsPoint span points ys p point
@@ -168,35 +213,128 @@ tagged_object Ref o t sign e is = eqb-true _ _ (and_parts _ _ (and_parts _ _ is)
 tagged_object Deref o t sign e is = eqb-true _ _ (and_parts _ _ (and_parts _ _ is).0).0
 tagged_object Exited o t sign e is = absurd cc
 
+-- ---- what is wanted
+
+if_alike : (whole : Bool) (e : Event) → AreAlike e (if whole then e else without_stack e)
+if_alike true e = record { sequence = refl; kind = refl; process = refl; handle = refl }
+if_alike false e = record { sequence = refl; kind = refl; process = refl; handle = refl }
+
+alike_as_needed : (interest : Interest) (e : Event) → AreAlike e (as_needed interest e)
+alike_as_needed interest e = if_alike (needs_stack interest e.kind) e
+
+-- an open is needed as it is
+open_as_needed : (p : ℕ) (e : Event) → e.kind ≡ Opened → as_needed (OpenHandles p) e ≡ e
+open_as_needed p e opens = ap (λ (k : Kind). if needs_stack (OpenHandles p) k then e else without_stack e) opens
+
+-- the events of a process are needed as they are
+all_of_process : (p : ℕ) (es : List Event) → map (as_needed (Process p)) es ≡ es
+all_of_process p [] = refl
+all_of_process p (e ∷ es) = ap (λ (l : List Event). e ∷ l) (all_of_process p es)
+
+-- and so are those of an object
+all_of_object : (o : ℕ) (es : List Event) → map (as_needed (Object o)) es ≡ es
+all_of_object o [] = refl
+all_of_object o (e ∷ es) = ap (λ (l : List Event). e ∷ l) (all_of_object o es)
+
 -- ---- the laws
 
-agrees : (p : ℕ) (es own : List Event) → IsPermutation (wanted (Process p) es) own → Agree p (Contains es) (Contains own)
-agrees p es own moved x owner = (
-  λ here. Contains-permutation (wanted (Process p) es) own x moved (Contains-filter (wants (Process p)) es x here (eq-eqb _ _ owner)),
-  λ here. (Contains-from_filter (wants (Process p)) es x (Contains-permutation own (wanted (Process p) es) x
-      (IsPermutation-sym (wanted (Process p) es) own moved) here)).0,
+same_events : (p : ℕ) (es own : List Event) → IsPermutation (filter (wants (Process p)) es) own → (x : Event) → x.process ≡ p
+    → Contains es x ↔ Contains own x
+same_events p es own moved x owner = (
+  λ here. Contains-permutation (filter (wants (Process p)) es) own x moved (Contains-filter (wants (Process p)) es x here (eq-eqb _ _ owner)),
+  λ here. (Contains-from_filter (wants (Process p)) es x (Contains-permutation own (filter (wants (Process p)) es) x
+      (IsPermutation-sym (filter (wants (Process p)) es) own moved) here)).0,
 )
+
+-- sets with the same events of the process agree
+agree_of_same : (p : ℕ) (A B : Event → Type 0) → ((x : Event) → x.process ≡ p → A x ↔ B x) → Agree p A B
+agree_of_same p A B same = (
+  record {
+    opens = λ x owner opens here. (same x owner).0 here;
+    others = λ x owner tracks here. (x, (same x owner).0 here, if_alike true x);
+  },
+  record {
+    opens = λ x owner opens here. (same x owner).1 here;
+    others = λ x owner tracks here. (x, (same x owner).1 here, if_alike true x);
+  },
+)
+
+-- all events agree with those that are wanted of the open handles of the process
+module _ (p : ℕ) (es own : List Event) (moved : IsPermutation (wanted (OpenHandles p) es) own) where
+  abbrev trim : Event → Event
+  trim = as_needed (OpenHandles p)
+
+  abbrev kept : List Event
+  kept = filter (wants (OpenHandles p)) es
+
+  in_own : (x : Event) → x.process ≡ p → tracks_handles x.kind ≡ true → Contains es x → Contains own (trim x)
+  in_own x owner tracks here =
+      let wants_it : wants (OpenHandles p) x ≡ true = rw (tracks, eq-eqb x.process p owner) refl in
+      Contains-permutation (map trim kept) own (trim x) moved
+      (Contains-map trim kept x (Contains-filter (wants (OpenHandles p)) es x here wants_it))
+
+  from_own : (x : Event) → Contains own x → (y : Event) × Contains es y × (trim y ≡ x)
+  from_own x here =
+      let (y, there, is) = Contains-from_map trim kept x
+      (Contains-permutation own (map trim kept) x (IsPermutation-sym (map trim kept) own moved) here) in
+      (y, (Contains-from_filter (wants (OpenHandles p)) es y there).0, is)
+
+  agree_on_open : Agree p (Contains es) (Contains own)
+  agree_on_open = (
+    record {
+      opens = λ x owner opens here. subst (Contains own) (open_as_needed p x opens) (in_own x owner (ap tracks_handles opens) here);
+      others = λ x owner tracks here. (trim x, in_own x owner tracks here, alike_as_needed (OpenHandles p) x);
+    },
+    record {
+      opens = λ x owner opens here.
+          let (y, there, is) = from_own x here in
+          let same = alike_as_needed (OpenHandles p) y in
+          let opened : y.kind ≡ Opened = same.kind ∙ ap (λ (e : Event). e.kind) is ∙ opens in
+          subst (Contains es) (sym (open_as_needed p y opened) ∙ is) there;
+      others = λ x owner tracks here.
+          let (y, there, is) = from_own x here in
+          (y, there, subst (λ (e : Event). AreAlike e y) is (alike_turned y (trim y) (alike_as_needed (OpenHandles p) y)));
+    },
+  )
+    where
+      alike_turned : (x y : Event) → AreAlike x y → AreAlike y x
+      alike_turned x y a = record { sequence = sym a.sequence; kind = sym a.kind; process = sym a.process; handle = sym a.handle }
+
+-- sets that agree have the same answers about open handles
+same_open_handles : (p : ℕ) (es own : List Event) → Agree p (Contains es) (Contains own) → HaveSameOpenHandles p es own
+same_open_handles p es own same =
+    let A = Contains es in
+    let B = Contains own in
+    let back : Agree p B A = turned p A B same in
+    record {
+      outstanding = λ rows. (outstanding_too p A B rows same, outstanding_too p B A rows back);
+      mark = λ n. (greatest p A B Snapshot n refl same, greatest p B A Snapshot n refl back);
+      diff = λ since rows. (diff_too p since A B rows same, diff_too p since B A rows back);
+      leaks = λ since least rows. (leaks_too p since least A B rows same, leaks_too p since least B A rows back);
+      growth = λ span points rows. growth_same p span points es own rows same;
+    }
+
+-- answers about open handles need what is wanted of them alone
+pub open_handles_need_wanted : (process : ℕ) (events own : List Event) → IsPermutation (wanted (OpenHandles process) events) own
+    → HaveSameOpenHandles process events own
+open_handles_need_wanted p es own moved = same_open_handles p es own (agree_on_open p es own moved)
 
 -- answers about a process need its own events alone
 pub process_needs_its_own : (process : ℕ) (events own : List Event) → IsPermutation (wanted (Process process) events) own
     → ProcessNeedsItsOwn process events own
 process_needs_its_own p es own moved =
+    let here = rw (all_of_process p (filter (wants (Process p)) es)) at moved in
+    let same = same_events p es own here in
     let A = Contains es in
     let B = Contains own in
-    let same : Agree p A B = agrees p es own moved in
-    let back : Agree p B A = turned p A B same in
     record {
-      outstanding = λ rows. (outstanding_too p A B rows same, outstanding_too p B A rows back);
-      mark = λ n. (greatest p A B Snapshot n same, greatest p B A Snapshot n back);
-      diff = λ since rows. (diff_too p since A B rows same, diff_too p since B A rows back);
+      open_handles = same_open_handles p es own (agree_of_same p A B same);
       listing = λ handle rows. lists_same (λ e. A e × IsOfHandle p (base_of handle) e) (λ e. B e × IsOfHandle p (base_of handle) e) rows
           (λ e. (λ h. ((same e h.1.owner).0 h.0, h.1), λ h. ((same e h.1.owner).1 h.0, h.1)));
-      leaks = λ since least rows. (leaks_too p since least A B rows same, leaks_too p since least B A rows back);
-      growth = λ span points rows. growth_same p span points es own rows same;
       bad = λ rows. lists_same _ _ rows (λ row.
           let counts = count_where_same (has_stack row.1) (wants (Process p)) (Bad p row.0)
           (λ sign e counted. eq-eqb _ _ (sym (bad_owner e.kind p row.0 sign e counted))) es
-          ∙ count_where-IsPermutation (has_stack row.1) (wanted (Process p) es) own moved (Bad p row.0) in
+          ∙ count_where-IsPermutation (has_stack row.1) (filter (wants (Process p)) es) own here (Bad p row.0) in
           (λ h. (h.0 ∙ ap (λ (c : Count). c.plus) counts, h.1), λ h. (h.0 ∙ ap (λ (c : Count). c.plus) (sym counts), h.1)));
     }
 
@@ -204,11 +342,12 @@ process_needs_its_own p es own moved =
 pub object_needs_its_own : (object : ℕ) (events own : List Event) → IsPermutation (wanted (Object object) events) own
     → ObjectNeedsItsOwn object events own
 object_needs_its_own o es own moved =
+    let here = rw (all_of_object o (filter (wants (Object o)) es)) at moved in
     let counts : (passes : Event → Bool) (tag : List ℕ) → count_where passes es (Tagged o tag)
     ≡ count_where passes own (Tagged o tag) =
     (λ passes tag. count_where_same passes (wants (Object o)) (Tagged o tag)
     (λ sign e counted. eq-eqb _ _ (sym (tagged_object e.kind o tag sign e counted))) es
-    ∙ count_where-IsPermutation passes (wanted (Object o) es) own moved (Tagged o tag)) in
+    ∙ count_where-IsPermutation passes (filter (wants (Object o)) es) own here (Tagged o tag)) in
     record {
       tags = λ rows. lists_same _ _ rows
           (same_rows (balance es o) (balance own o) IsPositive (λ tag. counts (λ e. true) tag));

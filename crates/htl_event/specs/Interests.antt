@@ -1,8 +1,10 @@
--- What a question asks about, a process or an object, and that its answer depends on the events of that alone.
-use Rattle.std.specs.Prelude.{ℕ, Bool, List, Option, ◌==◌, ◌↔◌, Contains, filter}
+-- What a question asks about, and that its answer depends on the events of that alone.
+use Rattle.std.specs.Prelude.{ℕ, Bool, true, false, ◌&&◌, ◌==◌, if◌then◌else◌, List, [], Option, ◌↔◌, Contains, filter, map}
 use Rattle.htl_event.specs.Events.{Event}
 use Rattle.htl_event.specs.declared.interest.Interest.{Interest}
-use Rattle.htl_event.specs.declared.interest.Interest.TheVariants.{Process, Object}
+use Rattle.htl_event.specs.declared.interest.Interest.TheVariants.{Process, OpenHandles, Object}
+use Rattle.htl_event.specs.declared.kind.Kind.{Kind}
+use Rattle.htl_event.specs.declared.kind.Kind.TheVariants.{Opened, Closed, Snapshot, Exited}
 use Rattle.htl_event.specs.declared.growth.Point.{Point}
 use Rattle.htl_event.specs.declared.growth.Span.{Span}
 use Rattle.htl_event.specs.declared.slot.Count.{Count}
@@ -10,29 +12,64 @@ use Rattle.htl_event.specs.Handles.{IsOutstanding, IsMark, IsDiff, IsListing}
 use Rattle.htl_event.specs.Growth.{IsGrowth}
 use Rattle.htl_event.specs.Tallies.{IsTags, IsStacks, IsBad, IsLeaksSince}
 
+-- what tells which handles are open: opens and closes, exits, which close all handles of their process, and snapshots
+abbrev pub tracks_handles : Kind → Bool
+tracks_handles Opened = true
+tracks_handles Closed = true
+tracks_handles Snapshot = true
+tracks_handles Exited = true
+tracks_handles other = false
+
 -- the event is one of those that are asked about
 abbrev pub wants : Interest → Event → Bool
 wants (Process process) e = e.process == process
+wants (OpenHandles process) e = e.process == process && tracks_handles e.kind
 wants (Object object) e = e.object == object
 
-abbrev pub wanted : Interest → List Event → List Event
-wanted interest events = filter (wants interest) events
+-- The question needs the stack of such an event. An answer about open handles has those of opens alone.
+abbrev pub needs_stack : Interest → Kind → Bool
+needs_stack (OpenHandles process) Opened = true
+needs_stack (OpenHandles process) other = false
+needs_stack interest kind = true
 
--- the answers about a process over all events are those over its own events, in whatever order
-pub record ProcessNeedsItsOwn (process : ℕ) (events own : List Event) : Type 0 where
+abbrev pub without_stack : Event → Event
+without_stack e = record {
+  sequence = e.sequence;
+  kind = e.kind;
+  process = e.process;
+  thread = e.thread;
+  handle = e.handle;
+  object = e.object;
+  tag = e.tag;
+  stack = [];
+}
+
+abbrev pub as_needed : Interest → Event → Event
+as_needed interest e = if needs_stack interest e.kind then e else without_stack e
+
+-- the events that are asked about, each as the question needs it
+abbrev pub wanted : Interest → List Event → List Event
+wanted interest events = map (as_needed interest) (filter (wants interest) events)
+
+-- the answers about the open handles of a process are the same over both lists
+pub record HaveSameOpenHandles (process : ℕ) (events own : List Event) : Type 0 where
   pub outstanding :
       (rows : List Event) → IsOutstanding (Contains events) process rows ↔ IsOutstanding (Contains own) process rows
   pub mark : (n : ℕ) → IsMark (Contains events) process n ↔ IsMark (Contains own) process n
   pub diff : (since : ℕ) (rows : List Event) → IsDiff (Contains events) process since rows ↔ IsDiff (Contains own) process since rows
-  pub listing :
-      (handle : ℕ) (rows : List Event) → IsListing (Contains events) process handle rows
-      ↔ IsListing (Contains own) process handle rows
   pub leaks :
       (since : Option ℕ) (at_least : ℕ) (rows : List (List ℕ × ℕ)) → IsLeaksSince (Contains events) process since at_least rows
       ↔ IsLeaksSince (Contains own) process since at_least rows
   pub growth :
       (span : Option Span) (points : ℕ) (rows : List Point) → IsGrowth span points events process rows
       ↔ IsGrowth span points own process rows
+
+-- all answers about a process over all events are those over its own events, in whatever order
+pub record ProcessNeedsItsOwn (process : ℕ) (events own : List Event) : Type 0 where
+  pub open_handles : HaveSameOpenHandles process events own
+  pub listing :
+      (handle : ℕ) (rows : List Event) → IsListing (Contains events) process handle rows
+      ↔ IsListing (Contains own) process handle rows
   pub bad : (rows : List (ℕ × List ℕ × ℕ)) → IsBad events process rows ↔ IsBad own process rows
 
 -- the answers about an object over all events are those over its own events, in whatever order

@@ -1,10 +1,31 @@
 //! The events that a question asks about.
 
-/// The events that a question asks about. Its answer depends on them alone.
+use crate::kind::Kind;
+
+/// The events that a question asks about, and whether it needs their stacks. Its answer depends on
+/// nothing else.
 #[derive(Clone, Copy, Debug, PartialEq, Eq)]
 pub enum Interest {
     /// A process: the events that came in it.
     Process(u32),
+    /// The open handles of a process: its opens, closes, snapshots and exits. Only opens need their
+    /// stacks.
+    OpenHandles(u32),
     /// An object: the events that name it.
     Object(u64),
+}
+
+impl Interest {
+    ghost use Rattle.std.specs.Prelude.{◌≡◌};
+    ghost use Rattle.htl_event.specs.Interests.{needs_stack};
+
+    /// Whether the question needs the stack of an event of this kind.
+    pub fn needs_stack(self, kind: Kind) -> bool
+        ensures { result ≡ needs_stack self kind }
+    {
+        match self {
+            Interest::OpenHandles(_) => matches!(kind, Kind::Opened),
+            Interest::Process(_) | Interest::Object(_) => true,
+        }
+    }
 }

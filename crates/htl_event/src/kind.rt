@@ -22,6 +22,7 @@ pub enum Kind {
 impl Kind {
     ghost use Rattle.std.specs.Prelude.{◌≡◌};
     ghost use Rattle.htl_event.specs.Handles.{opens_or_closes};
+    ghost use Rattle.htl_event.specs.Interests.{tracks_handles};
     ghost use Rattle.htl_event.specs.Words.{word_of};
 
     /// Whether such an event opens or closes a handle.
@@ -29,6 +30,17 @@ impl Kind {
         ensures { result ≡ opens_or_closes self }
     {
         matches!(self, Kind::Opened | Kind::Closed)
+    }
+
+    /// Whether such an event tells which handles are open: it opens or closes some, or marks a
+    /// starting state.
+    pub fn tracks_handles(self) -> bool
+        ensures { result ≡ tracks_handles self }
+    {
+        matches!(
+            self,
+            Kind::Opened | Kind::Closed | Kind::Snapshot | Kind::Exited
+        )
     }
 
     /// The word that listings and texts have for such an event.

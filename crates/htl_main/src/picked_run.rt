@@ -39,10 +39,11 @@ pub fn interest(job: &Job) -> Option<Interest>
         Question::Summary => None,
         Question::Outstanding { process }
         | Question::Diff { process, .. }
-        | Question::Bad { process }
         | Question::Leaks { process, .. }
-        | Question::Trace { process, .. }
-        | Question::Growth { process, .. } => Some(Interest::Process(process)),
+        | Question::Growth { process, .. } => Some(Interest::OpenHandles(process)),
+        Question::Bad { process } | Question::Trace { process, .. } => {
+            Some(Interest::Process(process))
+        }
         Question::Tags { object } | Question::Stacks { object, .. } => {
             Some(Interest::Object(object))
         }

@@ -1,11 +1,11 @@
 -- Picks of one segment more.
 use Rattle.std.proofs.Common.{◌≡◌, List, [], ◌∷◌, ◌++◌, map, append_assoc, sym, ap, ◌∙◌, Vec, Global}
 use Rattle.std.proofs.lemmas.List.{append-nil, map-append}
-use Rattle.std.proofs.lemmas.List.Elements.{filter-append}
 use Rattle.std.proofs.lemmas.Grind.{flat_map-append}
 use Rattle.htl_event.specs.Events.{Event}
-use Rattle.htl_event.specs.Interests.{wants, wanted}
+use Rattle.htl_event.specs.Interests.{wanted}
 use Rattle.htl_event.specs.declared.interest.Interest.{Interest}
+use Rattle.htl_event.proofs.WantedLists.{wanted-append}
 use Rattle.htl_segment.specs.Content.{Content}
 use Rattle.htl_segment.specs.Outlines.{outline_of}
 use Rattle.htl_segment.specs.Picks.{events_in}
@@ -20,7 +20,7 @@ one_more_segment segments s =
 wanted_more : (interest : Interest) (segments : List Content) (s : Content)
     → wanted interest (all_events (segments ++ s ∷ [])) ≡ wanted interest (all_events segments) ++ wanted interest s.events
 wanted_more interest segments s =
-    ap (wanted interest) (one_more_segment segments s) ∙ filter-append (wants interest) (all_events segments) s.events
+    ap (wanted interest) (one_more_segment segments s) ∙ wanted-append interest (all_events segments) s.events
 
 -- the sequences of one more segment come last
 pub sequences_more : (segments : List Content) (s : Content)
@@ -80,7 +80,7 @@ pub both_events : (interest : Interest) (events others next : List Event) (segme
     → next ≡ wanted interest (all_events (segments ++ more))
 both_events interest events others next segments more so_far also appended =
     appended ∙ ap (λ before. before ++ others) so_far ∙ ap (λ after. wanted interest (all_events segments) ++ after) also
-    ∙ sym (ap (wanted interest) (two_lists segments more) ∙ filter-append (wants interest) (all_events segments) (all_events more))
+    ∙ sym (ap (wanted interest) (two_lists segments more) ∙ wanted-append interest (all_events segments) (all_events more))
 
 -- the sequences of two lists, one after the other
 pub both_sequences : (segments more : List Content)

@@ -86,7 +86,7 @@ impl<'a> Record<'a> {
 
 impl Record<'_> {
     ghost use Rattle.std.specs.Prelude.{◌≡◌, IfOk};
-    ghost use Rattle.htl_event.specs.Interests.{wants};
+    ghost use Rattle.htl_event.specs.Interests.{as_needed, wants};
     ghost use Rattle.htl_segment.specs.Records.{event_of};
 
     /// Whether the question asks about this event.
@@ -95,8 +95,22 @@ impl Record<'_> {
     {
         match interest {
             Interest::Process(process) => self.process == process,
+            Interest::OpenHandles(process) => {
+                self.process == process && self.kind.tracks_handles()
+            }
             Interest::Object(object) => self.object == object,
         }
+    }
+
+    /// The record, without its frames if the question doesn't need them.
+    pub(crate) fn as_needed(mut self, interest: Interest) -> Self
+        ensures { event_of result ≡ as_needed interest (event_of self.entry) }
+    {
+        if interest.needs_stack(self.kind) {
+            return self;
+        }
+        self.frames = &[];
+        self
     }
 
     /// The event that this record describes, with a stack of the cache.

@@ -258,7 +258,7 @@ fn pick(
         last = record.sequence;
         seen.note(last)?;
         if record.is_wanted(interest) {
-            put(alloc, cache, &mut batch, events, record)?;
+            put(alloc, cache, &mut batch, events, record.as_needed(interest))?;
         }
     }
     share_all(alloc, cache, &batch, events)?;

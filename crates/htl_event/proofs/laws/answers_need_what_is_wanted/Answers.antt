@@ -1,9 +1,12 @@
 -- Answers over events that agree on a process or an object are the same.
-use Rattle.htl_event.proofs.Wanted.{process_needs_its_own, object_needs_its_own}
+use Rattle.htl_event.proofs.Wanted.{process_needs_its_own, open_handles_need_wanted, object_needs_its_own}
 use Rattle.htl_event.proofs.laws.answers_need_what_is_wanted.Goals as goal
 
 pub returns-clause-process : goal.returns-clause-process
 returns-clause-process c = process_needs_its_own
+
+pub returns-clause-open_handles : goal.returns-clause-open_handles
+returns-clause-open_handles c = open_handles_need_wanted
 
 pub returns-clause-object : goal.returns-clause-object
 returns-clause-object c = object_needs_its_own

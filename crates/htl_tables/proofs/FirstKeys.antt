@@ -1,4 +1,4 @@
--- Events noted in the order of their sort keys: of each handle the first leaves what is there.
+-- Of events noted in the order of their sort keys, the first of each handle leaves what is there.
 use Rattle.std.proofs.Common.{◌≡◌, ℕ, ◌+◌, Bool, true, false, ◌==◌, ◌&&◌, ◌<◌, ◌≤◌, List, length, Option}
 use Rattle.std.proofs.Common.{Some, None, sym, ap, ◌∙◌, inl, inr, arith, subst, slice_get, IsSorted}
 use Rattle.std.specs.Ordering.{is_lt}
@@ -18,6 +18,7 @@ use Rattle.htl_tables.proofs.SortKeyOrder.{no_later-trans, sorted_no_later, in_o
 use Rattle.htl_tables.proofs.FlatPlaces.{flat_place, flat_place-le, stands_flat, flat_stands}
 use Rattle.htl_tables.proofs.FirstNoted.{FirstIs, FirstIs-noted, FirstIs-unique}
 
+-- the sort key of an event that opens or closes a handle is of this handle
 pub key_of_event : (process base : ℕ) (e : Event) (r i : ℕ) → opens_or_closes_base process base e ≡ true
     → HasHandle process base (sort_key_of e r i)
 key_of_event process base e r i c =
@@ -25,6 +26,7 @@ key_of_event process base e r i c =
     (and_parts (opens_or_closes e.kind) (e.process == process && base_of e.handle == base) c).1 in
     record { owner = eqb-true e.process process key.0; handle = eqb-true (base_of e.handle) base key.1 }
 
+-- an event that opens or closes the handle of a process is an open or a close
 pub opens_of : (process base : ℕ) (e : Event) → opens_or_closes_base process base e ≡ true → opens_or_closes e.kind ≡ true
 opens_of process base e c = (and_parts (opens_or_closes e.kind) (e.process == process && base_of e.handle == base) c).0
 

@@ -15,10 +15,12 @@ get_rest (y ∷ ys) (suc m) i x at =
     ap (slice_get (y ∷ ys)) next ∙ get_rest ys m i x at
 
 module _ (all : List SortKey) (n : ℕ) (keys : List SortKey) (stand : StandFrom all n keys) where
+  -- the first m of some keys stand among all where these keys do
   pub first_stand : (m : ℕ) → StandFrom all n (take m keys)
   first_stand m i k at = stand i k (ap (λ (ks : List SortKey). slice_get ks i) (sym (take-append-drop m keys))
       ∙ get_left (take m keys) (drop m keys) i k at)
 
+  -- the keys after the first m stand among all, m places further on
   pub rest_stand : (m : ℕ) → StandFrom all (n + m) (drop m keys)
   rest_stand m i k at =
       let place : n + m + i ≡ n + (m + i) = omega arith in

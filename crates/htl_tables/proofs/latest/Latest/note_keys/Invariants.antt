@@ -1,4 +1,4 @@
--- Whatever candidates the keys stand among: where the first of them had been noted, these are, too, as far as they were noted.
+-- Whatever candidates the keys stand among: where all before them had been noted, these are, block by block.
 use Rattle.std.proofs.Common.{ℕ, List, ◌+◌, ◌-◌, ◌≤◌, length, IsSorted}
 use Rattle.htl_tables.specs.declared.sort_key.SortKey.{SortKey}
 use Rattle.htl_tables.specs.OfProcess.{touches}

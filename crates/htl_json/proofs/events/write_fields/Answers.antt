@@ -1,4 +1,4 @@
--- Each call adds its field.
+-- The word, the handle, the sequence and the thread are added one after the other as the fields of an event.
 use Rattle.std.proofs.Common.{◌++◌, ◌∷◌, [], codes}
 use Rattle.std.proofs.lemmas.Result.{on_ok_weaker}
 use Rattle.json.specs.Json.{string}

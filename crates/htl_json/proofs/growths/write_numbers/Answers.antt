@@ -1,4 +1,4 @@
--- Each call adds its field.
+-- The sequence and the number of handles are added one after the other as the fields of a point.
 use Rattle.std.proofs.Common.{◌∷◌, [], codes}
 use Rattle.std.proofs.lemmas.Result.{on_ok_weaker}
 use Rattle.htl_json.proofs.Line.{fields_then}

@@ -1,4 +1,4 @@
--- The fields are those of the line.
+-- The numbers that are written are the fields of a point's line.
 use Rattle.std.proofs.lemmas.Result.{on_ok_weaker}
 use Rattle.htl_json.proofs.Line.{line_added}
 use Rattle.htl_json.specs.Rows.{point_fields}

@@ -1,4 +1,4 @@
--- The fields are those of the line.
+-- The object and the end that are written are the fields of the first line about tags.
 use Rattle.std.proofs.Common.{◌++◌, codes}
 use Rattle.std.proofs.lemmas.Result.{on_ok_weaker}
 use Rattle.htl_json.proofs.Line.{fields_then, line_added}

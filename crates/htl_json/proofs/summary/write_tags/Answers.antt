@@ -1,4 +1,4 @@
--- Each call adds its field.
+-- The word, the object and the numbers of its tags are added one after the other as the first fields of its line.
 use Rattle.std.proofs.Common.{◌++◌, ◌∷◌, [], codes}
 use Rattle.std.proofs.lemmas.Result.{on_ok_weaker}
 use Rattle.json.specs.Json.{string}

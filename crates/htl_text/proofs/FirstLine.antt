@@ -85,11 +85,13 @@ unfolding lines_of_text kept words_of is_skipped
 kept_no_rest text (inr (z, zs, rest, parts)) is = cc
 kept_no_rest text (inl (none, parts)) is = rw parts refl
 
+-- where a text has a line feed, its lines that aren't skipped are those of the first line and of the bytes behind the feed
 pub kept_line_then_rest : (text front back : List ℕ) (len y : ℕ) (ys line : List ℕ) → len ≡ line_end text → front ≡ take len text
     → back ≡ drop len text → back ≡ y ∷ ys → line ≡ strip_carriage_return front → kept (lines_of_text text) ≡ kept (line ∷ lines_of_text ys)
 kept_line_then_rest text front back len y ys line e f b is l =
     rw (l, f, e) (kept_then_rest text y ys (is_cut text) (ap (λ k. drop k text) (sym e) ∙ (sym b ∙ is)))
 
+-- where a text has no line feed, its lines that aren't skipped are those of its only line
 pub kept_last_line : (text front back : List ℕ) (len : ℕ) (line : List ℕ) → len ≡ line_end text → front ≡ take len text
     → back ≡ drop len text → length back ≡ 0 → line ≡ strip_carriage_return front → kept (lines_of_text text) ≡ kept (line ∷ lines_of_text back)
 kept_last_line text front back len line e f b none l =
@@ -139,12 +141,14 @@ events_no_rest text (inr (z, zs, rest, parts)) is segment n = cc
 events_no_rest text (inl (none, parts)) is segment n =
     ap (event_lines segment n) (alone text parts) ∙ events_one segment n (strip_carriage_return (take (line_end text) text))
 
+-- where a text has a line feed, its lines of events are those of the first line and of the bytes behind the feed
 pub events_line_then_rest : (text front back : List ℕ) (len y : ℕ) (ys line : List ℕ) → len ≡ line_end text → front ≡ take len text
     → back ≡ drop len text → back ≡ y ∷ ys → line ≡ strip_carriage_return front → (segment n : ℕ)
     → event_lines segment n (lines_of_text text) ≡ event_lines segment n (line ∷ lines_of_text ys)
 events_line_then_rest text front back len y ys line e f b is l =
     rw (l, f, e) (events_then_rest text y ys (is_cut text) (ap (λ k. drop k text) (sym e) ∙ (sym b ∙ is)))
 
+-- where a text has no line feed, its lines of events are those of its only line
 pub events_last_line : (text front back : List ℕ) (len : ℕ) (line : List ℕ) → len ≡ line_end text → front ≡ take len text
     → back ≡ drop len text → length back ≡ 0 → line ≡ strip_carriage_return front → (segment n : ℕ)
     → event_lines segment n (lines_of_text text) ≡ event_lines segment n (line ∷ lines_of_text back)

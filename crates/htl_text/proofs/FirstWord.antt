@@ -57,6 +57,7 @@ words_begin (x ∷ xs) rest is some = by_case (words_begin xs) (is_blank x) refl
     by_case more true e = word_skipped x xs e ∙ more rest (is ∙ start_skipped x xs e) some
     by_case more false e = rw (is ∙ start_here x xs e) (word_taken x xs e)
 
+-- a line of blanks alone has no words
 pub no_words : (line : List ℕ) → length (drop (word_start line) line) ≡ 0 → words_of line ≡ []
 unfolding words_of
 no_words [] none = refl
@@ -66,6 +67,7 @@ no_words (x ∷ xs) none = by_case (no_words xs) (is_blank x) refl
     by_case more true e = word_skipped x xs e ∙ more (ap length (sym (start_skipped x xs e)) ∙ none)
     by_case more false e = absurd (omega (arith, ap length (start_here x xs e), none))
 
+-- one and a number are the next number
 pub one_more : (n : ℕ) → 1 + n ≡ suc n
 one_more n = omega arith
 

@@ -1,4 +1,4 @@
--- A fault of all segments as one of the run, and that no other fault is about two segments.
+-- A fault of all segments is one of the run, about two of them, and no other fault is about two segments.
 use Rattle.std.proofs.Common.{◌≡◌, ℕ, List, Option, refl, inl, inr}
 use Rattle.std.specs.Prelude.{Err}
 use Rattle.htl_command.specs.declared.question.InputForm.{InputForm}
@@ -30,6 +30,7 @@ no_memory_between form inputs segments Nothing is = refl
 no_memory_between form inputs segments (Two first second) is = absurd is.broken
 no_memory_between form inputs segments Unknown is = absurd cc
 
+-- where the two segments of a case's fault are told of the decoded segments, they are told of the inputs
 pub between_of_case : (form : InputForm) (inputs : List (List ℕ)) (segments : List Content) (fault : CaseFault) (between : Between)
     → DecodeAll form inputs segments → IsBetweenOf form inputs segments fault between → IsBetween form inputs (of_case fault) between
 between_of_case form inputs segments NoMemory between decoded is = no_memory_between form inputs segments between is

@@ -70,10 +70,12 @@ least_sequence s first fit at = record {
 
 -- ---- going through the segments for another one
 
+-- all segments before the place that have the key, or an event of the sequence, are this one
 abbrev pub AreOneBefore : Shared → List Content → Content → ℕ → Type 0
 AreOneBefore shared segments one place =
     (k : ℕ) (s : Content) → k < place → slice_get segments k ≡ Some s → has_shared shared s ≡ true → s ≡ one
 
+-- where the segment at the place is this one, or hasn't the key or the sequence, all of one place more are this one
 pub one_more : (shared : Shared) (segments : List Content) (one here : Content) (place : ℕ) → slice_get segments place ≡ Some here
     → (has_shared shared here ≡ true → here ≡ one) → AreOneBefore shared segments one place
     → AreOneBefore shared segments one (place + 1)
@@ -84,6 +86,7 @@ one_more shared segments one here place at same before = λ k s below there has.
   | inr ne ↦ before k s (omega (arith, below, ne)) there has
 ]
 
+-- past the last place, all segments that have the key or the sequence are this one
 pub one_of_all : (shared : Shared) (segments : List Content) (one : Content) (place : ℕ) → length segments ≤ place
     → AreOneBefore shared segments one place → HaveOne shared segments one
 one_of_all shared segments one place long before = λ s h has.
@@ -139,6 +142,7 @@ contents_pair segments processor number (Some pair) refusal two = record {
   );
 }
 
+-- the two segments found for a sequence that comes twice break the rule, and where none are found the fault is of no two
 pub sequence_pair : (segments : List Content) (sequence : ℕ) (found : Option (ℕ × ℕ)) → IsRefusal segments (SequenceTwice sequence)
     → MatchOption found (AreOne (Sequence sequence) segments) (λ pair. AreTwoAt segments (Sequence sequence) pair.0 pair.1)
     → MatchOption found (is_about_two (SequenceTwice sequence) ≡ false)
@@ -178,12 +182,14 @@ module _ (segments : List Content) (processor number : ℕ) where
       content falls.segment s falls.has_segment (at_place segments place s at)
       (falls.segment_key ∙ sym (key_is processor number s has))
 
+  -- a key whose segment has no events doesn't fall
   pub no_event : HaveOneContent segments → (place : ℕ) (s : Content) → slice_get segments place ≡ Some s
       → has_shared (Key processor number) s ≡ true → s.events ≡ [] → Falls segments (processor, number) → ⊥
   no_event content place s at has none falls =
       let is = segment_is content place s at has falls in
       Contains-nil falls.event (subst (λ (es : List Event). Contains es falls.event) (ap (λ (t : Content). t.events) is ∙ none) falls.has_event)
 
+  -- a key doesn't fall where no segment of a lower number reaches the least sequence of its segment
   pub no_lower : HaveOneContent segments → (place : ℕ) (s : Content) → slice_get segments place ≡ Some s
       → has_shared (Key processor number) s ≡ true → (floor : ℕ) → IsLeastSequence s.events floor
       → NonePasses (reaches processor number floor) segments → Falls segments (processor, number) → ⊥
@@ -203,6 +209,7 @@ module _ (segments : List Content) (processor number : ℕ) where
       let here : (falls.lower.processor == processor) ≡ true = eq-eqb falls.lower.processor processor p in
       none falls.lower falls.has_lower (both_true here (both_true (lt-ltb falls.lower.number number n) any))
 
+  -- a segment of a lower number that reaches the least sequence of the key's segment breaks the rule with it
   pub fall_found : (place : ℕ) (s : Content) → slice_get segments place ≡ Some s → has_shared (Key processor number) s ≡ true
       → (floor : ℕ) → IsLeastSequence s.events floor → (lower : ℕ) → PassesAt (reaches processor number floor) segments lower
       → BreakRuleAt segments (Falling processor number) place lower

@@ -1,4 +1,4 @@
--- What is said of a question's run is how it ended.
+-- What is said of a question's run is how the run ended.
 use Rattle.std.proofs.Common.{rules}
 use Rattle.htl_program.proofs.Told.{run_told}
 use Rattle.htl_program.proofs.commands.do_answer.Goals as goal

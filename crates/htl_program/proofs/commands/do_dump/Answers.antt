@@ -1,4 +1,4 @@
--- What is said of a dump is how it ended.
+-- What is said of a dump is how the dump ended.
 use Rattle.std.proofs.Common.{rules}
 use Rattle.htl_program.proofs.Told.{run_told}
 use Rattle.htl_program.proofs.commands.do_dump.Goals as goal

@@ -1,4 +1,4 @@
--- What is said of an encoding is how it ended.
+-- What is said of an encoding is how the encoding ended.
 use Rattle.std.proofs.Common.{rules}
 use Rattle.htl_program.proofs.Told.{run_told}
 use Rattle.htl_program.proofs.commands.encode_into.Goals as goal

@@ -13,6 +13,7 @@ use Rattle.htl_text.specs.Steps.{Progress, closed, read, go_on, after_words, Sta
 use Rattle.htl_text.specs.Words.{is_feed, line_end}
 use Rattle.htl_text.proofs.FirstWord.{one_more, position_or_length}
 
+-- the place of the first line feed, or else the length of the text, is where its first line ends
 pub line_end_found : (text : List ℕ) → unwrap_or (position is_feed text) (length text) ≡ line_end text
 line_end_found text =
     position_or_length is_feed text ∙ sym (is_position_or_len line_end is_feed refl (λ x xs. rw (one_more (line_end xs)) refl) text)

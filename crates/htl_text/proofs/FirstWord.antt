@@ -94,8 +94,10 @@ position_or_length p xs = by_case (nat_lt (position_or_len p xs) (length xs)) re
     by_case true e = rw e refl
     by_case false e = rw e (not_below (position_or_len p xs) (length xs) (prefix_len-le-length (λ x. not (p x)) xs) e)
 
+-- the place of the first blank, or else the length of the line, is where the word in front ends
 pub word_end_found : (line : List ℕ) → unwrap_or (position is_blank line) (length line) ≡ word_end line
 word_end_found line = position_or_length is_blank line ∙ sym (word_end_place line)
 
+-- the place of the first byte that is no blank, or else the length of the line, is where the first word begins
 pub word_start_found : (line : List ℕ) → unwrap_or (position (λ b. not (is_blank b)) line) (length line) ≡ word_start line
 word_start_found line = position_or_length (λ b. not (is_blank b)) line ∙ sym (word_start_place line)

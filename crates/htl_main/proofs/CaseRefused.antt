@@ -19,6 +19,7 @@ use Rattle.htl_main.specs.declared.fault.RunFault.TheVariants.{Case}
 use Rattle.htl_main.specs.declared.origin.Between.{Between}
 use Rattle.htl_main.specs.declared.origin.Between.TheVariants.{Nothing, Two, Unknown}
 
+-- why segments are refused as a case is why nothing is printed of them
 pub cause_of_case : (segments : List Content) (fault : CaseFault) → IsRefusal segments fault
     → (symbols : Option (List ℕ)) (job : Job) → IsCauseAfter segments symbols job (of_case fault)
 cause_of_case segments NoMemory refusal symbols job = inl refusal

@@ -59,6 +59,7 @@ first_least version low (x ∷ es) first fit at e h =
       | inr there ↦ (let up = above version x.sequence es fit.2 e there in omega (arith, up, same))
     ]
 
+-- the first event of a segment that fits has the least sequence
 pub least_sequence : (s : Content) (first : Event) → Fits s → slice_get s.events 0 ≡ Some first
     → IsLeastSequence s.events first.sequence
 least_sequence s first fit at = record {
@@ -92,6 +93,7 @@ pub one_of_all : (shared : Shared) (segments : List Content) (one : Content) (pl
 one_of_all shared segments one place long before = λ s h has.
     before h.0 s (let within = h.1 in omega (arith, long, within)) (member_at segments s h) has
 
+-- where all segments that have the key or the sequence are this one, they are one
 pub are_one : (shared : Shared) (segments : List Content) (one : Content) → HaveOne shared segments one → AreOne shared segments
 are_one shared segments one have = λ s t h k p q. have s h p ∙ sym (have t k q)
 
@@ -122,6 +124,7 @@ sequence_is sequence s has =
 
 -- ---- the pair of each fault
 
+-- the two segments found for a key with two contents break the rule, and where none are found the fault is of no two
 pub contents_pair : (segments : List Content) (processor number : ℕ) (found : Option (ℕ × ℕ)) → IsRefusal segments (TwoContents processor number)
     → MatchOption found (AreOne (Key processor number) segments) (λ pair. AreTwoAt segments (Key processor number) pair.0 pair.1)
     → MatchOption found (is_about_two (TwoContents processor number) ≡ false)
@@ -163,6 +166,7 @@ sequence_pair segments sequence (Some pair) refusal two = record {
   );
 }
 
+-- the two segments found for a key that falls break the rule, and where none are found the fault is of no two
 pub falling_pair : (segments : List Content) (processor number : ℕ) (found : Option (ℕ × ℕ)) → IsRefusal segments (Falling processor number)
     → MatchOption found (Falls segments (processor, number) → ⊥) (λ pair. BreakRuleAt segments (Falling processor number) pair.0 pair.1)
     → MatchOption found (is_about_two (Falling processor number) ≡ false)
@@ -173,6 +177,7 @@ falling_pair segments processor number (Some pair) refusal two = two
 -- ---- a segment that falls, and one of a lower number
 
 module _ (segments : List Content) (processor number : ℕ) where
+  -- a key that no segment has doesn't fall
   pub no_key : NonePasses (has_shared (Key processor number)) segments → Falls segments (processor, number) → ⊥
   no_key none falls = none falls.segment falls.has_segment (has_key processor number falls.segment falls.segment_key)
 

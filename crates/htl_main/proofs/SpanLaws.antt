@@ -12,6 +12,7 @@ use Rattle.htl_main.specs.Inputs.{Decodes}
 use Rattle.htl_main.specs.Spans.{AreSpans, span_at}
 use Rattle.htl_main.specs.declared.decoded.InputSpan.{InputSpan}
 
+-- no spans tell of no segments
 pub no_spans : (form : InputForm) (inputs : List (List ℕ)) → AreSpans form inputs [] []
 no_spans form inputs = record { within = All-nil _; each = λ place s at. absurd cc }
 

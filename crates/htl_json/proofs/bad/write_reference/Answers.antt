@@ -1,4 +1,4 @@
--- The handle, the number and the stack that are written are the fields of a bad reference's line.
+-- The fields of a bad reference's line: the handle and how often it was named, and the stack.
 use Rattle.std.proofs.Common.{◌++◌}
 use Rattle.std.proofs.lemmas.Result.{on_ok_weaker}
 use Rattle.htl_json.proofs.Line.{fields_then, line_added}

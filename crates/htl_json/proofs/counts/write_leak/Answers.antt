@@ -1,4 +1,4 @@
--- The number of handles and the stack that are written are the fields of a leaking stack's line.
+-- The fields of a line of `leaks`: the number of handles, and the stack.
 use Rattle.std.proofs.Common.{◌++◌}
 use Rattle.std.proofs.lemmas.Result.{on_ok_weaker}
 use Rattle.htl_json.proofs.Line.{fields_then, line_added}

@@ -1,4 +1,4 @@
--- The word, the handle, the sequence and the thread are added one after the other as the fields of an event.
+-- An event's own fields, of which each call adds one: word, handle, sequence, thread.
 use Rattle.std.proofs.Common.{◌++◌, ◌∷◌, [], codes}
 use Rattle.std.proofs.lemmas.Result.{on_ok_weaker}
 use Rattle.json.specs.Json.{string}

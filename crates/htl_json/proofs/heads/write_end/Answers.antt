@@ -1,4 +1,4 @@
--- The moment, where one is given, and the number of rows are the fields that end a first line.
+-- The end of a first line: the moment, and then the number of rows.
 use Rattle.std.proofs.lemmas.Result.{on_ok_weaker}
 use Rattle.htl_json.proofs.Line.{fields_then}
 use Rattle.htl_json.specs.Heads.{count_field, until_fields}

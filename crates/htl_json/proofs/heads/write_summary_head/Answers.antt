@@ -1,4 +1,4 @@
--- The totals, the numbers of lines and the moment that are written are the fields of a summary's first line.
+-- The fields of the first line of a summary: the totals, how many rows of each kind there are, and the moment.
 use Rattle.std.proofs.Common.{◌++◌}
 use Rattle.std.proofs.lemmas.Result.{on_ok_weaker}
 use Rattle.htl_json.proofs.Line.{fields_then, line_added}

@@ -1,4 +1,4 @@
--- The totals are added one after the other as the fields of a summary's first line.
+-- What there is in all, of which each call adds one field.
 use Rattle.std.proofs.Common.{◌++◌, ◌∷◌, [], codes}
 use Rattle.std.proofs.lemmas.Result.{on_ok_weaker}
 use Rattle.json.specs.Json.{string}

@@ -1,4 +1,4 @@
--- The word, the processor and the first number are added one after the other as the fields of a processor without segments.
+-- The fields of a processor without a segment, of which each call adds one: row, processor, from.
 use Rattle.std.proofs.Common.{◌++◌, ◌∷◌, [], codes}
 use Rattle.std.proofs.lemmas.Result.{on_ok_weaker}
 use Rattle.json.specs.Json.{string}

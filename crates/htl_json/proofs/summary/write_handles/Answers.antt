@@ -1,4 +1,4 @@
--- The numbers of a process's handles are added one after the other as the first fields of its line.
+-- A process's first fields, of which each call adds one: row, process, outstanding, opens, closes.
 use Rattle.std.proofs.Common.{◌++◌, ◌∷◌, [], codes}
 use Rattle.std.proofs.lemmas.Result.{on_ok_weaker}
 use Rattle.json.specs.Json.{string}

@@ -1,4 +1,4 @@
--- The word, the object and the numbers of its tags are added one after the other as the first fields of its line.
+-- An object's first fields, of which each call adds one: row, object, tags, unbalanced.
 use Rattle.std.proofs.Common.{◌++◌, ◌∷◌, [], codes}
 use Rattle.std.proofs.lemmas.Result.{on_ok_weaker}
 use Rattle.json.specs.Json.{string}

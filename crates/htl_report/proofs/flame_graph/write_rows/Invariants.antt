@@ -1,4 +1,4 @@
--- The lines of the stacks so far were written, each in one line.
+-- The lines of the folded stacks so far were written.
 use Rattle.std.proofs.Common.{◌≡◌, ◌++◌, take}
 use Rattle.std.specs.List.{flat_map}
 use Rattle.htl_report.specs.Folded.{folded_line}

@@ -1,7 +1,7 @@
 -- What is said of a question's run is how the run ended.
 use Rattle.std.proofs.Common.{rules}
 use Rattle.htl_program.proofs.Told.{run_told}
-use Rattle.htl_program.proofs.commands.do_answer.Goals as goal
+use Rattle.htl_program.proofs.performing.do_answer.Goals as goal
 
 pub returns : goal.returns
 returns g c = record {

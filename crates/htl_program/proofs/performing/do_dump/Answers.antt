@@ -1,7 +1,7 @@
 -- What is said of a dump is how the dump ended.
 use Rattle.std.proofs.Common.{rules}
 use Rattle.htl_program.proofs.Told.{run_told}
-use Rattle.htl_program.proofs.commands.do_dump.Goals as goal
+use Rattle.htl_program.proofs.performing.do_dump.Goals as goal
 
 pub returns : goal.returns
 returns g c = record {

@@ -1,7 +1,7 @@
 -- A dialogue's end is said, and what its speaker heard is what the dialogue told.
 use Rattle.std.proofs.Common.{rules}
 use Rattle.htl_program.proofs.Told.{run_told}
-use Rattle.htl_program.proofs.commands.do_converse.Goals as goal
+use Rattle.htl_program.proofs.performing.do_converse.Goals as goal
 
 pub returns : goal.returns
 returns g c = record {

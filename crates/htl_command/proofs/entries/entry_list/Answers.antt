@@ -2,7 +2,7 @@
 use Rattle.std.proofs.Common.{◌∙◌}
 use Rattle.clap.specs.Words.{found_of}
 use Rattle.clap.proofs.WalkLemmas.{raw_values-rows}
-use Rattle.htl_command.proofs.reading.entry_list.Goals as goal
+use Rattle.htl_command.proofs.entries.entry_list.Goals as goal
 
 pub returns : goal.returns
 returns c = c.get_strs.ensures ∙ raw_values-rows (found_of c.args.entries.now) c.args.id.now

@@ -2,7 +2,7 @@
 use Rattle.std.proofs.Common.{map, string_bytes}
 use Rattle.clap.specs.Words.{app_of}
 use Rattle.htl_command.proofs.Described.{matches-entries, refused-arguments, taken-refusals}
-use Rattle.htl_command.proofs.command.matches.Goals as goal
+use Rattle.htl_command.proofs.matching.matches.Goals as goal
 
 pub returns-in-Ok-clause-ok : goal.returns-in-Ok-clause-ok
 returns-in-Ok-clause-ok c =

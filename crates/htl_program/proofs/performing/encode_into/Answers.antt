@@ -1,7 +1,7 @@
 -- What is said of an encoding is how the encoding ended.
 use Rattle.std.proofs.Common.{rules}
 use Rattle.htl_program.proofs.Told.{run_told}
-use Rattle.htl_program.proofs.commands.encode_into.Goals as goal
+use Rattle.htl_program.proofs.performing.encode_into.Goals as goal
 
 pub returns : goal.returns
 returns g c = record {
